@@ -13,14 +13,14 @@ use Rattle.codespan_base.specs.Writers.{fresh_sink}
 use Rattle.codespan_laws.specs.TextLaws.{AreCharacters, AreTextsAfter}
 use Rattle.codespan_laws.proofs.PictureTexts.{text-output}
 use Rattle.codespan_reporting.specs.WriteCalls.{WritesStyled}
-use Rattle.codespan_styled.specs.declared.style.Style.{Style}
-use Rattle.codespan_styled.specs.declared.style.Style.TheVariants.{Plain}
-use Rattle.codespan_styled.specs.declared.text.StyledText.{StyledText}
+use Rattle.codespan_documents.specs.declared.style.Style.{Style}
+use Rattle.codespan_documents.specs.declared.style.Style.TheVariants.{Plain}
+use Rattle.codespan_documents.specs.declared.text.StyledText.{StyledText}
+use Rattle.codespan_documents.specs.Recorded.{recorded_runs, style_number, style_spelling}
+use Rattle.codespan_documents.specs.Runs.{AreTexts, joined, runs_from, style_after, styled_runs}
+use Rattle.codespan_documents.proofs.Bytes.{runs-bytes, utf8-bytes}
+use Rattle.codespan_documents.proofs.Decoding.{joined_runs, runs_of_recorded}
 use Rattle.codespan_styled.specs.Outputs.{AreRuns, EmitsRuns, RunsAreTexts, output_at}
-use Rattle.codespan_styled.specs.Recorded.{recorded_runs, style_number, style_spelling}
-use Rattle.codespan_styled.specs.Runs.{AreTexts, joined, runs_from, style_after, styled_runs}
-use Rattle.codespan_styled.proofs.Bytes.{runs-bytes, utf8-bytes}
-use Rattle.codespan_styled.proofs.Decoding.{joined_runs, runs_of_recorded}
 
 -- a fresh writer that received a stream holds its bytes last
 bytes_after : (spelling : Spelling) (old new : Sink) (s : Stream) (first last : List ℕ) → old ≡ fresh_sink spelling (Some first) → new.contents ≡ Some last

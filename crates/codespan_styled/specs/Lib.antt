@@ -1,11 +1,13 @@
-pub mod Runs
+-- re-exports: runs, the documents, and text for a terminal
+pub use Rattle.codespan_documents.specs.Runs
+pub use Rattle.codespan_documents.specs.Html
+pub use Rattle.codespan_documents.specs.HtmlReading
+pub use Rattle.codespan_documents.specs.StyleSheet
+pub use Rattle.codespan_documents.specs.Inks
+pub use Rattle.codespan_documents.specs.Glyphs
+pub use Rattle.codespan_documents.specs.Svg
+pub use Rattle.codespan_documents.specs.SvgReading
+pub use Rattle.codespan_documents.specs.Recorded
+pub use Rattle.codespan_documents.specs.Terminal
+-- the runs of a diagnostic
 pub mod Outputs
-pub mod Html
-pub mod HtmlReading
-pub mod StyleSheet
-pub mod Inks
-pub mod Glyphs
-pub mod Svg
-pub mod SvgReading
-pub mod Recorded
-pub mod Terminal

@@ -5,19 +5,10 @@
 //! document of it, and [`to_terminal`] a text that is safe to print.
 #![tactic(auto)]
 
-pub mod html;
-mod recorder;
 pub mod render;
-pub mod style;
-pub mod style_sheet;
-pub mod svg;
-pub mod terminal;
-pub mod text;
 
-pub use html::to_html;
+pub use codespan_documents::{
+    Run, Style, StyledText, html, html_styles, style, style_sheet, svg, terminal, text, to_html,
+    to_svg, to_terminal,
+};
 pub use render::styled_text;
-pub use style::Style;
-pub use style_sheet::html_styles;
-pub use svg::to_svg;
-pub use terminal::to_terminal;
-pub use text::{Run, StyledText};

@@ -1,15 +1,15 @@
 //! The output of a diagnostic as runs of text, each in one style.
 
+ghost use Rattle.codespan_documents.specs.Runs.{styled_runs};
 ghost use Rattle.codespan_styled.specs.Outputs.{EmitsRuns};
-ghost use Rattle.codespan_styled.specs.Runs.{styled_runs};
 
 pub mod laws;
 
-use crate::recorder::Recorder;
-use crate::text::StyledText;
 use codespan_base::diagnostic::Diagnostic;
 use codespan_base::files::{Error, Files};
 use codespan_base::term::Config;
+use codespan_documents::recorder::Recorder;
+use codespan_documents::text::StyledText;
 use codespan_laws::characters::are_characters;
 use codespan_reporting::term::emit_to_write_style;
 use std::alloc::Global;

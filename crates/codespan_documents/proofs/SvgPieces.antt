@@ -1,0 +1,287 @@
+-- The parts of glyphs are those of their pieces, and each character has its cell: for the clause
+-- `parts` of `to_svg`, and for `svg::laws`.
+use Rattle.std.proofs.Common.{◌≡◌, ℕ, ◌+◌, ◌-◌, true, false, List, [], ◌∷◌, ◌++◌, map, codes, refl, sym, ap, ◌∙◌, append_assoc, None, Some, Option}
+use Rattle.std.specs.Prelude.{Bool, ◌==◌, ◌&&◌, not, nat_le, nat_lt, if◌then◌else◌}
+use Rattle.std.specs.List.{flat_map}
+use Rattle.std.proofs.lemmas.List.{map-append}
+use Rattle.codespan_base.specs.declared.term.config.color.Color.{Color}
+use Rattle.codespan_base.specs.declared.term.config.color.Color.TheVariants.{Black, Red, Green, Yellow, Blue, Magenta, Cyan, White}
+use Rattle.codespan_documents.specs.declared.svg.glyph.Glyph.{Glyph}
+use Rattle.codespan_documents.specs.declared.svg.ink.Ink.{Ink}
+use Rattle.codespan_documents.specs.declared.svg.position.CellPosition.{CellPosition}
+use Rattle.codespan_documents.specs.declared.svg.Pen.{Pen}
+use Rattle.codespan_documents.specs.Glyphs.{cells_of, follows, goes_on, is_narrow, is_newline, joined_cells, joins, start}
+use Rattle.codespan_documents.specs.HtmlReading.{Part, Tag, TextByte}
+use Rattle.codespan_documents.specs.Inks.{ink_number}
+use Rattle.codespan_documents.specs.Svg.{first_pen, next_pen, text_element}
+use Rattle.codespan_documents.specs.SvgReading.{InCell, Piece, RowEnd, Text, cells_in, cells_of_piece, joined_glyphs, piece_parts, pieces_from, shown_cells, shown_glyphs, svg_shown, width_of}
+use Rattle.codespan_documents.proofs.HtmlReading.{and_true, is_code}
+
+-- ---- glyph by glyph
+
+-- the tag that ends a text
+abbrev pub end_tag : List Part
+end_tag = Tag (codes "/text") ∷ []
+
+-- the parts of a glyph before others
+abbrev pub glyph_parts : Pen → Glyph → List Glyph → List Part
+glyph_parts pen glyph others =
+    if is_newline glyph then TextByte 10 ∷ []
+    else (if follows pen.before glyph then [] else Tag (text_element pen.position (cells_of glyph + joined_cells glyph others) glyph.ink) ∷ [])
+    ++ map TextByte (svg_shown glyph.character) ++ (if goes_on glyph others then [] else end_tag)
+
+-- the parts of glyphs
+abbrev pub parts_of_glyphs : Pen → List Glyph → List Part
+parts_of_glyphs pen [] = []
+parts_of_glyphs pen (glyph ∷ glyphs) = glyph_parts pen glyph glyphs ++ parts_of_glyphs (next_pen pen glyph) glyphs
+
+-- ---- cases
+
+pub two_ifs : {A B : Type 0} (b : Bool) (x y : A) (u v : B) (P : A → B → Type 0) → (b ≡ true → P x u) → (b ≡ false → P y v) → P (if b then x else y) (if b then u else v)
+two_ifs true x y u v P t f = t refl
+two_ifs false x y u v P t f = f refl
+
+three_ifs : {A B C : Type 0} (b : Bool) (x y : A) (u v : B) (k l : C) (P : A → B → C → Type 0) → (b ≡ true → P x u k) → (b ≡ false → P y v l)
+    → P (if b then x else y) (if b then u else v) (if b then k else l)
+three_ifs true x y u v k l P t f = t refl
+three_ifs false x y u v k l P t f = f refl
+
+-- ---- joined glyphs
+
+-- a newline joins nothing
+newline_joins : (glyph next : Glyph) → is_newline glyph ≡ true → joins glyph next ≡ false
+newline_joins glyph next e = ap (λ t. (not t && nat_le (cells_of glyph) 1) && is_narrow next && ink_number glyph.ink == ink_number next.ink) e
+
+-- and follows nothing
+joins_newline : (glyph next : Glyph) → is_newline next ≡ true → joins glyph next ≡ false
+joins_newline glyph next e = at (is_narrow glyph)
+  where
+    at : (n : Bool) → n && is_narrow next && ink_number glyph.ink == ink_number next.ink ≡ false
+    at true = ap (λ t. (not t && nat_le (cells_of next) 1) && ink_number glyph.ink == ink_number next.ink) e
+    at false = refl
+
+follows_newline : (before : Option Glyph) (glyph : Glyph) → is_newline glyph ≡ true → follows before glyph ≡ false
+follows_newline None glyph e = refl
+follows_newline (Some before) glyph e = joins_newline before glyph e
+
+-- the cells of the glyphs that follow
+joined_width : (glyph : Glyph) (others : List Glyph) → joined_cells glyph others ≡ width_of (joined_glyphs glyph others)
+joined_width glyph [] = refl
+joined_width glyph (next ∷ others) =
+    two_ifs (joins glyph next) (cells_of next + joined_cells next others) 0 (next ∷ joined_glyphs next others) [] (λ cells glyphs. cells ≡ width_of glyphs)
+    (λ _. ap (λ n. cells_of next + n) (joined_width next others)) (λ _. refl)
+
+-- ---- parts
+
+-- the parts of a text from a glyph on
+abbrev text_parts : Glyph → List Glyph → List Part
+text_parts glyph others = map TextByte (shown_glyphs (glyph ∷ others)) ++ end_tag
+
+-- the parts of the text that goes on, if one does
+abbrev parts_left : Option Glyph → List Glyph → List Part
+parts_left before [] = []
+parts_left before (glyph ∷ glyphs) = if follows before glyph then text_parts glyph (joined_glyphs glyph glyphs) else []
+
+-- a text ends, or goes on
+ended_parts : (glyph : Glyph) (others : List Glyph) → (if goes_on glyph others then [] else end_tag) ++ parts_left (Some glyph) others ≡ map TextByte (shown_glyphs (joined_glyphs glyph others)) ++ end_tag
+ended_parts glyph [] = refl
+ended_parts glyph (next ∷ others) =
+    three_ifs (joins glyph next) [] end_tag (text_parts next (joined_glyphs next others)) [] (next ∷ joined_glyphs next others) []
+    (λ (end text : List Part) (glyphs : List Glyph). end ++ text ≡ map TextByte (shown_glyphs glyphs) ++ end_tag)
+    (λ _. refl) (λ _. refl)
+
+regrouped : (shown ended left joined rest : List Part) → ended ++ left ≡ joined ++ end_tag → (shown ++ ended) ++ (left ++ rest) ≡ ((shown ++ joined) ++ end_tag) ++ rest
+regrouped shown ended left joined rest e =
+    append_assoc shown ended (left ++ rest)
+    ∙ ap (λ (parts : List Part). shown ++ parts) (sym (append_assoc ended left rest) ∙ ap (λ (parts : List Part). parts ++ rest) e)
+    ∙ sym (append_assoc shown (joined ++ end_tag) rest) ∙ ap (λ (parts : List Part). parts ++ rest) (sym (append_assoc shown joined end_tag))
+
+-- glyphs are read as the rest of a text, and then as their pieces
+parts_by_pieces : (pen : Pen) (glyphs : List Glyph) → parts_of_glyphs pen glyphs ≡ parts_left pen.before glyphs ++ flat_map piece_parts (pieces_from pen glyphs)
+parts_by_pieces pen [] = refl
+parts_by_pieces pen (glyph ∷ glyphs) = all (parts_by_pieces (next_pen pen glyph) glyphs)
+  where
+    next : Pen
+    next = next_pen pen glyph
+
+    rest : List Piece
+    rest = pieces_from next glyphs
+
+    parts : List Part
+    parts = flat_map piece_parts rest
+
+    tag : ℕ → List Part
+    tag cells = Tag (text_element pen.position cells glyph.ink) ∷ []
+
+    shown : List Part
+    shown = map TextByte (svg_shown glyph.character)
+
+    joined : List Part
+    joined = map TextByte (shown_glyphs (joined_glyphs glyph glyphs))
+
+    ended : List Part
+    ended = if goes_on glyph glyphs then [] else end_tag
+
+    piece : Piece
+    piece = Text pen.position glyph (joined_glyphs glyph glyphs)
+
+    left : List Part
+    left = parts_left (Some glyph) glyphs
+
+    Goal : List Part → List Part → List Piece → Type 0
+    Goal first prefix pieces = first ++ parts_of_glyphs next glyphs ≡ prefix ++ flat_map piece_parts pieces
+
+    Rest : Type 0
+    Rest = parts_of_glyphs next glyphs ≡ left ++ parts
+
+    whole : Rest → (shown ++ ended) ++ parts_of_glyphs next glyphs ≡ text_parts glyph (joined_glyphs glyph glyphs) ++ parts
+    whole is = ap (λ (ps : List Part). (shown ++ ended) ++ ps) is ∙ regrouped shown ended left joined parts (ended_parts glyph glyphs)
+        ∙ ap (λ (ps : List Part). (ps ++ end_tag) ++ parts) (sym (map-append TextByte (svg_shown glyph.character) (shown_glyphs (joined_glyphs glyph glyphs))))
+
+    character : Rest → Goal ((if follows pen.before glyph then [] else tag (cells_of glyph + joined_cells glyph glyphs)) ++ shown ++ ended)
+        (if follows pen.before glyph then text_parts glyph (joined_glyphs glyph glyphs) else []) (if follows pen.before glyph then rest else piece ∷ rest)
+    character is =
+        three_ifs (follows pen.before glyph) [] (tag (cells_of glyph + joined_cells glyph glyphs)) (text_parts glyph (joined_glyphs glyph glyphs)) [] rest (piece ∷ rest)
+        (λ (prefix left : List Part) (pieces : List Piece). Goal (prefix ++ shown ++ ended) left pieces)
+        (λ _. whole is)
+        (λ _. ap (λ (ps : List Part). tag (cells_of glyph + joined_cells glyph glyphs) ++ ps) (whole is)
+        ∙ ap (λ cells. tag (cells_of glyph + cells) ++ (text_parts glyph (joined_glyphs glyph glyphs) ++ parts)) (joined_width glyph glyphs))
+
+    none_left : (others : List Glyph) → is_newline glyph ≡ true → parts_left (Some glyph) others ≡ []
+    none_left [] e = refl
+    none_left (other ∷ others) e = ap (λ t. if t then text_parts other (joined_glyphs other others) else []) (newline_joins glyph other e)
+
+    newline : Rest → is_newline glyph ≡ true → Goal (TextByte 10 ∷ []) (if follows pen.before glyph then text_parts glyph (joined_glyphs glyph glyphs) else []) (RowEnd ∷ rest)
+    newline is e =
+        ap (λ (ps : List Part). TextByte 10 ∷ ps) (is ∙ ap (λ (ps : List Part). ps ++ parts) (none_left glyphs e))
+        ∙ ap (λ t. (if t then text_parts glyph (joined_glyphs glyph glyphs) else []) ++ (TextByte 10 ∷ parts)) (sym (follows_newline pen.before glyph e))
+
+    all : Rest → parts_of_glyphs pen (glyph ∷ glyphs) ≡ parts_left pen.before (glyph ∷ glyphs) ++ flat_map piece_parts (pieces_from pen (glyph ∷ glyphs))
+    all is =
+        two_ifs (is_newline glyph) (TextByte 10 ∷ [])
+        ((if follows pen.before glyph then [] else tag (cells_of glyph + joined_cells glyph glyphs)) ++ shown ++ ended)
+        (RowEnd ∷ rest) (if follows pen.before glyph then rest else piece ∷ rest)
+        (λ (first : List Part) (pieces : List Piece). Goal first (if follows pen.before glyph then text_parts glyph (joined_glyphs glyph glyphs) else []) pieces)
+        (newline is) (λ _. character is)
+
+none_before : (glyphs : List Glyph) → parts_left None glyphs ≡ []
+none_before [] = refl
+none_before (glyph ∷ glyphs) = refl
+
+-- all glyphs
+pub parts_of_pieces : (glyphs : List Glyph) → parts_of_glyphs first_pen glyphs ≡ flat_map piece_parts (pieces_from first_pen glyphs)
+parts_of_pieces glyphs =
+    parts_by_pieces first_pen glyphs ∙ ap (λ (ps : List Part). ps ++ flat_map piece_parts (pieces_from first_pen glyphs)) (none_before glyphs)
+
+-- ---- inks by their numbers
+
+-- the color of a number
+abbrev color_of : ℕ → Option Color
+color_of n =
+    if n == 0 then Some Black else if n == 1 then Some Red else if n == 2 then Some Green else if n == 3 then Some Yellow
+    else if n == 4 then Some Blue else if n == 5 then Some Magenta else if n == 6 then Some Cyan else if n == 7 then Some White else None
+
+-- the ink of a number
+abbrev ink_of_number : ℕ → Ink
+ink_of_number n =
+    if nat_lt n 272 then record { color = color_of (n - 256); bold = false } else record { color = color_of (n - 272); bold = true }
+
+ink_is : (color : Option Color) (bold : Bool) → ink_of_number (ink_number (record { color = color; bold = bold })) ≡ record { color = color; bold = bold }
+ink_is None true = refl
+ink_is None false = refl
+ink_is (Some Black) true = refl
+ink_is (Some Black) false = refl
+ink_is (Some Red) true = refl
+ink_is (Some Red) false = refl
+ink_is (Some Green) true = refl
+ink_is (Some Green) false = refl
+ink_is (Some Yellow) true = refl
+ink_is (Some Yellow) false = refl
+ink_is (Some Blue) true = refl
+ink_is (Some Blue) false = refl
+ink_is (Some Magenta) true = refl
+ink_is (Some Magenta) false = refl
+ink_is (Some Cyan) true = refl
+ink_is (Some Cyan) false = refl
+ink_is (Some White) true = refl
+ink_is (Some White) false = refl
+
+-- glyphs of one text have one ink
+joined_inks : (glyph next : Glyph) → joins glyph next ≡ true → next.ink ≡ glyph.ink
+joined_inks glyph next e =
+    let numbers : ink_number glyph.ink ≡ ink_number next.ink = is_code _ _ (and_true (is_narrow glyph && is_narrow next) (ink_number glyph.ink == ink_number next.ink) e).1 in
+    sym (ink_is next.ink.color next.ink.bold) ∙ ap ink_of_number (sym numbers) ∙ ink_is glyph.ink.color glyph.ink.bold
+
+-- ---- cells
+
+-- the cells of the text that goes on, if one does
+abbrev cells_left : Option Glyph → CellPosition → List Glyph → List InCell
+cells_left before position [] = []
+cells_left before position (glyph ∷ glyphs) = if follows before glyph then cells_in glyph.ink position (glyph ∷ joined_glyphs glyph glyphs) else []
+
+-- of the text of this glyph
+left_in : (glyph : Glyph) (position : CellPosition) (others : List Glyph) → cells_left (Some glyph) position others ≡ cells_in glyph.ink position (joined_glyphs glyph others)
+left_in glyph position [] = refl
+left_in glyph position (next ∷ others) =
+    two_ifs (joins glyph next) (cells_in next.ink position (next ∷ joined_glyphs next others)) [] (next ∷ joined_glyphs next others) []
+    (λ cells glyphs. cells ≡ cells_in glyph.ink position glyphs)
+    (λ e. ap (λ ink. cells_in ink position (next ∷ joined_glyphs next others)) (joined_inks glyph next e)) (λ _. refl)
+
+cells_by_pieces : (pen : Pen) (glyphs : List Glyph) → shown_cells pen.position glyphs ≡ cells_left pen.before pen.position glyphs ++ flat_map cells_of_piece (pieces_from pen glyphs)
+cells_by_pieces pen [] = refl
+cells_by_pieces pen (glyph ∷ glyphs) = all (cells_by_pieces (next_pen pen glyph) glyphs)
+  where
+    next : Pen
+    next = next_pen pen glyph
+
+    rest : List Piece
+    rest = pieces_from next glyphs
+
+    cells : List InCell
+    cells = flat_map cells_of_piece rest
+
+    own : List InCell
+    own = cells_in glyph.ink pen.position (glyph ∷ joined_glyphs glyph glyphs)
+
+    first : InCell
+    first = record { character = glyph.character; ink = glyph.ink; position = pen.position }
+
+    piece : Piece
+    piece = Text pen.position glyph (joined_glyphs glyph glyphs)
+
+    Rest : Type 0
+    Rest = shown_cells next.position glyphs ≡ cells_left (Some glyph) next.position glyphs ++ cells
+
+    whole : Rest → first ∷ shown_cells next.position glyphs ≡ own ++ cells
+    whole is =
+        ap (λ (cs : List InCell). first ∷ cs) (is ∙ ap (λ (cs : List InCell). cs ++ cells) (left_in glyph next.position glyphs))
+
+    character : Rest → first ∷ shown_cells next.position glyphs ≡ (if follows pen.before glyph then own else []) ++ flat_map cells_of_piece (if follows pen.before glyph then rest else piece ∷ rest)
+    character is =
+        two_ifs (follows pen.before glyph) own [] rest (piece ∷ rest) (λ (left : List InCell) (pieces : List Piece). first ∷ shown_cells next.position glyphs ≡ left ++ flat_map cells_of_piece pieces)
+        (λ _. whole is) (λ _. whole is)
+
+    none_left : (others : List Glyph) → is_newline glyph ≡ true → cells_left (Some glyph) next.position others ≡ []
+    none_left [] e = refl
+    none_left (other ∷ others) e = ap (λ t. if t then cells_in other.ink next.position (other ∷ joined_glyphs other others) else []) (newline_joins glyph other e)
+
+    newline : Rest → is_newline glyph ≡ true → shown_cells next.position glyphs ≡ (if follows pen.before glyph then own else []) ++ cells
+    newline is e =
+        is ∙ ap (λ (cs : List InCell). cs ++ cells) (none_left glyphs e)
+        ∙ ap (λ t. (if t then own else []) ++ cells) (sym (follows_newline pen.before glyph e))
+
+    all : Rest → shown_cells pen.position (glyph ∷ glyphs) ≡ cells_left pen.before pen.position (glyph ∷ glyphs) ++ flat_map cells_of_piece (pieces_from pen (glyph ∷ glyphs))
+    all is =
+        two_ifs (is_newline glyph) (shown_cells next.position glyphs) (first ∷ shown_cells next.position glyphs)
+        (RowEnd ∷ rest) (if follows pen.before glyph then rest else piece ∷ rest)
+        (λ (cs : List InCell) (pieces : List Piece). cs ≡ (if follows pen.before glyph then own else []) ++ flat_map cells_of_piece pieces)
+        (newline is) (λ _. character is)
+
+no_cells_before : (glyphs : List Glyph) → cells_left None start glyphs ≡ []
+no_cells_before [] = refl
+no_cells_before (glyph ∷ glyphs) = refl
+
+-- all glyphs
+pub cells_of_pieces : (glyphs : List Glyph) → flat_map cells_of_piece (pieces_from first_pen glyphs) ≡ shown_cells start glyphs
+cells_of_pieces glyphs =
+    sym (cells_by_pieces first_pen glyphs ∙ ap (λ (cs : List InCell). cs ++ flat_map cells_of_piece (pieces_from first_pen glyphs)) (no_cells_before glyphs))

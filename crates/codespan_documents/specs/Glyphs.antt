@@ -1,0 +1,78 @@
+-- The characters of styled text, each in its ink, and their positions.
+use Rattle.std.specs.Prelude.{ℕ, ◌+◌, ◌==◌, Bool, false, not, nat_le, ◌&&◌, List, [], ◌∷◌, map, max, Option, None, Some, unwrap_or, if◌then◌else◌}
+use Rattle.std.specs.List.{flat_map}
+use Rattle.std.specs.Str.{chars}
+use Rattle.unicode_width.specs.Width.{char_width}
+use Rattle.codespan_base.specs.declared.term.config.styles.Styles.{Styles}
+use Rattle.codespan_documents.specs.declared.svg.glyph.Glyph.{Glyph}
+use Rattle.codespan_documents.specs.declared.svg.position.CellPosition.{CellPosition}
+use Rattle.codespan_documents.specs.Inks.{ink_number, ink_of}
+use Rattle.codespan_documents.specs.Runs.{StyledRun}
+use Rattle.codespan_documents.specs.StyleSheet.{spec_of}
+
+-- ---- glyphs
+
+-- the characters of a run, each in the ink of its run's style
+abbrev pub glyphs_of_run : Styles → StyledRun → List Glyph
+glyphs_of_run styles run =
+    map (λ c. record { character = c; ink = ink_of (spec_of styles run.style) }) (chars run.text)
+
+-- the characters of runs
+abbrev pub glyphs_of : Styles → List StyledRun → List Glyph
+glyphs_of styles runs = flat_map (glyphs_of_run styles) runs
+
+-- the cells that a glyph occupies: what `unicode_width` returns for its character, or 0
+abbrev pub cells_of : Glyph → ℕ
+cells_of glyph = unwrap_or (char_width false glyph.character) 0
+
+-- the glyph is a newline
+abbrev pub is_newline : Glyph → Bool
+is_newline glyph = glyph.character == 10
+
+-- ---- positions
+
+-- the position of the first glyph
+abbrev pub start : CellPosition
+start = record { row = 0; column = 0 }
+
+-- the position after a glyph: the start of the next row after a newline, else to the right by its
+-- cells
+abbrev pub after_glyph : CellPosition → Glyph → CellPosition
+after_glyph position glyph =
+    if is_newline glyph
+    then record { row = position.row + 1; column = 0 }
+    else record { row = position.row; column = position.column + cells_of glyph }
+
+-- the size of glyphs from a position on: the row where they end, and the cells of the widest row
+abbrev pub extent_from : CellPosition → List Glyph → CellPosition
+extent_from position [] = position
+extent_from position (glyph ∷ glyphs) =
+    let rest = extent_from (after_glyph position glyph) glyphs in
+    record { row = rest.row; column = max position.column rest.column }
+
+-- ---- glyphs of one text
+
+-- the glyph occupies at most one cell and is no newline
+abbrev pub is_narrow : Glyph → Bool
+is_narrow glyph = not (is_newline glyph) && nat_le (cells_of glyph) 1
+
+-- the glyph belongs to the text of the one before it: both are narrow, in one ink
+abbrev pub joins : Glyph → Glyph → Bool
+joins before glyph =
+    is_narrow before && is_narrow glyph && ink_number before.ink == ink_number glyph.ink
+
+-- the glyph belongs to the text of the one before it, if there is one
+abbrev pub follows : Option Glyph → Glyph → Bool
+follows None glyph = false
+follows (Some before) glyph = joins before glyph
+
+-- the first of the glyphs after it belongs to the text of the glyph
+abbrev pub goes_on : Glyph → List Glyph → Bool
+goes_on glyph [] = false
+goes_on glyph (next ∷ glyphs) = joins glyph next
+
+-- the cells of the glyphs that follow this one in its text
+abbrev pub joined_cells : Glyph → List Glyph → ℕ
+joined_cells before [] = 0
+joined_cells before (glyph ∷ glyphs) =
+    if joins before glyph then cells_of glyph + joined_cells glyph glyphs else 0

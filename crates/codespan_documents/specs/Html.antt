@@ -1,0 +1,87 @@
+-- HTML documents of styled text.
+use Rattle.std.specs.Prelude.{ℕ, ◌%◌, ◌==◌, Bool, true, false, not, nat_lt, nat_le, ◌&&◌, ◌||◌, List, ◌++◌, codes, encode_utf8, if◌then◌else◌}
+use Rattle.std.specs.List.{flat_map}
+use Rattle.std.specs.Str.{chars}
+use Rattle.codespan_base.specs.declared.diagnostic.LabelStyle.TheVariants.{Primary, Secondary}
+use Rattle.codespan_base.specs.declared.diagnostic.Severity.{Severity}
+use Rattle.codespan_base.specs.declared.diagnostic.Severity.TheVariants.{Bug, Error, Warning, Note, Help}
+use Rattle.codespan_documents.specs.declared.style.Style.{Style}
+use Rattle.codespan_documents.specs.declared.style.Style.TheVariants.{Plain, Header, HeaderMessage, LineNumber, NoteBullet, SourceBorder, Label}
+use Rattle.codespan_documents.specs.Runs.{StyledRun}
+
+-- ---- characters
+
+-- the character is a control character other than a tab, a newline and a form feed
+abbrev pub is_control : ℕ → Bool
+is_control c =
+    (nat_lt c 32 && not (c == 9 || c == 10 || c == 12)) || (nat_le 127 c && nat_le c 159)
+
+-- the character is a noncharacter: U+FDD0 to U+FDEF, and the last two of each plane
+abbrev pub is_noncharacter : ℕ → Bool
+is_noncharacter c = (nat_le 64976 c && nat_le c 65007) || nat_le 65534 (c % 65536)
+
+-- a character as a document shows it: U+FFFD for one that HTML text can not hold
+abbrev pub shown : ℕ → ℕ
+shown c = if is_control c || is_noncharacter c then 65533 else c
+
+-- a text as a document shows it
+abbrev pub shown_text : List ℕ → List ℕ
+shown_text text = flat_map (λ c. encode_utf8 (shown c)) (chars text)
+
+-- a character in a document: those that can begin or end a tag, an attribute or an entity are
+-- entities
+abbrev pub html_character : ℕ → List ℕ
+html_character c =
+    if c == 38 then codes "&amp;"
+    else if c == 60 then codes "&lt;"
+    else if c == 62 then codes "&gt;"
+    else if c == 34 then codes "&quot;"
+    else if c == 39 then codes "&#39;"
+    else encode_utf8 (shown c)
+
+-- a text in a document
+abbrev pub html_text : List ℕ → List ℕ
+html_text text = flat_map html_character (chars text)
+
+-- ---- classes
+
+-- a severity in the name of a class
+abbrev pub severity_suffix : Severity → List ℕ
+severity_suffix Bug = codes "bug"
+severity_suffix Error = codes "error"
+severity_suffix Warning = codes "warning"
+severity_suffix Note = codes "note"
+severity_suffix Help = codes "help"
+
+-- the class of a style, by the name of its field in `Styles`; plain text has none
+abbrev pub style_class : Style → List ℕ
+style_class Plain = codes ""
+style_class (Header severity) = codes "header-" ++ severity_suffix severity
+style_class HeaderMessage = codes "header-message"
+style_class LineNumber = codes "line-number"
+style_class NoteBullet = codes "note-bullet"
+style_class SourceBorder = codes "source-border"
+style_class (Label severity Primary) = codes "primary-label-" ++ severity_suffix severity
+style_class (Label severity Secondary) = codes "secondary-label"
+
+-- the style is that of plain text
+abbrev pub is_plain : Style → Bool
+is_plain Plain = true
+is_plain _ = false
+
+-- ---- documents
+
+-- the content of the tag that starts a run
+abbrev pub span_tag : Style → List ℕ
+span_tag style = codes "span class=\"" ++ style_class style ++ codes "\""
+
+-- a run: a plain one as its text, any other between two tags
+abbrev pub html_run : StyledRun → List ℕ
+html_run run =
+    if is_plain run.style then html_text run.text
+    else codes "<" ++ span_tag run.style ++ codes ">" ++ html_text run.text ++ codes "</span>"
+
+-- the document of runs; HTML does not show the newline after the first tag
+abbrev pub html_document : List StyledRun → List ℕ
+html_document runs =
+    codes "<pre class=\"diagnostic\">\n" ++ flat_map html_run runs ++ codes "</pre>"

@@ -1,0 +1,19 @@
+-- Inks: what a style is in an SVG document.
+use Rattle.std.specs.Prelude.{ℕ, ◌+◌, Option, Some, None, if◌then◌else◌}
+use Rattle.codespan_base.specs.declared.term.config.color.Color.{Color}
+use Rattle.codespan_base.specs.declared.term.config.color.ColorSpec.{ColorSpec}
+use Rattle.codespan_base.specs.Ansi.{color_number}
+use Rattle.codespan_documents.specs.declared.svg.ink.Ink.{Ink}
+
+-- the ink of a style of a terminal: its color, and whether it is bold
+abbrev pub ink_of : ColorSpec → Ink
+ink_of spec = record { color = spec.fg; bold = spec.bold }
+
+-- the number of a color, or 8 for `None`
+abbrev pub optional_color_number : Option Color → ℕ
+optional_color_number None = 8
+optional_color_number (Some color) = color_number color
+
+-- the number of an ink
+abbrev pub ink_number : Ink → ℕ
+ink_number ink = (if ink.bold then 272 else 256) + optional_color_number ink.color

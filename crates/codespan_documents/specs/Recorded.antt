@@ -1,0 +1,80 @@
+-- Words that only the writer that keeps runs and proofs use: how this writer is seen by the law of
+-- writers, which knows bytes alone. It holds, for each run, a number that is no byte and stands for
+-- its style, and then the run's bytes.
+use Rattle.std.specs.Prelude.{ℕ, ◌+◌, ◌<◌, Bool, List, [], ◌∷◌, ◌++◌, map, Some}
+use Rattle.std.specs.List.{AllByRecursion, flat_map}
+use Rattle.codespan_base.specs.declared.diagnostic.LabelStyle.TheVariants.{Primary, Secondary}
+use Rattle.codespan_base.specs.declared.diagnostic.Severity.{Severity}
+use Rattle.codespan_base.specs.declared.diagnostic.Severity.TheVariants.{Bug, Error, Warning, Note, Help}
+use Rattle.codespan_base.specs.Streams.{Spelling}
+use Rattle.codespan_base.specs.WriterLaw.{Sink}
+use Rattle.codespan_documents.specs.declared.recorder.Recorder.{Recorder}
+use Rattle.codespan_documents.specs.declared.style.Style.{Style}
+use Rattle.codespan_documents.specs.declared.style.Style.TheVariants.{Plain, Header, HeaderMessage, LineNumber, NoteBullet, SourceBorder, Label}
+use Rattle.codespan_documents.specs.Runs.{StyledRun, run_view, style_after}
+
+-- ---- bytes
+
+-- each number is a byte
+abbrev pub AreBytes : List ℕ → Type 0
+AreBytes bs = AllByRecursion (λ b. b < 256) bs
+
+-- the texts of the runs are bytes
+abbrev pub AllBytes : List StyledRun → Type 0
+AllBytes runs = AllByRecursion (λ (run : StyledRun). AreBytes run.text) runs
+
+-- ---- numbers of styles
+
+-- the number of a severity
+abbrev pub severity_number : Severity → ℕ
+severity_number Bug = 0
+severity_number Error = 1
+severity_number Warning = 2
+severity_number Note = 3
+severity_number Help = 4
+
+-- the number of a style, which is no byte
+abbrev pub style_number : Style → ℕ
+style_number Plain = 256
+style_number HeaderMessage = 257
+style_number LineNumber = 258
+style_number NoteBullet = 259
+style_number SourceBorder = 260
+style_number (Header severity) = 261 + severity_number severity
+style_number (Label severity Primary) = 266 + severity_number severity
+style_number (Label severity Secondary) = 271 + severity_number severity
+
+-- each style mark is recorded as the number of the style that it starts
+abbrev pub style_spelling : Spelling
+style_spelling mark = style_number (style_after mark) ∷ []
+
+-- ---- runs
+
+-- how a run is recorded: the number of its style, and then its bytes
+abbrev pub recorded_run : StyledRun → List ℕ
+recorded_run run = style_number run.style ∷ run.text
+
+-- runs, one after another
+abbrev pub recorded_runs : List StyledRun → List ℕ
+recorded_runs runs = flat_map recorded_run runs
+
+-- the runs of a writer before the last one
+abbrev pub ended_runs : Recorder → List StyledRun
+ended_runs r = map run_view r.runs.items
+
+-- what a writer holds: its runs, and then the last one
+abbrev pub recorded : Recorder → List ℕ
+recorded r =
+    recorded_runs (ended_runs r)
+    ++ recorded_run (record { style = r.style; text = r.text.items })
+
+-- a call of the writer has failed
+abbrev pub has_flag : Recorder → Bool
+has_flag r = r.failed
+
+-- the writer, as the law of writers sees it
+abbrev pub recorder_sink : Recorder → Sink
+recorder_sink r = record {
+  frame = record { spelling = style_spelling; failed = r.failed; through = [] };
+  contents = Some (recorded r);
+}

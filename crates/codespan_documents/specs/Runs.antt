@@ -1,0 +1,60 @@
+-- Styled text: the runs of a stream, which is its text cut at its style marks.
+use Rattle.std.specs.Prelude.{ℕ, List, [], ◌∷◌, ◌++◌, map, string_bytes}
+use Rattle.std.specs.List.{AllByRecursion, flat_map}
+use Rattle.std.specs.Str.{IsUtf8, chars}
+use Rattle.codespan_base.specs.Streams.{Stream, StyleMark, Byte, Mark, Slot}
+use Rattle.codespan_base.specs.Streams.{Header, HeaderMessage, LineNumber, NoteBullet, SourceBorder, LabelMark, Reset}
+use Rattle.codespan_documents.specs.declared.style.Style.{Style}
+use Rattle.codespan_documents.specs.declared.style.Style.TheVariants as Styles
+use Rattle.codespan_documents.specs.declared.text.Run.{Run}
+use Rattle.codespan_documents.specs.declared.text.StyledText.{StyledText}
+
+-- a style, and the bytes of a text in it
+pub record StyledRun : Type 0 where
+  pub style : Style
+  pub text : List ℕ
+
+-- the style that a style mark starts; a reset starts plain text
+abbrev pub style_after : StyleMark → Style
+style_after (Header severity) = Styles.Header severity
+style_after HeaderMessage = Styles.HeaderMessage
+style_after LineNumber = Styles.LineNumber
+style_after NoteBullet = Styles.NoteBullet
+style_after SourceBorder = Styles.SourceBorder
+style_after (LabelMark severity style) = Styles.Label severity style
+style_after Reset = Styles.Plain
+
+-- the runs of a stream that continues a run of this style, with this text so far: a byte belongs to
+-- the run, a style mark ends it and starts the next one
+abbrev pub runs_from : Style → List ℕ → Stream → List StyledRun
+runs_from style text [] = record { style = style; text = text } ∷ []
+runs_from style text (Byte b ∷ s) = runs_from style (text ++ b ∷ []) s
+runs_from style text (Mark m ∷ s) =
+    record { style = style; text = text } ∷ runs_from (style_after m) [] s
+runs_from style text (Slot k ∷ s) = runs_from style text s
+
+-- the runs of a stream; the first one is plain
+abbrev pub runs_of : Stream → List StyledRun
+runs_of s = runs_from Styles.Plain [] s
+
+-- the texts of runs, one after another
+abbrev pub joined : List StyledRun → List ℕ
+joined runs = flat_map (λ (run : StyledRun). run.text) runs
+
+-- the characters of the runs
+abbrev pub characters_of : List StyledRun → List ℕ
+characters_of runs = flat_map (λ (run : StyledRun). chars run.text) runs
+
+-- the text of each run is UTF-8
+abbrev pub AreTexts : List StyledRun → Type 0
+AreTexts runs = AllByRecursion (λ (run : StyledRun). IsUtf8 run.text) runs
+
+-- ---- the runs of a styled text
+
+-- a run
+abbrev pub run_view : Run → StyledRun
+run_view run = record { style = run.style; text = string_bytes run.text }
+
+-- all its runs
+abbrev pub styled_runs : StyledText → List StyledRun
+styled_runs text = map run_view text.runs.items

@@ -1,0 +1,83 @@
+-- The style sheet of documents, by the styles of a terminal.
+use Rattle.std.specs.Prelude.{ℕ, Bool, List, [], ◌∷◌, ◌++◌, codes, Option, Some, None, if◌then◌else◌}
+use Rattle.std.specs.List.{flat_map}
+use Rattle.codespan_base.specs.declared.diagnostic.LabelStyle.TheVariants.{Primary, Secondary}
+use Rattle.codespan_base.specs.declared.diagnostic.Severity.TheVariants.{Bug, Error, Warning, Note, Help}
+use Rattle.codespan_base.specs.declared.term.config.color.Color.{Color}
+use Rattle.codespan_base.specs.declared.term.config.color.Color.TheVariants.{Black, Red, Green, Yellow, Blue, Magenta, Cyan, White}
+use Rattle.codespan_base.specs.declared.term.config.color.ColorSpec.{ColorSpec}
+use Rattle.codespan_base.specs.declared.term.config.styles.Styles.{Styles}
+use Rattle.codespan_base.specs.StyleTables.{header_style, label_style, unset}
+use Rattle.codespan_documents.specs.declared.style.Style.{Style}
+use Rattle.codespan_documents.specs.declared.style.Style.TheVariants.{Plain, Header, HeaderMessage, LineNumber, NoteBullet, SourceBorder, Label}
+use Rattle.codespan_documents.specs.Html.{style_class}
+
+-- ---- colors
+
+-- a color of a terminal
+abbrev pub normal_color : Color → List ℕ
+normal_color Black = codes "#000000"
+normal_color Red = codes "#cd0000"
+normal_color Green = codes "#00cd00"
+normal_color Yellow = codes "#cdcd00"
+normal_color Blue = codes "#0000ee"
+normal_color Magenta = codes "#cd00cd"
+normal_color Cyan = codes "#00cdcd"
+normal_color White = codes "#e5e5e5"
+
+-- its bright color
+abbrev pub bright_color : Color → List ℕ
+bright_color Black = codes "#7f7f7f"
+bright_color Red = codes "#ff0000"
+bright_color Green = codes "#00ff00"
+bright_color Yellow = codes "#ffff00"
+bright_color Blue = codes "#5c5cff"
+bright_color Magenta = codes "#ff00ff"
+bright_color Cyan = codes "#00ffff"
+bright_color White = codes "#ffffff"
+
+-- ---- rules
+
+-- a color after its property; nothing where there is no color
+abbrev pub color_declaration : List ℕ → Bool → Option Color → List ℕ
+color_declaration property intense None = []
+color_declaration property intense (Some color) =
+    property ++ (if intense then bright_color color else normal_color color) ++ codes "; "
+
+-- the declaration of bold text
+abbrev pub weight_declaration : Bool → List ℕ
+weight_declaration bold = if bold then codes "font-weight: bold; " else []
+
+-- the declarations of a style of a terminal
+abbrev pub declarations : ColorSpec → List ℕ
+declarations spec =
+    color_declaration (codes "color: ") spec.intense spec.fg
+    ++ color_declaration (codes "background-color: ") spec.intense spec.bg
+    ++ weight_declaration spec.bold
+
+-- the style of a terminal that a style has
+abbrev pub spec_of : Styles → Style → ColorSpec
+spec_of styles Plain = unset
+spec_of styles (Header severity) = header_style styles severity
+spec_of styles HeaderMessage = styles.header_message
+spec_of styles LineNumber = styles.line_number
+spec_of styles NoteBullet = styles.note_bullet
+spec_of styles SourceBorder = styles.source_border
+spec_of styles (Label severity style) = label_style styles severity style
+
+-- the rule of the class of a style
+abbrev pub rule : Styles → Style → List ℕ
+rule styles style =
+    codes ".diagnostic ." ++ style_class style ++ codes " { " ++ declarations (spec_of styles style)
+    ++ codes "}\n"
+
+-- a style of each class
+abbrev pub classed_styles : List Style
+classed_styles =
+    Header Bug ∷ Header Error ∷ Header Warning ∷ Header Note ∷ Header Help ∷ HeaderMessage
+    ∷ Label Bug Primary ∷ Label Error Primary ∷ Label Warning Primary ∷ Label Note Primary
+    ∷ Label Help Primary ∷ Label Error Secondary ∷ LineNumber ∷ SourceBorder ∷ NoteBullet ∷ []
+
+-- the style sheet: a rule for each class
+abbrev pub style_sheet : Styles → List ℕ
+style_sheet styles = flat_map (rule styles) classed_styles

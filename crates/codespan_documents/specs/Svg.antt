@@ -1,0 +1,136 @@
+-- SVG documents of styled text.
+use Rattle.std.specs.Prelude.{ℕ, ◌+◌, ◌*◌, ◌==◌, nat_lt, Bool, true, false, ◌||◌, List, [], ◌∷◌, ◌++◌, codes, decimal, Option, Some, None, encode_utf8, if◌then◌else◌}
+use Rattle.codespan_base.specs.declared.term.config.color.Color.{Color}
+use Rattle.codespan_base.specs.declared.term.config.color.Color.TheVariants.{Black, Red, Green, Yellow, Blue, Magenta, Cyan, White}
+use Rattle.codespan_documents.specs.declared.svg.glyph.Glyph.{Glyph}
+use Rattle.codespan_documents.specs.declared.svg.ink.Ink.{Ink}
+use Rattle.codespan_documents.specs.declared.svg.position.CellPosition.{CellPosition}
+use Rattle.codespan_documents.specs.declared.svg.Pen.{Pen}
+use Rattle.codespan_documents.specs.Glyphs.{after_glyph, cells_of, extent_from, follows, goes_on, is_newline, joined_cells, start}
+
+-- ---- characters
+
+-- the character can not be in an XML document
+abbrev pub is_forbidden_in_xml : ℕ → Bool
+is_forbidden_in_xml c = nat_lt c 32 || (c == 65534) || (c == 65535)
+
+-- a character as XML spells it: one that begins a tag or an entity as an entity; the escape
+-- character, the character of the number 0, the carriage return and the tab by a backslash; any
+-- other that can not be in a document as the replacement character
+abbrev pub xml_character : ℕ → List ℕ
+xml_character c =
+    if c == 38 then codes "&amp;"
+    else if c == 60 then codes "&lt;"
+    else if c == 62 then codes "&gt;"
+    else if c == 27 then codes "\\e"
+    else if c == 0 then codes "\\0"
+    else if c == 13 then codes "\\r"
+    else if c == 9 then codes "\\t"
+    else if is_forbidden_in_xml c then encode_utf8 65533
+    else encode_utf8 c
+
+-- ---- tags
+
+-- what a terminal color is on the dark background
+abbrev pub shade : Color → List ℕ
+shade Black = codes "#6e7681"
+shade Red = codes "#ff7b72"
+shade Green = codes "#7ee787"
+shade Yellow = codes "#e3b341"
+shade Blue = codes "#79c0ff"
+shade Magenta = codes "#d2a8ff"
+shade Cyan = codes "#56d4dd"
+shade White = codes "#b1bac4"
+
+-- the attribute of a color; that of plain text has none
+abbrev pub color_attribute : Option Color → List ℕ
+color_attribute None = []
+color_attribute (Some color) = codes " fill=\"" ++ shade color ++ codes "\""
+
+-- the attribute of bold text
+abbrev pub weight_attribute : Bool → List ℕ
+weight_attribute true = codes " font-weight=\"bold\""
+weight_attribute false = []
+
+-- the pixels left of a position: a margin, and nine for each cell
+abbrev pub left_of : CellPosition → ℕ
+left_of position = 12 + 9 * position.column
+
+-- the pixels above the baseline of a position: eighteen for each row
+abbrev pub above : CellPosition → ℕ
+above position = 25 + 18 * position.row
+
+-- the content of the tag that begins a text of this many cells at a position: its position, its
+-- length and its ink
+abbrev pub text_element : CellPosition → ℕ → Ink → List ℕ
+text_element position cells ink =
+    codes "text x=\"" ++ decimal (left_of position) ++ codes "\" y=\"" ++ decimal (above position)
+    ++ codes "\" textLength=\"" ++ decimal (9 * cells) ++ codes "\""
+    ++ color_attribute ink.color ++ weight_attribute ink.bold
+
+-- the tag
+abbrev pub text_tag : CellPosition → ℕ → Ink → List ℕ
+text_tag position cells ink = codes "<" ++ text_element position cells ink ++ codes ">"
+
+-- ---- texts
+
+-- the position of the first glyph
+abbrev pub first_pen : Pen
+first_pen = record { position = start; before = None }
+
+-- the position of the next glyph
+abbrev pub next_pen : Pen → Glyph → Pen
+next_pen pen glyph = record { position = after_glyph pen.position glyph; before = Some glyph }
+
+-- a glyph before others: a newline ends a row; any other is part of one text with those that it
+-- joins, between the tags of the text
+abbrev pub glyph_text : Pen → Glyph → List Glyph → List ℕ
+glyph_text pen glyph others =
+    if is_newline glyph then codes "\n"
+    else (if follows pen.before glyph
+    then []
+    else text_tag pen.position (cells_of glyph + joined_cells glyph others) glyph.ink)
+    ++ xml_character glyph.character ++ (if goes_on glyph others then [] else codes "</text>")
+
+-- glyphs, one after another
+abbrev pub texts_from : Pen → List Glyph → List ℕ
+texts_from pen [] = []
+texts_from pen (glyph ∷ glyphs) =
+    glyph_text pen glyph glyphs ++ texts_from (next_pen pen glyph) glyphs
+
+-- ---- the document
+
+-- its width and its height: those of the rows, and a margin on each side
+abbrev pub width : CellPosition → ℕ
+width extent = 24 + 9 * extent.column
+
+abbrev pub height : CellPosition → ℕ
+height extent = 24 + 18 * extent.row
+
+-- its first tag begins with its size
+abbrev pub size_element : CellPosition → List ℕ
+size_element extent =
+    codes "svg xmlns=\"http://www.w3.org/2000/svg\" width=\"" ++ decimal (width extent)
+    ++ codes "\" height=\"" ++ decimal (height extent)
+    ++ codes "\" viewBox=\"0 0 " ++ decimal (width extent)
+    ++ codes " " ++ decimal (height extent) ++ codes "\""
+
+-- and ends with the font and the color of plain text
+unfoldable pub font_attributes : List ℕ
+font_attributes =
+    codes " font-family=\"DejaVu Sans Mono, Menlo, Consolas, monospace\" font-size=\"15\""
+    ++ codes " fill=\"#e6edf3\" xml:space=\"preserve\""
+
+-- the content of the first tag
+abbrev pub svg_element : CellPosition → List ℕ
+svg_element extent = size_element extent ++ font_attributes
+
+-- the content of the tag of the dark background
+unfoldable pub ground_element : List ℕ
+ground_element = codes "rect width=\"100%\" height=\"100%\" rx=\"6\" fill=\"#161b22\"/"
+
+-- the document that shows glyphs
+abbrev pub svg_document : List Glyph → List ℕ
+svg_document glyphs =
+    codes "<" ++ svg_element (extent_from start glyphs) ++ codes ">\n<" ++ ground_element
+    ++ codes ">\n" ++ texts_from first_pen glyphs ++ codes "</svg>\n"

@@ -1,0 +1,107 @@
+-- How an SVG document is read back, by the reader of `HtmlReading`: its tags, and the text between
+-- them, and which cells its texts take.
+use Rattle.std.specs.Prelude.{ℕ, ◌+◌, ◌==◌, List, [], ◌∷◌, ◌++◌, map, codes, encode_utf8, if◌then◌else◌}
+use Rattle.std.specs.List.{flat_map}
+use Rattle.codespan_documents.specs.declared.svg.glyph.Glyph.{Glyph}
+use Rattle.codespan_documents.specs.declared.svg.ink.Ink.{Ink}
+use Rattle.codespan_documents.specs.declared.svg.position.CellPosition.{CellPosition}
+use Rattle.codespan_documents.specs.declared.svg.Pen.{Pen}
+use Rattle.codespan_documents.specs.Glyphs.{after_glyph, cells_of, extent_from, follows, is_newline, joins, start}
+use Rattle.codespan_documents.specs.HtmlReading.{Part, Tag, TextByte}
+use Rattle.codespan_documents.specs.Runs.{StyledRun, characters_of}
+use Rattle.codespan_documents.specs.Svg.{first_pen, ground_element, is_forbidden_in_xml, next_pen, svg_element, text_element}
+
+-- ---- characters
+
+-- a character as a document shows it: some control characters by a backslash, and any other that
+-- XML can not hold as U+FFFD
+abbrev pub svg_shown : ℕ → List ℕ
+svg_shown c =
+    if c == 10 then 10 ∷ []
+    else if c == 27 then codes "\\e"
+    else if c == 0 then codes "\\0"
+    else if c == 13 then codes "\\r"
+    else if c == 9 then codes "\\t"
+    else if is_forbidden_in_xml c then encode_utf8 65533
+    else encode_utf8 c
+
+-- glyphs as a document shows them
+abbrev pub shown_glyphs : List Glyph → List ℕ
+shown_glyphs glyphs = flat_map (λ (glyph : Glyph). svg_shown glyph.character) glyphs
+
+-- the text of a document of runs: theirs, after two line ends of its head and before one
+abbrev pub svg_text : List StyledRun → List ℕ
+svg_text runs = 10 ∷ 10 ∷ flat_map svg_shown (characters_of runs) ++ 10 ∷ []
+
+-- ---- pieces
+
+-- a piece of a document: the end of a row, or a text: the position where it begins, its first
+-- glyph, and the others
+pub data Piece : Type 0 where
+  RowEnd : Piece
+  Text : CellPosition → Glyph → List Glyph → Piece
+
+-- the glyphs that follow this one in its text
+abbrev pub joined_glyphs : Glyph → List Glyph → List Glyph
+joined_glyphs before [] = []
+joined_glyphs before (glyph ∷ glyphs) =
+    if joins before glyph then glyph ∷ joined_glyphs glyph glyphs else []
+
+-- the cells of glyphs
+abbrev pub width_of : List Glyph → ℕ
+width_of [] = 0
+width_of (glyph ∷ glyphs) = cells_of glyph + width_of glyphs
+
+-- the pieces of glyphs: a newline ends a row, and any other that does not follow the one before it
+-- begins a text
+abbrev pub pieces_from : Pen → List Glyph → List Piece
+pieces_from pen [] = []
+pieces_from pen (glyph ∷ glyphs) =
+    let rest = pieces_from (next_pen pen glyph) glyphs in
+    if is_newline glyph then RowEnd ∷ rest
+    else if follows pen.before glyph then rest
+    else Text pen.position glyph (joined_glyphs glyph glyphs) ∷ rest
+
+-- ---- the parts of a document
+
+-- a text is between two tags, and as long as its cells
+abbrev pub piece_parts : Piece → List Part
+piece_parts RowEnd = TextByte 10 ∷ []
+piece_parts (Text position first others) =
+    Tag (text_element position (width_of (first ∷ others)) first.ink)
+    ∷ map TextByte (shown_glyphs (first ∷ others)) ++ Tag (codes "/text") ∷ []
+
+-- all of a document: no other tag, and no other text
+abbrev pub svg_parts : List Glyph → List Part
+svg_parts glyphs =
+    Tag (svg_element (extent_from start glyphs)) ∷ TextByte 10 ∷ Tag ground_element ∷ TextByte 10
+    ∷ flat_map piece_parts (pieces_from first_pen glyphs)
+    ++ Tag (codes "/svg") ∷ TextByte 10 ∷ []
+
+-- ---- cells
+
+-- a character, its ink, and the position of its cell
+pub record InCell : Type 0 where
+  pub character : ℕ
+  pub ink : Ink
+  pub position : CellPosition
+
+-- the glyphs of a text in one ink, the first one at this position
+abbrev pub cells_in : Ink → CellPosition → List Glyph → List InCell
+cells_in ink position [] = []
+cells_in ink position (glyph ∷ glyphs) =
+    record { character = glyph.character; ink = ink; position = position }
+    ∷ cells_in ink (after_glyph position glyph) glyphs
+
+-- the characters of a piece
+abbrev pub cells_of_piece : Piece → List InCell
+cells_of_piece RowEnd = []
+cells_of_piece (Text position first others) = cells_in first.ink position (first ∷ others)
+
+-- all glyphs but newlines, each in its ink and where it is among all of them
+abbrev pub shown_cells : CellPosition → List Glyph → List InCell
+shown_cells position [] = []
+shown_cells position (glyph ∷ glyphs) =
+    let rest = shown_cells (after_glyph position glyph) glyphs in
+    if is_newline glyph then rest
+    else record { character = glyph.character; ink = glyph.ink; position = position } ∷ rest

@@ -1,0 +1,130 @@
+-- Text that is safe to print on a terminal.
+use Rattle.std.specs.Prelude.{◌≡◌, ℕ, ◌+◌, Bool, not, ◌||◌, ◌==◌, List, [], ◌∷◌, ◌++◌, filter, if◌then◌else◌}
+use Rattle.std.specs.Char.{is_ascii_digit, is_control}
+use Rattle.std.specs.List.{AllByRecursion, flat_map}
+use Rattle.std.specs.Str.{chars, encode_utf8_all}
+use Rattle.ucd_props.specs.Binary.{is_bidi_control}
+use Rattle.codespan_base.specs.Ansi.{ansi_reset, ansi_style}
+use Rattle.codespan_base.specs.StyleTables.{spelling_by}
+use Rattle.codespan_base.specs.Streams.{Spelling, StyleMark, Header, HeaderMessage, LineNumber, NoteBullet, SourceBorder, LabelMark, Reset}
+use Rattle.codespan_base.specs.declared.term.config.styles.Styles.{Styles}
+use Rattle.codespan_picture.specs.CharMetrics.{width_at}
+use Rattle.codespan_documents.specs.Runs.{StyledRun, characters_of}
+use Rattle.codespan_documents.specs.declared.style.Style.{Style}
+use Rattle.codespan_documents.specs.declared.style.Style.TheVariants as Kinds
+
+-- ---- safe characters
+
+-- all characters but control characters and directional controls; tab and newline are safe
+abbrev pub is_safe : ℕ → Bool
+is_safe c = ((c == 9) || (c == 10)) || not (is_control c || is_bidi_control c)
+
+-- the characters that are safe
+abbrev pub safe_characters : List ℕ → List ℕ
+safe_characters cs = filter is_safe cs
+
+-- the text without the characters that are not safe
+abbrev pub safe_text : List ℕ → List ℕ
+safe_text text = encode_utf8_all (safe_characters (chars text))
+
+-- ---- the text for a terminal
+
+-- the style mark that starts a run of this style
+abbrev pub style_mark_of : Style → StyleMark
+style_mark_of Kinds.Plain = Reset
+style_mark_of (Kinds.Header severity) = Header severity
+style_mark_of Kinds.HeaderMessage = HeaderMessage
+style_mark_of Kinds.LineNumber = LineNumber
+style_mark_of Kinds.NoteBullet = NoteBullet
+style_mark_of Kinds.SourceBorder = SourceBorder
+style_mark_of (Kinds.Label severity style) = LabelMark severity style
+
+-- how `Ansi` spells style marks
+abbrev pub ansi_spelling : Styles → Spelling
+ansi_spelling styles = spelling_by styles ansi_style ansi_reset
+
+-- a run: the escape sequences of its style, and its safe text
+abbrev pub run_bytes : Styles → StyledRun → List ℕ
+run_bytes styles run = ansi_spelling styles (style_mark_of run.style) ++ safe_text run.text
+
+-- the runs, one after another
+abbrev pub runs_bytes : Styles → List StyledRun → List ℕ
+runs_bytes styles runs = flat_map (run_bytes styles) runs
+
+-- the sequences before the first run: a terminal is in the style of plain text already
+abbrev pub opening : Styles → Style → List ℕ
+opening styles Kinds.Plain = []
+opening styles style = ansi_spelling styles (style_mark_of style)
+
+-- the text for a terminal
+abbrev pub terminal_text : Styles → List StyledRun → List ℕ
+terminal_text styles [] = []
+terminal_text styles (first ∷ rest) =
+    opening styles first.style ++ safe_text first.text ++ runs_bytes styles rest
+
+-- ---- what a terminal shows
+
+-- what a terminal reads: text, a sequence of styles after its first character or from its
+-- parameters on, or anything else, after which nothing is claimed
+pub data Reading : Type 0 where
+  Text : Reading
+  Escape : Reading
+  Parameters : Reading
+  Unknown : Reading
+
+-- what it reads after the next character: a sequence is an escape character (0x1b), `[` (91),
+-- digits and `;` (59), and `m` (109); any other control character but tab and newline, and each
+-- directional control, is unknown
+abbrev pub next_reading : Reading → ℕ → Reading
+next_reading Text c = if c == 0x1b then Escape else if is_safe c then Text else Unknown
+next_reading Escape c = if c == 91 then Parameters else Unknown
+next_reading Parameters c =
+    if c == 109 then Text else if is_ascii_digit c || (c == 59) then Parameters else Unknown
+next_reading Unknown c = Unknown
+
+-- what it reads after these characters
+abbrev pub reading_after : Reading → List ℕ → Reading
+reading_after reading [] = reading
+reading_after reading (c ∷ cs) = reading_after (next_reading reading c) cs
+
+-- the characters that it shows: those of text outside sequences
+abbrev pub shown : Reading → List ℕ → List ℕ
+shown reading [] = []
+shown Text (c ∷ cs) = if c == 0x1b then shown Escape cs else c ∷ shown (next_reading Text c) cs
+shown reading (c ∷ cs) = shown (next_reading reading c) cs
+
+-- ---- columns
+
+-- a character, and the column where its cells begin
+abbrev pub InColumn : Type 0
+InColumn = ℕ × ℕ
+
+-- the column after a character: a newline ends the row
+abbrev pub column_after : ℕ → ℕ → ℕ → ℕ
+column_after tab column c = if c == 10 then 0 else column + width_at tab column c
+
+-- the characters with their columns, the first one at this column
+abbrev pub columns : ℕ → ℕ → List ℕ → List InColumn
+columns tab column [] = []
+columns tab column (c ∷ cs) = (c, column) ∷ columns tab (column_after tab column c) cs
+
+-- of these the safe characters
+abbrev pub safe_columns : ℕ → ℕ → List ℕ → List InColumn
+safe_columns tab column cs = filter (λ (p : InColumn). is_safe p.0) (columns tab column cs)
+
+-- ---- the whole
+
+-- what a terminal makes of a text for these runs
+pub record ShowsSafe (text : List ℕ) (runs : List StyledRun) : Type 0 where
+  -- no sequence but those of styles, no other control character but tab and newline, and no
+  -- directional control
+  pub after : reading_after Text (chars text) ≡ Text
+  -- it shows the safe characters of the runs
+  pub shows : shown Text (chars text) ≡ safe_characters (characters_of runs)
+  -- each has the column that it has among all characters of the runs
+  pub in_columns : (tab : ℕ)
+      → columns tab 0 (shown Text (chars text)) ≡ safe_columns tab 0 (characters_of runs)
+
+-- each character of the runs is safe
+abbrev pub AreSafe : List StyledRun → Type 0
+AreSafe runs = AllByRecursion (λ (run : StyledRun). safe_text run.text ≡ run.text) runs

@@ -1,0 +1,154 @@
+//! Styled text as an HTML document.
+
+ghost use Rattle.std.specs.Prelude.{◌≡◌, ◌++◌, IfErr, IfOk, OnOk, flat_map, map, string_bytes};
+ghost use Rattle.codespan_documents.specs.Html.{html_character, html_document, html_run, html_text, is_control, is_noncharacter, shown, shown_text, style_class};
+ghost use Rattle.codespan_documents.specs.HtmlReading.{document_parts, html_parts, text_of_html};
+ghost use Rattle.codespan_documents.specs.Runs.{joined, run_view, styled_runs};
+
+use crate::style::Style;
+use crate::text::{Run, StyledText};
+use codespan_base::diagnostic::{LabelStyle, Severity};
+use codespan_base::files::Error;
+use std::alloc::{AllocError, Global};
+
+/// Returns an HTML document of styled text: an element `pre` of the class `diagnostic`, and in it
+/// an element `span` for each run that is not plain, with the class of its style.
+///
+/// The classes are named as the fields of `Styles`: `header-error`, `header-message`,
+/// `primary-label-error`, `secondary-label`, `line-number`, `source-border`, `note-bullet`, and the
+/// like of the other severities.
+///
+/// A text can neither start nor end a tag, an attribute or an entity: each of the characters `&`,
+/// `<`, `>`, `"` and `'` becomes an entity. A control character other than a tab, a newline and a
+/// form feed, and a noncharacter, which HTML text can not hold, become U+FFFD. With its tags taken
+/// out and its entities read back the document is the text.
+///
+/// # Errors
+///
+/// [`Error::OutOfMemory`]: an allocation fails.
+///
+/// # Example
+///
+/// ```rust
+/// let text = styled_text(alloc, &Config::default(), &files, &diagnostic)?;
+/// let html = to_html(alloc, &text)?;
+/// ```
+pub fn to_html(alloc: Global, text: &StyledText) -> Result<String, Error>
+    ensures document { IfOk result (λ html.
+        string_bytes html ≡ html_document (styled_runs text.now)) }
+    ensures parts { IfOk result (λ html.
+        html_parts (string_bytes html) ≡ document_parts (styled_runs text.now)) }
+    ensures text { IfOk result (λ html.
+        text_of_html (string_bytes html) ≡ shown_text (joined (styled_runs text.now))) }
+    ensures failed { IfErr result (λ error. error ≡ Error.OutOfMemory) }
+{
+    let mut html = String::new(alloc);
+    html.push_str("<pre class=\"diagnostic\">\n")?;
+    push_runs(&mut html, text.runs.as_slice())?;
+    html.push_str("</pre>")?;
+    Ok(html)
+}
+
+/// Appends runs.
+fn push_runs(html: &mut String, runs: &[Run]) -> Result<(), AllocError>
+    ensures { OnOk result (string_bytes html.new
+        ≡ string_bytes html.old ++ flat_map html_run (map run_view runs.now)) }
+{
+    for run in runs {
+        push_run(html, run)?;
+    }
+    Ok(())
+}
+
+/// Appends a run.
+fn push_run(html: &mut String, run: &Run) -> Result<(), AllocError>
+    ensures { OnOk result (string_bytes html.new
+        ≡ string_bytes html.old ++ html_run (run_view run.now)) }
+{
+    if run.style.is_plain() {
+        return push_text(html, run.text.as_str());
+    }
+    html.push_str("<span class=\"")?;
+    html.push_str(class_of(run.style))?;
+    html.push_str("\">")?;
+    push_text(html, run.text.as_str())?;
+    html.push_str("</span>")?;
+    Ok(())
+}
+
+/// Appends a text, with entities.
+fn push_text(html: &mut String, text: &str) -> Result<(), AllocError>
+    ensures { OnOk result (string_bytes html.new ≡ string_bytes html.old ++ html_text text.now) }
+{
+    for c in text.chars() {
+        push_character(html, c)?;
+    }
+    Ok(())
+}
+
+/// Appends a character, as an entity where HTML gives it a meaning.
+fn push_character(html: &mut String, c: char) -> Result<(), AllocError>
+    ensures { OnOk result (string_bytes html.new ≡ string_bytes html.old ++ html_character c) }
+{
+    match c {
+        '&' => html.push_str("&amp;"),
+        '<' => html.push_str("&lt;"),
+        '>' => html.push_str("&gt;"),
+        '"' => html.push_str("&quot;"),
+        '\'' => html.push_str("&#39;"),
+        other => html.push(shown(other)),
+    }
+}
+
+/// Returns the character that a document shows.
+fn shown(c: char) -> char
+    ensures { result ≡ shown c }
+{
+    if is_control(c) || is_noncharacter(c) {
+        char::REPLACEMENT_CHARACTER
+    } else {
+        c
+    }
+}
+
+/// Returns whether a character is a control character other than a tab, a newline and a form feed.
+fn is_control(c: char) -> bool
+    ensures { result ≡ is_control c }
+{
+    matches!(c, '\0'..='\x08' | '\x0b' | '\r'..='\x1f' | '\x7f'..='\u{9f}')
+}
+
+/// Returns whether a character is a noncharacter: U+FDD0 to U+FDEF, and the last two of each plane.
+fn is_noncharacter(c: char) -> bool
+    ensures { result ≡ is_noncharacter c }
+{
+    matches!(c, '\u{fdd0}'..='\u{fdef}') || c as u32 % 0x1_0000 >= 0xfffe
+}
+
+/// Returns the class of a style.
+pub(crate) fn class_of(style: Style) -> &'static str
+    ensures { result.now ≡ style_class style }
+{
+    match style {
+        Style::Plain => "",
+        Style::Header(severity) => match severity {
+            Severity::Bug => "header-bug",
+            Severity::Error => "header-error",
+            Severity::Warning => "header-warning",
+            Severity::Note => "header-note",
+            Severity::Help => "header-help",
+        },
+        Style::HeaderMessage => "header-message",
+        Style::LineNumber => "line-number",
+        Style::NoteBullet => "note-bullet",
+        Style::SourceBorder => "source-border",
+        Style::Label(severity, LabelStyle::Primary) => match severity {
+            Severity::Bug => "primary-label-bug",
+            Severity::Error => "primary-label-error",
+            Severity::Warning => "primary-label-warning",
+            Severity::Note => "primary-label-note",
+            Severity::Help => "primary-label-help",
+        },
+        Style::Label(_, LabelStyle::Secondary) => "secondary-label",
+    }
+}

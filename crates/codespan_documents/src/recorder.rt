@@ -1,0 +1,180 @@
+//! A writer of styles that keeps what it receives as runs of text, each in one style.
+
+ghost use Rattle.std.specs.Prelude.{◌≡◌, ◌∷◌, [], MatchResult, OnOk, Some};
+ghost use Rattle.codespan_base.specs.ColorLaw.{AppendsBytes};
+ghost use Rattle.codespan_base.specs.Streams.{bytes};
+ghost use Rattle.codespan_base.specs.WriterLaw.{Writes};
+ghost use Rattle.codespan_base.specs.Writers.{fresh_sink};
+ghost use Rattle.codespan_documents.specs.declared.style.Style.TheVariants.{Plain};
+ghost use Rattle.codespan_documents.specs.Recorded.{recorded_runs, style_number, style_spelling};
+ghost use Rattle.codespan_documents.specs.Runs.{styled_runs};
+
+use crate::style::Style;
+use crate::text::{Run, StyledText};
+use codespan_base::diagnostic::{LabelStyle, Severity};
+use codespan_base::files::Error;
+use codespan_base::term::WriteStyle;
+use std::alloc::Global;
+use std::io::{ErrorKind, Write};
+use std::{io, str};
+
+/// A writer of styles that starts a run at each style mark.
+///
+/// It fails where an allocation does, and at a style mark inside a character.
+#[derive(Debug, Drop)]
+pub struct Recorder {
+    /// The runs before the last one.
+    runs: Vec<Run>,
+    /// The style of the last run.
+    style: Style,
+    /// The bytes of the last run.
+    text: Vec<u8>,
+    /// Whether a call has failed.
+    failed: bool,
+}
+
+impl Recorder {
+    ghost use Rattle.codespan_documents.specs.Recorded.{ended_runs, has_flag, recorded, recorder_sink};
+
+    /// Returns a writer that has received nothing. Its first run is plain.
+    pub fn new(alloc: Global) -> Recorder
+        ensures { recorder_sink result
+            ≡ fresh_sink style_spelling (Some (style_number Plain ∷ [])) }
+    {
+        Recorder {
+            runs: Vec::new(alloc),
+            style: Style::Plain,
+            text: Vec::new(alloc),
+            failed: false,
+        }
+    }
+
+    /// Whether a call has failed.
+    pub fn has_failed(&self) -> bool
+        ensures { result ≡ has_flag self.now }
+    {
+        self.failed
+    }
+
+    /// Returns all runs.
+    ///
+    /// # Errors
+    ///
+    /// [`Error::OutOfMemory`]: an allocation fails, or the last run is not UTF-8.
+    pub fn into_text(mut self) -> Result<StyledText, Error>
+        ensures { MatchResult result
+            (λ text. recorded_runs (styled_runs text) ≡ recorded self)
+            (λ error. error ≡ Error.OutOfMemory) }
+    {
+        match self.push_run(Style::Plain) {
+            Ok(()) => Ok(StyledText { runs: self.runs }),
+            Err(_) => Err(Error::OutOfMemory),
+        }
+    }
+
+    /// Starts a run.
+    ///
+    /// # Errors
+    ///
+    /// Those of [`push_run`](Self::push_run); each sets the flag.
+    fn start(&mut self, style: Style) -> io::Result<()>
+        ensures { Writes (recorder_sink self.old) (bytes (style_number style ∷ [])) result
+            (recorder_sink self.new) }
+    {
+        match self.push_run(style) {
+            Ok(()) => Ok(()),
+            Err(error) => {
+                self.failed = true;
+                Err(error)
+            }
+        }
+    }
+
+    /// Ends the last run and starts one of the style `next`.
+    ///
+    /// # Errors
+    ///
+    /// An allocation fails, or the last run is not UTF-8. Nothing is then changed.
+    fn push_run(&mut self, next: Style) -> io::Result<()>
+        ensures appends { AppendsBytes (Some (recorded self.old)) (style_number next ∷ []) result
+            (Some (recorded self.new)) }
+        ensures runs { OnOk result (recorded_runs (ended_runs self.new) ≡ recorded self.old) }
+        ensures flag { has_flag self.new ≡ has_flag self.old }
+    {
+        let Ok(bytes) = str::from_utf8(self.text.as_slice()) else {
+            return Err(io::Error::from(ErrorKind::InvalidData));
+        };
+        let mut text = String::new(*self.runs.allocator());
+        text.push_str(bytes)?;
+        let style = self.style;
+        self.runs.push(Run { style, text })?;
+        self.text.clear();
+        self.style = next;
+        Ok(())
+    }
+}
+
+impl Write for Recorder {
+    ghost use Rattle.codespan_documents.specs.Recorded.{recorded};
+
+    ghost contents = { λ recorder. Some (recorded recorder) };
+
+    fn write(&mut self, buf: &[u8]) -> io::Result<usize> {
+        match self.text.extend_from_slice(buf) {
+            Ok(()) => Ok(buf.len()),
+            Err(_) => Err(io::Error::from(ErrorKind::OutOfMemory)),
+        }
+    }
+
+    fn flush(&mut self) -> io::Result<()> {
+        Ok(())
+    }
+}
+
+#[tactic(auto, using(codespan_base::proofs::StyleMarks::marking))]
+impl WriteStyle for Recorder {
+    ghost use Rattle.std.specs.Prelude.{refl};
+    ghost use Rattle.codespan_documents.specs.Recorded.{recorder_sink};
+
+    ghost sink = { recorder_sink };
+
+    fn set_header(&mut self, severity: Severity) -> io::Result<()> {
+        self.start(Style::Header(severity))
+    }
+
+    fn set_header_message(&mut self) -> io::Result<()> {
+        self.start(Style::HeaderMessage)
+    }
+
+    fn set_line_number(&mut self) -> io::Result<()> {
+        self.start(Style::LineNumber)
+    }
+
+    fn set_note_bullet(&mut self) -> io::Result<()> {
+        self.start(Style::NoteBullet)
+    }
+
+    fn set_source_border(&mut self) -> io::Result<()> {
+        self.start(Style::SourceBorder)
+    }
+
+    fn set_label(&mut self, severity: Severity, label_style: LabelStyle) -> io::Result<()> {
+        self.start(Style::Label(severity, label_style))
+    }
+
+    fn reset(&mut self) -> io::Result<()> {
+        self.start(Style::Plain)
+    }
+
+    fn put(&mut self, bytes: &[u8]) -> io::Result<usize> {
+        match self.text.extend_from_slice(bytes) {
+            Ok(()) => Ok(bytes.len()),
+            Err(_) => {
+                self.failed = true;
+                Err(io::Error::from(ErrorKind::OutOfMemory))
+            }
+        }
+    }
+
+    ghost holds_contents = { λ _. refl };
+}

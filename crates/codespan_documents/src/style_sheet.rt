@@ -1,0 +1,174 @@
+//! The style sheet of documents.
+
+ghost use Rattle.std.specs.Prelude.{◌≡◌, ◌++◌, IfErr, IfOk, OnOk, flat_map, if◌then◌else◌, string_bytes};
+ghost use Rattle.codespan_documents.specs.StyleSheet.{bright_color, color_declaration, declarations, normal_color, rule, spec_of, style_sheet, weight_declaration};
+
+use crate::html::class_of;
+use crate::style::Style;
+use codespan_base::diagnostic::{LabelStyle, Severity};
+use codespan_base::files::Error;
+use codespan_base::term::{Color, ColorSpec, Styles};
+use std::alloc::{AllocError, Global};
+
+/// A style of each class.
+const CLASSED_STYLES: [Style; 15] = [
+    Style::Header(Severity::Bug),
+    Style::Header(Severity::Error),
+    Style::Header(Severity::Warning),
+    Style::Header(Severity::Note),
+    Style::Header(Severity::Help),
+    Style::HeaderMessage,
+    Style::Label(Severity::Bug, LabelStyle::Primary),
+    Style::Label(Severity::Error, LabelStyle::Primary),
+    Style::Label(Severity::Warning, LabelStyle::Primary),
+    Style::Label(Severity::Note, LabelStyle::Primary),
+    Style::Label(Severity::Help, LabelStyle::Primary),
+    Style::Label(Severity::Error, LabelStyle::Secondary),
+    Style::LineNumber,
+    Style::SourceBorder,
+    Style::NoteBullet,
+];
+
+/// Returns a style sheet for the documents of [`to_html`](crate::to_html): a rule for each class,
+/// with the colors and the weight that `styles` has for it.
+///
+/// The colors are those of a terminal, on a ground that is the page's: `Styles::default` is meant
+/// for a dark one.
+///
+/// # Errors
+///
+/// [`Error::OutOfMemory`]: an allocation fails.
+///
+/// # Example
+///
+/// ```rust
+/// let css = html_styles(alloc, &Styles::default())?;
+/// ```
+pub fn html_styles(alloc: Global, styles: &Styles) -> Result<String, Error>
+    ensures css_text { IfOk result (λ css. string_bytes css ≡ style_sheet styles.now) }
+    ensures failed { IfErr result (λ error. error ≡ Error.OutOfMemory) }
+{
+    let mut css = String::new(alloc);
+    push_rules(&mut css, styles, &CLASSED_STYLES)?;
+    Ok(css)
+}
+
+/// Appends the rules of the classes of some styles.
+fn push_rules(css: &mut String, styles: &Styles, classed: &[Style]) -> Result<(), AllocError>
+    ensures { OnOk result (string_bytes css.new
+        ≡ string_bytes css.old ++ flat_map (rule styles.now) classed.now) }
+{
+    for style in classed {
+        push_rule(css, styles, *style)?;
+    }
+    Ok(())
+}
+
+/// Appends the rule of the class of a style.
+fn push_rule(css: &mut String, styles: &Styles, style: Style) -> Result<(), AllocError>
+    ensures { OnOk result (string_bytes css.new ≡ string_bytes css.old ++ rule styles.now style) }
+{
+    css.push_str(".diagnostic .")?;
+    css.push_str(class_of(style))?;
+    css.push_str(" { ")?;
+    push_declarations(css, spec_of(styles, style))?;
+    css.push_str("}\n")?;
+    Ok(())
+}
+
+/// Appends the declarations of a style of a terminal.
+fn push_declarations(css: &mut String, spec: ColorSpec) -> Result<(), AllocError>
+    ensures { OnOk result (string_bytes css.new ≡ string_bytes css.old ++ declarations spec) }
+{
+    push_color(css, "color: ", spec.intense, spec.fg)?;
+    push_color(css, "background-color: ", spec.intense, spec.bg)?;
+    push_weight(css, spec.bold)?;
+    Ok(())
+}
+
+/// Appends the declaration of bold text, where it is bold.
+fn push_weight(css: &mut String, bold: bool) -> Result<(), AllocError>
+    ensures { OnOk result (string_bytes css.new ≡ string_bytes css.old ++ weight_declaration bold) }
+{
+    if bold {
+        css.push_str("font-weight: bold; ")?;
+    }
+    Ok(())
+}
+
+/// Appends a color as a declaration, where there is one.
+fn push_color(
+    css: &mut String,
+    property: &str,
+    intense: bool,
+    color: Option<Color>,
+) -> Result<(), AllocError>
+    ensures { OnOk result (string_bytes css.new
+        ≡ string_bytes css.old ++ color_declaration property.now intense color) }
+{
+    let Some(color) = color else {
+        return Ok(());
+    };
+    css.push_str(property)?;
+    css.push_str(color_code(intense, color))?;
+    css.push_str("; ")?;
+    Ok(())
+}
+
+/// Returns a color as a style sheet names it.
+fn color_code(intense: bool, color: Color) -> &'static str
+    ensures { result.now ≡ (if intense then bright_color color else normal_color color) }
+{
+    if intense {
+        bright_color(color)
+    } else {
+        normal_color(color)
+    }
+}
+
+/// Returns a color of a terminal.
+fn normal_color(color: Color) -> &'static str
+    ensures { result.now ≡ normal_color color }
+{
+    match color {
+        Color::Black => "#000000",
+        Color::Red => "#cd0000",
+        Color::Green => "#00cd00",
+        Color::Yellow => "#cdcd00",
+        Color::Blue => "#0000ee",
+        Color::Magenta => "#cd00cd",
+        Color::Cyan => "#00cdcd",
+        Color::White => "#e5e5e5",
+    }
+}
+
+/// Returns the bright color of a terminal.
+fn bright_color(color: Color) -> &'static str
+    ensures { result.now ≡ bright_color color }
+{
+    match color {
+        Color::Black => "#7f7f7f",
+        Color::Red => "#ff0000",
+        Color::Green => "#00ff00",
+        Color::Yellow => "#ffff00",
+        Color::Blue => "#5c5cff",
+        Color::Magenta => "#ff00ff",
+        Color::Cyan => "#00ffff",
+        Color::White => "#ffffff",
+    }
+}
+
+/// Returns the style of a terminal that a style has.
+pub(crate) fn spec_of(styles: &Styles, style: Style) -> ColorSpec
+    ensures { result ≡ spec_of styles.now style }
+{
+    match style {
+        Style::Plain => ColorSpec::new(),
+        Style::Header(severity) => *styles.header(severity),
+        Style::HeaderMessage => styles.header_message,
+        Style::LineNumber => styles.line_number,
+        Style::NoteBullet => styles.note_bullet,
+        Style::SourceBorder => styles.source_border,
+        Style::Label(severity, label_style) => *styles.label(severity, label_style),
+    }
+}

@@ -1,0 +1,18 @@
+//! Laws of SVG documents, one to a function that does nothing: its contract is the law, over the
+//! definitions alone.
+
+ghost use Rattle.std.specs.Prelude.{◌≡◌, ℕ, List, flat_map};
+ghost use Rattle.codespan_base.specs.declared.term.config.styles.Styles.{Styles};
+ghost use Rattle.codespan_documents.specs.Glyphs.{glyphs_of, start};
+ghost use Rattle.codespan_documents.specs.Runs.{StyledRun};
+ghost use Rattle.codespan_documents.specs.Svg.{first_pen};
+ghost use Rattle.codespan_documents.specs.SvgReading.{cells_of_piece, pieces_from, shown_cells};
+
+/// States that the texts of a document have each character but newlines once, in the order of the
+/// runs, in its ink, and, counted from where the text begins, in the cell that it has among all
+/// characters.
+pub fn characters_are_in_their_cells()
+    ensures { (styles : Styles) (runs : List StyledRun) →
+        flat_map cells_of_piece (pieces_from first_pen (glyphs_of styles runs))
+        ≡ shown_cells start (glyphs_of styles runs) }
+{}
