@@ -1,6 +1,10 @@
-use Rattle.std.proofs.Common.{rules}
+use Rattle.std.proofs.Common.{rules, arith}
+use Rattle.std.proofs.lemmas.Grind.{common_steps}
 use Rattle.codespan_files.proofs.diagnostic.Diagnostic.with_note.Goals as goal
 
 -- the list after the call is the old one with the note at its end
 pub returns-clause-added : goal.returns-clause-added
 returns-clause-added g c = (c.in_ok-text.text, search rules depth 2 fits 100)
+
+pub returns-clause-note : goal.returns-clause-note
+returns-clause-note g c = grind (arith, common_steps)

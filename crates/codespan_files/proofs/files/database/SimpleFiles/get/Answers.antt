@@ -1,6 +1,8 @@
 use Rattle.std.proofs.Common.{◌<◌, ◌≤◌, length, ap, refl, ◌∙◌, arith}
 use Rattle.std.specs.Option.{option_map}
+use Rattle.std.proofs.lemmas.Bool.{false≢true}
 use Rattle.std.proofs.lemmas.Bool.Decides.{nat_tests}
+use Rattle.std.proofs.lemmas.List.{length-map}
 use Rattle.std.proofs.lemmas.Option.{slice_get-map, slice_get_past, slice_get_read}
 use Rattle.codespan_files.proofs.files.database.SimpleFiles.get.Goals as goal
 
@@ -14,3 +16,10 @@ pub returns-in-None-clause-missing : goal.returns-in-None-clause-missing
 returns-in-None-clause-missing g c =
     let past : length c.args.self.now.files.items ≤ c.args.id = grind (arith, nat_tests, c.deref.ensures.len, c.in-None.ensures.lookup.0) in
     (slice_get-map _ c.args.self.now.files.items c.args.id ∙ ap (option_map _) (slice_get_past _ _ past), refl)
+
+-- the bounds of the list are those of the entries
+pub returns-in-Some-clause-there : goal.returns-in-Some-clause-there
+returns-in-Some-clause-there g c = (λ _. simp length-map (grind (arith, nat_tests, c.deref.ensures.len, c.in-Some.ensures.lookup.0)), λ _. refl)
+
+pub returns-in-None-clause-there : goal.returns-in-None-clause-there
+returns-in-None-clause-there g c = (λ some. absurd (false≢true some), λ within. absurd (grind (arith, nat_tests, length-map, c.deref.ensures.len, c.in-None.ensures.lookup.0)))

@@ -19,3 +19,10 @@ returns-in-Err-clause-value g c =
     let is = setting_in_gap _ _ _ gap (omega arith) in
     let read = get_or_default c.args.self.now.numbers.items (c.in-Err.at - 1) c.index-in-Err.result.now (0, 0) (omega (arith, gap.in_range)) in
     grind (arith)
+
+pub returns-in-Err-clause-below : goal.returns-in-Err-clause-below
+returns-in-Err-clause-below g c =
+    let gap = c.in-Err.ensures.absent in
+    let less = gap.smaller_before (c.in-Err.at - 1) (omega arith) in
+    let read = get_or_default c.args.self.now.numbers.items (c.in-Err.at - 1) c.index-in-Err.result.now (0, 0) (omega (arith, gap.in_range)) in
+    grind (arith)
