@@ -6,11 +6,11 @@ ghost use Rattle.codespan_native.specs.Meaning.{Means, NoLookupFails, output_byt
 ghost use Rattle.codespan_structs.specs.Results.{IsTooSmall, IsUnchanged, IsWritten};
 ghost use Rattle.codespan_structs.specs.Validity.{AreValid, FirstInvalidIs, NamesFirstInvalid, no_detail};
 
+use crate::render::render;
 use codespan_structs::buffer::copy_out;
 use codespan_structs::convert::{convert_config, convert_diagnostic, convert_files};
 use codespan_structs::error::OutOfMemory;
 use codespan_structs::raw::{Detail, RawConfig, RawDiagnostic, RawFile};
-use crate::render::render;
 use codespan_structs::status::{NO_ARGUMENT, OUT_OF_MEMORY, status_for};
 use codespan_structs::validate::first_invalid;
 use std::alloc::Global;

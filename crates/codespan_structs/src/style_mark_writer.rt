@@ -6,9 +6,9 @@ ghost use Rattle.codespan_base.specs.Streams.{bytes};
 ghost use Rattle.codespan_base.specs.WriterLaw.{Writes};
 ghost use Rattle.codespan_structs.specs.StyleMarkBytes.{style_mark_bytes, style_mark_sink};
 
-use codespan_base::term::config::writing::{forward_all, forward_put};
 use codespan_base::diagnostic::{LabelStyle, Severity};
 use codespan_base::term::WriteStyle;
+use codespan_base::term::config::writing::{forward_all, forward_put};
 use std::io;
 use std::io::Write;
 
