@@ -6,7 +6,7 @@ use Rattle.codespan_files.specs.declared.files.Location.{Location}
 -- a file; line i runs from its start to its end, and has a number
 pub record FileModel : Type 0 where
   -- whether its id names a file
-  pub there : Bool
+  pub exists : Bool
   -- the text that the name's Display states, if it states one
   pub name : Option (List ℕ)
   -- its bytes

@@ -38,8 +38,8 @@ pub record IsLawful (f : FileModel) : Type 0 where
   pub ends_before : (i : ℕ) → i + 1 < length f.starts
       → slice_index f.ends i ≤ slice_index f.starts (i + 1)
   pub one_end : length f.ends ≡ length f.starts
-  pub missing_name : f.there ≡ false → f.name ≡ Some []
-  pub missing_text : f.there ≡ false → f.text ≡ []
+  pub missing_name : f.exists ≡ false → f.name ≡ Some []
+  pub missing_text : f.exists ≡ false → f.text ≡ []
 
 -- the error is that of a line past the last
 abbrev pub IsLineTooLarge : Error → Type 0
@@ -53,7 +53,7 @@ IsPastEndError (Some e) = IsLineTooLarge e
 
 -- of a file that exists, a line fails so exactly where it is past the last
 abbrev pub FailsPastEnd : FileModel → ℕ → Option Error → Type 0
-FailsPastEnd f i o = f.there ≡ true → IsPastEndError o ↔ (length f.starts ≤ i)
+FailsPastEnd f i o = f.exists ≡ true → IsPastEndError o ↔ (length f.starts ≤ i)
 
 -- the column of a byte on line i, counted from 0
 abbrev pub column_of : FileModel → ℕ → ℕ → ℕ

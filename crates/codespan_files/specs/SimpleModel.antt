@@ -29,7 +29,7 @@ simple_location text byte =
 -- the file of a name and a text
 abbrev pub simple_file : Option (List ℕ) → List ℕ → FileModel
 simple_file name text = record {
-  there = true;
+  exists = true;
   name = name;
   text = text;
   starts = line_starts_of text;
@@ -55,7 +55,7 @@ simple_failure text _ = None
 -- the file of an id that names none
 abbrev pub missing_file : FileModel
 missing_file = record {
-  there = false;
+  exists = false;
   name = Some [];
   text = [];
   starts = 0 ∷ [];

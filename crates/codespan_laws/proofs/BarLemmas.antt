@@ -6,7 +6,7 @@ use Rattle.codespan_base.specs.FileModel.{FileModel, line_start, line_text}
 use Rattle.codespan_base.specs.declared.term.config.Layout.{Layout}
 use Rattle.codespan_base.specs.Labels.{LabelModel, first_line, last_line, part_on, lane_mark_of, lane_marks_on, multi_labels, LaneMark, MultiLabel, Top, Left, Bottom}
 use Rattle.codespan_picture.specs.declared.lanes.Shape.{Shape}
-use Rattle.codespan_picture.specs.declared.lanes.Shape.TheVariants.{Gap, Bar, TopCorner}
+use Rattle.codespan_picture.specs.declared.lanes.Shape.TheVariants.{Space, Bar, TopCorner}
 use Rattle.codespan_picture.specs.Lanes.{source_shape, plain_shape, lane_mark_in, shape_of}
 use Rattle.codespan_laws.specs.LaneLaws.{shape_in, HasLane, IsCovered}
 use Rattle.codespan_picture.specs.Rows.{SourceRow, BreakRow}
@@ -90,7 +90,7 @@ module _ (shape : MultiLabel → Shape) (at_top : (start : ℕ) → shape (Top s
 no_bar_in_top : (leading start : ℕ) → source_shape leading (Top start) ≡ Bar → ⊥
 no_bar_in_top leading start bar = by_test (nat_le start leading) bar
   where
-    by_test : (b : Bool) → (if b then TopCorner else Gap) ≡ Bar → ⊥
+    by_test : (b : Bool) → (if b then TopCorner else Space) ≡ Bar → ⊥
     by_test true bar = cc
     by_test false bar = cc
 

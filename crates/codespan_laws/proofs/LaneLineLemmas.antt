@@ -6,7 +6,7 @@ use Rattle.std.proofs.lemmas.List.{length-append}
 use Rattle.codespan_base.specs.declared.term.config.Layout.{Layout}
 use Rattle.codespan_base.specs.Labels.{LabelModel, first_line}
 use Rattle.codespan_picture.specs.declared.lanes.Shape.{Shape}
-use Rattle.codespan_picture.specs.declared.lanes.Shape.TheVariants.{Gap, Bar, TopCorner, BottomCorner}
+use Rattle.codespan_picture.specs.declared.lanes.Shape.TheVariants.{Space, Bar, TopCorner, BottomCorner}
 use Rattle.codespan_picture.specs.Lanes.{is_unbroken}
 use Rattle.codespan_picture.specs.Rows.{Line, Row, SourceRow}
 use Rattle.codespan_picture.specs.Snippets.{LabeledFileModel, line_at}
@@ -73,7 +73,7 @@ Shows layout lane shape row = shape_in layout row lane ≡ shape
 
 -- a row of the line leaves the lane out below a top corner in the source row
 pub record LeftOut (layout : Layout) (lane : ℕ) (line : Line) (top row : Row) : Type 0 where
-  pub is_gap : shape_in layout row lane ≡ Gap
+  pub is_gap : shape_in layout row lane ≡ Space
   pub is_classic : is_unbroken layout ≡ false
   pub begins_in_source_row : top ≡ SourceRow line
   pub is_of_line : line_of_row row ≡ Some line
@@ -88,7 +88,7 @@ pub record Begins (layout : Layout) (lane : ℕ) (line : Line) (rows : List Row)
   pub top : Row
   pub more : List Row
   pub rows_are : rows ≡ before ++ (top ∷ more)
-  pub gaps : AllByRecursion (Shows layout lane Gap) before
+  pub gaps : AllByRecursion (Shows layout lane Space) before
   pub top_corner : Shows layout lane TopCorner top
   pub goes_on : AllByRecursion (GoesOn layout lane line top) more
 
@@ -100,7 +100,7 @@ pub record Finishes (layout : Layout) (lane : ℕ) (rows : List Row) : Type 0 wh
   pub rows_are : rows ≡ before ++ (bottom ∷ after)
   pub bars : AllByRecursion (Shows layout lane Bar) before
   pub bottom_corner : Shows layout lane BottomCorner bottom
-  pub gaps : AllByRecursion (Shows layout lane Gap) after
+  pub gaps : AllByRecursion (Shows layout lane Space) after
 
 -- rows with the whole lane
 pub record Whole (layout : Layout) (lane : ℕ) (line : Line) (rows : List Row) : Type 0 where
@@ -110,11 +110,11 @@ pub record Whole (layout : Layout) (lane : ℕ) (line : Line) (rows : List Row) 
   pub bottom : Row
   pub after : List Row
   pub rows_are : rows ≡ before ++ (top ∷ (middle ++ (bottom ∷ after)))
-  pub gaps_before : AllByRecursion (Shows layout lane Gap) before
+  pub gaps_before : AllByRecursion (Shows layout lane Space) before
   pub top_corner : Shows layout lane TopCorner top
   pub goes_on : AllByRecursion (GoesOn layout lane line top) middle
   pub bottom_corner : Shows layout lane BottomCorner bottom
-  pub gaps_after : AllByRecursion (Shows layout lane Gap) after
+  pub gaps_after : AllByRecursion (Shows layout lane Space) after
 
 pub finishes_later : (layout : Layout) (lane : ℕ) (xs ys : List Row) → AllByRecursion (Shows layout lane Bar) xs → Finishes layout lane ys → Finishes layout lane (xs ++ ys)
 finishes_later layout lane xs ys bars r = record {
@@ -127,7 +127,7 @@ finishes_later layout lane xs ys bars r = record {
   gaps = r.gaps;
 }
 
-pub finishes_before : (layout : Layout) (lane : ℕ) (xs ys : List Row) → Finishes layout lane xs → AllByRecursion (Shows layout lane Gap) ys → Finishes layout lane (xs ++ ys)
+pub finishes_before : (layout : Layout) (lane : ℕ) (xs ys : List Row) → Finishes layout lane xs → AllByRecursion (Shows layout lane Space) ys → Finishes layout lane (xs ++ ys)
 finishes_before layout lane xs ys r gaps = record {
   before = r.before;
   bottom = r.bottom;
@@ -135,10 +135,10 @@ finishes_before layout lane xs ys r gaps = record {
   rows_are = ap (λ t. t ++ ys) r.rows_are ∙ append_assoc r.before (r.bottom ∷ r.after) ys;
   bars = r.bars;
   bottom_corner = r.bottom_corner;
-  gaps = all-append (Shows layout lane Gap) r.after ys r.gaps gaps;
+  gaps = all-append (Shows layout lane Space) r.after ys r.gaps gaps;
 }
 
-pub whole_later : (layout : Layout) (lane : ℕ) (line : Line) (xs ys : List Row) → AllByRecursion (Shows layout lane Gap) xs → Whole layout lane line ys → Whole layout lane line (xs ++ ys)
+pub whole_later : (layout : Layout) (lane : ℕ) (line : Line) (xs ys : List Row) → AllByRecursion (Shows layout lane Space) xs → Whole layout lane line ys → Whole layout lane line (xs ++ ys)
 whole_later layout lane line xs ys gaps r = record {
   before = xs ++ r.before;
   top = r.top;
@@ -146,14 +146,14 @@ whole_later layout lane line xs ys gaps r = record {
   bottom = r.bottom;
   after = r.after;
   rows_are = ap (λ t. xs ++ t) r.rows_are ∙ sym (append_assoc xs r.before (r.top ∷ (r.middle ++ (r.bottom ∷ r.after))));
-  gaps_before = all-append (Shows layout lane Gap) xs r.before gaps r.gaps_before;
+  gaps_before = all-append (Shows layout lane Space) xs r.before gaps r.gaps_before;
   top_corner = r.top_corner;
   goes_on = r.goes_on;
   bottom_corner = r.bottom_corner;
   gaps_after = r.gaps_after;
 }
 
-pub whole_before : (layout : Layout) (lane : ℕ) (line : Line) (xs ys : List Row) → Whole layout lane line xs → AllByRecursion (Shows layout lane Gap) ys → Whole layout lane line (xs ++ ys)
+pub whole_before : (layout : Layout) (lane : ℕ) (line : Line) (xs ys : List Row) → Whole layout lane line xs → AllByRecursion (Shows layout lane Space) ys → Whole layout lane line (xs ++ ys)
 whole_before layout lane line xs ys r gaps = record {
   before = r.before;
   top = r.top;
@@ -166,7 +166,7 @@ whole_before layout lane line xs ys r gaps = record {
   top_corner = r.top_corner;
   goes_on = r.goes_on;
   bottom_corner = r.bottom_corner;
-  gaps_after = all-append (Shows layout lane Gap) r.after ys r.gaps_after gaps;
+  gaps_after = all-append (Shows layout lane Space) r.after ys r.gaps_after gaps;
 }
 
 pub whole_joined : (layout : Layout) (lane : ℕ) (line : Line) (xs ys : List Row) → Begins layout lane line xs → Finishes layout lane ys → Whole layout lane line (xs ++ ys)
@@ -204,11 +204,11 @@ one_line layout s rows lane x w = record {
       in
       by_kind k r.0 is r.1.1;
   before = λ k low.
-      let r = each_at (Shows layout lane Gap) w.before k w.gaps_before low in
+      let r = each_at (Shows layout lane Space) w.before k w.gaps_before low in
       ap (λ t. show (slice_get t k)) w.rows_are ∙ ap show (get_left w.before (w.top ∷ below) k low ∙ r.1.0) ∙ ap Some r.1.1;
   after = λ k low high.
       let j : ℕ = k - at_bottom - 1 in
-      let r = each_at (Shows layout lane Gap) w.after j w.gaps_after (omega (arith, long)) in
+      let r = each_at (Shows layout lane Space) w.after j w.gaps_after (omega (arith, long)) in
       let is : slice_get rows k ≡ Some r.0 =
       ap (λ t. slice_get t k) w.rows_are ∙ get_right w.before (w.top ∷ below) k (suc (length w.middle + suc j)) (omega arith)
       ∙ get_right w.middle (w.bottom ∷ w.after) (length w.middle + suc j) (suc j) refl ∙ r.1.0

@@ -9,7 +9,7 @@ use Rattle.codespan_base.specs.declared.diagnostic.LabelStyle.{LabelStyle}
 use Rattle.codespan_base.specs.Streams.{Stream}
 use Rattle.codespan_base.specs.Labels.{LabelModel, LaneMark, MultiLabel, Top, Left, Bottom}
 use Rattle.codespan_picture.specs.declared.lanes.Shape.{Shape}
-use Rattle.codespan_picture.specs.declared.lanes.Shape.TheVariants.{Gap, Bar, TopCorner, BottomCorner}
+use Rattle.codespan_picture.specs.declared.lanes.Shape.TheVariants.{Space, Bar, TopCorner, BottomCorner}
 use Rattle.codespan_picture.specs.Lanes.{source_shape, below_shape, underline_shape, lane_mark_in, is_unbroken, begins_in_source_row, shape_of}
 use Rattle.codespan_laws.specs.LaneLaws.{shape_in}
 use Rattle.codespan_picture.specs.Rows.{Line, Row, SourceRow, CaretRow, PointerRow, HangingRow, UnderlineRow, caret_rows, hanging_rows, hanging, underline_rows, rows_of, has_underline}
@@ -56,10 +56,10 @@ each_after_source P line a b d e =
 abbrev pub lane_mark_with : ℕ → LabelStyle → MultiLabel → LaneMark
 lane_mark_with lane style part = record { lane = lane; style = style; part = part }
 
-pub no_lane_mark : (layout : Layout) (lane : ℕ) (line : Line) → lane_mark_in line.lanes.marks lane ≡ None → AllByRecursion (Shows layout lane Gap) (rows_of line)
+pub no_lane_mark : (layout : Layout) (lane : ℕ) (line : Line) → lane_mark_in line.lanes.marks lane ≡ None → AllByRecursion (Shows layout lane Space) (rows_of line)
 no_lane_mark layout lane line none = (
   ap (shape_of (source_shape (leading_of line))) none,
-  each_after_source (Shows layout lane Gap) line
+  each_after_source (Shows layout lane Space) line
       (ap (shape_of (below_shape layout (leading_of line))) none)
       (ap (shape_of (below_shape layout (leading_of line))) none)
       (λ y. ap (shape_of (below_shape layout (leading_of line))) none)
@@ -118,9 +118,9 @@ bottom_lane_mark layout lane line style end message is r = record {
   );
   bottom_corner =
       let same : (lane == lane) ≡ true = grind (arith, nat_tests) in
-      shown m ∙ ap (λ b. cond b BottomCorner (cond (nat_lt lane lane) Gap Bar)) same;
-  gaps = each_under (Shows layout lane Gap) line r.high
-      (all-weaker (λ (o : LaneMark). lane < o.lane) (λ o. Shows layout lane Gap (UnderlineRow line o)) on_high r.high r.above);
+      shown m ∙ ap (λ b. cond b BottomCorner (cond (nat_lt lane lane) Space Bar)) same;
+  gaps = each_under (Shows layout lane Space) line r.high
+      (all-weaker (λ (o : LaneMark). lane < o.lane) (λ o. Shows layout lane Space (UnderlineRow line o)) on_high r.high r.above);
 }
   where
     m : LaneMark
@@ -139,24 +139,24 @@ bottom_lane_mark layout lane line style end message is r = record {
             let later : nat_lt lane corner_lane ≡ false = grind (arith, nat_tests) in
             e ∙ simp (other, later)
 
-    on_high : (o : LaneMark) → lane < o.lane → Shows layout lane Gap (UnderlineRow line o)
+    on_high : (o : LaneMark) → lane < o.lane → Shows layout lane Space (UnderlineRow line o)
     on_high o h = bottom_high layout lane (leading_of line) o.lane end message h (shown o)
       where
         bottom_high : (layout : Layout) (lane leading corner_lane end : ℕ) (message : Stream) {v : Shape} → lane < corner_lane
-            → v ≡ underline_shape layout leading corner_lane lane (Bottom end message) → v ≡ Gap
+            → v ≡ underline_shape layout leading corner_lane lane (Bottom end message) → v ≡ Space
         bottom_high layout lane leading corner_lane end message h e =
             let other : (lane == corner_lane) ≡ false = grind (arith, nat_tests) in
             let later : nat_lt lane corner_lane ≡ true = grind (arith, nat_tests) in
             e ∙ simp (other, later)
 
 -- an underline row left or right of the lane's own
-top_low : (lane corner_lane : ℕ) {v : Shape} → corner_lane < lane → v ≡ cond (lane == corner_lane) TopCorner (cond (nat_lt lane corner_lane) Bar Gap) → v ≡ Gap
+top_low : (lane corner_lane : ℕ) {v : Shape} → corner_lane < lane → v ≡ cond (lane == corner_lane) TopCorner (cond (nat_lt lane corner_lane) Bar Space) → v ≡ Space
 top_low lane corner_lane h e =
     let other : (lane == corner_lane) ≡ false = grind (arith, nat_tests) in
     let later : nat_lt lane corner_lane ≡ false = grind (arith, nat_tests) in
     e ∙ simp (other, later)
 
-top_high : (lane corner_lane : ℕ) {v : Shape} → lane < corner_lane → v ≡ cond (lane == corner_lane) TopCorner (cond (nat_lt lane corner_lane) Bar Gap) → v ≡ Bar
+top_high : (lane corner_lane : ℕ) {v : Shape} → lane < corner_lane → v ≡ cond (lane == corner_lane) TopCorner (cond (nat_lt lane corner_lane) Bar Space) → v ≡ Bar
 top_high lane corner_lane h e =
     let other : (lane == corner_lane) ≡ false = grind (arith, nat_tests) in
     let later : nat_lt lane corner_lane ≡ true = grind (arith, nat_tests) in
@@ -173,7 +173,7 @@ top_early layout lane line style start is r early = record {
   more = below_rows line ++ underline_rows line;
   rows_are = refl;
   gaps = tt;
-  top_corner = ap (shape_of (source_shape (leading_of line))) is ∙ ap (λ b. cond b TopCorner Gap) early;
+  top_corner = ap (shape_of (source_shape (leading_of line))) is ∙ ap (λ b. cond b TopCorner Space) early;
   goes_on = by_layout layout;
 }
   where
@@ -187,10 +187,10 @@ top_early layout lane line style start is r early = record {
         ap (λ t. map (UnderlineRow line) (filter (is_underlined line) t)) r.is
         ∙ split_off (UnderlineRow line) (is_underlined line) r.low m r.high (ap not early)
 
-    gap : shape_of (below_shape Classic (leading_of line)) (lane_mark_in line.lanes.marks lane) ≡ Gap
+    gap : shape_of (below_shape Classic (leading_of line)) (lane_mark_in line.lanes.marks lane) ≡ Space
     gap = ap (shape_of (below_shape Classic (leading_of line))) is
 
-    shown : (o : LaneMark) → shape_in Classic (UnderlineRow line o) lane ≡ cond (lane == o.lane) TopCorner (cond (nat_lt lane o.lane) Bar Gap)
+    shown : (o : LaneMark) → shape_in Classic (UnderlineRow line o) lane ≡ cond (lane == o.lane) TopCorner (cond (nat_lt lane o.lane) Bar Space)
     shown o = ap (shape_of (underline_shape Classic (leading_of line) o.lane lane)) is
 
     on_low : (o : LaneMark) → o.lane < lane → GoesOn Classic lane line (SourceRow line) (UnderlineRow line o)
@@ -213,23 +213,23 @@ top_early layout lane line style start is r early = record {
         (all-weaker (λ (o : LaneMark). lane < o.lane) (λ o. GoesOn Classic lane line (SourceRow line) (UnderlineRow line o)) on_high r.high r.above))))
     by_layout Unbroken =
         each_after_source (GoesOn Unbroken lane line (SourceRow line)) line
-        (inl (ap (shape_of (below_shape Unbroken (leading_of line))) is ∙ ap (λ b. cond b Bar Gap) early))
-        (inl (ap (shape_of (below_shape Unbroken (leading_of line))) is ∙ ap (λ b. cond b Bar Gap) early))
-        (λ y. inl (ap (shape_of (below_shape Unbroken (leading_of line))) is ∙ ap (λ b. cond b Bar Gap) early))
+        (inl (ap (shape_of (below_shape Unbroken (leading_of line))) is ∙ ap (λ b. cond b Bar Space) early))
+        (inl (ap (shape_of (below_shape Unbroken (leading_of line))) is ∙ ap (λ b. cond b Bar Space) early))
+        (λ y. inl (ap (shape_of (below_shape Unbroken (leading_of line))) is ∙ ap (λ b. cond b Bar Space) early))
         (λ m. inl (ap (shape_of (underline_shape Unbroken (leading_of line) m.lane lane)) is
-        ∙ ap (λ b. cond b Bar (cond (lane == m.lane) TopCorner (cond (nat_lt lane m.lane) Bar Gap))) early))
+        ∙ ap (λ b. cond b Bar (cond (lane == m.lane) TopCorner (cond (nat_lt lane m.lane) Bar Space))) early))
 
 -- nothing goes on from a corner that is not in the source row
 late : (layout : Layout) (leading start : ℕ) → begins_in_source_row leading start ≡ false → (is_unbroken layout && begins_in_source_row leading start) ≡ false
 late layout leading start h = ap (λ b. is_unbroken layout && b) h ∙ and-false (is_unbroken layout)
 
-late_below : (layout : Layout) (leading start : ℕ) → begins_in_source_row leading start ≡ false → below_shape layout leading (Top start) ≡ Gap
-late_below layout leading start h = ap (λ b. cond b Bar Gap) (late layout leading start h)
+late_below : (layout : Layout) (leading start : ℕ) → begins_in_source_row leading start ≡ false → below_shape layout leading (Top start) ≡ Space
+late_below layout leading start h = ap (λ b. cond b Bar Space) (late layout leading start h)
 
 late_underline : (layout : Layout) (leading corner_lane lane start : ℕ) → begins_in_source_row leading start ≡ false
-    → underline_shape layout leading corner_lane lane (Top start) ≡ cond (lane == corner_lane) TopCorner (cond (nat_lt lane corner_lane) Bar Gap)
+    → underline_shape layout leading corner_lane lane (Top start) ≡ cond (lane == corner_lane) TopCorner (cond (nat_lt lane corner_lane) Bar Space)
 late_underline layout leading corner_lane lane start h =
-    ap (λ b. cond b Bar (cond (lane == corner_lane) TopCorner (cond (nat_lt lane corner_lane) Bar Gap))) (late layout leading start h)
+    ap (λ b. cond b Bar (cond (lane == corner_lane) TopCorner (cond (nat_lt lane corner_lane) Bar Space))) (late layout leading start h)
 
 -- a corner in a row of its own
 top_late : (layout : Layout) (lane : ℕ) (line : Line) (style : LabelStyle) (start : ℕ)
@@ -242,15 +242,15 @@ top_late layout lane line style start is r early = record {
   more = map (UnderlineRow line) (filter (is_underlined line) r.high);
   rows_are = rows_split lane line m r (ap not early);
   gaps = (
-    ap (shape_of (source_shape (leading_of line))) is ∙ ap (λ b. cond b TopCorner Gap) early,
-    all-append (Shows layout lane Gap) (below_rows line) (map (UnderlineRow line) (filter (is_underlined line) r.low))
-        (each_below (Shows layout lane Gap) line under under (λ y. under))
-        (each_under (Shows layout lane Gap) line r.low
-        (all-weaker (λ (o : LaneMark). o.lane < lane) (λ o. Shows layout lane Gap (UnderlineRow line o)) on_low r.low r.below)),
+    ap (shape_of (source_shape (leading_of line))) is ∙ ap (λ b. cond b TopCorner Space) early,
+    all-append (Shows layout lane Space) (below_rows line) (map (UnderlineRow line) (filter (is_underlined line) r.low))
+        (each_below (Shows layout lane Space) line under under (λ y. under))
+        (each_under (Shows layout lane Space) line r.low
+        (all-weaker (λ (o : LaneMark). o.lane < lane) (λ o. Shows layout lane Space (UnderlineRow line o)) on_low r.low r.below)),
   );
   top_corner =
       let same : (lane == lane) ≡ true = grind (arith, nat_tests) in
-      shown m ∙ ap (λ b. cond b TopCorner (cond (nat_lt lane lane) Bar Gap)) same;
+      shown m ∙ ap (λ b. cond b TopCorner (cond (nat_lt lane lane) Bar Space)) same;
   goes_on = each_under (GoesOn layout lane line (UnderlineRow line m)) line r.high
       (all-weaker (λ (o : LaneMark). lane < o.lane) (λ o. GoesOn layout lane line (UnderlineRow line m) (UnderlineRow line o)) (λ o h. inl (on_high o h)) r.high r.above);
 }
@@ -258,13 +258,13 @@ top_late layout lane line style start is r early = record {
     m : LaneMark
     m = lane_mark_with lane style (Top start)
 
-    under : shape_of (below_shape layout (leading_of line)) (lane_mark_in line.lanes.marks lane) ≡ Gap
+    under : shape_of (below_shape layout (leading_of line)) (lane_mark_in line.lanes.marks lane) ≡ Space
     under = ap (shape_of (below_shape layout (leading_of line))) is ∙ late_below layout (leading_of line) start early
 
-    shown : (o : LaneMark) → shape_in layout (UnderlineRow line o) lane ≡ cond (lane == o.lane) TopCorner (cond (nat_lt lane o.lane) Bar Gap)
+    shown : (o : LaneMark) → shape_in layout (UnderlineRow line o) lane ≡ cond (lane == o.lane) TopCorner (cond (nat_lt lane o.lane) Bar Space)
     shown o = ap (shape_of (underline_shape layout (leading_of line) o.lane lane)) is ∙ late_underline layout (leading_of line) o.lane lane start early
 
-    on_low : (o : LaneMark) → o.lane < lane → Shows layout lane Gap (UnderlineRow line o)
+    on_low : (o : LaneMark) → o.lane < lane → Shows layout lane Space (UnderlineRow line o)
     on_low o h = top_low lane o.lane h (shown o)
 
     on_high : (o : LaneMark) → lane < o.lane → Shows layout lane Bar (UnderlineRow line o)

@@ -8,7 +8,7 @@ use Rattle.codespan_base.specs.declared.term.config.Config.{Config}
 use Rattle.codespan_base.specs.declared.term.config.Layout.{Layout}
 use Rattle.codespan_base.specs.FileModel.{FileModel, line_start, line_of, line_count}
 use Rattle.codespan_base.specs.Labels.{LabelModel, is_single, first_line, last_line, part_on, lane_mark_of, lane_marks_on, multi_labels, LaneMark, MultiLabel, Top, Left, Bottom}
-use Rattle.codespan_picture.specs.declared.lanes.Shape.TheVariants.{Gap, Bar}
+use Rattle.codespan_picture.specs.declared.lanes.Shape.TheVariants.{Space, Bar}
 use Rattle.codespan_picture.specs.Lanes.{plain_shape, lane_mark_in, shape_of}
 use Rattle.codespan_picture.specs.Lines.{is_shown, is_drawn, drawn_lines, is_broken}
 use Rattle.codespan_picture.specs.Rows.{Row, BreakRow, SnippetStartRow, EmptyRow, rows_of}
@@ -160,13 +160,13 @@ module _ (layout : Layout) (s : LabeledFileModel) (lane : ℕ) (x : LabelModel) 
   bars_line : (l : ℕ) → first_line s.file x < l → l < last_line s.file x → AllByRecursion (Shows layout lane Bar) (rows_of (line_at s l))
   bars_line l low high = left_lane_mark layout lane (line_at s l) x.style (lane_mark_at l (Some Left) (left_at l low high))
 
-  gaps_with : (previous : Option ℕ) (l : ℕ) → NoLaneMark l → AllByRecursion (Shows layout lane Gap) (breaks_before s previous l ++ rows_of (line_at s l))
+  gaps_with : (previous : Option ℕ) (l : ℕ) → NoLaneMark l → AllByRecursion (Shows layout lane Space) (breaks_before s previous l ++ rows_of (line_at s l))
   gaps_with previous l none =
-      all-append (Shows layout lane Gap) (breaks_before s previous l) (rows_of (line_at s l))
-      (each_break (Shows layout lane Gap) s previous l (ap (shape_of plain_shape) none)) (no_lane_mark layout lane (line_at s l) none)
+      all-append (Shows layout lane Space) (breaks_before s previous l) (rows_of (line_at s l))
+      (each_break (Shows layout lane Space) s previous l (ap (shape_of plain_shape) none)) (no_lane_mark layout lane (line_at s l) none)
 
-  gap_break : (previous : Option ℕ) (l : ℕ) → first_line s.file x ≡ l → AllByRecursion (Shows layout lane Gap) (breaks_before s previous l)
-  gap_break previous l h = each_break (Shows layout lane Gap) s previous l (ap (shape_of plain_shape) (lane_mark_at l (Some (top_of l)) (top_at l h)))
+  gap_break : (previous : Option ℕ) (l : ℕ) → first_line s.file x ≡ l → AllByRecursion (Shows layout lane Space) (breaks_before s previous l)
+  gap_break previous l h = each_break (Shows layout lane Space) s previous l (ap (shape_of plain_shape) (lane_mark_at l (Some (top_of l)) (top_at l h)))
 
   bar_break : (previous : Option ℕ) (l : ℕ) (part : MultiLabel) → plain_shape part ≡ Bar → part_on s.file l x ≡ Some part → AllByRecursion (Shows layout lane Bar) (breaks_before s previous l)
   bar_break previous l part bar is = each_break (Shows layout lane Bar) s previous l (ap (shape_of plain_shape) (lane_mark_at l (Some part) is) ∙ bar)
@@ -185,14 +185,14 @@ module _ (layout : Layout) (s : LabeledFileModel) (lane : ℕ) (x : LabelModel) 
   keep previous a n h = ap (λ b. rows_after s previous (cond b (a ∷ lines_from (a + 1) n) (lines_from (a + 1) n))) h
 
   -- below the label
-  gaps_after : (previous : Option ℕ) (a n : ℕ) → last_line s.file x < a → AllByRecursion (Shows layout lane Gap) (rows_from previous a n)
+  gaps_after : (previous : Option ℕ) (a n : ℕ) → last_line s.file x < a → AllByRecursion (Shows layout lane Space) (rows_from previous a n)
   gaps_after previous a zero past = tt
   gaps_after previous a (suc n) past = by_test (λ w. gaps_after w (a + 1) n (omega arith)) (drawn a)
     where
-      by_test : ((w : Option ℕ) → AllByRecursion (Shows layout lane Gap) (rows_from w (a + 1) n)) → (b : Bool)
-          → AllByRecursion (Shows layout lane Gap) (rows_after s previous (cond b (a ∷ lines_from (a + 1) n) (lines_from (a + 1) n)))
+      by_test : ((w : Option ℕ) → AllByRecursion (Shows layout lane Space) (rows_from w (a + 1) n)) → (b : Bool)
+          → AllByRecursion (Shows layout lane Space) (rows_after s previous (cond b (a ∷ lines_from (a + 1) n) (lines_from (a + 1) n)))
       by_test rest true =
-          all-append (Shows layout lane Gap) (breaks_before s previous a ++ rows_of (line_at s a)) (rows_from (Some a) (a + 1) n)
+          all-append (Shows layout lane Space) (breaks_before s previous a ++ rows_of (line_at s a)) (rows_from (Some a) (a + 1) n)
           (gaps_with previous a (no_lane_mark_after a past)) (rest (Some a))
       by_test rest false = rest previous
 
@@ -287,7 +287,7 @@ lanes_are_lines config layout s ordered = λ locus is_followed lane x has.
     trailing_border_rows : Bool → List Row
     trailing_border_rows is_followed = if is_followed then EmptyRow (empty_lanes s) ∷ [] else []
 
-    ended : (lane : ℕ) (is_followed : Bool) → AllByRecursion (Shows layout lane Gap) (trailing_border_rows is_followed)
+    ended : (lane : ℕ) (is_followed : Bool) → AllByRecursion (Shows layout lane Space) (trailing_border_rows is_followed)
     ended lane true = (refl, tt)
     ended lane false = tt
 

@@ -9,8 +9,8 @@ use Rattle.std.specs.List.{range_with_len}
 use Rattle.codespan_base.specs.Streams.{Stream, StyleMark, LabelMark, Reset, style_mark, glyph, repeated}
 use Rattle.codespan_laws.specs.RowLaws.{row_length}
 use Rattle.codespan_picture.specs.declared.lanes.Shape.{Shape}
-use Rattle.codespan_picture.specs.declared.lanes.Shape.TheVariants.{Gap, Bar, TopCorner, BottomCorner}
-use Rattle.codespan_picture.specs.Lanes.{corner_line, filling, label_glyph, lane_mark_in, lane_cells}
+use Rattle.codespan_picture.specs.declared.lanes.Shape.TheVariants.{Space, Bar, TopCorner, BottomCorner}
+use Rattle.codespan_picture.specs.Lanes.{corner_line, crossing_cells, label_glyph, lane_mark_in, lane_cells}
 use Rattle.codespan_picture.specs.Rows.{RowContext, Lanes}
 use Rattle.codespan_picture.specs.RowParts.{lane_of, lanes_in}
 use Rattle.codespan_laws.proofs.Texts.{row_length-append, row_length-glyph, row_length-style_mark, row_length-repeated, row_length-spaces}
@@ -21,11 +21,11 @@ between_marks m s =
     row_length-append (style_mark m ++ s) (style_mark Reset)
     ∙ omega (arith, row_length-append (style_mark m) s, row_length-style_mark m, row_length-style_mark Reset)
 
-row_length-filling : (severity : Severity) (chars : Chars) (crossing : Option LaneMark) (n : ℕ)
-    → row_length (filling severity chars crossing n) ≡ n
-unfolding filling
-row_length-filling severity chars None n = row_length-spaces n
-row_length-filling severity chars (Some m) n =
+row_length-crossing_cells : (severity : Severity) (chars : Chars) (crossing : Option LaneMark) (n : ℕ)
+    → row_length (crossing_cells severity chars crossing n) ≡ n
+unfolding crossing_cells
+row_length-crossing_cells severity chars None n = row_length-spaces n
+row_length-crossing_cells severity chars (Some m) n =
     between_marks (LabelMark severity m.style) (repeated n (corner_line chars m.part)) ∙ row_length-repeated n (corner_line chars m.part)
 
 pub row_length-label_glyph : (severity : Severity) (style : LabelStyle) (c : ℕ) → row_length (label_glyph severity style c) ≡ 1
@@ -34,15 +34,15 @@ row_length-label_glyph severity style c = between_marks (LabelMark severity styl
 
 -- a filled cell and the lane's own character
 filled_and_own : (severity : Severity) (chars : Chars) (crossing : Option LaneMark) (style : LabelStyle) (own : ℕ)
-    → row_length (filling severity chars crossing 1 ++ label_glyph severity style own) ≡ 2
+    → row_length (crossing_cells severity chars crossing 1 ++ label_glyph severity style own) ≡ 2
 filled_and_own severity chars crossing style own =
-    row_length-append (filling severity chars crossing 1) (label_glyph severity style own)
-    ∙ omega (arith, row_length-filling severity chars crossing 1, row_length-label_glyph severity style own)
+    row_length-append (crossing_cells severity chars crossing 1) (label_glyph severity style own)
+    ∙ omega (arith, row_length-crossing_cells severity chars crossing 1, row_length-label_glyph severity style own)
 
 pub row_length-lane_cells : (severity : Severity) (chars : Chars) (crossing : Option LaneMark) (style : LabelStyle) (shape : Shape)
     → row_length (lane_cells severity chars crossing style shape) ≡ 2
 unfolding lane_cells
-row_length-lane_cells severity chars crossing style Gap = row_length-filling severity chars crossing 2
+row_length-lane_cells severity chars crossing style Space = row_length-crossing_cells severity chars crossing 2
 row_length-lane_cells severity chars crossing style Bar = filled_and_own severity chars crossing style chars.multi_left
 row_length-lane_cells severity chars crossing style TopCorner = filled_and_own severity chars crossing style chars.multi_top_left
 row_length-lane_cells severity chars crossing style BottomCorner = filled_and_own severity chars crossing style chars.multi_bottom_left
@@ -50,7 +50,7 @@ row_length-lane_cells severity chars crossing style BottomCorner = filled_and_ow
 pub row_length-lane_of : (context : RowContext) (crossing : Option LaneMark) (shape : MultiLabel → Shape) (lane_mark : Option LaneMark)
     → row_length (lane_of context crossing shape lane_mark) ≡ 2
 unfolding lane_of
-row_length-lane_of context crossing shape None = row_length-lane_cells context.severity context.chars crossing Primary Gap
+row_length-lane_of context crossing shape None = row_length-lane_cells context.severity context.chars crossing Primary Space
 row_length-lane_of context crossing shape (Some m) = row_length-lane_cells context.severity context.chars crossing m.style (shape m.part)
 
 twice : (f : ℕ → Stream) → ((k : ℕ) → row_length (f k) ≡ 2) → (a n : ℕ) → row_length (flat_map f (range_with_len a n)) ≡ 2 * n

@@ -9,8 +9,8 @@ use Rattle.codespan_base.specs.Labels.{LabelModel, has_message, is_empty_stream,
 use Rattle.codespan_picture.specs.declared.char_metrics.Metrics.{Metrics}
 use Rattle.codespan_picture.specs.Carets.{style_under, covers, max_label_end, is_overlapping}
 use Rattle.codespan_picture.specs.declared.lanes.Shape.{Shape}
-use Rattle.codespan_picture.specs.declared.lanes.Shape.TheVariants.{Gap, Bar, TopCorner, BottomCorner}
-use Rattle.codespan_picture.specs.Lanes.{source_shape, plain_shape, below_shape, underline_shape, lane_mark_in, corner_line, filling, lane_cells, Source, Plain, Below, Underline}
+use Rattle.codespan_picture.specs.declared.lanes.Shape.TheVariants.{Space, Bar, TopCorner, BottomCorner}
+use Rattle.codespan_picture.specs.Lanes.{source_shape, plain_shape, below_shape, underline_shape, lane_mark_in, corner_line, crossing_cells, lane_cells, Source, Plain, Below, Underline}
 use Rattle.codespan_picture.specs.Rows.{RowContext, Lanes, Line, trailing, hanging}
 use Rattle.codespan_picture.proofs.Rightmost.{Around, others, behind, around_with_end, around_trails, around_rightmost, trailing_of, hanging_of, trailing_is, hanging_is}
 use Rattle.codespan_picture.specs.RowParts.{styled, lane_of, lanes_in, row_lanes, line_metrics, part_covers, source_style, source_glyph, colored_text, caret_glyphs, carets, pointer_style, pointer_at, pointers, starts_in, max_label_start}
@@ -142,18 +142,18 @@ module _ (φ : Stream → Stream) (keeps : (s : Stream) → is_empty_stream (φ 
   corner chars Left = refl
   corner chars (Bottom end message) = refl
 
-  pub filling-re : (severity : _) (chars : _) (m : Option LaneMark) (n : ℕ) → filling severity chars (option_map (re_lane_mark φ) m) n ≡ filling severity chars m n
-  unfolding filling
-  filling-re severity chars None n = refl
-  filling-re severity chars (Some m) n = simp (corner chars m.part)
+  pub crossing_cells-re : (severity : _) (chars : _) (m : Option LaneMark) (n : ℕ) → crossing_cells severity chars (option_map (re_lane_mark φ) m) n ≡ crossing_cells severity chars m n
+  unfolding crossing_cells
+  crossing_cells-re severity chars None n = refl
+  crossing_cells-re severity chars (Some m) n = simp (corner chars m.part)
 
   char_metrics-re : (severity : _) (chars : _) (m : Option LaneMark) (style : LabelStyle) (shape : Shape)
       → lane_cells severity chars (option_map (re_lane_mark φ) m) style shape ≡ lane_cells severity chars m style shape
   unfolding lane_cells
-  char_metrics-re severity chars m style Gap = filling-re severity chars m 2
-  char_metrics-re severity chars m style Bar = simp (filling-re severity chars m 1)
-  char_metrics-re severity chars m style TopCorner = simp (filling-re severity chars m 1)
-  char_metrics-re severity chars m style BottomCorner = simp (filling-re severity chars m 1)
+  char_metrics-re severity chars m style Space = crossing_cells-re severity chars m 2
+  char_metrics-re severity chars m style Bar = simp (crossing_cells-re severity chars m 1)
+  char_metrics-re severity chars m style TopCorner = simp (crossing_cells-re severity chars m 1)
+  char_metrics-re severity chars m style BottomCorner = simp (crossing_cells-re severity chars m 1)
 
   lane-re : (context : RowContext) (c m : Option LaneMark) (shape : MultiLabel → Shape) → ((part : MultiLabel) → shape (re_part φ part) ≡ shape part)
       → lane_of context (option_map (re_lane_mark φ) c) shape (option_map (re_lane_mark φ) m) ≡ lane_of context c shape m

@@ -11,8 +11,8 @@ use Rattle.codespan_base.specs.Streams.{Stream, StyleMark, Byte, Mark, Slot, Res
 use Rattle.codespan_picture.specs.declared.char_metrics.Metrics.{Metrics}
 use Rattle.codespan_picture.specs.Carets.{style_under, max_label_end}
 use Rattle.codespan_picture.specs.declared.lanes.Shape.{Shape}
-use Rattle.codespan_picture.specs.declared.lanes.Shape.TheVariants.{Gap, Bar, TopCorner, BottomCorner}
-use Rattle.codespan_picture.specs.Lanes.{filling, label_glyph, lane_cells, lane_mark_in}
+use Rattle.codespan_picture.specs.declared.lanes.Shape.TheVariants.{Space, Bar, TopCorner, BottomCorner}
+use Rattle.codespan_picture.specs.Lanes.{crossing_cells, label_glyph, lane_cells, lane_mark_in}
 use Rattle.codespan_picture.specs.Rows.{Locus, RowContext, Lanes, Line, Row, HeaderRow, SnippetStartRow, EmptyRow, BreakRow, SourceRow, CaretRow, PointerRow, HangingRow, UnderlineRow, FirstNoteRow, LaterNoteRow, FinalRow, hanging}
 use Rattle.codespan_picture.specs.RowParts.{change, styled, lane_of, lanes_in, row_lanes, source_glyph, source_style, colored_text, caret_glyphs, carets, trailing_message, label_message, spaces_up_to, pointer_at, pointer_style, pointers, starts_in, max_label_start, gutter, numbered_gutter, border, break_border, locus, line_metrics}
 use Rattle.codespan_picture.specs.RowStreams.{stream_of, header_row, snippet_start_row, empty_row, break_row, source_row, row_start, caret_row, pointer_row, hanging_row, underline_row, first_note_row, later_note_row}
@@ -60,10 +60,10 @@ closes-in_style m s = closes-reset (style_mark m ++ s)
 
 -- ---- lanes
 
-closes-filling : (severity : Severity) (chars : Chars) (crossing : Option LaneMark) (n : ℕ) → Closes (filling severity chars crossing n)
-unfolding filling
-closes-filling severity chars None n = record { closed = ends_reset-spaces true n }
-closes-filling severity chars (Some m) n = closes-in_style (LabelMark severity m.style) _
+closes-crossing_cells : (severity : Severity) (chars : Chars) (crossing : Option LaneMark) (n : ℕ) → Closes (crossing_cells severity chars crossing n)
+unfolding crossing_cells
+closes-crossing_cells severity chars None n = record { closed = ends_reset-spaces true n }
+closes-crossing_cells severity chars (Some m) n = closes-in_style (LabelMark severity m.style) _
 
 pub closes-label_glyph : (severity : Severity) (style : LabelStyle) (c : ℕ) → Closes (label_glyph severity style c)
 unfolding label_glyph
@@ -71,14 +71,14 @@ closes-label_glyph severity style c = closes-in_style (LabelMark severity style)
 
 closes-lane_cells : (severity : Severity) (chars : Chars) (crossing : Option LaneMark) (style : LabelStyle) (shape : Shape) → Closes (lane_cells severity chars crossing style shape)
 unfolding lane_cells
-closes-lane_cells severity chars crossing style Gap = closes-filling severity chars crossing 2
-closes-lane_cells severity chars crossing style Bar = closes-append _ _ (closes-filling severity chars crossing 1) (closes-label_glyph severity style chars.multi_left)
-closes-lane_cells severity chars crossing style TopCorner = closes-append _ _ (closes-filling severity chars crossing 1) (closes-label_glyph severity style chars.multi_top_left)
-closes-lane_cells severity chars crossing style BottomCorner = closes-append _ _ (closes-filling severity chars crossing 1) (closes-label_glyph severity style chars.multi_bottom_left)
+closes-lane_cells severity chars crossing style Space = closes-crossing_cells severity chars crossing 2
+closes-lane_cells severity chars crossing style Bar = closes-append _ _ (closes-crossing_cells severity chars crossing 1) (closes-label_glyph severity style chars.multi_left)
+closes-lane_cells severity chars crossing style TopCorner = closes-append _ _ (closes-crossing_cells severity chars crossing 1) (closes-label_glyph severity style chars.multi_top_left)
+closes-lane_cells severity chars crossing style BottomCorner = closes-append _ _ (closes-crossing_cells severity chars crossing 1) (closes-label_glyph severity style chars.multi_bottom_left)
 
 closes-lane_of : (context : RowContext) (crossing : Option LaneMark) (shape : MultiLabel → Shape) (lane_mark : Option LaneMark) → Closes (lane_of context crossing shape lane_mark)
 unfolding lane_of
-closes-lane_of context crossing shape None = closes-lane_cells context.severity context.chars crossing Primary Gap
+closes-lane_of context crossing shape None = closes-lane_cells context.severity context.chars crossing Primary Space
 closes-lane_of context crossing shape (Some m) = closes-lane_cells context.severity context.chars crossing m.style (shape m.part)
 
 -- each part closes

@@ -21,10 +21,10 @@ use Rattle.codespan_base.specs.Labels.{LabelModel, LaneMark, MultiLabel, Top, Le
 use Rattle.codespan_base.specs.Streams.{Stream, Byte, Mark, Slot, StyleMark, Header, HeaderMessage, NoteBullet, SourceBorder, LabelMark, Reset, style_mark, glyph, bytes, spaces, space, repeated, newline, text_of}
 use Rattle.codespan_picture.specs.declared.char_metrics.Metrics.{Metrics}
 use Rattle.codespan_picture.specs.declared.lanes.Shape.{Shape}
-use Rattle.codespan_picture.specs.declared.lanes.Shape.TheVariants.{Gap, Bar, TopCorner, BottomCorner}
+use Rattle.codespan_picture.specs.declared.lanes.Shape.TheVariants.{Space, Bar, TopCorner, BottomCorner}
 use Rattle.codespan_picture.specs.Carets.{caret_for, max_label_end, style_under}
 use Rattle.codespan_picture.specs.CharMetrics.{char_metrics, metrics_then, width_of, width_at}
-use Rattle.codespan_picture.specs.Lanes.{LaneRow, Source, Plain, Below, Underline, corner_line, filling, label_glyph, lane_cells, lane_mark_in, row_crossing, row_shape, shape_of, style_of_lane_mark}
+use Rattle.codespan_picture.specs.Lanes.{LaneRow, Source, Plain, Below, Underline, corner_line, crossing_cells, label_glyph, lane_cells, lane_mark_in, row_crossing, row_shape, shape_of, style_of_lane_mark}
 use Rattle.codespan_picture.specs.Rows.{Locus, RowContext, Lanes, Line, Row, HeaderRow, SnippetStartRow, EmptyRow, BreakRow, SourceRow, CaretRow, PointerRow, HangingRow, UnderlineRow, FirstNoteRow, LaterNoteRow, FinalRow, hanging, trailing}
 use Rattle.codespan_picture.specs.RowParts.{severity_name, locus, gutter, numbered_gutter, border, break_border, change, styled, label_message, lane_of, row_lanes, leading_of, line_metrics, line_metrics_to_end, source_style, source_glyph, colored_text, caret_glyphs, carets, trailing_message, starts_in, max_label_start, spaces_up_to, pointer_style, pointer_at, pointers, metrics_before, metrics_up_to, start_caret, end_caret, underline_message, underline}
 use Rattle.codespan_picture.specs.RowStreams.{bracketed, leading_locus, header_row, snippet_start_row, empty_row, break_row, source_row, row_start, caret_row, pointer_row, hanging_row, underline_row, first_note_row, later_note_row, stream_of, stream_of_rows}
@@ -225,20 +225,20 @@ module _ (chars : Chars) (ok : AreCharacters chars) where
   scalar-corner_line Left = ok.multi_bottom
   scalar-corner_line (Bottom end message) = ok.multi_bottom
 
-  text-filling : (severity : Severity) (crossing : Option LaneMark) (n : ℕ) → IsText (filling severity chars crossing n)
-  unfolding filling
-  text-filling severity None n = text-spaces n
-  text-filling severity (Some m) n = search (pieces, scalar-corner_line m.part)
+  text-crossing_cells : (severity : Severity) (crossing : Option LaneMark) (n : ℕ) → IsText (crossing_cells severity chars crossing n)
+  unfolding crossing_cells
+  text-crossing_cells severity None n = text-spaces n
+  text-crossing_cells severity (Some m) n = search (pieces, scalar-corner_line m.part)
 
   text-lane_cells : (severity : Severity) (crossing : Option LaneMark) (style : LabelStyle) (shape : Shape) → IsText (lane_cells severity chars crossing style shape)
   unfolding lane_cells
-  text-lane_cells severity crossing style Gap = text-filling severity crossing 2
+  text-lane_cells severity crossing style Space = text-crossing_cells severity crossing 2
   text-lane_cells severity crossing style Bar =
-      text-both (filling severity chars crossing 1) _ (text-filling severity crossing 1) (text-label_glyph severity style chars.multi_left ok.multi_left)
+      text-both (crossing_cells severity chars crossing 1) _ (text-crossing_cells severity crossing 1) (text-label_glyph severity style chars.multi_left ok.multi_left)
   text-lane_cells severity crossing style TopCorner =
-      text-both (filling severity chars crossing 1) _ (text-filling severity crossing 1) (text-label_glyph severity style chars.multi_top_left ok.multi_top_left)
+      text-both (crossing_cells severity chars crossing 1) _ (text-crossing_cells severity crossing 1) (text-label_glyph severity style chars.multi_top_left ok.multi_top_left)
   text-lane_cells severity crossing style BottomCorner =
-      text-both (filling severity chars crossing 1) _ (text-filling severity crossing 1) (text-label_glyph severity style chars.multi_bottom_left ok.multi_bottom_left)
+      text-both (crossing_cells severity chars crossing 1) _ (text-crossing_cells severity crossing 1) (text-label_glyph severity style chars.multi_bottom_left ok.multi_bottom_left)
 
   scalar-caret_for : (style : Option LabelStyle) → IsScalar (caret_for chars style)
   scalar-caret_for None = refl

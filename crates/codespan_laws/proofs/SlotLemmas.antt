@@ -12,8 +12,8 @@ use Rattle.codespan_base.specs.Labels.{LabelModel, LaneMark, MultiLabel, Top, Le
 use Rattle.codespan_picture.specs.declared.char_metrics.Metrics.{Metrics}
 use Rattle.codespan_picture.specs.Carets.{style_under, max_label_end}
 use Rattle.codespan_picture.specs.declared.lanes.Shape.{Shape}
-use Rattle.codespan_picture.specs.declared.lanes.Shape.TheVariants.{Gap, Bar, TopCorner, BottomCorner}
-use Rattle.codespan_picture.specs.Lanes.{lane_mark_in, label_glyph, filling, lane_cells, LaneRow}
+use Rattle.codespan_picture.specs.declared.lanes.Shape.TheVariants.{Space, Bar, TopCorner, BottomCorner}
+use Rattle.codespan_picture.specs.Lanes.{lane_mark_in, label_glyph, crossing_cells, lane_cells, LaneRow}
 use Rattle.codespan_picture.specs.Rows.{Locus, RowContext, Lanes, Line, Row, HeaderRow, SnippetStartRow, EmptyRow, BreakRow, SourceRow, CaretRow, PointerRow, HangingRow, UnderlineRow, FirstNoteRow, LaterNoteRow, FinalRow, trailing, hanging}
 use Rattle.codespan_picture.specs.RowParts.{locus, gutter, numbered_gutter, border, break_border, change, styled, label_message, lane_of, lanes_in, row_lanes, line_metrics, source_style, source_glyph, colored_text, caret_glyphs, carets, trailing_message, spaces_up_to, pointer_at, pointers, pointer_style, starts_in, max_label_start, underline_message, underline}
 use Rattle.codespan_picture.specs.RowStreams.{bracketed, leading_locus, header_row, snippet_start_row, empty_row, break_row, source_row, row_start, caret_row, pointer_row, hanging_row, underline_row, first_note_row, later_note_row, stream_of, stream_of_rows}
@@ -67,21 +67,21 @@ pub slots-label_glyph : (k : ℕ) (severity : Severity) (style : LabelStyle) (c 
 unfolding label_glyph
 slots-label_glyph k severity style c = simp words
 
-pub slots-filling : (k : ℕ) (severity : Severity) (chars : Chars) (m : Option LaneMark) (n : ℕ) → slots k (filling severity chars m n) ≡ 0
-unfolding filling
-slots-filling k severity chars None n = slots-spaces k n
-slots-filling k severity chars (Some m) n = simp words
+pub slots-crossing_cells : (k : ℕ) (severity : Severity) (chars : Chars) (m : Option LaneMark) (n : ℕ) → slots k (crossing_cells severity chars m n) ≡ 0
+unfolding crossing_cells
+slots-crossing_cells k severity chars None n = slots-spaces k n
+slots-crossing_cells k severity chars (Some m) n = simp words
 
 pub slots-lane_cells : (k : ℕ) (severity : Severity) (chars : Chars) (m : Option LaneMark) (style : LabelStyle) (shape : Shape) → slots k (lane_cells severity chars m style shape) ≡ 0
 unfolding lane_cells
-slots-lane_cells k severity chars m style Gap = slots-filling k severity chars m 2
-slots-lane_cells k severity chars m style Bar = simp (words, slots-filling, slots-label_glyph)
-slots-lane_cells k severity chars m style TopCorner = simp (words, slots-filling, slots-label_glyph)
-slots-lane_cells k severity chars m style BottomCorner = simp (words, slots-filling, slots-label_glyph)
+slots-lane_cells k severity chars m style Space = slots-crossing_cells k severity chars m 2
+slots-lane_cells k severity chars m style Bar = simp (words, slots-crossing_cells, slots-label_glyph)
+slots-lane_cells k severity chars m style TopCorner = simp (words, slots-crossing_cells, slots-label_glyph)
+slots-lane_cells k severity chars m style BottomCorner = simp (words, slots-crossing_cells, slots-label_glyph)
 
 pub slots-lane_of : (k : ℕ) (context : RowContext) (crossing : Option LaneMark) (shape : MultiLabel → Shape) (m : Option LaneMark) → slots k (lane_of context crossing shape m) ≡ 0
 unfolding lane_of
-slots-lane_of k context crossing shape None = slots-lane_cells k context.severity context.chars crossing Primary Gap
+slots-lane_of k context crossing shape None = slots-lane_cells k context.severity context.chars crossing Primary Space
 slots-lane_of k context crossing shape (Some m) = slots-lane_cells k context.severity context.chars crossing m.style (shape m.part)
 
 pub slots-lanes_in : (k : ℕ) (context : RowContext) (crossing : ℕ → Option LaneMark) (shape : ℕ → MultiLabel → Shape) (lanes : Lanes) → slots k (lanes_in context crossing shape lanes) ≡ 0

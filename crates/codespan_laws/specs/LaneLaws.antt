@@ -8,7 +8,7 @@ use Rattle.codespan_base.specs.FileModel.{FileModel}
 use Rattle.codespan_base.specs.Labels.{LabelModel, first_line, last_line, multi_labels}
 use Rattle.codespan_base.specs.Streams.{Stream}
 use Rattle.codespan_picture.specs.declared.lanes.Shape.{Shape}
-use Rattle.codespan_picture.specs.declared.lanes.Shape.TheVariants.{Gap, Bar, TopCorner, BottomCorner}
+use Rattle.codespan_picture.specs.declared.lanes.Shape.TheVariants.{Space, Bar, TopCorner, BottomCorner}
 use Rattle.codespan_picture.specs.Lanes.{LaneRow, Source, Plain, Below, Underline, row_shape, row_crossing, lane_mark_in, shape_of, style_of_lane_mark, is_unbroken, lane_cells}
 use Rattle.codespan_picture.specs.Rows.{Locus, RowContext, Lanes, Line, Row, EmptyRow, BreakRow, SourceRow, CaretRow, PointerRow, HangingRow, UnderlineRow}
 use Rattle.codespan_picture.specs.RowParts.{gutter, numbered_gutter, border, break_border, leading_of}
@@ -71,7 +71,7 @@ pub record MayLeaveOut (layout : Layout) (s : LabeledFileModel) (rows : List Row
     (x : LabelModel) (top k : ℕ) : Type 0 where
   pub is_classic : is_unbroken layout ≡ false
   pub begins_in_source_row : slice_get rows top ≡ Some (SourceRow (line_at s (first_line s.file x)))
-  pub is_gap : shape_at layout rows k lane ≡ Some Gap
+  pub is_gap : shape_at layout rows k lane ≡ Some Space
   pub is_of_line : (row : Row) → slice_get rows k ≡ Some row
       → line_of_row row ≡ Some (line_at s (first_line s.file x))
 
@@ -85,8 +85,8 @@ pub record IsOneLine (layout : Layout) (s : LabeledFileModel) (rows : List Row) 
   pub bottom_corner : shape_at layout rows bottom lane ≡ Some BottomCorner
   pub between : (k : ℕ) → top < k → k < bottom
       → (shape_at layout rows k lane ≡ Some Bar) ⊎ MayLeaveOut layout s rows lane x top k
-  pub before : (k : ℕ) → k < top → shape_at layout rows k lane ≡ Some Gap
-  pub after : (k : ℕ) → bottom < k → k < length rows → shape_at layout rows k lane ≡ Some Gap
+  pub before : (k : ℕ) → k < top → shape_at layout rows k lane ≡ Some Space
+  pub after : (k : ℕ) → bottom < k → k < length rows → shape_at layout rows k lane ≡ Some Space
 
 -- each lane of a file is one line through the rows of its snippet and the empty row after it, if it
 -- has one, whatever the locus

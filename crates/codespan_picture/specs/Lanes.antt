@@ -3,7 +3,7 @@ use Rattle.std.specs.Prelude.{ℕ, Bool, true, false, ◌&&◌, ◌==◌, nat_lt
 use Rattle.codespan_picture.specs.Types.{Severity, LabelStyle, Primary, Chars, Layout, Classic, Unbroken}
 use Rattle.codespan_base.specs.Streams.{Stream, LabelMark, Reset, style_mark, glyph, spaces, repeated}
 use Rattle.codespan_picture.specs.declared.lanes.Shape.{Shape}
-use Rattle.codespan_picture.specs.declared.lanes.Shape.TheVariants.{Gap, Bar, TopCorner, BottomCorner}
+use Rattle.codespan_picture.specs.declared.lanes.Shape.TheVariants.{Space, Bar, TopCorner, BottomCorner}
 use Rattle.codespan_base.specs.Labels.{LaneMark, MultiLabel, Top, Left, Bottom}
 
 -- the lane begins in the source row, on a line whose text begins with so many bytes of white space
@@ -12,13 +12,13 @@ begins_in_source_row leading start = nat_le start leading
 
 -- what a multi-line label mark shows in the source row
 abbrev pub source_shape : ℕ → MultiLabel → Shape
-source_shape leading (Top start) = if begins_in_source_row leading start then TopCorner else Gap
+source_shape leading (Top start) = if begins_in_source_row leading start then TopCorner else Space
 source_shape leading _ = Bar
 
 -- what it shows in an empty row, and in a break row, which has the multi-line label marks of the
 -- line after it
 abbrev pub plain_shape : MultiLabel → Shape
-plain_shape (Top start) = Gap
+plain_shape (Top start) = Space
 plain_shape _ = Bar
 
 -- whether a lane goes on below its corner in a source row
@@ -29,17 +29,17 @@ is_unbroken Unbroken = true
 -- what it shows in the caret, pointer and hanging rows
 abbrev pub below_shape : Layout → ℕ → MultiLabel → Shape
 below_shape layout leading (Top start) =
-    if is_unbroken layout && begins_in_source_row leading start then Bar else Gap
+    if is_unbroken layout && begins_in_source_row leading start then Bar else Space
 below_shape layout leading _ = Bar
 
 -- what it shows in the underline row of the lane `corner_lane`
 abbrev pub underline_shape : Layout → ℕ → ℕ → ℕ → MultiLabel → Shape
 underline_shape layout leading corner_lane lane (Top start) =
     if is_unbroken layout && begins_in_source_row leading start then Bar
-    else if lane == corner_lane then TopCorner else if nat_lt lane corner_lane then Bar else Gap
+    else if lane == corner_lane then TopCorner else if nat_lt lane corner_lane then Bar else Space
 underline_shape layout leading corner_lane lane Left = Bar
 underline_shape layout leading corner_lane lane (Bottom end message) =
-    if lane == corner_lane then BottomCorner else if nat_lt lane corner_lane then Gap else Bar
+    if lane == corner_lane then BottomCorner else if nat_lt lane corner_lane then Space else Bar
 
 -- a kind of row, as far as its lanes go: a source row; an empty or a break row; a caret, pointer or
 -- hanging row; the underline row of a multi-line label mark
@@ -69,7 +69,7 @@ lane_mark_in marks lane = find (λ (m : LaneMark). m.lane == lane) marks
 
 -- what a row shows in a lane, from the multi-line label mark in it
 abbrev pub shape_of : (MultiLabel → Shape) → Option LaneMark → Shape
-shape_of shape None = Gap
+shape_of shape None = Space
 shape_of shape (Some m) = shape m.part
 
 -- the style of a multi-line label mark, primary where there is none
@@ -88,20 +88,20 @@ corner_line chars _ = chars.multi_bottom
 unfoldable pub label_glyph : Severity → LabelStyle → ℕ → Stream
 label_glyph severity style c = style_mark (LabelMark severity style) ++ glyph c ++ style_mark Reset
 
--- a lane's part before its own character: spaces, or the line of a corner to the left
-unfoldable pub filling : Severity → Chars → Option LaneMark → ℕ → Stream
-filling severity chars None n = spaces n
-filling severity chars (Some m) n =
+-- so many characters of a lane, before its own: the line of a corner to the left, or spaces
+unfoldable pub crossing_cells : Severity → Chars → Option LaneMark → ℕ → Stream
+crossing_cells severity chars None n = spaces n
+crossing_cells severity chars (Some m) n =
     style_mark (LabelMark severity m.style) ++ repeated n (corner_line chars m.part)
     ++ style_mark Reset
 
 -- the two characters of a lane; `crossing` is the multi-line label mark, in its own underline row,
 -- whose corner is left of the lane
 unfoldable pub lane_cells : Severity → Chars → Option LaneMark → LabelStyle → Shape → Stream
-lane_cells severity chars crossing style Gap = filling severity chars crossing 2
+lane_cells severity chars crossing style Space = crossing_cells severity chars crossing 2
 lane_cells severity chars crossing style Bar =
-    filling severity chars crossing 1 ++ label_glyph severity style chars.multi_left
+    crossing_cells severity chars crossing 1 ++ label_glyph severity style chars.multi_left
 lane_cells severity chars crossing style TopCorner =
-    filling severity chars crossing 1 ++ label_glyph severity style chars.multi_top_left
+    crossing_cells severity chars crossing 1 ++ label_glyph severity style chars.multi_top_left
 lane_cells severity chars crossing style BottomCorner =
-    filling severity chars crossing 1 ++ label_glyph severity style chars.multi_bottom_left
+    crossing_cells severity chars crossing 1 ++ label_glyph severity style chars.multi_bottom_left

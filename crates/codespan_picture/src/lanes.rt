@@ -4,7 +4,7 @@
 #[derive(Clone, Copy, Debug)]
 pub enum Shape {
     /// Spaces, or the line that runs right from another lane's corner.
-    Gap,
+    Space,
     /// The label goes on.
     Bar,
     /// The label begins.

@@ -238,7 +238,7 @@ module _ {Id : Type 0} {x : CollectedLabel Id} where
         → CollectsLabel x xs ys
     collected-whole all law past_end =
         let past : line_count x.file ≤ n = omega (arith, all, lines_have_indices x.file law) in
-        collected-context past (too_large (x.failure x.id (LineRange n)) ((past_end (is_there x.file.there refl)).1 past))
+        collected-context past (too_large (x.failure x.id (LineRange n)) ((past_end (is_existing x.file.exists refl)).1 past))
       where
         too_large : (o : Option Error) → IsPastEndError o → ends_context o ≡ true
         too_large (Some (LineTooLarge given last)) h = refl
@@ -252,9 +252,9 @@ module _ {Id : Type 0} {x : CollectedLabel Id} where
         too_large (Some OutOfMemory) h = absurd h
 
         -- a file that is not there has one line
-        is_there : (b : Bool) → x.file.there ≡ b → x.file.there ≡ true
-        is_there true there = there
-        is_there false missing =
+        is_existing : (b : Bool) → x.file.exists ≡ b → x.file.exists ≡ true
+        is_existing true there = there
+        is_existing false missing =
             let none : length x.file.text ≡ 0 = ap length (law.missing_text missing) in
             absurd (omega (arith, none, all, g.within, lines_within_text x.file law))
 

@@ -42,9 +42,7 @@ pub use Rattle.codespan_laws.specs.RichLaws
 -- a renderer, as its contracts see it
 pub use Rattle.codespan_renderer.specs.Renderers
 -- the calls that render a diagnostic
-pub mod Failures
-pub mod Output
-pub mod WriteCalls
-pub mod Views
--- words that private calls and proofs use
-pub mod Private
+pub use Rattle.codespan_views.specs.Failures
+pub use Rattle.codespan_views.specs.Output
+pub use Rattle.codespan_views.specs.WriteCalls
+pub use Rattle.codespan_views.specs.Views

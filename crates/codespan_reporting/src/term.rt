@@ -4,7 +4,6 @@
 //! and [`ShortDiagnostic`] render to a [`Renderer`] of the caller's, and its calls render row by
 //! row. Their names are the Rust crate's.
 
-mod emitting;
 pub mod renderer;
 pub mod views;
 
@@ -12,6 +11,8 @@ pub use codespan_base::term::{
     Ansi, Chars, Color, ColorSpec, Config, DisplayStyle, GeneralWrite, GeneralWriteResult, Layout,
     NoColor, PlainWriter, SnippetStart, Styles, StylesWriter, WriteColor, WriteStyle, config,
 };
-pub use emitting::{emit, emit_into_string, emit_to_io_write, emit_to_string, emit_to_write_style};
+pub use codespan_views::emitting::{
+    emit, emit_into_string, emit_to_io_write, emit_to_string, emit_to_write_style,
+};
 pub use renderer::{Locus, MultiLabel, Renderer, SingleLabel, lanes_in_order};
 pub use views::{RichDiagnostic, ShortDiagnostic};

@@ -12,7 +12,7 @@ use Rattle.codespan_rows.specs.declared.lanes.LaneRow.{LaneRow as RustLaneRow}
 use Rattle.codespan_picture.specs.Arguments.{LaneMarkTuple, lane_mark_view, lanes_of, lanes_in_order, ascend_from}
 use Rattle.codespan_rows.specs.LineViews.{lane_of_view, row_lanes_view, lane_row_view}
 use Rattle.codespan_rows.specs.LaneMarksLeft.{lane_mark_here, lane_marks_after}
-use Rattle.codespan_picture.specs.Lanes.{filling, lane_cells, lane_mark_in, row_shape, row_crossing}
+use Rattle.codespan_picture.specs.Lanes.{crossing_cells, lane_cells, lane_mark_in, row_shape, row_crossing}
 use Rattle.codespan_picture.specs.Rows.{RowContext, Lanes}
 use Rattle.codespan_picture.specs.RowParts.{lane_of, row_lanes}
 use Rattle.codespan_rows.proofs.RowWords.{spaces-add}
@@ -124,7 +124,7 @@ cursor-end context leading row i n marks h = let e : n - i ≡ 0 = omega arith i
 
 -- a lane without a multi-line label mark, and without a line through it, is spaces
 empty-lane : (context : RowContext) (leading : ℕ) (row : RustLaneRow) (lane : ℕ) → row_crossing (lane_row_view row) lane ≡ None → lane_of_view context leading row lane None ≡ spaces 2
-unfolding lane_of_view lane_of lane_cells filling
+unfolding lane_of_view lane_of lane_cells crossing_cells
 empty-lane context leading row lane clear = rw clear refl
 
 -- where no multi-line label mark is taken all remain

@@ -8,7 +8,7 @@ use Rattle.codespan_base.specs.Streams.{Stream, Header, bytes, newline, style_ma
 use Rattle.codespan_picture.specs.declared.char_metrics.Metrics.{Metrics}
 use Rattle.codespan_picture.specs.CharMetrics.{char_metrics, char_metrics_to_end}
 use Rattle.codespan_picture.specs.Arguments.{SingleLabelTuple, LaneMarkTuple, single_label_view, single_label_views, lane_mark_view, locus_view, text_now}
-use Rattle.codespan_picture.specs.Lanes.{Source, Underline, filling, label_glyph}
+use Rattle.codespan_picture.specs.Lanes.{Source, Underline, crossing_cells, label_glyph}
 use Rattle.codespan_picture.specs.Rows.{caret_rows, hanging, hanging_rows}
 use Rattle.codespan_picture.specs.RowParts.{border, carets, metrics_before, gutter, label_message, leading_of, numbered_gutter, pointers, row_lanes, severity_name}
 use Rattle.codespan_picture.specs.RowStreams.{bracketed, leading_locus, pointer_row, stream_of_rows}
@@ -46,10 +46,11 @@ underline_lanes_view x row lane_mark =
     (Underline (lane_mark_view lane_mark))
     (lanes_view row.lanes)
 
--- a lane that is no gap: what fills it, where a line crosses it, and its own character
-abbrev pub filled_lane_view : context.RowContext → Option LaneMarkTuple → LabelStyle → ℕ → Stream
-filled_lane_view x crossing style own =
-    filling x.severity x.chars.now (option_map lane_mark_view crossing) 1
+-- the two characters of a lane that is not empty: the line that crosses it, if one does, or a
+-- space, and its own character
+abbrev pub lane_glyph_view : context.RowContext → Option LaneMarkTuple → LabelStyle → ℕ → Stream
+lane_glyph_view x crossing style own =
+    crossing_cells x.severity x.chars.now (option_map lane_mark_view crossing) 1
     ++ label_glyph x.severity style own
 
 -- ---- the rows under a line

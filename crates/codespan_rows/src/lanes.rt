@@ -5,9 +5,9 @@ ghost use Rattle.std.specs.Option.{option_map};
 ghost use Rattle.codespan_base.specs.WriterLaw.{Writes};
 ghost use Rattle.codespan_picture.specs.Arguments.{lane_mark_view, multi_label_view};
 ghost use Rattle.codespan_rows.specs.LineViews.{context_view, lanes_view, lane_row_view, lane_of_view, row_lanes_view};
-ghost use Rattle.codespan_rows.specs.RowViews.{filled_lane_view};
+ghost use Rattle.codespan_rows.specs.RowViews.{lane_glyph_view};
 ghost use Rattle.codespan_rows.specs.LaneMarksLeft.{lane_mark_here, lane_marks_after};
-ghost use Rattle.codespan_picture.specs.Lanes.{filling, lane_cells, corner_line, row_crossing};
+ghost use Rattle.codespan_picture.specs.Lanes.{crossing_cells, lane_cells, corner_line, row_crossing};
 
 use crate::lanes::shapes::shape_in;
 use crate::line::{Lanes, RowContext};
@@ -34,6 +34,15 @@ pub enum LaneRow<'d> {
     Underline(usize, LabelStyle, MultiLabel<'d>),
 }
 
+/// A lane of a row.
+#[derive(Drop)]
+struct Lane<'d> {
+    /// Its index, from the left.
+    index: usize,
+    /// The multi-line label mark in it, if any.
+    mark: Option<(usize, LabelStyle, MultiLabel<'d>)>,
+}
+
 /// Returns the multi-line label mark of an underline row whose corner is left of the lane.
 fn crossing<'d>(row: LaneRow<'d>, lane: usize) -> Option<(usize, LabelStyle, MultiLabel<'d>)>
     ensures { option_map lane_mark_view result ≡ row_crossing (lane_row_view row.entry) lane }
@@ -58,16 +67,16 @@ fn corner_line(chars: &Chars<'_>, part: MultiLabel<'_>) -> char
     }
 }
 
-/// Writes what precedes a lane's own character: spaces, or the line of a corner to the left.
+/// Writes so many characters of a lane: the line of a corner to the left, or spaces.
 #[inline(always)]
-fn write_filling<W: PutStyle>(
+fn write_crossing_cells<W: PutStyle>(
     w: &mut W,
     context: RowContext<'_>,
     crossing: Option<(usize, LabelStyle, MultiLabel<'_>)>,
     count: usize,
 ) -> Result<(), W::Error>
     ensures { Writes (W.sink w.old)
-        (filling context.entry.severity context.entry.chars.now
+        (crossing_cells context.entry.severity context.entry.chars.now
         (option_map lane_mark_view crossing.entry)
         count) result (W.sink w.new) }
 {
@@ -81,19 +90,20 @@ fn write_filling<W: PutStyle>(
     }
 }
 
-/// Writes the two characters of a lane that is no gap: what fills it, and its own character.
+/// Writes the two characters of a lane that is not empty: the line that crosses it, if one does,
+/// or a space, and its own character.
 #[inline(always)]
-fn write_filled<W: PutStyle>(
+fn write_lane_glyph<W: PutStyle>(
     w: &mut W,
     context: RowContext<'_>,
     crossing: Option<(usize, LabelStyle, MultiLabel<'_>)>,
     style: LabelStyle,
     own: char,
 ) -> Result<(), W::Error>
-    ensures { Writes (W.sink w.old) (filled_lane_view context.entry crossing.entry style own)
+    ensures { Writes (W.sink w.old) (lane_glyph_view context.entry crossing.entry style own)
         result (W.sink w.new) }
 {
-    write_filling(w, context, crossing, 1)?;
+    write_crossing_cells(w, context, crossing, 1)?;
     write_label_glyph(w, context.severity, style, own)
 }
 
@@ -113,10 +123,16 @@ fn write_lane_cells<W: PutStyle>(
         style shape) result (W.sink w.new) }
 {
     match shape {
-        Shape::Gap => write_filling(w, context, crossing, 2),
-        Shape::Bar => write_filled(w, context, crossing, style, context.chars.multi_left),
-        Shape::TopCorner => write_filled(w, context, crossing, style, context.chars.multi_top_left),
-        Shape::BottomCorner => write_filled(
+        Shape::Space => write_crossing_cells(w, context, crossing, 2),
+        Shape::Bar => write_lane_glyph(w, context, crossing, style, context.chars.multi_left),
+        Shape::TopCorner => write_lane_glyph(
+            w,
+            context,
+            crossing,
+            style,
+            context.chars.multi_top_left,
+        ),
+        Shape::BottomCorner => write_lane_glyph(
             w,
             context,
             crossing,
@@ -133,18 +149,18 @@ fn inner_gutter_column<W: PutStyle>(
     context: RowContext<'_>,
     leading: usize,
     row: LaneRow<'_>,
-    lane: usize,
-    lane_mark: Option<(usize, LabelStyle, MultiLabel<'_>)>,
+    lane: Lane<'_>,
 ) -> Result<(), W::Error>
     ensures { Writes (W.sink w.old)
-        (lane_of_view (context_view context.entry) leading row.entry lane lane_mark.entry)
+        (lane_of_view (context_view context.entry) leading row.entry lane.entry.index
+        lane.entry.mark)
         result (W.sink w.new) }
 {
-    let crossing = crossing(row, lane);
-    match lane_mark {
-        None => write_lane_cells(w, context, crossing, LabelStyle::Primary, Shape::Gap),
+    let crossing = crossing(row, lane.index);
+    match lane.mark {
+        None => write_lane_cells(w, context, crossing, LabelStyle::Primary, Shape::Space),
         Some((_, style, part)) => {
-            let shape = shape_in(context.layout, leading, row, lane, part);
+            let shape = shape_in(context.layout, leading, row, lane.index, part);
             write_lane_cells(w, context, crossing, style, shape)
         }
     }
@@ -241,8 +257,8 @@ fn inner_gutter_columns<W: PutStyle>(
             put_spaces(w, empty + empty)?;
             lane += empty;
         } else {
-            let (lane_mark, after) = take_lane_mark(lanes.marks, next, lane);
-            inner_gutter_column(w, context, leading, row, lane, lane_mark)?;
+            let (mark, after) = take_lane_mark(lanes.marks, next, lane);
+            inner_gutter_column(w, context, leading, row, Lane { index: lane, mark })?;
             next = after;
             lane += 1;
         }

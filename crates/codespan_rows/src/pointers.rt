@@ -52,70 +52,75 @@ pub fn caret_pointer<W: PutStyle>(
     write_label_glyph(w, context.severity, style, context.chars.pointer_left)
 }
 
+/// What the rows under the carets of a line are written from.
+#[derive(Drop)]
+struct RowsUnder<'row, 'd, S> {
+    context: RowContext<'row>,
+    line: Line<'row, 'd>,
+    source: &'row S,
+    messages: Messages<'row, 'd>,
+}
+
 /// Writes the row of the pointers under a line.
 fn write_pointer_row<W: PutStyle, S: LineSource>(
     w: &mut W,
-    context: RowContext<'_>,
-    line: Line<'_, '_>,
-    source: &S,
-    messages: Messages<'_, '_>,
+    rows: &RowsUnder<'_, '_, S>,
 ) -> Result<(), W::Error>
-    requires of { S.of source.now ≡ char_input context line }
-    requires hanging { AreHanging line.labels.now messages.before.now messages.after.now }
+    requires of { S.of rows.now.source.now ≡ char_input rows.now.context rows.now.line }
+    requires hanging { AreHanging rows.now.line.labels.now
+        rows.now.messages.before.now rows.now.messages.after.now }
     ensures { Writes (W.sink w.old)
-        (pointer_row (context_view context.entry) (line_view line.entry) ++ newline)
+        (pointer_row (context_view rows.now.context) (line_view rows.now.line) ++ newline)
         result (W.sink w.new) }
 {
-    write_row_start(w, context, line)?;
-    source.caret_pointers(w, context, line, messages)?;
+    write_row_start(w, rows.context, rows.line)?;
+    rows.source
+        .caret_pointers(w, rows.context, rows.line, rows.messages)?;
     write_newline(w)
 }
 
 /// Writes a hanging message under its pointer.
 fn write_hanging_row<W: PutStyle, S: LineSource>(
     w: &mut W,
-    context: RowContext<'_>,
-    line: Line<'_, '_>,
-    source: &S,
-    messages: Messages<'_, '_>,
+    rows: &RowsUnder<'_, '_, S>,
     label: &SingleLabel<'_>,
 ) -> Result<(), W::Error>
-    requires of { S.of source.now ≡ char_input context line }
-    requires hanging { AreHanging line.labels.now messages.before.now messages.after.now }
+    requires of { S.of rows.now.source.now ≡ char_input rows.now.context rows.now.line }
+    requires hanging { AreHanging rows.now.line.labels.now
+        rows.now.messages.before.now rows.now.messages.after.now }
     requires near { (single_label_view label.now).start
-        ≤ max_label_start (single_label_views line.labels.now) }
+        ≤ max_label_start (single_label_views rows.now.line.labels.now) }
     ensures { Writes (W.sink w.old)
-        (hanging_row (context_view context.entry) (line_view line.entry)
+        (hanging_row (context_view rows.now.context) (line_view rows.now.line)
         (single_label_view label.now)
         ++ newline) result (W.sink w.new) }
 {
-    write_row_start(w, context, line)?;
-    source.caret_pointers_before(w, context, line, messages, label.1.start)?;
-    write_message(w, context.severity, label)?;
+    write_row_start(w, rows.context, rows.line)?;
+    rows.source
+        .caret_pointers_before(w, rows.context, rows.line, rows.messages, label.1.start)?;
+    write_message(w, rows.context.severity, label)?;
     write_newline(w)
 }
 
 /// Writes the rows of the hanging messages of these labels, the last one first.
 fn write_hanging_rows<W: PutStyle, S: LineSource>(
     w: &mut W,
-    context: RowContext<'_>,
-    line: Line<'_, '_>,
-    source: &S,
-    messages: Messages<'_, '_>,
+    rows: &RowsUnder<'_, '_, S>,
     labels: &[SingleLabel<'_>],
 ) -> Result<(), W::Error>
-    requires of { S.of source.now ≡ char_input context line }
-    requires hanging { AreHanging line.labels.now messages.before.now messages.after.now }
+    requires of { S.of rows.now.source.now ≡ char_input rows.now.context rows.now.line }
+    requires hanging { AreHanging rows.now.line.labels.now
+        rows.now.messages.before.now rows.now.messages.after.now }
     requires near { max_label_start (single_label_views labels.now)
-        ≤ max_label_start (single_label_views line.labels.now) }
-    ensures { Writes (W.sink w.old) (hanging_stream_view context.entry line.entry labels.now)
+        ≤ max_label_start (single_label_views rows.now.line.labels.now) }
+    ensures { Writes (W.sink w.old) (hanging_stream_view rows.now.context rows.now.line labels.now)
         result (W.sink w.new) }
 {
     for label in labels.iter().rev() {
         if label.2.is_empty() {
             continue;
         }
-        write_hanging_row(w, context, line, source, messages, label)?;
+        write_hanging_row(w, rows, label)?;
     }
     Ok(())
 }
@@ -123,20 +128,19 @@ fn write_hanging_rows<W: PutStyle, S: LineSource>(
 /// Writes the pointers, and a row for each hanging message.
 fn write_pointers_and_messages<W: PutStyle, S: LineSource>(
     w: &mut W,
-    context: RowContext<'_>,
-    line: Line<'_, '_>,
-    source: &S,
-    messages: Messages<'_, '_>,
+    rows: &RowsUnder<'_, '_, S>,
 ) -> Result<(), W::Error>
-    requires of { S.of source.now ≡ char_input context line }
-    requires hanging { AreHanging line.labels.now messages.before.now messages.after.now }
-    requires pieces { ArePieces line.labels.now messages.before.now messages.after.now }
-    ensures { Writes (W.sink w.old) (messages_view context.entry line.entry messages.entry)
+    requires of { S.of rows.now.source.now ≡ char_input rows.now.context rows.now.line }
+    requires hanging { AreHanging rows.now.line.labels.now
+        rows.now.messages.before.now rows.now.messages.after.now }
+    requires pieces { ArePieces rows.now.line.labels.now
+        rows.now.messages.before.now rows.now.messages.after.now }
+    ensures { Writes (W.sink w.old) (messages_view rows.now.context rows.now.line rows.now.messages)
         result (W.sink w.new) }
 {
-    write_pointer_row(w, context, line, source, messages)?;
-    write_hanging_rows(w, context, line, source, messages, messages.after)?;
-    write_hanging_rows(w, context, line, source, messages, messages.before)
+    write_pointer_row(w, rows)?;
+    write_hanging_rows(w, rows, rows.messages.after)?;
+    write_hanging_rows(w, rows, rows.messages.before)
 }
 
 /// Returns whether one of the labels has a message.
@@ -168,5 +172,11 @@ pub fn write_hanging<W: PutStyle, S: LineSource>(
     if !has_any_message(messages.before) && !has_any_message(messages.after) {
         return Ok(());
     }
-    write_pointers_and_messages(w, context, line, source, messages)
+    let rows = RowsUnder {
+        context,
+        line,
+        source,
+        messages,
+    };
+    write_pointers_and_messages(w, &rows)
 }

@@ -3,7 +3,7 @@
 ghost use Rattle.std.specs.Prelude.{◌≡◌, ◌<◌, ◌≤◌, ◌++◌, ◌==◌, None, drop, false, length, map, true};
 ghost use Rattle.std.specs.List.{list_any};
 ghost use Rattle.codespan_base.specs.Labels.{LaneMark, is_primary, is_primary_style};
-ghost use Rattle.codespan_base.specs.Streams.{spaces, bytes, newline};
+ghost use Rattle.codespan_base.specs.Streams.{bytes, newline};
 ghost use Rattle.codespan_base.specs.WriterLaw.{Writes};
 ghost use Rattle.codespan_picture.specs.CharMetrics.{char_metrics};
 ghost use Rattle.codespan_picture.specs.declared.char_metrics.Metrics as metrics;
@@ -141,14 +141,8 @@ fn write_colored_text<W: PutStyle, C: CharCursor>(
         let style = text_style(&mut characters, marks, line, metrics);
         let next = end + metrics.bytes;
         if metrics.code == '\t' {
-            write_tab(
-                w,
-                context,
-                &text[start..end],
-                previous,
-                style,
-                metrics.width,
-            )?;
+            end_text_run(w, context, &text[start..end], previous, style)?;
+            put_spaces(w, metrics.width)?;
             start = next;
             previous = style;
         } else if style != previous {
@@ -195,23 +189,6 @@ pub fn end_text_run<W: PutStyle>(
 {
     put_all(w, text)?;
     change_style(w, context.severity, previous, style)
-}
-
-/// Writes the end of a run of text before a tab, and the tab's spaces.
-pub fn write_tab<W: PutStyle>(
-    w: &mut W,
-    context: RowContext<'_>,
-    text: &[u8],
-    previous: Option<LabelStyle>,
-    style: Option<LabelStyle>,
-    width: usize,
-) -> Result<(), W::Error>
-    ensures { Writes (W.sink w.old)
-        (bytes text.now ++ change context.entry.severity previous style ++ spaces width)
-        result (W.sink w.new) }
-{
-    end_text_run(w, context, text, previous, style)?;
-    put_spaces(w, width)
 }
 
 /// Writes a line number, the left border, the lanes and a space.

@@ -65,7 +65,7 @@ pub record SourceView : Type 0 where
 -- the file of it; a location that is set comes before the computed one
 abbrev pub file_of : SourceView → FileModel
 file_of s = record {
-  there = true;
+  exists = true;
   name = Some s.cut.name;
   text = s.cut.text;
   starts = s.cut.starts;

@@ -32,7 +32,7 @@ longest_starts = range_with_len 0 (greatest + 1)
 -- its lines are empty, and have their indices as numbers
 abbrev pub longest_file : List ℕ → FileModel
 longest_file name = record {
-  there = true;
+  exists = true;
   name = Some name;
   text = longest_text;
   starts = longest_starts;

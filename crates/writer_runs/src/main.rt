@@ -21,6 +21,7 @@
 mod case;
 mod cases;
 mod direct;
+mod failing_writer;
 mod failure;
 mod judging;
 mod path;
@@ -28,7 +29,6 @@ mod record;
 mod rendering;
 mod run;
 mod stops;
-mod style_mark_writer;
 mod zero;
 
 use run::run;

@@ -1,9 +1,9 @@
 //! The writers of styles between a call and a writer of bytes.
 
+use crate::failing_writer::FailingWriter;
 use crate::failure::Failure;
 use crate::record::Record;
 use crate::rendering::Render;
-use crate::style_mark_writer::StyleMarkWriter;
 use codespan_base_tests::writers::sequences::without_sequences;
 use codespan_reporting::files::Error;
 use codespan_reporting::term::{Ansi, NoColor, Styles, StylesWriter};
@@ -47,7 +47,7 @@ impl Path {
             Path::Plain => output.render_plain(writer),
             Path::Ansi => output.render(&mut StylesWriter::new(Ansi::new(writer), &styles)),
             Path::NoColor => output.render(&mut StylesWriter::new(NoColor::new(writer), &styles)),
-            Path::Custom => output.render(&mut StyleMarkWriter::new(writer, usize::MAX)),
+            Path::Custom => output.render(&mut FailingWriter::new(writer, usize::MAX)),
         }
     }
 

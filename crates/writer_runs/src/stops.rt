@@ -1,10 +1,10 @@
 //! Runs into writers that stop.
 
+use crate::failing_writer::FailingWriter;
 use crate::failure::{Ending, Failure};
 use crate::path::Path;
 use crate::record::Record;
 use crate::rendering::Render;
-use crate::style_mark_writer::StyleMarkWriter;
 use codespan_base_tests::writers::stopping::{Stop, Stopping, is_failed};
 use std::alloc::Global;
 
@@ -110,7 +110,7 @@ fn stops_at_style_mark<D: Render>(
     written: &[u8],
     is_stopped: bool,
 ) -> bool {
-    let mut writer = StyleMarkWriter::new(Vec::new(alloc), marks);
+    let mut writer = FailingWriter::new(Vec::new(alloc), marks);
     let returned = output.render(&mut writer);
     is_failed(&returned) == Some(is_stopped)
         && writer.has_failed() == is_stopped

@@ -8,7 +8,7 @@ ghost use Rattle.std.specs.Prelude.{◌≡◌, IfOk, OnErr, IsErrOf, length};
 ghost use Rattle.std.specs.List.Sorted.{IsPermutation};
 
 use crate::annotation::Annotation;
-use crate::annotation::order::{RANKS, rank};
+use crate::annotation::order::{RANK_COUNT, rank};
 use codespan_base::files::Error;
 use std::alloc::Global;
 use std::ops::Range;
@@ -83,7 +83,7 @@ fn chain_groups<FileId>(
 {
     let len = annotations.len();
     let line_total = lines.end.saturating_sub(lines.start);
-    let mut first = vec![in alloc; len; line_total.saturating_mul(RANKS)]?;
+    let mut first = vec![in alloc; len; line_total.saturating_mul(RANK_COUNT)]?;
     let mut next = vec![in alloc; len; len]?;
     for index in (0..len).rev() {
         let group = group_of(&annotations[index], lines.start);
@@ -135,5 +135,5 @@ fn gather<'d, FileId: Copy>(
 /// one for each rank. A line before the first one has a group past the last.
 fn group_of<FileId>(annotation: &Annotation<'_, FileId>, first_line: usize) -> usize {
     let line = annotation.line.index.wrapping_sub(first_line);
-    line.wrapping_mul(RANKS).wrapping_add(rank(annotation))
+    line.wrapping_mul(RANK_COUNT).wrapping_add(rank(annotation))
 }

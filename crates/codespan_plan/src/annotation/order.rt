@@ -58,7 +58,7 @@ fn compare_kinds<FileId>(left: &Annotation<'_, FileId>, right: &Annotation<'_, F
 }
 
 /// The number of ranks.
-pub const RANKS: usize = 3;
+pub const RANK_COUNT: usize = 3;
 
 /// Returns the rank of a kind: 0 for shown, 1 for a single-line label, 2 for a multi-line label.
 pub fn rank<FileId>(annotation: &Annotation<'_, FileId>) -> usize

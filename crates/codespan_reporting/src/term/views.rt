@@ -1,10 +1,5 @@
 //! Views of a diagnostic, which render it to a [`Renderer`](crate::term::Renderer): in rich, medium
 //! or short style.
 
-mod parts;
-mod rich;
-mod short;
-mod snippet;
-
-pub use rich::RichDiagnostic;
-pub use short::ShortDiagnostic;
+pub use codespan_views::rich::RichDiagnostic;
+pub use codespan_views::short::ShortDiagnostic;

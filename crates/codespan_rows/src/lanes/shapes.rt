@@ -22,9 +22,9 @@ pub fn shape_in(
 {
     match (row, part) {
         (LaneRow::Source, MultiLabel::Top(start)) if start <= leading => Shape::TopCorner,
-        (LaneRow::Source | LaneRow::Plain, MultiLabel::Top(_)) => Shape::Gap,
+        (LaneRow::Source | LaneRow::Plain, MultiLabel::Top(_)) => Shape::Space,
         (LaneRow::Below, MultiLabel::Top(start)) if goes_on(layout, leading, start) => Shape::Bar,
-        (LaneRow::Below, MultiLabel::Top(_)) => Shape::Gap,
+        (LaneRow::Below, MultiLabel::Top(_)) => Shape::Space,
         (LaneRow::Underline(corner_lane, _, _), part) => {
             underline_shape(layout, leading, corner_lane, lane, part)
         }
@@ -57,10 +57,10 @@ fn underline_shape(
         MultiLabel::Top(start) if goes_on(layout, leading, start) => Shape::Bar,
         MultiLabel::Top(_) if lane == corner_lane => Shape::TopCorner,
         MultiLabel::Top(_) if lane < corner_lane => Shape::Bar,
-        MultiLabel::Top(_) => Shape::Gap,
+        MultiLabel::Top(_) => Shape::Space,
         MultiLabel::Left => Shape::Bar,
         MultiLabel::Bottom(_, _) if lane == corner_lane => Shape::BottomCorner,
-        MultiLabel::Bottom(_, _) if lane < corner_lane => Shape::Gap,
+        MultiLabel::Bottom(_, _) if lane < corner_lane => Shape::Space,
         MultiLabel::Bottom(_, _) => Shape::Bar,
     }
 }

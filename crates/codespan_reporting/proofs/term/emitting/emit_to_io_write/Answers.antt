@@ -1,7 +1,0 @@
-use Rattle.std.proofs.Common.{rules}
-use Rattle.codespan_reporting.proofs.Emitting.{written_back}
-use Rattle.codespan_reporting.proofs.term.emitting.emit_to_io_write.Goals as goal
-
-pub returns : goal.returns
-returns g c =
-    written_back g.W.Write.contents c.new-plain.result c.emit_to_write_style.new.writer c.new-plain.ensures.begins c.emit_to_write_style.ensures (search rules)

@@ -1,0 +1,13 @@
+pub mod Chains
+pub mod Failures
+pub mod OutputLoci
+pub mod Renderings
+pub mod EmittedOutputs
+pub mod LookupRuns
+pub mod StyleCalls
+pub mod SnippetParts
+pub mod OutputPlanRendering
+pub mod LinesRendered
+pub mod NoteRows
+pub mod RichParts
+pub mod HeaderRuns

@@ -1,0 +1,102 @@
+-- Snippet lines that are rendered one after another: what is written and what is looked up.
+use Rattle.std.proofs.Common.{◌≡◌, ℕ, ◌+◌, List, [], ◌∷◌, ◌++◌, take, drop, map, Option, Result, Ok, Err, sym, subst, ap, ◌∙◌, append-nil}
+use Rattle.std.proofs.lemmas.List.{map-append, take-append-drop}
+use Rattle.std.proofs.lemmas.Grind.{flat_map-append}
+use Rattle.codespan_base.specs.declared.files.Error.{Error}
+use Rattle.codespan_base.specs.declared.term.config.Config.{Config}
+use Rattle.codespan_base.specs.FileModel.{FileDatabase, FileModel, Lookup, or_failure}
+use Rattle.codespan_base.specs.Streams.{Stream, newline}
+use Rattle.codespan_base.specs.WriterLaw.{Sink}
+use Rattle.codespan_picture.specs.Picture.{context_of}
+use Rattle.codespan_picture.specs.Rows.{RowContext, Row}
+use Rattle.codespan_picture.specs.RowStreams.{stream_of, stream_of_rows}
+use Rattle.codespan_views.specs.declared.snippet.lines.Snippet.{Snippet}
+use Rattle.codespan_plan.specs.declared.plan.snippet_lines.SnippetLine.{SnippetLine as RustLine}
+use Rattle.codespan_views.specs.Private.LookupsWhileRendering.{WritesWithLookups}
+use Rattle.codespan_plan.specs.SourceFiles.{failure_of, model_of}
+use Rattle.codespan_plan.specs.SnippetLineViews.{lookups_of_line, lookups_of_lines, line_view}
+use Rattle.codespan_plan.specs.SnippetLines.{SnippetLine, rows_of_line, rows_of_lines}
+use Rattle.codespan_views.proofs.LookupRuns.{IsLookupRun, run_as, run_cut, run_of_nothing, run_then}
+use Rattle.codespan_plan.proofs.FirstErrors.{first_error-lookups}
+use Rattle.codespan_plan.proofs.LabelIndexing.{IsElementAt, take-at}
+
+module _ {F Id Name Source : Type 0} (database : F → FileDatabase Id) (lines : Snippet F Id Name Source) (config : Config) where
+  -- the file
+  abbrev f : FileModel
+  f = model_of database lines.file
+
+  -- what its lookups fail with
+  abbrev lookups : List Lookup → Option Error
+  lookups = failure_of database lines.file
+
+  -- what its rows share
+  abbrev row_context : RowContext
+  row_context = context_of config lines.context.now.severity lines.context.now.padding
+
+  -- the rows of these snippet lines
+  abbrev rows : List (RustLine Id) → Stream
+  rows snippet_lines = stream_of_rows row_context (rows_of_lines f lines.lane_count (map line_view snippet_lines))
+
+  -- what their lookups fail with
+  abbrev lookups_all : List (RustLine Id) → Option Error
+  lookups_all snippet_lines = lookups (lookups_of_lines snippet_lines)
+
+  -- the call renders a snippet line, with its lookups
+  abbrev RendersOne : RustLine Id → Sink → Result (Unit {0}) Error → Sink → Type 0
+  RendersOne snippet_line old r new = WritesWithLookups (lookups (lookups_of_line snippet_line)) old (stream_of_rows row_context (rows_of_line f lines.lane_count (line_view snippet_line))) r new
+
+  -- these snippet lines are rendered, with their lookups
+  pub record RendersAll (snippet_lines : List (RustLine Id)) (old : Sink) (r : Result (Unit {0}) Error) (new : Sink) : Type 0 where
+    pub rendered : IsLookupRun (lookups_all snippet_lines) old (rows snippet_lines) r new
+
+  -- the rows of snippet lines, one after another
+  rows-append : (xs ys : List (RustLine Id)) → rows (xs ++ ys) ≡ rows xs ++ rows ys
+  rows-append xs ys =
+      ap (λ (snippet_lines : List SnippetLine). stream_of_rows row_context (rows_of_lines f lines.lane_count snippet_lines)) (map-append line_view xs ys)
+      ∙ ap (stream_of_rows row_context) (flat_map-append (rows_of_line f lines.lane_count) (map line_view xs) (map line_view ys))
+      ∙ flat_map-append (λ (row : Row). stream_of row_context row ++ newline) (rows_of_lines f lines.lane_count (map line_view xs)) (rows_of_lines f lines.lane_count (map line_view ys))
+
+  -- the lookups of snippet lines, one after another
+  lookups-append : (xs ys : List (RustLine Id)) → lookups_all (xs ++ ys) ≡ or_failure (lookups_all xs) (lookups_all ys)
+  lookups-append xs ys =
+      ap lookups (flat_map-append lookups_of_line xs ys) ∙ first_error-lookups (database lines.file.files.now).failure lines.file.id (lookups_of_lines xs) (lookups_of_lines ys)
+
+module _ {F Id Name Source : Type 0} {database : F → FileDatabase Id} {lines : Snippet F Id Name Source} {config : Config} where
+  -- nothing is rendered
+  pub rendered-nothing : {s : Sink} → RendersAll database lines config [] s (Ok tt) s
+  rendered-nothing = record { rendered = run_of_nothing }
+
+  -- one snippet line is rendered
+  rendered-one : {snippet_line : RustLine Id} {s t : Sink} {r : Result (Unit {0}) Error} → RendersOne database lines config snippet_line s r t → RendersAll database lines config (snippet_line ∷ []) s r t
+  rendered-one {snippet_line} renders = record {
+    rendered = run_as
+        (ap (lookups database lines config) (sym (append-nil (lookups_of_line snippet_line))))
+        (ap (stream_of_rows (row_context database lines config)) (sym (append-nil (rows_of_line (f database lines config) lines.lane_count (line_view snippet_line)))))
+        (record { renders = renders });
+  }
+
+  -- snippet lines are rendered, and then others, however that ends
+  rendered-then : {xs ys : List (RustLine Id)} {s t u : Sink} {r : Result (Unit {0}) Error} → RendersAll database lines config xs s (Ok tt) t → RendersAll database lines config ys t r u
+      → RendersAll database lines config (xs ++ ys) s r u
+  rendered-then {xs} {ys} first second = record {
+    rendered = run_as (sym (lookups-append database lines config xs ys)) (sym (rows-append database lines config xs ys)) (run_then first.rendered second.rendered);
+  }
+
+  -- snippet lines were rendered, and then the next one, by an equal configuration, however that
+  -- ends
+  pub rendered-next : {whole : List (RustLine Id)} {i : ℕ} {snippet_line : RustLine Id} {now : Config} {s t u : Sink} {r : Result (Unit {0}) Error} → IsElementAt whole i snippet_line
+      → RendersAll database lines config (take i whole) s (Ok tt) t → now ≡ config → RendersOne database lines now snippet_line t r u
+      → RendersAll database lines config (take (i + 1) whole) s r u
+  rendered-next {snippet_line = snippet_line} {s = s} {t = t} {u = u} {r = r} at before equal next =
+      let here = subst (λ (k : Config). RendersOne database lines k snippet_line t r u) equal next in
+      subst (λ (snippet_lines : List (RustLine Id)). RendersAll database lines config snippet_lines s r u) (sym (take-at at)) (rendered-then before (rendered-one {snippet_line = snippet_line} here))
+
+  -- the first snippet lines failed, and so all are
+  pub rendered-cut : (whole : List (RustLine Id)) (i : ℕ) {s t : Sink} {e : Error} → RendersAll database lines config (take i whole) s (Err e) t → RendersAll database lines config whole s (Err e) t
+  rendered-cut whole i {s} {t} {e} cut =
+      let first = take i whole in
+      let later = drop i whole in
+      subst (λ (snippet_lines : List (RustLine Id)). RendersAll database lines config snippet_lines s (Err e) t) (take-append-drop i whole) (record {
+        rendered = run_as (sym (lookups-append database lines config first later)) (sym (rows-append database lines config first later))
+            (run_cut (lookups_all database lines config later) (rows database lines config later) cut.rendered);
+      })

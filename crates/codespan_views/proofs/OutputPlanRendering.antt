@@ -1,0 +1,333 @@
+-- The snippets of an output plan, one after another.
+use Rattle.std.proofs.Common.{◌≡◌, ℕ, zero, suc, ◌+◌, ◌-◌, ◌<◌, ◌≤◌, Bool, true, false, ◌||◌, List, [], ◌∷◌, ◌++◌, length, take, drop, get_or, map, Option, None, Result, Ok, Err, refl, sym, subst, subst₂, ap, ◌∙◌, arith, lt-ltb}
+use Rattle.std.specs.Prelude.{IfErr, flat_map, nat_lt, if◌then◌else◌}
+use Rattle.std.proofs.Math.Nat.{add-sub_cancel_left}
+use Rattle.std.proofs.Math.Seq.{drop-cons}
+use Rattle.std.proofs.lemmas.Grind.{common_steps}
+use Rattle.std.proofs.lemmas.List.{append-nil, append_assoc, drop-drop, get_or-map, length-drop, length-map, length-take}
+use Rattle.codespan_base.specs.declared.term.config.Config.{Config}
+use Rattle.codespan_base.specs.declared.files.Error.{Error}
+use Rattle.codespan_base.specs.FileModel.{FileDatabase, Lookup, or_failure}
+use Rattle.codespan_base.specs.Streams.{Stream}
+use Rattle.codespan_base.specs.WriterLaw.{Writes, Sink}
+use Rattle.codespan_base.specs.Errors.{IsIo}
+use Rattle.codespan_views.specs.Private.LookupsWhileRendering.{WroteStream, WritesWithLookups}
+use Rattle.codespan_picture.specs.Snippets.{row_after, snippet, snippets}
+use Rattle.codespan_picture.specs.Lookups.{lookups_of_file, first_error, late_lookups, snippet_lookups}
+use Rattle.codespan_picture.specs.Picture.{labels_of, context_of, notes_of}
+use Rattle.codespan_picture.specs.Rows.{EmptyRow, RowContext, Locus, Row, SnippetStartRow}
+use Rattle.codespan_picture.specs.RowStreams.{stream_of_rows}
+use Rattle.codespan_picture.specs.Snippets.{InFile, LabeledFileModel, empty_lanes, has_any, labeled_file_model, labeled_file_models}
+use Rattle.codespan_base.specs.FileModel.Lookup.{Source}
+use Rattle.codespan_picture.specs.Arguments.{locus_view}
+use Rattle.codespan_plan.specs.OutputPlans.{AreSnippetPlans, IsOutputPlan, IsSnippetPlan, ids_of, loci_of}
+use Rattle.codespan_views.specs.Private.SnippetRows.{trailing_border_rows, lookups_with, rows_in}
+use Rattle.codespan_plan.specs.SnippetLineViews.{line_view}
+use Rattle.codespan_plan.specs.SnippetLines.{rows_of_lines}
+use Rattle.codespan_views.specs.Views.{diagnostic_of, view_config_of}
+use Rattle.codespan_views.specs.declared.rich.RichDiagnostic.{RichDiagnostic}
+use Rattle.codespan_plan.specs.declared.plan.OutputPlan.{OutputPlan}
+use Rattle.codespan_plan.specs.declared.plan.snippet_plans.SnippetPlan.{SnippetPlan}
+use Rattle.codespan_plan.specs.declared.plan.snippet_lines.SnippetLine.{SnippetLine as RustLine}
+use Rattle.codespan_views.proofs.LookupRuns.{IsLookupRun, run_as, run_cut, run_of_nothing, run_of_writes, run_then}
+use Rattle.codespan_plan.proofs.FirstErrors.{first_error-append, or_failure-none}
+use Rattle.codespan_plan.proofs.FileParts.{next_part}
+use Rattle.codespan_plan.proofs.LabelIndexing.{IsElementAt, drop-one}
+use Rattle.codespan_views.proofs.SnippetParts.{rows-two, write_at}
+
+-- no element from the end on
+pub drop-end : {X : Type 0} (xs : List X) (k : ℕ) → length xs ≤ k → drop k xs ≡ []
+drop-end [] zero past = refl
+drop-end [] (suc k) past = refl
+drop-end (x ∷ xs) zero past = absurd (omega arith)
+drop-end (x ∷ xs) (suc k) past = drop-end xs k (omega arith)
+
+-- ---- what follows a snippet
+
+-- a snippet is followed by another one, or by notes
+followed-is : {X : Type 0} (has_notes : Bool) (ys : List X) → (has_any ys || has_notes) ≡ (has_notes || nat_lt 0 (length ys))
+followed-is true [] = refl
+followed-is false [] = refl
+followed-is true (y ∷ ys) = refl
+followed-is false (y ∷ ys) = sym (lt-ltb 0 (length (y ∷ ys)) (omega arith))
+
+-- something is left of a difference
+left-over : (a b : ℕ) → nat_lt 0 (b - a) ≡ nat_lt a b
+left-over a b = grind (arith, common_steps)
+
+-- something follows where there are notes or another file
+followed-at : {X : Type 0} (b : Bool) (xs : List X) (k : ℕ) → (has_any (drop (k + 1) xs) || b) ≡ (b || nat_lt (k + 1) (length xs))
+followed-at has_notes xs k =
+    followed-is has_notes (drop (k + 1) xs)
+    ∙ ap (λ n. has_notes || nat_lt 0 n) (length-drop (k + 1) xs)
+    ∙ ap (λ (b : Bool). has_notes || b) (left-over (k + 1) (length xs))
+
+-- ---- the file at an index
+
+-- each file has one name
+ids-count : {Id : Type 0} (files : List (SnippetPlan Id)) → length (ids_of files) ≡ length files
+ids-count {Id} files = length-map files (λ (g : SnippetPlan Id). g.file.now.id)
+
+module _ {Id : Type 0} {files : List (SnippetPlan Id)} {k : ℕ} {f : SnippetPlan Id} (at : IsElementAt files k f) where
+  -- its id and its locus are at the same index
+  id-inside : k < length (ids_of files)
+  id-inside = omega (arith, at.inside, ids-count files)
+
+  id-at : f.file.now.id ≡ get_or (ids_of files) k f.file.now.id
+  id-at = ap (λ (g : SnippetPlan Id). g.file.now.id) at.is ∙ sym (get_or-map (λ (g : SnippetPlan Id). g.file.now.id) files k f f.file.now.id at.inside)
+
+  index-inside : k < length (loci_of files)
+  index-inside = omega (arith, at.inside, length-map files (λ (g : SnippetPlan Id). locus_view g.locus))
+
+  index-at : locus_view f.locus ≡ get_or (loci_of files) k (locus_view f.locus)
+  index-at = ap (λ (g : SnippetPlan Id). locus_view g.locus) at.is ∙ sym (get_or-map (λ (g : SnippetPlan Id). locus_view g.locus) files k f (locus_view f.locus) at.inside)
+
+module _ {Id : Type 0} (database : FileDatabase Id) (config : Config) (xs : List (InFile Id)) where
+  -- the file is that of its labels, with the snippet lines that it counts in front, and the rest is
+  -- of the files after it
+  abbrev pub IsFirstFile : List (SnippetPlan Id) → SnippetPlan Id → List (RustLine Id) → Type 0
+  IsFirstFile later f snippet_lines =
+      IsSnippetPlan config (labeled_file_model database.same database.file xs f.file.now.id) f (take f.line_total snippet_lines) × AreSnippetPlans database config xs later (drop f.line_total snippet_lines)
+
+  -- the files from an index on are those of their labels, with the snippet lines from an index on
+  pub record AreFilesFrom (files : List (SnippetPlan Id)) (k : ℕ) (snippet_lines : List (RustLine Id)) (start : ℕ) : Type 0 where
+    pub inside : start ≤ length snippet_lines
+    pub are : AreSnippetPlans database config xs (drop k files) (drop start snippet_lines)
+
+module _ {Id : Type 0} {database : FileDatabase Id} {config : Config} {xs : List (InFile Id)} {files : List (SnippetPlan Id)} {k : ℕ} {f : SnippetPlan Id} {snippet_lines : List (RustLine Id)} {start : ℕ}
+    (at : IsElementAt files k f) (from : AreFilesFrom database config xs files k snippet_lines start) where
+  -- from the file at an index on they are that file, and those after it
+  files-at : IsFirstFile database config xs (drop (k + 1) files) f (drop start snippet_lines)
+  files-at = subst (λ (fs : List (SnippetPlan Id)). AreSnippetPlans database config xs fs (drop start snippet_lines)) (drop-one files k f at.inside at.is) from.are
+
+  -- there are as many snippet lines as it counts
+  pub own-inside : start + f.line_total ≤ length snippet_lines
+  own-inside =
+      let count = files-at.0.count_is in
+      let inside = from.inside in
+      omega (arith, count, inside, length-take f.line_total (drop start snippet_lines), length-drop start snippet_lines)
+
+  -- it is the file of its labels, with these snippet lines
+  pub own-snippet_lines : {zs : List (RustLine Id)} → zs ≡ snippet_lines → IsSnippetPlan config (labeled_file_model database.same database.file xs f.file.now.id) f (next_part zs start f.line_total)
+  own-snippet_lines same =
+      subst₂ (λ n (ss : List (RustLine Id)). IsSnippetPlan config (labeled_file_model database.same database.file xs f.file.now.id) f (take n (drop start ss)))
+      (sym (add-sub_cancel_left start f.line_total)) (sym same) files-at.0
+
+  -- the later files are those of their labels, with the snippet lines after these
+  pub later-files : AreFilesFrom database config xs files (k + 1) snippet_lines (start + f.line_total)
+  later-files = record {
+    inside = own-inside;
+    are = subst (AreSnippetPlans database config xs (drop (k + 1) files)) (drop-drop f.line_total start snippet_lines) files-at.1;
+  }
+
+module _ {Id : Type 0} {config : Config} {own : LabeledFileModel} {f : SnippetPlan Id} {snippet_lines : List (RustLine Id)} (is : IsSnippetPlan config own f snippet_lines) where
+  -- its rows
+  rows-are : (followed : Bool) → rows_in f own.file snippet_lines ++ trailing_border_rows f followed ≡ snippet config (locus_view f.locus) own ++ row_after followed own
+  rows-are followed =
+      (λ i. (SnippetStartRow (locus_view f.locus) ∷ EmptyRow (record { count = is.lanes_are i; marks = [] }) ∷ []) ++ rows_of_lines own.file (is.lanes_are i) (map line_view snippet_lines)
+      ++ (if followed then EmptyRow (record { count = is.lanes_are i; marks = [] }) ∷ [] else []))
+      ∙ ap (λ (r : List Row). (SnippetStartRow (locus_view f.locus) ∷ EmptyRow (empty_lanes own) ∷ []) ++ r ++ (if followed then EmptyRow (empty_lanes own) ∷ [] else [])) is.rows
+
+-- ---- the files from an index on
+
+module _ {Id : Type 0} (database : FileDatabase Id) (view : RichDiagnostic Id) where
+  -- a file with its labels
+  abbrev pub labeled : Id → LabeledFileModel
+  labeled = labeled_file_model database.same database.file (labels_of (diagnostic_of view))
+
+  -- the lookups with a file's snippet
+  abbrev pub snippet_lookups_of : Id → List (Id × Lookup)
+  snippet_lookups_of = λ id. lookups_of_file id (snippet_lookups database (labels_of (diagnostic_of view)) (view_config_of view) id)
+
+  module _ (output_plan : OutputPlan Id) where
+    -- the rows of the files from an index on
+    abbrev pub rows_left : ℕ → List Row
+    rows_left k = snippets (view_config_of view) (has_any (notes_of (diagnostic_of view))) (drop k (loci_of output_plan.files.items)) (map labeled (drop k (ids_of output_plan.files.items)))
+
+    -- their lookups
+    abbrev pub lookups_left : ℕ → List (Id × Lookup)
+    lookups_left k = flat_map snippet_lookups_of (drop k (ids_of output_plan.files.items))
+
+    -- the files before this index are rendered, and all lookups with them succeeded
+    pub record SnippetsLeft (renderer : Config) (k : ℕ) (old now : Sink) : Type 0 where
+      pub rows : List Row
+      pub rendered : IsLookupRun None old (stream_of_rows (context_of renderer (diagnostic_of view).severity output_plan.padding) rows) (Ok tt) now
+      pub rows_whole : rows ++ rows_left k ≡ rows_left 0
+      pub lookups : List (Id × Lookup)
+      pub succeeded : first_error database.failure lookups ≡ None
+      pub lookups_whole : lookups ++ lookups_left k ≡ lookups_left 0
+
+-- no file is rendered
+pub left-start : {Id : Type 0} {database : FileDatabase Id} {view : RichDiagnostic Id} {renderer : Config} {output_plan : OutputPlan Id} {s : Sink}
+    → SnippetsLeft database view output_plan renderer 0 s s
+left-start = record { rows = []; rendered = run_of_nothing; rows_whole = refl; lookups = []; succeeded = refl; lookups_whole = refl }
+
+module _ {Id : Type 0} {database : FileDatabase Id} {view : RichDiagnostic Id} {renderer : Config} {output_plan : OutputPlan Id} {k : ℕ} {old mid : Sink}
+    (planned : IsOutputPlan database (view_config_of view) (labels_of (diagnostic_of view)) output_plan) (left : SnippetsLeft database view output_plan renderer k old mid) where
+  -- what all rows share, in a configuration
+  abbrev context_by : Config → RowContext
+  context_by config = context_of config (diagnostic_of view).severity output_plan.padding
+
+  -- what all of them do
+  abbrev context : RowContext
+  context = context_by renderer
+
+  -- whether there are notes after the snippets
+  abbrev has_notes : Bool
+  has_notes = has_any (notes_of (diagnostic_of view))
+
+  -- what names the files, and where they start
+  abbrev ids : List Id
+  ids = ids_of output_plan.files.items
+
+  abbrev loci : List Locus
+  loci = loci_of output_plan.files.items
+
+  -- the rows of these files, whose snippets have these loci
+  abbrev rows_at : List Locus → List Id → List Row
+  rows_at ps js = snippets (view_config_of view) has_notes ps (map (labeled database view) js)
+
+  -- the rows of the files from an index on, and their lookups
+  abbrev rest : ℕ → List Row
+  rest = rows_left database view output_plan
+
+  abbrev lookups_from : ℕ → List (Id × Lookup)
+  lookups_from = lookups_left database view output_plan
+
+  -- the rows of all files
+  abbrev all_rows : List Row
+  all_rows = snippets (view_config_of view) has_notes loci (labeled_file_models database.same database.file (labels_of (diagnostic_of view)))
+
+  -- what all their lookups fail with
+  abbrev all_failure : Option Error
+  all_failure = first_error database.failure (late_lookups database (labels_of (diagnostic_of view)) (view_config_of view))
+
+  -- from the first index on these are all of them
+  rows-all : rest 0 ≡ all_rows
+  rows-all = ap (rows_at loci) planned.ids_are
+
+  failure-all : first_error database.failure (lookups_from 0) ≡ all_failure
+  failure-all = ap (λ js. first_error database.failure (flat_map (snippet_lookups_of database view) js)) planned.ids_are
+
+  -- all files are rendered
+  pub left-end : {gs : List (SnippetPlan Id)} → gs ≡ output_plan.files.items → length gs ≤ k → WritesWithLookups all_failure old (stream_of_rows context all_rows) (Ok tt) mid
+  left-end equal past =
+      let none : drop k ids ≡ [] =
+      drop-end ids k (omega (arith, ids-count output_plan.files.items, subst (λ (hs : List (SnippetPlan Id)). length hs ≤ k) equal past)) in
+      subst₂ (λ (o : Option Error) (s : Stream). WritesWithLookups o old s (Ok tt) mid)
+      (sym left.succeeded ∙ ap (first_error database.failure) (sym (append-nil left.lookups) ∙ ap (λ js. left.lookups ++ flat_map (snippet_lookups_of database view) js) (sym none) ∙ left.lookups_whole) ∙ failure-all)
+      (ap (stream_of_rows context) (sym (append-nil left.rows) ∙ ap (λ r. left.rows ++ r) (sym (no-rows (drop k loci)) ∙ ap (rows_at (drop k loci)) (sym none))
+      ∙ left.rows_whole ∙ rows-all))
+      left.rendered.renders
+    where
+      no-rows : (ps : List Locus) → rows_at ps [] ≡ []
+      no-rows [] = refl
+      no-rows (p ∷ ps) = refl
+
+  module _ {f : SnippetPlan Id} {snippet_lines : List (RustLine Id)} {notes : Bool} {count : ℕ} {now : Config} (at : IsElementAt output_plan.files.items k f)
+      (is : IsSnippetPlan (view_config_of view) (labeled database view f.file.now.id) f snippet_lines) (notes_are : notes ≡ has_notes) (count_is : count ≡ length output_plan.files.items) (equal : now ≡ renderer) where
+    -- the file with its labels
+    abbrev own : LabeledFileModel
+    own = labeled database view f.file.now.id
+
+    -- the rows of the file at the index
+    abbrev rows_here : List Row
+    rows_here = snippet (view_config_of view) (locus_view f.locus) own ++ row_after (has_any (drop (k + 1) ids) || has_notes) own
+
+    -- its lookups
+    abbrev lookups_here : List (Id × Lookup)
+    lookups_here = snippet_lookups_of database view f.file.now.id
+
+    -- these rows come first among those that are left
+    rows-next : rest k ≡ rows_here ++ rest (k + 1)
+    rows-next = ap (λ (ps : List Locus). rows_at ps (drop k ids)) (drop-one loci k (locus_view f.locus) (index-inside at) (index-at at))
+        ∙ ap (rows_at (locus_view f.locus ∷ drop (k + 1) loci)) (drop-one ids k f.file.now.id (id-inside at) (id-at at))
+        ∙ ap (λ (b : Bool). (snippet (view_config_of view) (locus_view f.locus) own ++ row_after b own) ++ rest (k + 1)) (followed-mapped (drop (k + 1) ids))
+      where
+        followed-mapped : (js : List Id) → (has_any (map (labeled database view) js) || has_notes) ≡ (has_any js || has_notes)
+        followed-mapped [] = refl
+        followed-mapped (j ∷ js) = refl
+
+    -- and so do its lookups
+    lookups-next : lookups_from k ≡ lookups_here ++ lookups_from (k + 1)
+    lookups-next = ap (flat_map (snippet_lookups_of database view)) (drop-one ids k f.file.now.id (id-inside at) (id-at at))
+
+    -- something follows the file
+    abbrev follows : Bool
+    follows = notes || nat_lt (k + 1) count
+
+    -- the rows of its snippet, and the row after it
+    abbrev snippet_stream : Stream
+    snippet_stream = stream_of_rows context (rows_in f (database.file f.file.now.id) snippet_lines)
+
+    abbrev end_stream : Stream
+    end_stream = stream_of_rows context (trailing_border_rows f follows)
+
+    -- its lookups, as its snippet lines make them
+    abbrev snippet_lines_failure : Option Error
+    snippet_lines_failure = first_error database.failure (lookups_of_file f.file.now.id (lookups_with snippet_lines))
+
+    -- the snippet is rendered, by an equal configuration
+    snippet-here : {r : Result (Unit {0}) Error} {new : Sink} → WritesWithLookups snippet_lines_failure mid (stream_of_rows (context_by now) (rows_in f (database.file f.file.now.id) snippet_lines)) r new
+        → IsLookupRun snippet_lines_failure mid snippet_stream r new
+    snippet-here renders = run_as refl (λ i. stream_of_rows (context_by (equal i)) (rows_in f (database.file f.file.now.id) snippet_lines)) (record { renders = renders })
+
+    -- both are the rows and the lookups at the index
+    rendered-here : {r : Result (Unit {0}) Error} {new : Sink} → IsLookupRun (or_failure snippet_lines_failure None) mid (snippet_stream ++ end_stream) r new
+        → IsLookupRun (first_error database.failure lookups_here) mid (stream_of_rows context rows_here) r new
+    rendered-here both =
+        let followed : follows ≡ (has_any (drop (k + 1) ids) || has_notes) =
+        (λ i. notes_are i || nat_lt (k + 1) ((count_is ∙ sym (ids-count output_plan.files.items)) i)) ∙ sym (followed-at has_notes ids k) in
+        run_as (or_failure-none snippet_lines_failure ∙ ap (λ (ls : List Lookup). first_error database.failure (lookups_of_file f.file.now.id (Source ∷ ls))) is.lookups)
+        (sym (rows-two context (rows_in f (database.file f.file.now.id) snippet_lines) (trailing_border_rows f follows))
+        ∙ ap (stream_of_rows context) (rows-are is follows)
+        ∙ ap (λ (b : Bool). stream_of_rows context (snippet (view_config_of view) (locus_view f.locus) own ++ row_after b own)) followed)
+        both
+
+    -- the file is rendered
+    left-next : {new : Sink} → IsLookupRun (first_error database.failure lookups_here) mid (stream_of_rows context rows_here) (Ok tt) new → SnippetsLeft database view output_plan renderer (k + 1) old new
+    left-next rendered =
+        record {
+          rows = left.rows ++ rows_here;
+          rendered = run_as rendered.renders.0 (sym (rows-two context left.rows rows_here)) (run_then left.rendered rendered);
+          rows_whole = append_assoc left.rows rows_here (rest (k + 1)) ∙ ap (λ (r : List Row). left.rows ++ r) (sym rows-next) ∙ left.rows_whole;
+          lookups = left.lookups ++ lookups_here;
+          succeeded = first_error-append database.failure left.lookups lookups_here ∙ ap (λ (o : Option Error). or_failure o (first_error database.failure lookups_here)) left.succeeded ∙ rendered.renders.0;
+          lookups_whole = append_assoc left.lookups lookups_here (lookups_from (k + 1)) ∙ ap (λ (ls : List (Id × Lookup)). left.lookups ++ ls) (sym lookups-next) ∙ left.lookups_whole;
+        }
+
+    -- the file was cut short
+    left-cut : {new : Sink} {e : Error} → IsLookupRun (first_error database.failure lookups_here) mid (stream_of_rows context rows_here) (Err e) new
+        → WritesWithLookups all_failure old (stream_of_rows context all_rows) (Err e) new
+    left-cut rendered =
+        let here = first_error database.failure lookups_here in
+        let after = first_error database.failure (lookups_from (k + 1)) in
+        (run_as
+        (sym (ap (λ (o : Option Error). or_failure o (or_failure here after)) left.succeeded)
+        ∙ ap (or_failure (first_error database.failure left.lookups)) (sym (first_error-append database.failure lookups_here (lookups_from (k + 1))) ∙ ap (first_error database.failure) (sym lookups-next))
+        ∙ sym (first_error-append database.failure left.lookups (lookups_from k)) ∙ ap (first_error database.failure) left.lookups_whole ∙ failure-all)
+        (ap (λ (s : Stream). stream_of_rows context left.rows ++ s) (sym (rows-two context rows_here (rest (k + 1))) ∙ ap (stream_of_rows context) (sym rows-next))
+        ∙ sym (rows-two context left.rows (rest k)) ∙ ap (stream_of_rows context) (left.rows_whole ∙ rows-all))
+        (run_then left.rendered (run_cut after (stream_of_rows context (rest (k + 1))) rendered))).renders
+
+    -- the snippet was cut short
+    pub cut-in_snippet : {new : Sink} {e : Error} → WritesWithLookups snippet_lines_failure mid (stream_of_rows (context_by now) (rows_in f (database.file f.file.now.id) snippet_lines)) (Err e) new
+        → WritesWithLookups all_failure old (stream_of_rows context all_rows) (Err e) new
+    cut-in_snippet renders = left-cut (rendered-here (run_cut None end_stream (snippet-here renders)))
+
+    module _ {inner : Sink} (renders : WritesWithLookups snippet_lines_failure mid (stream_of_rows (context_by now) (rows_in f (database.file f.file.now.id) snippet_lines)) (Ok tt) inner)
+        {after : Config} (equal_after : after ≡ now) where
+      -- then the row after it was rendered, by an equal configuration, however that ends
+      end-here : {r : Result (Unit {0}) Error} {new : Sink} → Writes inner (stream_of_rows (context_by after) (trailing_border_rows f follows)) r new → IfErr r IsIo
+          → IsLookupRun (first_error database.failure lookups_here) mid (stream_of_rows context rows_here) r new
+      end-here {r} {new} writes io =
+          rendered-here (run_then (snippet-here renders) (run_of_writes r (write_at (λ (c : Config). stream_of_rows (context_by c) (trailing_border_rows f follows)) (equal_after ∙ equal) inner new r writes) io))
+
+      -- it was written
+      pub next-file : {new : Sink} → WroteStream inner (stream_of_rows (context_by after) (trailing_border_rows f follows)) new → SnippetsLeft database view output_plan renderer (k + 1) old new
+      next-file written = left-next (end-here written tt)
+
+      -- it was cut short
+      pub cut-after_snippet : {new : Sink} {e : Error} → Writes inner (stream_of_rows (context_by after) (trailing_border_rows f follows)) (Err e) new → IsIo e
+          → WritesWithLookups all_failure old (stream_of_rows context all_rows) (Err e) new
+      cut-after_snippet writes io = left-cut (end-here writes io)

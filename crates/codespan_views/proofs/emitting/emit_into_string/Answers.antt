@@ -1,0 +1,33 @@
+use Rattle.std.proofs.Common.{rules, ◌≡◌, ℕ, List, [], Some, inl, refl, sym, ap, ◌∙◌}
+use Rattle.codespan_base.specs.LawfulFiles.{IsLawful}
+use Rattle.codespan_base.specs.Streams.{no_style_marks}
+use Rattle.codespan_base.specs.WriterLaw.{Sink}
+use Rattle.codespan_base.specs.Writers.{fresh_sink}
+use Rattle.codespan_views.proofs.EmittedOutputs.{string_rendered, text_is_utf8, string_error}
+use Rattle.codespan_views.proofs.emitting.emit_into_string.Goals.{then-has_failed, else-has_failed}
+use Rattle.codespan_views.proofs.emitting.emit_into_string.Goals as goal
+
+-- a writer of plain text over an empty buffer begins with nothing
+begins-empty : {s : Sink} {xs : List ℕ} → s ≡ fresh_sink no_style_marks (Some xs) → xs ≡ [] → s ≡ fresh_sink no_style_marks (Some [])
+begins-empty begins empty = begins ∙ ap (λ ys. fresh_sink no_style_marks (Some ys)) empty
+
+-- what was written is UTF-8
+pub from_utf8_unchecked-requires : goal.from_utf8_unchecked-requires
+from_utf8_unchecked-requires g c =
+    let file = ((g.F.Files.database c.args.files.now).file) in
+    let claim : g.claim c.lifetimes = search rules in
+    let lawful : (id : g.row.F-FileId.Denot) → IsLawful (file id) = λ id. (g.met.F.Files c.lifetimes claim).lawful c.args.files.now id in
+    text_is_utf8 c.in-Ok.ensures (begins-empty c.new-plain.ensures.begins c.in_ok-bytes.ensures.items) (search rules) c.are_characters.ensures lawful
+
+pub returns-in-Ok : goal.returns-in-Ok
+returns-in-Ok g c =
+    string_rendered c.in-Ok.ensures (begins-empty c.new-plain.ensures.begins c.in_ok-bytes.ensures.items) (search rules)
+
+-- an allocation failed, or the writer has not failed
+pub returns-after-has_failed : goal.returns-after-has_failed
+returns-after-has_failed g c =
+    let rendered = c.in-Err.ensures in
+    elim c.if-has_failed.branch [
+      | then-has_failed w ↦ rw w.result-is (inl refl)
+      | else-has_failed w ↦ rw w.result-is (string_error rendered (sym c.has_failed.ensures ∙ w.if-has_failed.false))
+    ]

@@ -1,0 +1,46 @@
+use Rattle.std.proofs.Common.{◌≡◌, Bool, Result, rules, Ok, Err, ap, subst, sym, ◌∙◌}
+use Rattle.std.specs.Cmp.{IsEquivalence}
+use Rattle.std.proofs.lemmas.Result.{err_from_is_err_and}
+use Rattle.codespan_base.specs.declared.diagnostic.Diagnostic.{Diagnostic}
+use Rattle.codespan_base.specs.declared.files.Error.{Error}
+use Rattle.codespan_base.specs.declared.term.config.Config.{Config}
+use Rattle.codespan_base.specs.declared.term.config.DisplayStyle.TheVariants.{Rich}
+use Rattle.codespan_base.specs.FileModel.{FileDatabase}
+use Rattle.codespan_base.specs.LawfulFiles.{IsLawful}
+use Rattle.codespan_base.specs.WriterLaw.{Sink}
+use Rattle.codespan_laws.proofs.RichLemmas.{output_means_labels}
+use Rattle.codespan_views.specs.WriteCalls.{WritesOutput, WritesStyled}
+use Rattle.codespan_views.proofs.RichParts.{bare-whole}
+use Rattle.codespan_views.proofs.rich.RichDiagnostic.render.Goals as goal
+
+-- what is written means the labels, whether there are any or not
+written : {Id : Type 0} {renderer view : Config} {files : FileDatabase Id} {equal : Id → Id → Bool} {d : Diagnostic Id} {old new : Sink} {r : Result (Unit {0}) Error}
+    → files.same ≡ equal → IsEquivalence equal → ((id : Id) → IsLawful (files.file id)) → WritesOutput Rich renderer view files d old r new → WritesStyled Rich renderer view files d old r new
+written is equal lawful writes = record {
+  writes = writes;
+  means = λ rich. output_means_labels _ _ _ _ (subst IsEquivalence (sym is) equal) (λ i. (lawful i).some_line);
+}
+
+pub returns-in_err-render_without_labels-clause-renders : goal.returns-in_err-render_without_labels-clause-renders
+returns-in_err-render_without_labels-clause-renders g c =
+    let p = err_from_is_err_and c.from_residual.result c.from_residual.ensures.1 in
+    rw (p.1 ∙ ap Err p.2)
+    (written ((g.met.F.Files c.lifetimes (search rules)).same_is c.args.files.now) g.met.FileId.Eq.laws ((g.met.F.Files c.lifetimes (search rules)).lawful c.args.files.now)
+    (bare-whole (Err c.in_err-render_without_labels.field-0.0) (search rules) c.in_err-render_without_labels.ensures.writes c.in_err-render_without_labels.ensures.io))
+
+pub returns-in_ok-render_without_labels-clause-renders : goal.returns-in_ok-render_without_labels-clause-renders
+returns-in_ok-render_without_labels-clause-renders g c =
+    written ((g.met.F.Files c.lifetimes (search rules)).same_is c.args.files.now) g.met.FileId.Eq.laws ((g.met.F.Files c.lifetimes (search rules)).lawful c.args.files.now)
+    (bare-whole (Ok tt) (search rules) c.in_ok-render_without_labels.ensures.writes tt)
+
+pub returns-in_err-render_labels-clause-renders : goal.returns-in_err-render_labels-clause-renders
+returns-in_err-render_labels-clause-renders g c =
+    let p = err_from_is_err_and c.from_residual-in_err-render_labels.result c.from_residual-in_err-render_labels.ensures.1 in
+    rw (p.1 ∙ ap Err p.2)
+    (written ((g.met.F.Files c.lifetimes (search rules)).same_is c.args.files.now) g.met.FileId.Eq.laws ((g.met.F.Files c.lifetimes (search rules)).lawful c.args.files.now)
+    c.in_err-render_labels.ensures.renders)
+
+pub returns-in_ok-render_labels-clause-renders : goal.returns-in_ok-render_labels-clause-renders
+returns-in_ok-render_labels-clause-renders g c =
+    written ((g.met.F.Files c.lifetimes (search rules)).same_is c.args.files.now) g.met.FileId.Eq.laws ((g.met.F.Files c.lifetimes (search rules)).lawful c.args.files.now)
+    c.in_ok-render_labels.ensures.renders

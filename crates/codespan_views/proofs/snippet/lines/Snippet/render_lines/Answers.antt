@@ -1,0 +1,56 @@
+use Rattle.std.proofs.Common.{◌≡◌, ◌+◌, true, Err, refl, sym, ap, ◌∙◌, subst}
+use Rattle.std.proofs.lemmas.List.Elements.{All-from_recursion}
+use Rattle.std.proofs.lemmas.Result.{err_from_is_err_and}
+use Rattle.codespan_laws.proofs.SortedLists.{all-mapped}
+use Rattle.codespan_plan.specs.SnippetLineViews.{IsSnippetLineOf, line_view}
+use Rattle.codespan_plan.specs.SnippetLines.{does_line_fit}
+use Rattle.codespan_plan.specs.SourceFiles.{model_of}
+use Rattle.codespan_plan.proofs.LabelIndexing.{IsElementAt}
+use Rattle.codespan_views.proofs.LinesRendered.{rendered-cut, rendered-next, rendered-nothing}
+use Rattle.codespan_views.proofs.snippet.lines.Snippet.render_lines.Given.{Over}
+use Rattle.codespan_views.proofs.snippet.lines.Snippet.render_lines.Goals.{After-render_snippet_line}
+use Rattle.codespan_views.proofs.snippet.lines.Snippet.render_lines.Goals as goal
+
+pub loop-snippet_line-init : goal.loop-snippet_line-init
+loop-snippet_line-init g c = record {
+  same = record { reference = refl; config = refl };
+  rendered = rendered-nothing;
+}
+
+-- it is the snippet line's turn
+turn : (g : Over) (c : After-render_snippet_line g) → IsElementAt c.args.snippet_lines.now c.loop-snippet_line.snippet_line-index c.snippet_line-item.result
+turn g c = record { inside = c.loop-snippet_line-test.true; is = c.snippet_line-item.is }
+
+pub render_snippet_line-requires : goal.render_snippet_line-requires
+render_snippet_line-requires g c κs =
+    let lines = c.args.self.now in
+    let snippet_lines = c.args.snippet_lines.now in
+    let f = model_of g.F.Files.database lines.file in
+    let i = c.loop-snippet_line.snippet_line-index in (
+      (refl, (refl, tt)),
+      (
+        c.requires.text,
+        (
+          subst (IsSnippetLineOf f) (sym c.snippet_line-item.is) (All-from_recursion (IsSnippetLineOf f) snippet_lines c.requires.snippet_lines i _ c.loop-snippet_line-test.true),
+          ap (λ snippet_line. does_line_fit lines.lane_count (line_view snippet_line)) c.snippet_line-item.is
+              ∙ All-from_recursion (λ snippet_line. does_line_fit lines.lane_count (line_view snippet_line) ≡ true) snippet_lines
+              (all-mapped line_view (λ snippet_line. does_line_fit lines.lane_count snippet_line ≡ true) snippet_lines c.requires.fits) i _ c.loop-snippet_line-test.true,
+        ),
+      ),
+    )
+
+pub returns-in_err-render_snippet_line-clause-renders : goal.returns-in_err-render_snippet_line-clause-renders
+returns-in_err-render_snippet_line-clause-renders g c =
+    let at = turn g (goal.at.returns-in_err-render_snippet_line-clause-renders g c).After-render_snippet_line in
+    let was = c.loop-snippet_line.invariant in
+    let p = err_from_is_err_and c.from_residual.result c.from_residual.ensures.1 in
+    rw (p.1 ∙ ap Err p.2) (rendered-cut c.args.snippet_lines.now (c.loop-snippet_line.snippet_line-index + 1) (rendered-next at was.rendered was.same.config c.in_err-render_snippet_line.ensures.renders)).rendered.renders
+
+pub loop-snippet_line-preserved : goal.loop-snippet_line-preserved
+loop-snippet_line-preserved g c =
+    let same = c.in_ok-render_snippet_line.ensures.same in
+    let was = c.loop-snippet_line.invariant in
+    record {
+      same = record { reference = same.reference ∙ was.same.reference; config = same.config ∙ was.same.config };
+      rendered = rendered-next (turn g (goal.at.loop-snippet_line-preserved g c).After-render_snippet_line) was.rendered was.same.config c.in_ok-render_snippet_line.ensures.renders;
+    }

@@ -1,0 +1,7 @@
+-- the calls that render a diagnostic
+pub mod Failures
+pub mod Output
+pub mod WriteCalls
+pub mod Views
+-- words that private calls and proofs use
+pub mod Private

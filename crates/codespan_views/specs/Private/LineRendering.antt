@@ -1,0 +1,37 @@
+-- The lines of one snippet, rendered: the rows that are written, and the lookups.
+use Rattle.std.specs.Prelude.{List, map, Result}
+use Rattle.codespan_picture.specs.Types.{Error}
+use Rattle.codespan_base.specs.FileModel.{FileDatabase, FileModel, Lookup}
+use Rattle.codespan_base.specs.WriterLaw.{Sink}
+use Rattle.codespan_picture.specs.Rows.{Row}
+use Rattle.codespan_renderer.specs.declared.term.renderer.Renderer.{Renderer}
+use Rattle.codespan_views.specs.declared.snippet.lines.Snippet.{Snippet}
+use Rattle.codespan_plan.specs.declared.plan.snippet_lines.SnippetLine.{SnippetLine as RustLine}
+use Rattle.codespan_plan.specs.SourceFiles.{failure_of, model_of}
+use Rattle.codespan_plan.specs.SnippetLineViews.{lookups_of_lines, line_view}
+use Rattle.codespan_views.specs.Private.Rendering.{RendersRowsWithLookups}
+use Rattle.codespan_plan.specs.SnippetLines.{SnippetLine, rows_of_line, rows_of_lines}
+
+module _ {W F Id Name Source : Type 0} (sink : W → Sink) (database : F → FileDatabase Id)
+    (lines : Snippet F Id Name Source) where
+  -- the call renders rows of the file, and makes these lookups
+  abbrev pub RendersFileRows : List Lookup → (FileModel → List Row) → Renderer W
+      → Result (Unit {0}) Error → Renderer W → Type 0
+  RendersFileRows lookups rows =
+      let context = lines.context.now in
+      RendersRowsWithLookups sink (failure_of database lines.file lookups) context.severity
+      context.padding (rows (model_of database lines.file))
+
+  -- the call renders a line of the snippet, and makes these lookups
+  abbrev pub RendersLine : List Lookup → SnippetLine → Renderer W → Result (Unit {0}) Error
+      → Renderer W
+      → Type 0
+  RendersLine lookups snippet_line =
+      RendersFileRows lookups (λ f. rows_of_line f lines.lane_count snippet_line)
+
+  -- the call renders these lines, one after another, and makes their lookups
+  abbrev pub RendersLines : List (RustLine Id) → Renderer W → Result (Unit {0}) Error → Renderer W
+      → Type 0
+  RendersLines snippet_lines =
+      RendersFileRows (lookups_of_lines snippet_lines)
+      (λ f. rows_of_lines f lines.lane_count (map line_view snippet_lines))

@@ -1,0 +1,50 @@
+-- The rows of a snippet.
+use Rattle.std.specs.Prelude.{Bool, List, [], ◌∷◌, ◌++◌, map, if◌then◌else◌, Result}
+use Rattle.codespan_picture.specs.Types.{Error}
+use Rattle.codespan_base.specs.FileModel.{FileDatabase, FileModel, Lookup}
+use Rattle.codespan_base.specs.FileModel.Lookup.{Source}
+use Rattle.codespan_base.specs.WriterLaw.{Sink}
+use Rattle.codespan_picture.specs.Arguments.{locus_view}
+use Rattle.codespan_picture.specs.Rows.{Row, SnippetStartRow, EmptyRow}
+use Rattle.codespan_renderer.specs.declared.term.renderer.Renderer.{Renderer}
+use Rattle.codespan_views.specs.declared.snippet.lines.SnippetContext.{SnippetContext}
+use Rattle.codespan_plan.specs.declared.plan.snippet_plans.SnippetPlan.{SnippetPlan}
+use Rattle.codespan_plan.specs.declared.plan.snippet_lines.SnippetLine.{SnippetLine as RustLine}
+use Rattle.codespan_plan.specs.FileLookups.{failure_in}
+use Rattle.codespan_plan.specs.SnippetLineViews.{lookups_of_lines, line_view}
+use Rattle.codespan_views.specs.Private.Rendering.{RendersRowsWithLookups}
+use Rattle.codespan_plan.specs.SnippetLines.{rows_of_lines}
+
+module _ {Id : Type 0} (file : SnippetPlan Id) where
+  -- a row with its lanes and nothing else
+  abbrev pub empty_row : Row
+  empty_row = EmptyRow (record { count = file.file.now.lane_count; marks = [] })
+
+  -- its first rows
+  abbrev pub start_rows : List Row
+  start_rows = SnippetStartRow (locus_view file.locus) ∷ empty_row ∷ []
+
+  -- the row after it, where something follows
+  abbrev pub trailing_border_rows : Bool → List Row
+  trailing_border_rows is_followed = if is_followed then empty_row ∷ [] else []
+
+  -- its rows before that one, where these are its lines
+  abbrev pub rows_in : FileModel → List (RustLine Id) → List Row
+  rows_in f snippet_lines =
+      start_rows ++ rows_of_lines f file.file.now.lane_count (map line_view snippet_lines)
+
+-- the lookups of a snippet of these lines
+abbrev pub lookups_with : {Id : Type 0} → List (RustLine Id) → List Lookup
+lookups_with snippet_lines = Source ∷ lookups_of_lines snippet_lines
+
+module _ {W F Id : Type 0} (sink : W → Sink) (database : F → FileDatabase Id)
+    (context : SnippetContext F) where
+  -- the call renders the snippet of a file by these lines, and makes its lookups
+  abbrev pub RendersSnippet : SnippetPlan Id → List (RustLine Id) → Renderer W
+      → Result (Unit {0}) Error → Renderer W → Type 0
+  RendersSnippet f snippet_lines =
+      let t = database context.files.now in
+      let id = f.file.now.id in
+      RendersRowsWithLookups sink (failure_in t.failure id (lookups_with snippet_lines))
+      context.severity context.padding
+      (rows_in f (t.file id) snippet_lines)

@@ -1,0 +1,210 @@
+//! Rich style: a diagnostic over the lines that its labels show.
+
+ghost use Rattle.std.specs.Prelude.{◌≡◌, ◌<◌, IfErr, length};
+ghost use Rattle.codespan_base.specs.declared.term.config.DisplayStyle.TheVariants.{Rich};
+ghost use Rattle.codespan_base.specs.Errors.{IsIo};
+ghost use Rattle.codespan_picture.specs.Picture.{labels_of, notes_of};
+ghost use Rattle.codespan_picture.specs.Snippets.{has_any};
+ghost use Rattle.codespan_renderer.specs.Renderers.{writer_of, config_of, SameRenderer};
+ghost use Rattle.codespan_views.specs.WriteCalls.{WritesStyled};
+ghost use Rattle.codespan_plan.specs.OutputPlans.{IsOutputPlan};
+ghost use Rattle.codespan_views.specs.Private.Rendering.{RendersRows, WritesStream};
+ghost use Rattle.codespan_views.specs.Private.ViewRendering.{RendersSnippets, RendersView, output_without_labels, closing_rows};
+
+use crate::parts::{render_diagnostic_header, render_notes};
+use crate::snippet::line_labels::LineLabels;
+use crate::snippet::lines::SnippetContext;
+use crate::snippet::{render_snippet, render_trailing_border};
+use codespan_base::diagnostic::Diagnostic;
+use codespan_base::files::{Error, Files};
+use codespan_base::term::{Config, WriteStyle};
+use codespan_plan::collect::collect;
+use codespan_plan::plan::{OutputPlan, plan_output};
+use codespan_renderer::term::renderer::Renderer;
+
+/// Renders a diagnostic in rich style: a header, a snippet for each file with a label, and the
+/// notes.
+///
+/// Files are in the order of their first labels. Which lines a snippet has is by the context lines
+/// of the configuration, and a single line between two of them is filled in; both as in the Rust
+/// crate.
+///
+/// # Example
+///
+/// The test `bare_views` of `crates/codespan_tests` has this code. It writes `bug: ` and an empty
+/// line.
+///
+/// ```rust
+/// let bug = Diagnostic::bug(alloc);
+/// let config = Config::default();
+/// let mut plain = PlainWriter::new(Vec::new(alloc));
+/// let mut renderer = Renderer::new(&mut plain, &config);
+/// RichDiagnostic::new(&bug, &config).render(&files, &mut renderer)?;
+/// ```
+#[derive(Clone, Copy)]
+pub struct RichDiagnostic<'diagnostic, 'config, FileId> {
+    diagnostic: &'diagnostic Diagnostic<FileId>,
+    config: &'config Config<'config>,
+}
+
+impl<'diagnostic, 'config, FileId: Copy + Eq> RichDiagnostic<'diagnostic, 'config, FileId> {
+    ghost use Rattle.codespan_views.specs.Views.{diagnostic_of, view_config_of};
+
+    /// Returns a view of the diagnostic. The configuration decides which lines are shown and, by its
+    /// layout, the padding width. Its other fields are not used.
+    pub fn new(
+        diagnostic: &'diagnostic Diagnostic<FileId>,
+        config: &'config Config<'config>,
+    ) -> RichDiagnostic<'diagnostic, 'config, FileId>
+        ensures diagnostic { diagnostic_of result ≡ diagnostic.now }
+        ensures config { view_config_of result ≡ config.now }
+    {
+        RichDiagnostic { diagnostic, config }
+    }
+
+    /// Writes the output.
+    ///
+    /// The renderer's own configuration decides the characters, the tab width and the layout of
+    /// lanes.
+    ///
+    /// # Errors
+    ///
+    /// - [`Error::Io`]: the writer fails or takes no bytes, or a lookup fails with it.
+    /// - [`Error::OutOfMemory`]: an allocation fails, or a lookup fails with it. The contract
+    ///   leaves open when, but it is not returned without labels.
+    /// - [`Error::FormatError`]: the `Display` of a file's name fails, or a lookup fails with it.
+    ///   The contract leaves open when, but it is not returned without labels.
+    /// - Any other error: that of the first lookup that fails.
+    ///
+    /// A prefix of the output has then been written. Nothing has been written where a lookup before
+    /// the header fails, nor where the error is `FormatError`, unless the first lookup after the
+    /// header that fails does so with it. What has been written is known of a writer whose bytes
+    /// are known.
+    ///
+    /// The lookups after the header are those of a file's source, and of the range and, in the
+    /// classic layout, the number of a line between two shown ones. Without labels nothing is
+    /// looked up.
+    pub fn render<'files, F, W>(
+        &self,
+        files: &'files F,
+        renderer: &mut Renderer<'_, '_, W>,
+    ) -> Result<(), Error>
+    where
+        F: Files<'files, FileId = FileId>,
+        W: WriteStyle,
+        FileId: 'files,
+        ensures same { SameRenderer renderer.old renderer.new }
+        ensures renders { WritesStyled Rich (config_of renderer.old) (view_config_of self.now)
+            (F.database files.now) (diagnostic_of self.now)
+            (W.sink (writer_of renderer.old)) result (W.sink (writer_of renderer.new)) }
+    {
+        if self.diagnostic.labels.is_empty() {
+            render_without_labels(self.diagnostic, renderer)?;
+        } else {
+            self.render_labels(files, renderer)?;
+        }
+        Ok(())
+    }
+
+    /// Renders a diagnostic with labels.
+    fn render_labels<'files, F, W>(
+        &self,
+        files: &'files F,
+        renderer: &mut Renderer<'_, '_, W>,
+    ) -> Result<(), Error>
+    where
+        F: Files<'files, FileId = FileId>,
+        W: WriteStyle,
+        FileId: 'files,
+        requires { 0 < length (diagnostic_of self.now).labels.items }
+        ensures same { SameRenderer renderer.old renderer.new }
+        ensures renders { RendersView W.sink (F.database files.now)
+            self.now renderer.old result renderer.new }
+    {
+        let diagnostic = self.diagnostic;
+        let alloc = *diagnostic.labels.allocator();
+        let labels = diagnostic.labels.as_slice();
+        let collected = collect(alloc, files, self.config, labels)?;
+        let output_plan = plan_output(alloc, files, self.config, &collected)?;
+        render_diagnostic_header(diagnostic, renderer, None)?;
+        self.render_snippets(files, renderer, &output_plan)?;
+        render_closing(diagnostic, renderer, output_plan.padding)
+    }
+
+    /// Renders the snippets of all files, with an empty row after each, but after the last one only
+    /// where notes follow.
+    fn render_snippets<'files, F, W>(
+        &self,
+        files: &'files F,
+        renderer: &mut Renderer<'_, '_, W>,
+        output_plan: &OutputPlan<'_, '_, FileId>,
+    ) -> Result<(), Error>
+    where
+        F: Files<'files, FileId = FileId>,
+        W: WriteStyle,
+        FileId: 'files,
+        requires { IsOutputPlan (F.database files.now)
+            (view_config_of self.now) (labels_of (diagnostic_of self.now)) output_plan.now }
+        ensures same { SameRenderer renderer.old renderer.new }
+        ensures renders { RendersSnippets W.sink (F.database files.now)
+            self.now output_plan.now renderer.old result renderer.new }
+    {
+        let diagnostic = self.diagnostic;
+        let context = SnippetContext {
+            files,
+            padding: output_plan.padding,
+            severity: diagnostic.severity,
+        };
+        let mut labels = LineLabels::new(*diagnostic.labels.allocator());
+        let notes_follow = has_notes(diagnostic);
+        let mut start = 0;
+        for (index, file) in output_plan.files.iter().enumerate() {
+            let snippet_lines = &output_plan.snippet_lines[start..start + file.line_total];
+            start += file.line_total;
+            let is_followed = notes_follow | (index + 1 < output_plan.files.len());
+            render_snippet(&context, renderer, &mut labels, file, snippet_lines)?;
+            render_trailing_border(&context, renderer, file, is_followed)?;
+        }
+        Ok(())
+    }
+}
+
+/// Returns whether the diagnostic has a note.
+fn has_notes<FileId>(diagnostic: &Diagnostic<FileId>) -> bool
+    ensures { result ≡ has_any (notes_of diagnostic.now) }
+{
+    !diagnostic.notes.is_empty()
+}
+
+/// Renders the notes, and the empty line at the end.
+#[inline(always)]
+fn render_closing<FileId, W: WriteStyle>(
+    diagnostic: &Diagnostic<FileId>,
+    renderer: &mut Renderer<'_, '_, W>,
+    padding: usize,
+) -> Result<(), Error>
+    ensures same { SameRenderer renderer.old renderer.new }
+    ensures writes { RendersRows W.sink diagnostic.now.severity padding
+        (closing_rows diagnostic.now)
+        renderer.old result renderer.new }
+    ensures io { IfErr result IsIo }
+{
+    render_notes(diagnostic, renderer, padding)?;
+    renderer.render_empty()?;
+    Ok(())
+}
+
+/// Renders a diagnostic without labels: its header and its notes. Nothing is looked up.
+fn render_without_labels<FileId, W: WriteStyle>(
+    diagnostic: &Diagnostic<FileId>,
+    renderer: &mut Renderer<'_, '_, W>,
+) -> Result<(), Error>
+    ensures same { SameRenderer renderer.old renderer.new }
+    ensures writes { WritesStream W.sink
+        (output_without_labels diagnostic.now (config_of renderer.old))
+        renderer.old result renderer.new }
+    ensures io { IfErr result IsIo }
+{
+    render_diagnostic_header(diagnostic, renderer, None)?;
+    render_closing(diagnostic, renderer, 0)
+}

@@ -1,0 +1,166 @@
+//! Short and medium style: a header for each primary label, and in medium style the notes.
+
+ghost use Rattle.std.specs.Prelude.{◌≡◌, ◌∷◌, []};
+ghost use Rattle.codespan_base.specs.declared.term.config.DisplayStyle.TheVariants.{Short, Medium};
+ghost use Rattle.codespan_picture.specs.Picture.{label_of, labels_of};
+ghost use Rattle.codespan_renderer.specs.Renderers.{writer_of, config_of, SameRenderer};
+ghost use Rattle.codespan_views.specs.WriteCalls.{WritesStyled};
+ghost use Rattle.codespan_views.specs.Private.ViewRendering.{RendersHeadersOf, RendersInStyle};
+
+use crate::parts::{render_diagnostic_header, render_notes};
+use codespan_base::diagnostic::{Diagnostic, Label};
+use codespan_base::files::{Error, Files};
+use codespan_base::term::WriteStyle;
+use codespan_plan::file_start::is_primary;
+use codespan_plan::source_file::SourceFile;
+use codespan_renderer::term::renderer::Renderer;
+
+/// Renders a header for each primary label of a diagnostic, with the locus of the label's start, or
+/// one header without a locus where no label is primary; in medium style the notes follow. This is
+/// as in the Rust crate.
+///
+/// # Example
+///
+/// The test `bare_views` of `crates/codespan_tests` has this code. It writes `bug: `.
+///
+/// ```rust
+/// let bug = Diagnostic::bug(alloc);
+/// let config = Config::default();
+/// let mut plain = PlainWriter::new(Vec::new(alloc));
+/// let mut renderer = Renderer::new(&mut plain, &config);
+/// ShortDiagnostic::new(&bug, true).render(&files, &mut renderer)?;
+/// ```
+#[derive(Clone, Copy)]
+pub struct ShortDiagnostic<'diagnostic, FileId> {
+    diagnostic: &'diagnostic Diagnostic<FileId>,
+    show_notes: bool,
+}
+
+impl<'diagnostic, FileId: Copy + Eq> ShortDiagnostic<'diagnostic, FileId> {
+    ghost use Rattle.codespan_views.specs.Views.{short_diagnostic_of, short_style_of, style_with_notes};
+
+    /// Returns a view of the diagnostic: with `show_notes` in medium style, without in short style.
+    pub fn new(
+        diagnostic: &'diagnostic Diagnostic<FileId>,
+        show_notes: bool,
+    ) -> ShortDiagnostic<'diagnostic, FileId>
+        ensures diagnostic { short_diagnostic_of result ≡ diagnostic.now }
+        ensures style { short_style_of result ≡ style_with_notes show_notes }
+    {
+        ShortDiagnostic {
+            diagnostic,
+            show_notes,
+        }
+    }
+
+    /// Writes the output, by the renderer's configuration.
+    ///
+    /// For each primary label it looks up the name of its file and the location of its start, and
+    /// then writes the header. Nothing is looked up for secondary labels.
+    ///
+    /// # Errors
+    ///
+    /// - [`Error::Io`]: the writer fails or takes no bytes, or a lookup fails with it.
+    /// - [`Error::OutOfMemory`]: an allocation fails, or a lookup fails with it. The contract
+    ///   leaves open when, but it is not returned without primary labels.
+    /// - [`Error::FormatError`]: the `Display` of a file's name fails, or a lookup fails with it.
+    ///   The contract leaves open when, but it is not returned without primary labels.
+    /// - Any other error: that of the first lookup that fails.
+    ///
+    /// Unless the writer fails, exactly the headers of the primary labels before one at which the
+    /// call fails have been written; where it fails, a prefix of the output has. This is known of a
+    /// writer whose bytes are known.
+    pub fn render<'files, F, W>(
+        &self,
+        files: &'files F,
+        renderer: &mut Renderer<'_, '_, W>,
+    ) -> Result<(), Error>
+    where
+        F: Files<'files, FileId = FileId>,
+        W: WriteStyle,
+        FileId: 'files,
+        ensures same { SameRenderer renderer.old renderer.new }
+        ensures renders { let config = config_of renderer.old in
+            WritesStyled (short_style_of self.now) config config
+            (F.database files.now) (short_diagnostic_of self.now)
+            (W.sink (writer_of renderer.old)) result (W.sink (writer_of renderer.new)) }
+    {
+        if self.show_notes {
+            render_medium(files, self.diagnostic, renderer)
+        } else {
+            render_headers(files, self.diagnostic, renderer)
+        }
+    }
+}
+
+/// Renders the headers, and then the notes.
+fn render_medium<'files, F: Files<'files>, W: WriteStyle>(
+    files: &'files F,
+    diagnostic: &Diagnostic<F::FileId>,
+    renderer: &mut Renderer<'_, '_, W>,
+) -> Result<(), Error>
+    ensures same { SameRenderer renderer.old renderer.new }
+    ensures renders { RendersInStyle W.sink (F.database files.now)
+        Medium diagnostic.now renderer.old result renderer.new }
+{
+    render_headers(files, diagnostic, renderer)?;
+    render_notes(diagnostic, renderer, 0)
+}
+
+/// Renders a header for each primary label, or one without a locus.
+fn render_headers<'files, F: Files<'files>, W: WriteStyle>(
+    files: &'files F,
+    diagnostic: &Diagnostic<F::FileId>,
+    renderer: &mut Renderer<'_, '_, W>,
+) -> Result<(), Error>
+    ensures same { SameRenderer renderer.old renderer.new }
+    ensures renders { RendersInStyle W.sink (F.database files.now)
+        Short diagnostic.now renderer.old result renderer.new }
+{
+    if render_located(files, diagnostic, renderer)? {
+        Ok(())
+    } else {
+        render_diagnostic_header(diagnostic, renderer, None)
+    }
+}
+
+/// Renders a header for each primary label, in their order, and returns whether there is one.
+fn render_located<'files, F: Files<'files>, W: WriteStyle>(
+    files: &'files F,
+    diagnostic: &Diagnostic<F::FileId>,
+    renderer: &mut Renderer<'_, '_, W>,
+) -> Result<bool, Error>
+    ensures same { SameRenderer renderer.old renderer.new }
+    ensures renders { RendersHeadersOf W.sink (F.database files.now)
+        diagnostic.now (labels_of diagnostic.now) renderer.old result renderer.new }
+{
+    let mut is_located = false;
+    for label in &diagnostic.labels {
+        is_located |= render_if_primary(files, diagnostic, renderer, label)?;
+    }
+    Ok(is_located)
+}
+
+/// Renders the header of a label, where it is a primary one, and returns whether it is.
+fn render_if_primary<'files, F: Files<'files>, W: WriteStyle>(
+    files: &'files F,
+    diagnostic: &Diagnostic<F::FileId>,
+    renderer: &mut Renderer<'_, '_, W>,
+    label: &Label<F::FileId>,
+) -> Result<bool, Error>
+    ensures same { SameRenderer renderer.old renderer.new }
+    ensures renders { RendersHeadersOf W.sink (F.database files.now)
+        diagnostic.now (label_of label.now ∷ []) renderer.old result renderer.new }
+{
+    if !is_primary(label) {
+        return Ok(false);
+    }
+    let alloc = *diagnostic.labels.allocator();
+    let file = SourceFile {
+        files,
+        id: label.file_id,
+    };
+    let locus = file.locus(alloc, label.range.start)?;
+    render_diagnostic_header(diagnostic, renderer, Some(&locus))?;
+    Ok(true)
+}

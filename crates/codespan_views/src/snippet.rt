@@ -1,0 +1,120 @@
+//! The snippets of an output, one for each file.
+
+ghost use Rattle.std.specs.Prelude.{IfErr, map};
+ghost use Rattle.std.specs.List.{AllByRecursion};
+ghost use Rattle.codespan_base.specs.Errors.{IsIo};
+ghost use Rattle.codespan_renderer.specs.Renderers.{SameRenderer};
+ghost use Rattle.codespan_views.specs.Private.SnippetRows.{RendersSnippet, trailing_border_rows, start_rows};
+ghost use Rattle.codespan_plan.specs.SnippetLineViews.{IsSnippetLineOf, line_view};
+ghost use Rattle.codespan_views.specs.Private.Rendering.{RendersRows};
+ghost use Rattle.codespan_plan.specs.SnippetLines.{DoFit};
+
+use crate::snippet::line_labels::LineLabels;
+use crate::snippet::lines::{Snippet, SnippetContext};
+use codespan_base::files::{Error, Files};
+use codespan_base::term::WriteStyle;
+use codespan_plan::plan::snippet_lines::SnippetLine;
+use codespan_plan::plan::snippet_plans::SnippetPlan;
+use codespan_plan::source_file::SourceFile;
+use codespan_renderer::term::renderer::Renderer;
+use std::convert::AsStr;
+
+pub mod line_labels;
+pub mod lines;
+
+/// Renders the first rows of a snippet: its locus, and a row without source.
+///
+/// # Errors
+///
+/// `Io` alone: the writer fails or takes no bytes.
+#[tactic(auto, using(codespan_base::proofs::Writes::write_chains))]
+fn render_start<F, FileId, W: WriteStyle>(
+    context: &SnippetContext<'_, F>,
+    renderer: &mut Renderer<'_, '_, W>,
+    snippet: &SnippetPlan<'_, FileId>,
+) -> Result<(), Error>
+    ensures same { SameRenderer renderer.old renderer.new }
+    ensures writes { RendersRows W.sink context.now.severity context.now.padding
+        (start_rows snippet.now)
+        renderer.old result renderer.new }
+    ensures io { IfErr result IsIo }
+{
+    renderer.render_snippet_start(context.padding, &snippet.locus)?;
+    renderer.render_snippet_empty(
+        context.padding,
+        context.severity,
+        snippet.file.lane_count,
+        &[],
+    )?;
+    Ok(())
+}
+
+/// Looks up the source of a file and renders the rows of its snippet.
+///
+/// # Errors
+///
+/// - `Io`: the writer fails or takes no bytes, or a lookup fails with it.
+/// - `OutOfMemory`: an allocation fails, or a lookup fails with it.
+/// - Any other error: that of the first lookup that fails.
+///
+/// A prefix of the rows has then been written.
+///
+/// # Requires
+///
+/// The lines are of the file, and the single-line labels of each are in the order of their starts.
+pub fn render_snippet<'files, 'd, F: Files<'files>, W: WriteStyle>(
+    context: &SnippetContext<'files, F>,
+    renderer: &mut Renderer<'_, '_, W>,
+    labels: &mut LineLabels<'d>,
+    snippet: &SnippetPlan<'_, F::FileId>,
+    snippet_lines: &[SnippetLine<'_, 'd, F::FileId>],
+) -> Result<(), Error>
+    requires snippet_lines { AllByRecursion (IsSnippetLineOf
+        ((F.database context.now.files.now).file snippet.now.file.now.id)) snippet_lines.now }
+    requires fits { DoFit snippet.now.file.now.lane_count (map line_view snippet_lines.now) }
+    ensures same { SameRenderer renderer.old renderer.new }
+    ensures renders { RendersSnippet W.sink F.database context.now snippet.now snippet_lines.now
+        renderer.old
+        result renderer.new }
+{
+    let source = context.files.source(snippet.file.id)?;
+    render_start(context, renderer, snippet)?;
+    let lines = Snippet {
+        context,
+        file: SourceFile {
+            files: context.files,
+            id: snippet.file.id,
+        },
+        text: source.as_str(),
+        lane_count: snippet.file.lane_count,
+    };
+    lines.render_lines(renderer, labels, snippet_lines)?;
+    Ok(())
+}
+
+/// Renders the row after a snippet, where something follows.
+///
+/// # Errors
+///
+/// `Io` alone: the writer fails or takes no bytes.
+pub fn render_trailing_border<F, FileId, W: WriteStyle>(
+    context: &SnippetContext<'_, F>,
+    renderer: &mut Renderer<'_, '_, W>,
+    snippet: &SnippetPlan<'_, FileId>,
+    is_followed: bool,
+) -> Result<(), Error>
+    ensures same { SameRenderer renderer.old renderer.new }
+    ensures writes { RendersRows W.sink context.now.severity context.now.padding
+        (trailing_border_rows snippet.now is_followed) renderer.old result renderer.new }
+    ensures io { IfErr result IsIo }
+{
+    if is_followed {
+        renderer.render_snippet_empty(
+            context.padding,
+            context.severity,
+            snippet.file.lane_count,
+            &[],
+        )?;
+    }
+    Ok(())
+}

@@ -1,0 +1,183 @@
+//! The lines of a file's snippet.
+
+ghost use Rattle.std.specs.Prelude.{◌≡◌, [], IfOk, IfSome, IsTrue, map};
+ghost use Rattle.std.specs.List.{AllByRecursion};
+ghost use Rattle.codespan_base.specs.LawfulFiles.{FailsBy};
+ghost use Rattle.codespan_renderer.specs.Renderers.{SameRenderer};
+ghost use Rattle.codespan_plan.specs.FileLookups.{failure_in};
+ghost use Rattle.codespan_plan.specs.AnnotationViews.{IsLineAt, IsLineOf, annotation_view};
+ghost use Rattle.codespan_plan.specs.SnippetLineViews.{IsSnippetLineOf, lookups_of_line, lookups_of_filled, line_view};
+ghost use Rattle.codespan_views.specs.Private.LineRendering.{RendersLine, RendersLines};
+ghost use Rattle.codespan_plan.specs.SourceFiles.{model_of};
+ghost use Rattle.codespan_plan.specs.SnippetLines.{Labeled, Break, do_annotations_fit, do_lane_marks_fit, does_line_fit, DoFit};
+
+use crate::snippet::line_labels::{LineLabels, fill_multi_labels};
+use codespan_base::diagnostic::Severity;
+use codespan_base::files::{Error, Files};
+use codespan_base::term::WriteStyle;
+use codespan_plan::annotation::{Annotation, LineInfo};
+use codespan_plan::plan::snippet_lines::SnippetLine;
+use codespan_plan::source_file::SourceFile;
+use codespan_renderer::term::renderer::{Lanes, Line, Renderer};
+
+/// What all snippets of an output share.
+#[derive(Drop)]
+pub struct SnippetContext<'files, F> {
+    /// The file database.
+    pub files: &'files F,
+    /// The padding width, in characters.
+    pub padding: usize,
+    /// The severity of the diagnostic.
+    pub severity: Severity,
+}
+
+/// The snippet of a file.
+#[derive(Drop)]
+pub struct Snippet<'context, 'files, F: Files<'files>> {
+    /// What it shares with other snippets.
+    pub context: &'context SnippetContext<'files, F>,
+    /// The file.
+    pub file: SourceFile<'files, F>,
+    /// The source of the file.
+    pub text: &'context str,
+    /// The number of its lanes: one for each multi-line label.
+    pub lane_count: usize,
+}
+
+impl<'context, 'files, F: Files<'files>> Snippet<'context, 'files, F> {
+    /// Renders these lines, in their order.
+    ///
+    /// # Errors
+    ///
+    /// - `Io`: the writer fails or takes no bytes, or a lookup fails with it.
+    /// - `OutOfMemory`: an allocation fails, or a lookup fails with it.
+    /// - Any other error: that of the first lookup that fails. A filled line is looked up when it
+    ///   is rendered.
+    ///
+    /// A prefix of the rows has then been written.
+    pub fn render_lines<'d, W: WriteStyle>(
+        &self,
+        renderer: &mut Renderer<'_, '_, W>,
+        labels: &mut LineLabels<'d>,
+        snippet_lines: &[SnippetLine<'_, 'd, F::FileId>],
+    ) -> Result<(), Error>
+        requires text { self.now.text.now
+            ≡ (model_of F.database self.now.file).text }
+        requires snippet_lines { AllByRecursion
+            (IsSnippetLineOf (model_of F.database self.now.file)) snippet_lines.now }
+        requires fits { DoFit self.now.lane_count (map line_view snippet_lines.now) }
+        ensures same { SameRenderer renderer.old renderer.new }
+        ensures renders { RendersLines W.sink F.database self.now snippet_lines.now renderer.old
+            result
+            renderer.new }
+    {
+        for snippet_line in snippet_lines {
+            self.render_snippet_line(renderer, labels, snippet_line)?;
+        }
+        Ok(())
+    }
+
+    /// Renders a line of the snippet.
+    ///
+    /// # Errors
+    ///
+    /// As [`Snippet::render_lines`].
+    fn render_snippet_line<'d, W: WriteStyle>(
+        &self,
+        renderer: &mut Renderer<'_, '_, W>,
+        labels: &mut LineLabels<'d>,
+        snippet_line: &SnippetLine<'_, 'd, F::FileId>,
+    ) -> Result<(), Error>
+        requires text { self.now.text.now
+            ≡ (model_of F.database self.now.file).text }
+        requires snippet_line { IsSnippetLineOf (model_of F.database self.now.file)
+            snippet_line.now }
+        requires fits { IsTrue (does_line_fit self.now.lane_count (line_view snippet_line.now)) }
+        ensures same { SameRenderer renderer.old renderer.new }
+        ensures renders { RendersLine W.sink F.database self.now (lookups_of_line snippet_line.now)
+            (line_view snippet_line.now)
+            renderer.old result renderer.new }
+    {
+        match snippet_line {
+            SnippetLine::Labeled { line, annotations } => self.render_line(
+                renderer,
+                labels,
+                *line,
+                *annotations,
+            )?,
+            SnippetLine::Filled {
+                index,
+                number,
+                annotations,
+            } => {
+                let line = self.file.line(*index, *number)?;
+                self.render_line(renderer, labels, line, *annotations)?;
+            }
+            SnippetLine::Break { next } => self.render_break(renderer, labels, *next)?,
+        }
+        Ok(())
+    }
+
+    /// Renders a line with its annotations.
+    ///
+    /// # Errors
+    ///
+    /// - `OutOfMemory`: an allocation fails. Nothing has been written then.
+    /// - `Io`: the writer fails or takes no bytes. A prefix of the rows has been written then.
+    #[inline(always)]
+    fn render_line<'d, W: WriteStyle>(
+        &self,
+        renderer: &mut Renderer<'_, '_, W>,
+        labels: &mut LineLabels<'d>,
+        line: LineInfo,
+        annotations: &[Annotation<'d, F::FileId>],
+    ) -> Result<(), Error>
+        requires text { self.now.text.now
+            ≡ (model_of F.database self.now.file).text }
+        requires line { IsLineOf (model_of F.database self.now.file) line }
+        requires fits { IsTrue
+            (do_annotations_fit self.now.lane_count (map annotation_view annotations.now)) }
+        ensures same { SameRenderer renderer.old renderer.new }
+        ensures renders { RendersLine W.sink F.database self.now []
+            (Labeled line.index (map annotation_view annotations.now)) renderer.old result
+            renderer.new }
+    {
+        labels.refill(annotations)?;
+        let source = &self.text[line.start..line.end];
+        let lanes = Lanes {
+            count: self.lane_count,
+            marks: labels.multi_labels.as_slice(),
+        };
+        let line = Line::new(line.number, source, labels.single_labels.as_slice(), lanes);
+        let cached = labels.metrics.take_line(renderer, line)?;
+        cached.render(renderer, self.context.padding, self.context.severity)
+    }
+
+    /// Renders a break before the line that has these annotations.
+    ///
+    /// # Errors
+    ///
+    /// - `OutOfMemory`: an allocation fails. Nothing has been written then.
+    /// - `Io`: the writer fails or takes no bytes. A prefix of the row has been written then.
+    fn render_break<'d, W: WriteStyle>(
+        &self,
+        renderer: &mut Renderer<'_, '_, W>,
+        labels: &mut LineLabels<'d>,
+        next: &[Annotation<'d, F::FileId>],
+    ) -> Result<(), Error>
+        requires fits { IsTrue (do_lane_marks_fit self.now.lane_count
+            (map annotation_view next.now)) }
+        ensures same { SameRenderer renderer.old renderer.new }
+        ensures renders { RendersLine W.sink F.database self.now []
+            (Break (map annotation_view next.now))
+            renderer.old result renderer.new }
+    {
+        fill_multi_labels(&mut labels.multi_labels, next)?;
+        renderer.render_snippet_break(
+            self.context.padding,
+            self.context.severity,
+            self.lane_count,
+            labels.multi_labels.as_slice(),
+        )
+    }
+}
