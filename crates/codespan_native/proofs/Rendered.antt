@@ -22,7 +22,7 @@ use Rattle.codespan_picture.proofs.EqualConfigs.{rendered_equal}
 use Rattle.codespan_picture.specs.Picture.{heading_of, label_of, labels_of, notes_of, rendered, starts}
 use Rattle.codespan_picture.specs.Snippets.{InFile, labeled_file_models}
 use Rattle.codespan_picture.specs.StatedPicture.{stated_locus}
-use Rattle.codespan_reporting.specs.WriteCalls.{WritesStyled}
+use Rattle.codespan_views.specs.WriteCalls.{WritesStyled}
 use Rattle.codespan_structs.specs.declared.error.OutOfMemory.{OutOfMemory}
 use Rattle.codespan_structs.specs.declared.raw.RawConfig.{RawConfig}
 use Rattle.codespan_structs.specs.declared.raw.RawDiagnostic.{RawDiagnostic}

@@ -12,15 +12,14 @@ ghost use Rattle.codespan_structs.specs.SourceTexts.{database_of};
 ghost use Rattle.codespan_structs.specs.Spellings.{spelling_by_kind};
 ghost use Rattle.codespan_native.specs.RenderedStreams.{stream_of_output};
 
-use codespan_reporting::diagnostic::Diagnostic;
-use codespan_reporting::files::Error;
-use codespan_reporting::term::{
-    Ansi, Config, PlainWriter, Styles, StylesWriter, WriteStyle, emit_to_write_style,
-};
+use codespan_base::diagnostic::Diagnostic;
+use codespan_base::files::Error;
+use codespan_base::term::{Ansi, Config, PlainWriter, Styles, StylesWriter, WriteStyle};
 use codespan_structs::convert::{Settings, Spelling};
 use codespan_structs::error::OutOfMemory;
 use codespan_structs::source_files::SourceFiles;
 use codespan_structs::style_mark_writer::StyleMarkWriter;
+use codespan_views::emitting::emit_to_write_style;
 use std::alloc::Global;
 
 /// The capacity in bytes of a vector before an output is rendered into it.

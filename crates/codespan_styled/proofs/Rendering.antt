@@ -12,7 +12,7 @@ use Rattle.codespan_base.specs.WriterLaw.{Sink, are_known, extended, is_known, w
 use Rattle.codespan_base.specs.Writers.{fresh_sink}
 use Rattle.codespan_laws.specs.TextLaws.{AreCharacters, AreTextsAfter}
 use Rattle.codespan_laws.proofs.PictureTexts.{text-output}
-use Rattle.codespan_reporting.specs.WriteCalls.{WritesStyled}
+use Rattle.codespan_views.specs.WriteCalls.{WritesStyled}
 use Rattle.codespan_documents.specs.declared.style.Style.{Style}
 use Rattle.codespan_documents.specs.declared.style.Style.TheVariants.{Plain}
 use Rattle.codespan_documents.specs.declared.text.StyledText.{StyledText}

@@ -8,7 +8,7 @@ use Rattle.codespan_laws.specs.RichLaws.{MeansLabels}
 use Rattle.codespan_laws.specs.TextLaws.{AreCharacters}
 use Rattle.codespan_picture.specs.Picture.{AreLoci, NamesAreTexts, output}
 use Rattle.codespan_picture.specs.Rows.{Locus}
-use Rattle.codespan_reporting.specs.Output.{IsEmitError, Succeeds}
+use Rattle.codespan_views.specs.Output.{IsEmitError, Succeeds}
 use Rattle.codespan_documents.specs.Runs.{AreTexts, StyledRun, joined, runs_of}
 
 module _ {Id : Type 0} (config : Config) (files : FileDatabase Id) (d : Diagnostic Id) where

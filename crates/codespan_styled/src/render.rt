@@ -11,7 +11,7 @@ use codespan_base::term::Config;
 use codespan_documents::recorder::Recorder;
 use codespan_documents::text::StyledText;
 use codespan_laws::characters::are_characters;
-use codespan_reporting::term::emit_to_write_style;
+use codespan_views::emitting::emit_to_write_style;
 use std::alloc::Global;
 
 /// Returns the output of a diagnostic as runs of text: the output of `emit_to_write_style`, cut at

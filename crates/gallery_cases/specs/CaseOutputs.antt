@@ -7,7 +7,7 @@ use Rattle.codespan_base.specs.declared.files.Error.{Error}
 use Rattle.codespan_base.specs.FileModel.{FileDatabase, FileModel, Lookup}
 use Rattle.codespan_base.specs.MappedModel.{mapped_file, mapped_failure, with_number}
 use Rattle.codespan_base.specs.SimpleModel.{simple_file, simple_failure, database_file, database_failure}
-use Rattle.codespan_reporting.specs.Output.{IsRendered}
+use Rattle.codespan_views.specs.Output.{IsRendered}
 use Rattle.gallery_cases.specs.declared.case.Case.{Case}
 use Rattle.gallery_cases.specs.declared.case.Table.{Table}
 use Rattle.gallery_cases.specs.declared.case.Table.TheVariants.{One, Several, Mapped}

@@ -8,12 +8,12 @@ ghost use Rattle.gallery_cases.specs.declared.errors.LineError.TheVariants.{NoFi
 
 use crate::errors::LineError;
 use crate::statement::{Context, Statement};
-use codespan_reporting::diagnostic::Diagnostic;
-use codespan_reporting::term::{Chars, Config};
+use codespan_base::diagnostic::Diagnostic;
+use codespan_base::term::{Chars, Config};
 use std::alloc::Global;
 
 /// The type of the file database of a case.
-#[derive(Clone, Copy, Debug, PartialEq, Eq)]
+#[derive(Clone, Copy)]
 pub enum Table {
     /// A `SimpleFile`.
     One,
@@ -24,7 +24,7 @@ pub enum Table {
 }
 
 /// A set of characters for borders, carets and lanes.
-#[derive(Clone, Copy, Debug, PartialEq, Eq)]
+#[derive(Clone, Copy)]
 pub enum CharacterSet {
     /// Those of box drawing.
     Box,
@@ -45,7 +45,7 @@ impl CharacterSet {
 }
 
 /// How colors are written.
-#[derive(Clone, Copy, Debug, PartialEq, Eq)]
+#[derive(Clone, Copy, PartialEq, Eq)]
 pub enum Colors {
     /// Not at all.
     Plain,
@@ -56,7 +56,7 @@ pub enum Colors {
 }
 
 /// A file of a case.
-#[derive(Debug, Drop)]
+#[derive(Drop)]
 pub struct File {
     /// The displayed name.
     pub name: String,
@@ -65,7 +65,7 @@ pub struct File {
 }
 
 /// A diagnostic to be rendered.
-#[derive(Debug, Drop)]
+#[derive(Drop)]
 pub struct Case<'input> {
     /// The name of the case, its heading.
     pub name: &'input str,

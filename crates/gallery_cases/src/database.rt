@@ -8,8 +8,8 @@ ghost use Rattle.gallery_cases.specs.CaseOutputs.{by_unit_id, label_by_unit_id, 
 ghost use Rattle.gallery_cases.specs.Database.{IsDatabaseOf};
 
 use crate::case::{Case, File, Table};
-use codespan_reporting::diagnostic::{Diagnostic, Label};
-use codespan_reporting::files::{Error, MappedFile, SimpleFile, SimpleFiles};
+use codespan_base::diagnostic::{Diagnostic, Label};
+use codespan_base::files::{Error, MappedFile, SimpleFile, SimpleFiles};
 use std::alloc::Global;
 
 /// The file database of a case; for a database of one file, with the diagnostic by its id.

@@ -7,13 +7,13 @@ ghost use Rattle.gallery_cases.specs.Documents.{IsDocument, format_named};
 
 use crate::case::Case;
 use crate::rendering::runs_of_case;
-use codespan_reporting::files::Error;
-use codespan_reporting::term::Styles;
+use codespan_base::files::Error;
+use codespan_base::term::Styles;
 use codespan_styled::{html_styles, to_html, to_svg, to_terminal};
 use std::alloc::Global;
 
 /// The form of a document.
-#[derive(Clone, Copy, Debug, PartialEq, Eq)]
+#[derive(Clone, Copy)]
 pub enum Format {
     /// An SVG document, in the default styles.
     Svg,

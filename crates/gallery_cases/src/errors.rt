@@ -4,7 +4,7 @@ ghost use Rattle.std.specs.Prelude.{◌≡◌};
 ghost use Rattle.gallery_cases.specs.declared.errors.LineError.TheVariants as line_errors;
 ghost use Rattle.gallery_cases.specs.declared.errors.RunError.TheVariants as run_errors;
 
-use codespan_reporting::files::Error;
+use codespan_base::files::Error;
 use program_io::arguments::ArgumentsError;
 use program_io::input::InputError;
 use std::alloc::{AllocError, AllocFailed};
@@ -12,7 +12,7 @@ use std::io::Write;
 use std::{fmt, io};
 
 /// An error in a line of the input.
-#[derive(Clone, Copy, Debug, PartialEq, Eq)]
+#[derive(Clone, Copy, Debug)]
 pub enum LineError {
     /// It begins with an unknown word.
     UnknownWord,

@@ -9,7 +9,7 @@ ghost use Rattle.gallery_cases.specs.Galleries.{title, shown, IsSection, IsGalle
 use crate::case::{Case, Colors};
 use crate::document::{Format, document};
 use crate::rendering::render;
-use codespan_reporting::files::Error;
+use codespan_base::files::Error;
 use std::alloc::{AllocError, Global};
 
 /// Returns the sections of the cases, one after another.

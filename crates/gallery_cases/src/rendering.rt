@@ -2,7 +2,7 @@
 
 ghost use Rattle.std.specs.Prelude.{◌≡◌, IfOk, OnOk};
 ghost use Rattle.gallery_cases.specs.declared.case.Colors.TheVariants.{Plain};
-ghost use Rattle.codespan_reporting.specs.Output.{IsAppended};
+ghost use Rattle.codespan_views.specs.Output.{IsAppended};
 ghost use Rattle.codespan_laws.specs.StatedNames.{NamesAreStated};
 ghost use Rattle.codespan_styled.specs.Runs.{styled_runs};
 ghost use Rattle.gallery_cases.specs.Documents.{AreRunsOf, AreRunsOver};
@@ -10,10 +10,11 @@ ghost use Rattle.gallery_cases.specs.CaseOutputs.{AppendsOutput};
 
 use crate::case::{Case, Colors};
 use crate::database::{Database, database_of};
-use codespan_reporting::diagnostic::Diagnostic;
-use codespan_reporting::files::{Error, Files};
-use codespan_reporting::term::{Ansi, Styles, StylesWriter, emit_into_string, emit_to_write_style};
+use codespan_base::diagnostic::Diagnostic;
+use codespan_base::files::{Error, Files};
+use codespan_base::term::{Ansi, Styles, StylesWriter};
 use codespan_styled::{StyledText, styled_text};
+use codespan_views::emitting::{emit_into_string, emit_to_write_style};
 use std::alloc::Global;
 
 /// Appends the rendered case over its files: as plain text, or in colors by escape sequences.

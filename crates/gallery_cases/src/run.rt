@@ -11,7 +11,7 @@ use crate::document::{default_style_sheet, document};
 use crate::errors::RunError;
 use crate::gallery::render_cases;
 use crate::request::Request;
-use codespan_reporting::files::Error;
+use codespan_base::files::Error;
 use program_io::input::read_text;
 use program_io::output::write_and_flush;
 use std::alloc::Global;

@@ -14,12 +14,12 @@ use crate::words::{
     Word, parse_characters, parse_colors, parse_layout, parse_severity, parse_style, parse_table,
     parse_word,
 };
-use codespan_reporting::diagnostic::{Label, LabelStyle, Severity};
-use codespan_reporting::term::{DisplayStyle, Layout};
+use codespan_base::diagnostic::{Label, LabelStyle, Severity};
+use codespan_base::term::{DisplayStyle, Layout};
 use std::alloc::Global;
 
 /// A parsed line.
-#[derive(Debug, Drop)]
+#[derive(Drop)]
 pub enum Line<'input> {
     /// It is empty or begins with `#`, and is ignored.
     Ignored,
@@ -30,7 +30,7 @@ pub enum Line<'input> {
 }
 
 /// A part of the description of a case.
-#[derive(Debug, Drop)]
+#[derive(Drop)]
 pub enum Statement {
     /// `table KIND`: the type of its file database.
     Table(Table),
@@ -65,7 +65,7 @@ pub enum Statement {
 }
 
 /// How many lines are shown around those of labels.
-#[derive(Clone, Copy, Debug, PartialEq, Eq)]
+#[derive(Clone, Copy)]
 pub struct Context {
     /// After the first line of a multi-line label.
     pub start: usize,

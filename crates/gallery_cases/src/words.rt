@@ -4,11 +4,11 @@ ghost use Rattle.std.specs.Prelude.{◌≡◌};
 ghost use Rattle.gallery_cases.specs.Words.{word_named, table_named, style_named, layout_named, characters_named, colors_named, severity_named};
 
 use crate::case::{CharacterSet, Colors, Table};
-use codespan_reporting::diagnostic::Severity;
-use codespan_reporting::term::{DisplayStyle, Layout};
+use codespan_base::diagnostic::Severity;
+use codespan_base::term::{DisplayStyle, Layout};
 
 /// The first word of a line that describes a case.
-#[derive(Clone, Copy, Debug, PartialEq, Eq)]
+#[derive(Clone, Copy)]
 pub enum Word {
     /// The type of the file database.
     Table,

@@ -17,16 +17,13 @@
 //! not UTF-8 are wrong; where memory for them runs out, the status is 1.
 #![tactic(auto)]
 
-mod rendering;
-mod run;
-mod run_error;
 #[cfg(test)]
 mod script_tests;
 #[cfg(test)]
 mod tests;
 
 use program_io::arguments::arguments;
-use run::{conclude, run};
+use report_runs::run::{conclude, run};
 use std::process::ExitCode;
 
 fn main(rt: HostRuntime) -> ExitCode {

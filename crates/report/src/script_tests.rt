@@ -2,8 +2,8 @@
 
 mod errors;
 
-use crate::run::run;
 use crate::tests::{Input, Output, arguments, ran};
+use report_runs::run::run;
 use std::process::Abort;
 use std::test::Fail;
 

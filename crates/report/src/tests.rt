@@ -2,7 +2,7 @@
 
 mod failures;
 
-use crate::run::run;
+use report_runs::run::run;
 use std::alloc::{AllocError, Global};
 use std::io;
 use std::io::{ErrorKind, Read, Write};

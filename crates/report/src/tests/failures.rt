@@ -1,7 +1,7 @@
 //! Runs over readers and writers that fail.
 
-use crate::run::run;
 use crate::tests::{Input, OUTPUT, Output, REQUEST, arguments};
+use report_runs::run::run;
 use std::test::Fail;
 
 #[test]

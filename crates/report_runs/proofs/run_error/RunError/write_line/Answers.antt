@@ -1,5 +1,5 @@
-use Rattle.report.proofs.Received.{line_of_error}
-use Rattle.report.proofs.run_error.RunError.write_line.Goals as goal
+use Rattle.report_runs.proofs.Received.{line_of_error}
+use Rattle.report_runs.proofs.run_error.RunError.write_line.Goals as goal
 
 pub returns-in-CannotWriteOutput-clause-written : goal.returns-in-CannotWriteOutput-clause-written
 returns-in-CannotWriteOutput-clause-written g c =

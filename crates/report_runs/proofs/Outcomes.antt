@@ -1,11 +1,11 @@
 -- What the outcome of a run says.
 use Rattle.std.proofs.Common.{◌≤◌, IfErr, OnOk, Result, refl, ◌≡◌, ◌≢◌, ◌⊎◌, inl, inr, ℕ, List, Option, Some, None, Ok, Err, IfSome, IsErrOf, subst, arith, string_bytes}
 use Rattle.std.specs.Str.{IsUtf8}
-use Rattle.report.specs.declared.run_error.RunError.{RunError}
-use Rattle.report.specs.declared.run_error.RunError.TheVariants.{WrongArguments, CannotReadInput, NotUtf8, CannotRender, BadScript, CannotWriteOutput}
-use Rattle.report.specs.RenderedTexts.{rendering_of}
+use Rattle.report_runs.specs.declared.run_error.RunError.{RunError}
+use Rattle.report_runs.specs.declared.run_error.RunError.TheVariants.{WrongArguments, CannotReadInput, NotUtf8, CannotRender, BadScript, CannotWriteOutput}
+use Rattle.report_runs.specs.RenderedTexts.{rendering_of}
 use Rattle.program_io.specs.Output.{AppendsPrefix}
-use Rattle.report.specs.RunErrors.{ErrorMeans, IfBadScript, IsStatusOf, UnchangedUnlessRendered, failed_output_line}
+use Rattle.report_runs.specs.RunErrors.{ErrorMeans, IfBadScript, IsStatusOf, UnchangedUnlessRendered, failed_output_line}
 use Rattle.report_script.specs.Requests.{CommandView, WhereKnown, command_of}
 
 -- the status is one of four

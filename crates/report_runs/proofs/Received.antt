@@ -2,9 +2,9 @@
 use Rattle.std.proofs.Common.{◌≡◌, ℕ, List, Option, Result, IfSome, OnOk, sym, subst}
 use Rattle.std.specs.Fmt.{with_newline}
 use Rattle.std.specs.Io.KnownBytes.{Appends}
-use Rattle.report.specs.declared.run_error.RunError.{RunError}
-use Rattle.report.specs.declared.run_error.RunError.TheVariants.{CannotWriteOutput}
-use Rattle.report.specs.RunErrors.{error_line, failed_output_line}
+use Rattle.report_runs.specs.declared.run_error.RunError.{RunError}
+use Rattle.report_runs.specs.declared.run_error.RunError.TheVariants.{CannotWriteOutput}
+use Rattle.report_runs.specs.RunErrors.{error_line, failed_output_line}
 
 -- the line of a failed output, as that of an error
 pub line_of_error : {E : Type 0} (error : RunError) (old new : Option (List ℕ)) (r : Result (Unit {0}) E) → error ≡ CannotWriteOutput

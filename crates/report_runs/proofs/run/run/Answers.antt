@@ -1,5 +1,5 @@
-use Rattle.report.proofs.Outcomes.{bad_script_status, unchanged_at_not_utf8, prefix_written, status_at_most, status_of_wrong, unchanged_unless_rendered, success_by_status, reported_at_bad_script, wrong_by_status}
-use Rattle.report.proofs.run.run.Goals as goal
+use Rattle.report_runs.proofs.Outcomes.{bad_script_status, unchanged_at_not_utf8, prefix_written, status_at_most, status_of_wrong, unchanged_unless_rendered, success_by_status, reported_at_bad_script, wrong_by_status}
+use Rattle.report_runs.proofs.run.run.Goals as goal
 
 pub returns-clause-status : goal.returns-clause-status
 returns-clause-status g c = status_at_most c.report.result c.conclude.result c.conclude.ensures.status

@@ -3,9 +3,9 @@
 ghost use Rattle.std.specs.Prelude.{◌≡◌, IfSome, OnOk};
 ghost use Rattle.std.specs.Fmt.{with_newline};
 ghost use Rattle.std.specs.Io.KnownBytes.{Appends};
-ghost use Rattle.report.specs.declared.run_error.RunError.TheVariants.{CannotWriteOutput, CannotRender};
+ghost use Rattle.report_runs.specs.declared.run_error.RunError.TheVariants.{CannotWriteOutput, CannotRender};
 
-use codespan_reporting::files::Error;
+use codespan_base::files::Error;
 use program_io::arguments::ArgumentsError;
 use program_io::input::InputError;
 use program_io::output::write_whole;
@@ -31,7 +31,7 @@ pub enum RunError {
 
 impl RunError {
     ghost use Rattle.program_io.specs.Output.{AppendsPrefix};
-    ghost use Rattle.report.specs.RunErrors.{error_line, failed_output_line};
+    ghost use Rattle.report_runs.specs.RunErrors.{error_line, failed_output_line};
 
     /// Writes the error's line.
     ///
@@ -59,7 +59,7 @@ impl RunError {
 
 /// Arguments that are not UTF-8 are wrong.
 impl From<ArgumentsError> for RunError {
-    ghost use Rattle.report.specs.RunErrors.{arguments_error};
+    ghost use Rattle.report_runs.specs.RunErrors.{arguments_error};
 
     ghost from_gives = { λ error run_error. run_error ≡ arguments_error error };
 
@@ -73,7 +73,7 @@ impl From<ArgumentsError> for RunError {
 
 /// An input that is no text.
 impl From<InputError> for RunError {
-    ghost use Rattle.report.specs.RunErrors.{input_error};
+    ghost use Rattle.report_runs.specs.RunErrors.{input_error};
 
     ghost from_gives = { λ error run_error. run_error ≡ input_error error };
 
@@ -96,7 +96,7 @@ impl From<Error> for RunError {
 
 /// The error's line, without its newline.
 impl fmt::Display for RunError {
-    ghost use Rattle.report.specs.RunErrors.{error_line};
+    ghost use Rattle.report_runs.specs.RunErrors.{error_line};
 
     ghost output = { error_line };
 

@@ -3,9 +3,9 @@
 ghost use Rattle.std.specs.Prelude.{◌≡◌, ◌≢◌, ◌≤◌, ◌↔◌, ◌⊎◌, ℕ, List, None, Ok, Err, IfErr, IsErrOf, OnOk, map, string_bytes};
 ghost use Rattle.std.specs.Io.KnownBytes.{Appends, IsAtEnd};
 ghost use Rattle.std.specs.Str.{IsUtf8};
-ghost use Rattle.report.specs.RenderedTexts.{rendering_of};
+ghost use Rattle.report_runs.specs.RenderedTexts.{rendering_of};
 ghost use Rattle.program_io.specs.Output.{AppendsPrefix};
-ghost use Rattle.report.specs.RunErrors.{ErrorMeans, IfBadScript, IsStatusOf, UnchangedUnlessRendered, failed_output_line};
+ghost use Rattle.report_runs.specs.RunErrors.{ErrorMeans, IfBadScript, IsStatusOf, UnchangedUnlessRendered, failed_output_line};
 ghost use Rattle.report_script.specs.Requests.{WhereKnown, command_of};
 
 use crate::rendering::render;

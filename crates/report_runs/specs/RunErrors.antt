@@ -11,9 +11,9 @@ use Rattle.program_io.specs.declared.arguments.ArgumentsError.{ArgumentsError}
 use Rattle.program_io.specs.declared.arguments.ArgumentsError.TheVariants as arguments
 use Rattle.program_io.specs.declared.input.InputError.{InputError}
 use Rattle.program_io.specs.declared.input.InputError.TheVariants as input
-use Rattle.report.specs.declared.run_error.RunError.{RunError}
-use Rattle.report.specs.declared.run_error.RunError.TheVariants.{WrongArguments, CannotReadInput, NotUtf8, CannotRender, BadScript, CannotWriteOutput}
-use Rattle.report.specs.RenderedTexts.{rendering_of}
+use Rattle.report_runs.specs.declared.run_error.RunError.{RunError}
+use Rattle.report_runs.specs.declared.run_error.RunError.TheVariants.{WrongArguments, CannotReadInput, NotUtf8, CannotRender, BadScript, CannotWriteOutput}
+use Rattle.report_runs.specs.RenderedTexts.{rendering_of}
 use Rattle.report_script.specs.Requests.{CommandView}
 
 -- the program's status: 0 without an error, 2 for wrong arguments, 3 or 1 for a script's error, and

@@ -1,7 +1,7 @@
 use Rattle.std.proofs.Common.{ap, Bor, List, ℕ, string_bytes}
 use Rattle.codespan_base.specs.DatabaseViews.{name_of, source_of}
-use Rattle.report.proofs.Rendered.{rendered_result}
-use Rattle.report.proofs.rendering.render_over.Goals as goal
+use Rattle.report_runs.proofs.Rendered.{rendered_result}
+use Rattle.report_runs.proofs.rendering.render_over.Goals as goal
 
 pub returns : goal.returns
 returns c =

@@ -2,14 +2,15 @@
 
 ghost use Rattle.std.specs.Prelude.{◌≡◌, IfOk, IfErr, Ok, string_bytes};
 ghost use Rattle.codespan_base.specs.Diagnostics.{diagnostic_view};
-ghost use Rattle.report.specs.RenderedTexts.{rendering_of, rendering_of_script, output_text, IsRenderFailure};
+ghost use Rattle.report_runs.specs.RenderedTexts.{rendering_of, rendering_of_script, output_text, IsRenderFailure};
 ghost use Rattle.report_script.specs.Requests.{command_view};
 ghost use Rattle.report_script.specs.Scripts.{read_script};
 
 use crate::run_error::RunError;
-use codespan_reporting::diagnostic::Diagnostic;
-use codespan_reporting::files::{Error, SimpleFile};
-use codespan_reporting::term::{Config, DisplayStyle, emit_into_string};
+use codespan_base::diagnostic::Diagnostic;
+use codespan_base::files::{Error, SimpleFile};
+use codespan_base::term::{Config, DisplayStyle};
+use codespan_views::emitting::emit_into_string;
 use report_script::messages::{of_fault, of_request, of_script};
 use report_script::request::{Command, Request};
 use report_script::script::{ScriptError, parse_script};

@@ -1,5 +1,5 @@
 use Rattle.std.proofs.Common.{refl}
-use Rattle.report.proofs.run.conclude.Goals as goal
+use Rattle.report_runs.proofs.run.conclude.Goals as goal
 
 -- the status without an error
 pub returns-in-Ok-clause-status : goal.returns-in-Ok-clause-status

@@ -7,12 +7,12 @@ use Rattle.codespan_base.specs.Diagnostics.{DiagnosticView, LabelView}
 use Rattle.codespan_base.specs.FileModel.{FileModel}
 use Rattle.codespan_base.specs.SimpleModel.{simple_file}
 use Rattle.codespan_base.specs.Streams.{bytes, text_of}
-use Rattle.codespan_reporting.specs.Rows.{HeaderText}
-use Rattle.codespan_reporting.specs.Picture.{rendered, starts}
-use Rattle.codespan_reporting.specs.StatedPicture.{stated_locus}
-use Rattle.codespan_reporting.specs.Snippets.{InFile, labeled_file_models}
-use Rattle.report.specs.declared.run_error.RunError.{RunError}
-use Rattle.report.specs.declared.run_error.RunError.TheVariants as run_error
+use Rattle.codespan_picture.specs.Rows.{HeaderText}
+use Rattle.codespan_picture.specs.Picture.{rendered, starts}
+use Rattle.codespan_picture.specs.StatedPicture.{stated_locus}
+use Rattle.codespan_picture.specs.Snippets.{InFile, labeled_file_models}
+use Rattle.report_runs.specs.declared.run_error.RunError.{RunError}
+use Rattle.report_runs.specs.declared.run_error.RunError.TheVariants as run_error
 use Rattle.report_script.specs.declared.script.Fault.{Fault}
 use Rattle.report_script.specs.Requests.{CommandView}
 use Rattle.report_script.specs.Messages.{request_diagnostic, fault_diagnostic}

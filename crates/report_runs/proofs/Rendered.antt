@@ -10,14 +10,14 @@ use Rattle.codespan_base.specs.Diagnostics.{diagnostic_view, label_view}
 use Rattle.codespan_base.specs.FileModel.{FileDatabase}
 use Rattle.codespan_base.specs.ConfigEquality.{IsConfig}
 use Rattle.codespan_base.specs.Streams.{Stream, text_of}
-use Rattle.codespan_reporting.specs.Output.{Emits, IsRendered}
+use Rattle.codespan_views.specs.Output.{Emits, IsRendered}
 use Rattle.codespan_laws.proofs.StatedNames.{output_stated}
-use Rattle.codespan_reporting.specs.Lookups.{Failures}
-use Rattle.codespan_reporting.specs.Picture.{heading_of, label_of, labels_of, notes_of, rendered, starts}
-use Rattle.codespan_reporting.specs.StatedPicture.{stated_locus}
-use Rattle.codespan_reporting.specs.Snippets.{InFile, labeled_file_models}
+use Rattle.codespan_picture.specs.Lookups.{Failures}
+use Rattle.codespan_picture.specs.Picture.{heading_of, label_of, labels_of, notes_of, rendered, starts}
+use Rattle.codespan_picture.specs.StatedPicture.{stated_locus}
+use Rattle.codespan_picture.specs.Snippets.{InFile, labeled_file_models}
 use Rattle.codespan_picture.proofs.EqualConfigs.{rendered_equal}
-use Rattle.report.specs.RenderedTexts.{config_of, view_label, only_file, output_text}
+use Rattle.report_runs.specs.RenderedTexts.{config_of, view_label, only_file, output_text}
 
 -- the same configurations, in another style
 restyled : (table config : Config) (style : DisplayStyle) → IsConfig table config → IsConfig (record table { display_style = style }) (record config { display_style = style })
