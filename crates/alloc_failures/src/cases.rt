@@ -1,9 +1,9 @@
 //! Worked diagnostics, and their expected outputs.
 
-use codespan_reporting::diagnostic::LabelStyle::{Primary, Secondary};
-use codespan_reporting::diagnostic::{Diagnostic, Label, LabelStyle, Severity};
-use codespan_reporting::files::Error;
-use codespan_reporting::term::{Config, DisplayStyle};
+use codespan_base::diagnostic::LabelStyle::{Primary, Secondary};
+use codespan_base::diagnostic::{Diagnostic, Label, LabelStyle, Severity};
+use codespan_base::files::Error;
+use codespan_base::term::{Config, DisplayStyle};
 use std::alloc::Global;
 use std::ops::Range;
 

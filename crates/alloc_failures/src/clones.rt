@@ -1,8 +1,8 @@
 //! The clones of a configuration, and of its parts, with an owned text.
 
 use crate::outcome::{Outcome, judge_failure, judge_made};
-use codespan_reporting::files::Error;
-use codespan_reporting::term::{Chars, Config, SnippetStart};
+use codespan_base::files::Error;
+use codespan_base::term::{Chars, Config, SnippetStart};
 use std::alloc::Global;
 
 /// What is cloned.

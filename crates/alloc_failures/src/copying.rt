@@ -2,7 +2,7 @@
 
 ghost use Rattle.std.specs.Prelude.{refl, Some};
 
-use codespan_reporting::files::{Error, Files, Location, SimpleFile};
+use codespan_base::files::{Error, Files, Location, SimpleFile};
 use std::alloc::Global;
 use std::ops::Range;
 

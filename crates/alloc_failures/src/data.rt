@@ -1,8 +1,8 @@
 //! The builders of labels and diagnostics, and their clones.
 
 use crate::outcome::{Outcome, judge_value};
-use codespan_reporting::diagnostic::{Diagnostic, Label, LabelStyle, Severity};
-use codespan_reporting::files::Error;
+use codespan_base::diagnostic::{Diagnostic, Label, LabelStyle, Severity};
+use codespan_base::files::Error;
 use std::alloc::Global;
 
 /// A call of [`Label`].

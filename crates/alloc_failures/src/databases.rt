@@ -1,7 +1,7 @@
 //! The calls that make file databases or add to them.
 
 use crate::outcome::{Outcome, judge_failure, judge_made};
-use codespan_reporting::files::{Error, Files, MappedFile, SimpleFile, SimpleFiles};
+use codespan_base::files::{Error, Files, MappedFile, SimpleFile, SimpleFiles};
 use std::alloc::Global;
 use std::convert::AsStr;
 

@@ -2,10 +2,10 @@
 
 use crate::outcome::{Outcome, judge_made, judge_value};
 use crate::rendering::judge_string;
+use codespan_base::diagnostic::{Diagnostic, Label, Severity};
+use codespan_base::files::{Error, SimpleFile};
+use codespan_base::term::{Config, DisplayStyle, Styles};
 use codespan_lsp::{DiagnosticSeverity, LspDiagnostic, Position, Range, to_lsp_diagnostics};
-use codespan_reporting::diagnostic::{Diagnostic, Label, Severity};
-use codespan_reporting::files::{Error, SimpleFile};
-use codespan_reporting::term::{Config, DisplayStyle, Styles};
 use codespan_styled::terminal::safe_text;
 use codespan_styled::{
     Run, Style, StyledText, html_styles, styled_text, to_html, to_svg, to_terminal,

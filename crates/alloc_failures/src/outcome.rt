@@ -2,7 +2,7 @@
 
 ghost use Rattle.std.specs.Prelude.{◌≡◌, ◌≢◌, ◌≤◌, ◌⊎◌, IfOk, IsTrue, IsErrOf};
 
-use codespan_reporting::files::Error;
+use codespan_base::files::Error;
 use std::fmt;
 use std::fmt::Write;
 

@@ -7,13 +7,17 @@ use crate::cases::{Case, CaseName, diagnostic_of};
 use crate::copying::Copying;
 use crate::outcome::{Outcome, Wrong, judge_failure, judge_made};
 use crate::recording::Recording;
-use codespan_reporting::diagnostic::Diagnostic;
-use codespan_reporting::files::{Error, Files, MappedFile, SimpleFiles};
-use codespan_reporting::term::{
-    Ansi, Config, DisplayStyle, PlainWriter, Renderer, RichDiagnostic, ShortDiagnostic, Styles,
-    StylesWriter, WriteStyle, emit, emit_into_string, emit_to_io_write, emit_to_string,
-    emit_to_write_style,
+use codespan_base::diagnostic::Diagnostic;
+use codespan_base::files::{Error, Files, MappedFile, SimpleFiles};
+use codespan_base::term::{
+    Ansi, Config, DisplayStyle, PlainWriter, Styles, StylesWriter, WriteStyle,
 };
+use codespan_renderer::term::renderer::Renderer;
+use codespan_views::emitting::{
+    emit, emit_into_string, emit_to_io_write, emit_to_string, emit_to_write_style,
+};
+use codespan_views::rich::RichDiagnostic;
+use codespan_views::short::ShortDiagnostic;
 use std::alloc::Global;
 
 /// A call that renders.

@@ -1,16 +1,17 @@
 //! The calls that do not allocate.
 
 use crate::outcome::{Outcome, judge_made};
-use codespan_reporting::diagnostic::LabelStyle::{Primary, Secondary};
-use codespan_reporting::diagnostic::{Diagnostic, Label, LabelStyle, Severity};
-use codespan_reporting::files::{
+use codespan_base::diagnostic::LabelStyle::{Primary, Secondary};
+use codespan_base::diagnostic::{Diagnostic, Label, LabelStyle, Severity};
+use codespan_base::files::{
     Error, Files, Location, MappedFile, SimpleFile, SimpleFiles, column_index,
     default_column_number, default_line_number, default_location, line_starts,
 };
-use codespan_reporting::term::{
-    Ansi, Chars, Color, Config, Locus, MultiLabel, PlainWriter, Renderer, Styles, StylesWriter,
-    WriteStyle, emit, lanes_in_order,
+use codespan_base::term::{
+    Ansi, Chars, Color, Config, PlainWriter, Styles, StylesWriter, WriteStyle,
 };
+use codespan_renderer::term::renderer::{Locus, MultiLabel, Renderer, lanes_in_order};
+use codespan_views::emitting::emit;
 use std::alloc::Global;
 use std::convert::AsStr;
 

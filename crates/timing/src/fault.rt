@@ -1,6 +1,6 @@
 //! The errors of the program.
 
-use codespan_reporting::files::Error;
+use codespan_base::files::Error;
 use std::alloc::AllocError;
 use std::io;
 

@@ -11,7 +11,8 @@ mod fault;
 mod fields;
 mod request;
 
-use codespan_reporting::term::{Config, emit_into_string};
+use codespan_base::term::Config;
+use codespan_views::emitting::emit_into_string;
 use fault::Fault;
 use fields::Fields;
 use request::{read_diagnostic, read_files};

@@ -2,8 +2,8 @@
 
 use crate::fault::Fault;
 use crate::fields::Fields;
-use codespan_reporting::diagnostic::{Diagnostic, Label, LabelStyle};
-use codespan_reporting::files::SimpleFiles;
+use codespan_base::diagnostic::{Diagnostic, Label, LabelStyle};
+use codespan_base::files::SimpleFiles;
 use std::alloc::Global;
 
 /// Reads the files.

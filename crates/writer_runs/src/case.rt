@@ -1,8 +1,8 @@
 //! Worked cases: what is rendered, and the expected output.
 
-use codespan_reporting::diagnostic::{Diagnostic, Label, LabelStyle, Severity};
-use codespan_reporting::files::Error;
-use codespan_reporting::term::{Chars, Config, DisplayStyle, Layout};
+use codespan_base::diagnostic::{Diagnostic, Label, LabelStyle, Severity};
+use codespan_base::files::Error;
+use codespan_base::term::{Chars, Config, DisplayStyle, Layout};
 use std::alloc::Global;
 
 /// A label: its style, the index of its file, the start and the end of its range in bytes, and its

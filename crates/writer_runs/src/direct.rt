@@ -1,11 +1,10 @@
 //! The calls of `Renderer` that write rows.
 
 use crate::rendering::Render;
-use codespan_reporting::diagnostic::{LabelStyle, Severity};
-use codespan_reporting::files::{Error, Location};
-use codespan_reporting::term::{
-    Config, Locus, MultiLabel, PlainWriter, Renderer, SingleLabel, WriteStyle, lanes_in_order,
-};
+use codespan_base::diagnostic::{LabelStyle, Severity};
+use codespan_base::files::{Error, Location};
+use codespan_base::term::{Config, PlainWriter, WriteStyle};
+use codespan_renderer::term::renderer::{Locus, MultiLabel, Renderer, SingleLabel, lanes_in_order};
 use std::alloc::Global;
 use std::fmt;
 use std::io::Write;

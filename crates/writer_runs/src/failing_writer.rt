@@ -5,9 +5,9 @@ ghost use Rattle.codespan_base.specs.Streams.{bytes};
 ghost use Rattle.codespan_base.specs.WriterLaw.{Writes};
 ghost use Rattle.writer_runs.specs.Spellings.{spelling_sink};
 
-use codespan_reporting::diagnostic::{LabelStyle, Severity};
-use codespan_reporting::term::WriteStyle;
-use codespan_reporting::term::config::writing::{forward_all, forward_put, write_all};
+use codespan_base::diagnostic::{LabelStyle, Severity};
+use codespan_base::term::WriteStyle;
+use codespan_base::term::config::writing::{forward_all, forward_put, write_all};
 use std::io;
 use std::io::{ErrorKind, Write};
 

@@ -2,9 +2,9 @@
 
 use crate::path::Path;
 use crate::rendering::Call;
+use codespan_base::files::Error;
+use codespan_base::term::DisplayStyle;
 use codespan_base_tests::writers::stopping::Stop;
-use codespan_reporting::files::Error;
-use codespan_reporting::term::DisplayStyle;
 use std::fmt;
 use std::fmt::Write;
 

@@ -7,9 +7,10 @@ use crate::path::{PATHS, Path};
 use crate::rendering::{CALLS, Call, Input, Render, RenderCall};
 use crate::stops::{judge_stops, judge_style_marks};
 use crate::zero::FromZero;
-use codespan_reporting::diagnostic::Diagnostic;
-use codespan_reporting::files::{Error, Files, MappedFile, SimpleFiles};
-use codespan_reporting::term::{Config, DisplayStyle, emit_into_string, emit_to_string};
+use codespan_base::diagnostic::Diagnostic;
+use codespan_base::files::{Error, Files, MappedFile, SimpleFiles};
+use codespan_base::term::{Config, DisplayStyle};
+use codespan_views::emitting::{emit_into_string, emit_to_string};
 use std::alloc::Global;
 
 /// The styles in which each case is rendered.

@@ -1,12 +1,13 @@
 //! The calls that render a case.
 
 use crate::zero::FromZero;
-use codespan_reporting::diagnostic::Diagnostic;
-use codespan_reporting::files::{Error, Files, MappedFile, SimpleFiles};
-use codespan_reporting::term::{
-    Config, DisplayStyle, PlainWriter, Renderer, RichDiagnostic, ShortDiagnostic, WriteStyle, emit,
-    emit_to_io_write, emit_to_write_style,
-};
+use codespan_base::diagnostic::Diagnostic;
+use codespan_base::files::{Error, Files, MappedFile, SimpleFiles};
+use codespan_base::term::{Config, DisplayStyle, PlainWriter, WriteStyle};
+use codespan_renderer::term::renderer::Renderer;
+use codespan_views::emitting::{emit, emit_to_io_write, emit_to_write_style};
+use codespan_views::rich::RichDiagnostic;
+use codespan_views::short::ShortDiagnostic;
 use std::fmt;
 use std::io::Write;
 

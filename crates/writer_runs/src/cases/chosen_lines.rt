@@ -1,8 +1,8 @@
 //! Rows by the lines that they show: filled lines, and context.
 
 use crate::case::{Case, EMPTY_CASE};
-use codespan_reporting::diagnostic::LabelStyle::{Primary, Secondary};
-use codespan_reporting::term::Layout;
+use codespan_base::diagnostic::LabelStyle::{Primary, Secondary};
+use codespan_base::term::Layout;
 
 /// The cases.
 pub static CASES: [Case<'static>; 3] = [

@@ -1,9 +1,9 @@
 //! Rows by their own calls of `Renderer`. The file is `f.txt`, and the locus its first.
 
 use crate::direct::{Line, RowCall};
-use codespan_reporting::diagnostic::LabelStyle::{Primary, Secondary};
-use codespan_reporting::diagnostic::Severity;
-use codespan_reporting::term::MultiLabel;
+use codespan_base::diagnostic::LabelStyle::{Primary, Secondary};
+use codespan_base::diagnostic::Severity;
+use codespan_renderer::term::renderer::MultiLabel;
 
 /// The names of the rows, the calls, and their texts.
 pub static CASES: [(&'static str, RowCall<'static>, &'static str); 16] = [

@@ -2,8 +2,8 @@
 //! of scripts.
 
 use crate::case::{Case, Colors, EMPTY_CASE, Table};
-use codespan_reporting::diagnostic::LabelStyle::{Primary, Secondary};
-use codespan_reporting::diagnostic::Severity;
+use codespan_base::diagnostic::LabelStyle::{Primary, Secondary};
+use codespan_base::diagnostic::Severity;
 
 /// The cases.
 pub static CASES: [Case<'static>; 15] = [

@@ -1,8 +1,8 @@
 //! Worked cases of multi-line labels, of context lines and of breaks.
 
 use crate::case::{Case, CharacterSet, EMPTY_CASE};
-use codespan_reporting::diagnostic::LabelStyle::{Primary, Secondary};
-use codespan_reporting::term::Layout;
+use codespan_base::diagnostic::LabelStyle::{Primary, Secondary};
+use codespan_base::term::Layout;
 
 /// The cases.
 pub static CASES: [Case<'static>; 14] = [

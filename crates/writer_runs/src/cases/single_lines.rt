@@ -1,8 +1,8 @@
 //! Worked cases of single-line labels.
 
 use crate::case::{Case, CharacterSet, Colors, EMPTY_CASE};
-use codespan_reporting::diagnostic::LabelStyle::{Primary, Secondary};
-use codespan_reporting::diagnostic::Severity;
+use codespan_base::diagnostic::LabelStyle::{Primary, Secondary};
+use codespan_base::diagnostic::Severity;
 
 /// The source of the cases of tab stops.
 const TABBED: &[(&str, &str)] = &[(

@@ -1,7 +1,7 @@
 //! Small cases in color, each named after the bug that it would show.
 
 use crate::case::{Case, Colors, EMPTY_CASE};
-use codespan_reporting::diagnostic::LabelStyle::{Primary, Secondary};
+use codespan_base::diagnostic::LabelStyle::{Primary, Secondary};
 
 /// The cases.
 pub static CASES: [Case<'static>; 5] = [

@@ -1,8 +1,8 @@
 //! Small cases of multi-line labels, each named after the bug that it would show.
 
 use crate::case::{Case, CharacterSet, EMPTY_CASE};
-use codespan_reporting::diagnostic::LabelStyle::{Primary, Secondary};
-use codespan_reporting::term::Layout;
+use codespan_base::diagnostic::LabelStyle::{Primary, Secondary};
+use codespan_base::term::Layout;
 
 /// The cases.
 pub static CASES: [Case<'static>; 18] = [

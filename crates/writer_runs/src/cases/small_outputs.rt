@@ -1,7 +1,7 @@
 //! Small cases without lanes, each named after the bug that it would show.
 
 use crate::case::{Case, EMPTY_CASE};
-use codespan_reporting::diagnostic::LabelStyle::{Primary, Secondary};
+use codespan_base::diagnostic::LabelStyle::{Primary, Secondary};
 
 /// The cases.
 pub static CASES: [Case<'static>; 21] = [
