@@ -1,5 +1,5 @@
--- The parts of rows as streams. Each word is shut: a chain of calls matches its parts from left to
--- right.
+-- The parts of rows as streams. Each definition is shut: a chain of calls matches its parts from
+-- left to right.
 use Rattle.std.specs.Prelude.{ℕ, ◌+◌, ◌-◌, Bool, true, ◌||◌, ◌&&◌, ◌==◌, nat_lt, nat_le, max, List, [], ◌∷◌, ◌++◌, filter, length, fold, flat_map, Option, Some, None, if◌then◌else◌, codes, decimal}
 use Rattle.std.specs.List.{list_any, range_with_len}
 use Rattle.codespan_picture.specs.Types.{Severity, LabelStyle, Primary, Secondary, Chars}

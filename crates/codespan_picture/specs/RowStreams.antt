@@ -1,5 +1,5 @@
--- The stream of each row, and of many. Each word is shut: a chain of calls matches its parts from
--- left to right.
+-- The stream of each row, and of many. Each definition is shut: a chain of calls matches its parts
+-- from left to right.
 use Rattle.std.specs.Prelude.{ℕ, List, [], ◌∷◌, ◌++◌, flat_map, Option, Some, None, codes}
 use Rattle.codespan_picture.specs.Types.{Severity, Chars}
 use Rattle.codespan_base.specs.Streams.{Stream, Header, HeaderMessage, NoteBullet, SourceBorder, LabelMark, Reset, style_mark, glyph, bytes, space, newline}

@@ -20,10 +20,10 @@ use Rattle.codespan_picture.specs.Snippets.{InFile, labeled_file_models}
 use Rattle.codespan_picture.specs.Picture.{rendered, starts}
 use Rattle.codespan_picture.specs.StatedPicture.{stated_locus}
 
--- opens all words of an output, so that it computes
-unfoldable pub worked_words : Unit {0}
+-- opens all definitions of an output, so that it computes
+unfoldable pub worked_definitions : Unit {0}
 unfolding unicode_width digits line_of row_words escape ansi_reset ansi_bold ansi_color ansi_style
-worked_words = tt
+worked_definitions = tt
 
 -- a file of a name and a text
 abbrev pub text_file : List ℕ → List ℕ → FileModel

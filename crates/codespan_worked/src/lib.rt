@@ -1,6 +1,6 @@
 //! Worked outputs: each function does nothing, and its contract is one output, computed from the
 //! definitions.
-#![tactic(auto, unfolding(crate::specs::Worked::worked_words))]
+#![tactic(auto, unfolding(crate::specs::Worked::worked_definitions))]
 
 mod chosen_lines;
 mod direct_rows;
