@@ -1,5 +1,5 @@
 -- What a search finds among settings, and what an edit at that index does.
-use Rattle.std.proofs.Common.{◌≡◌, ℕ, zero, suc, ◌+◌, ◌-◌, ◌<◌, ◌≤◌, Bool, true, false, if◌then◌else◌, List, [], ◌∷◌, length, get_or, set, Some, None, Result, Ok, Err, IfOk, IfErr, refl, sym, ap, subst, arith}
+use Rattle.std.proofs.Common.{◌≡◌, ℕ, zero, suc, ◌+◌, ◌-◌, ◌<◌, ◌≤◌, Bool, true, false, if◌then◌else◌, List, [], ◌∷◌, length, length-set, get_or, set, Some, None, Result, Ok, Err, IfOk, IfErr, refl, sym, ap, subst, arith}
 use Rattle.std.specs.List.{insert}
 use Rattle.std.specs.List.Sorted.{IsSearchInRange, IsBinarySearchResult, IsNonDecreasingBy}
 use Rattle.std.specs.Ordering.{nat_cmp, ordering_index}
@@ -38,6 +38,14 @@ replaced (x ∷ l) k v (suc at) low below here =
     let later : set l at (k, v) ≡ with_number k v l = replaced l k v at (omega arith) (λ j h. below (suc j) (omega arith)) here in
     grind (arith, nat_tests)
 
+-- it leaves each index
+kept : (l : List (ℕ × ℕ)) (at k v : ℕ) → at < length l → set_index_at l at ≡ k → (q : ℕ) → set_index_at (set l at (k, v)) q ≡ set_index_at l q
+kept [] at k v low here q = absurd (omega arith)
+kept (x ∷ l) zero k v low here zero = sym here
+kept (x ∷ l) zero k v low here (suc q) = refl
+kept (x ∷ l) (suc at) k v low here zero = refl
+kept (x ∷ l) (suc at) k v low here (suc q) = kept l at k v (omega arith) here q
+
 -- a new one in the gap
 put_in_gap : (l : List (ℕ × ℕ)) (k v at : ℕ) → at ≤ length l → ((j : ℕ) → j < at → set_index_at l j < k) → (at < length l → k < set_index_at l at) → insert l at (k, v) ≡ with_number k v l
 put_in_gap [] k v zero low below above = refl
@@ -72,6 +80,12 @@ module _ (l : List (ℕ × ℕ)) (sorted : IsStrictlySorted l) (k at : ℕ) (is_
   -- writing over the setting is setting the number
   pub set_replaces : (v : ℕ) → set l at (k, v) ≡ with_number k v l
   set_replaces v = replaced l k v at is_at.in_range (λ j h. omega (arith, sorted j at h is_at.in_range, is_at.has_index)) is_at.has_index
+
+  -- which keeps the order
+  pub sorted_set : (v : ℕ) → IsStrictlySorted (set l at (k, v))
+  sorted_set v i j lt in_range =
+      let same = kept l at k v is_at.in_range is_at.has_index in
+      omega (arith, same i, same j, sorted i j lt (omega (arith, length-set l at (k, v))))
 
   -- a line that is set counts from itself
   pub setting_at : setting l k ≡ Some (get_or l at (0, 0))

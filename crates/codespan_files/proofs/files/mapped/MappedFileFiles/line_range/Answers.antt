@@ -17,3 +17,7 @@ overflow_sub-end g c =
 pub returns-then-line_index-count-clause-failed : goal.returns-then-line_index-count-clause-failed
 returns-then-line_index-count-clause-failed g c = λ _.
     past_end_late (g.Source.AsStr.text c.args.self.now.source) c.args.self.now.line_starts.items _ _ c.args.self.now.starts (omega (arith, c.args.self.now.line_starts.ok.0)) c.if-line_index-count.true
+
+-- the call that fails returns no range
+pub returns-then-line_index-count-clause-value : goal.returns-then-line_index-count-clause-value
+returns-then-line_index-count-clause-value g c = tt

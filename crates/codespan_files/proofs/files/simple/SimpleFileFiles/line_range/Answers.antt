@@ -27,3 +27,7 @@ pub returns-then-line_index-count-2-clause-value : goal.returns-then-line_index-
 returns-then-line_index-count-2-clause-value g c =
     let file = c.args.self.now in
     range_between (g.Name.Display.output file.name) (g.Source.AsStr.text file.source) file.line_starts.items _ _ _ file.starts (omega (arith, file.line_starts.ok.0)) c.index-start.ensures c.index.ensures
+
+-- the call that fails returns no range
+pub returns-then-line_index-count-clause-value : goal.returns-then-line_index-count-clause-value
+returns-then-line_index-count-clause-value g c = tt
