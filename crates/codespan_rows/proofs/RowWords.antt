@@ -1,5 +1,5 @@
 -- Words of rows, as the calls that write them put them together.
-use Rattle.std.proofs.Common.{◌≡◌, ℕ, ◌+◌, ◌-◌, ◌^◌, ◌<◌, ◌≤◌, List, [], ◌∷◌, ◌++◌, true, nat_lt, lt-ltb, Option, None, Some, append_assoc, append-nil, length, replicate, refl, ap, sym, ◌∙◌, arith}
+use Rattle.std.proofs.Common.{◌≡◌, ℕ, ◌+◌, ◌-◌, ◌^◌, ◌<◌, ◌≤◌, ◌==◌, List, [], ◌∷◌, ◌++◌, true, false, nat_lt, lt-ltb, Option, None, Some, append_assoc, append-nil, length, replicate, refl, ap, sym, ◌∙◌, arith}
 use Rattle.std.proofs.lemmas.List.{replicate-append-replicate}
 use Rattle.codespan_base.specs.declared.diagnostic.LabelStyle.{LabelStyle}
 use Rattle.codespan_base.specs.declared.diagnostic.LabelStyle.TheVariants.{Primary, Secondary}
@@ -42,9 +42,9 @@ below_lanes_are context leading lanes = refl
 pub ruleset lanes_are = (source_lanes_are, plain_lanes_are, below_lanes_are)
 
 -- a code that is not empty is in brackets
-pub bracketed-some : (code : List ℕ) → 0 < length code → bracketed (Some code) ≡ bytes (codes "[") ++ bytes code ++ bytes (codes "]")
+pub bracketed-some : (code : List ℕ) → (length code == 0) ≡ false → bracketed (Some code) ≡ bytes (codes "[") ++ bytes code ++ bytes (codes "]")
 unfolding bracketed
-bracketed-some [] h = absurd (omega arith)
+bracketed-some [] h = let clash : true ≡ false = h in cc
 bracketed-some (b ∷ bs) h = refl
 
 -- ---- runs
