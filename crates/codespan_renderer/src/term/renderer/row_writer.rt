@@ -13,7 +13,7 @@ use std::io;
 use std::io::ErrorKind;
 
 /// A write failed, or a `put` of some bytes took none. The [`RowWriter`] has saved the error.
-#[derive(Clone, Copy, Debug)]
+#[derive(Clone, Copy)]
 pub struct Failed;
 
 /// A borrowed writer that saves the error of a call that fails, so that rows pass on an error of no

@@ -22,7 +22,7 @@ use codespan_rows::pointers::{caret_pointer, has_any_message, max_label_start};
 use codespan_rows::runs::write_spaces;
 
 /// A character from which labels hang.
-#[derive(Clone, Copy, Debug)]
+#[derive(Clone, Copy)]
 pub struct Pointer {
     /// The byte index in the line at which the character begins.
     pub byte_index: usize,
