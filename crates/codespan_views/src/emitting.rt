@@ -71,7 +71,7 @@ pub fn emit_into_string<'files, F: Files<'files>>(
     match rendered {
         // SAFETY: an output is UTF-8: its characters are Unicode scalar values, its texts are
         // UTF-8, and a line is cut at character boundaries only. The condition of the call is
-        // proved from `codespan_reporting::laws::outputs_are_texts`.
+        // proved from `codespan_laws::laws::outputs_are_texts`.
         Ok(()) => Ok(unsafe { String::from_utf8_unchecked(plain.into_inner()) }),
         Err(error) => Err(if plain.has_failed() {
             Error::OutOfMemory
