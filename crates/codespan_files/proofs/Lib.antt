@@ -8,3 +8,4 @@ pub mod LineCuts
 pub mod LineCounts
 pub mod LineRuns
 pub mod PastEnd
+pub mod Numbers

@@ -1,8 +1,12 @@
--- A line past the last: the clauses `failed` of `line_range`.
-use Rattle.std.proofs.Common.{◌≡◌, ℕ, suc, ◌-◌, ◌<◌, ◌≤◌, List, length, refl, ap, ◌∙◌, arith, Some, None}
-use Rattle.std.proofs.lemmas.Bool.{lt-leb, le-leb}
-use Rattle.codespan_files.specs.declared.files.error.Error.TheVariants.{LineTooLarge}
+-- A line past the last, and the line of a byte, which never is: what clauses `failed` rest on.
+use Rattle.std.proofs.Common.{◌≡◌, ◌≢◌, ℕ, suc, ◌-◌, ◌^◌, ◌<◌, ◌≤◌, List, length, refl, ap, ◌∙◌, arith, Option, Some, None}
+use Rattle.std.proofs.lemmas.Bool.{lt-leb, le-leb, ne_eqb}
+use Rattle.codespan_files.specs.declared.files.error.Error.{Error}
+use Rattle.codespan_files.specs.declared.files.error.Error.TheVariants.{LineTooLarge, OutOfMemory}
+use Rattle.codespan_files.specs.FileModel.{line_of}
+use Rattle.codespan_files.specs.LawfulFiles.{line_number_failure}
 use Rattle.codespan_files.specs.Lines.{line_starts_of}
+use Rattle.codespan_files.specs.Lemmas.Lines.{line_of_below}
 use Rattle.codespan_files.specs.SimpleModel.{past_end}
 
 -- a line that is not below the number of starts fails, with the index of the last line
@@ -16,3 +20,24 @@ pub past_end_early : (text starts : List ℕ) (i : ℕ) → starts ≡ line_star
 past_end_early text starts i same early =
     let e : length starts ≡ length (line_starts_of text) = ap length same in
     rw (le-leb (suc i) (length (line_starts_of text)) (omega arith)) refl
+
+-- the line of a byte is there
+byte_line_below : (text : List ℕ) (byte i : ℕ) → i ≡ line_of (line_starts_of text) byte → i < length (line_starts_of text)
+byte_line_below text byte i line = rw line (line_of_below (line_starts_of text) byte (omega arith))
+
+pub byte_line_there : (text : List ℕ) (byte i : ℕ) → i ≡ line_of (line_starts_of text) byte → past_end text i ≡ None
+byte_line_there text byte i line = past_end_early text (line_starts_of text) i refl (byte_line_below text byte i line)
+
+-- and has a number, where there are fewer than 2^64 starts
+pub byte_line_numbered : (text starts : List ℕ) (byte i : ℕ) → starts ≡ line_starts_of text → length starts < 2 ^ 64 → i ≡ line_of (line_starts_of text) byte
+    → line_number_failure i ≡ None
+byte_line_numbered text starts byte i same fits line =
+    let below = byte_line_below text byte i line in
+    let count : length starts ≡ length (line_starts_of text) = ap length same in
+    rw (ne_eqb i (2 ^ 64 - 1) (λ e. omega (arith, e))) refl
+
+-- a call that has no such failure does not fail
+pub never : {P : Type 0} (failure : Option Error) (e : Error) → failure ≡ None → (e ≢ OutOfMemory → failure ≡ Some e) → e ≢ OutOfMemory → P
+never failure e none failed memory =
+    let some : failure ≡ Some e = failed memory in
+    absurd (cc)

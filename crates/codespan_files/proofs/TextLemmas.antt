@@ -1,6 +1,9 @@
 -- What a collected text holds after a value was written to it.
-use Rattle.std.proofs.Common.{◌≡◌, ℕ, List, [], ◌++◌, Option, Some, None, IfSome, string_bytes, ap, ◌∙◌}
+use Rattle.std.proofs.Common.{◌≡◌, ℕ, List, [], ◌∷◌, ◌++◌, map, Option, Some, None, IfSome, string_bytes, ap, ◌∙◌}
+use Rattle.std.specs.Prelude.{String}
+use Rattle.std.specs.Global.{Global}
 use Rattle.std.specs.Fmt.{WritesText}
+use Rattle.std.proofs.lemmas.List.{map-append}
 use Rattle.std.proofs.lemmas.Fmt.{contents_after_writes}
 use Rattle.codespan_files.specs.declared.diagnostic.text.DisplayBuffer.{DisplayBuffer}
 
@@ -8,3 +11,9 @@ use Rattle.codespan_files.specs.declared.diagnostic.text.DisplayBuffer.{DisplayB
 pub wrote_text : (o : Option (List ℕ)) (s t : DisplayBuffer) → string_bytes s.text ≡ [] → WritesText (λ s bytes t. string_bytes t.text ≡ string_bytes s.text ++ bytes) s o t → IfSome o (λ bytes. string_bytes t.text ≡ bytes)
 wrote_text None s t empty wrote = tt
 wrote_text (Some bytes) s t empty wrote = contents_after_writes _ (λ g. string_bytes g.text) (λ w l v t. t) s bytes t wrote ∙ ap (λ l. l ++ bytes) empty
+
+-- a note that was added has the text that was displayed
+pub noted : (o : Option (List ℕ)) (text : String Global) (old new : List (String Global)) → IfSome o (λ bytes. string_bytes text ≡ bytes) → new ≡ old ++ text ∷ []
+    → IfSome o (λ bytes. map string_bytes new ≡ map string_bytes old ++ bytes ∷ [])
+noted None text old new wrote added = tt
+noted (Some bytes) text old new wrote added = rw added (map-append string_bytes old (text ∷ []) ∙ ap (λ (b : List ℕ). map string_bytes old ++ b ∷ []) wrote)

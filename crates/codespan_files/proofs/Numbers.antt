@@ -1,0 +1,18 @@
+-- The numbers of the lines of a database's files.
+use Rattle.std.proofs.Common.{◌≡◌, ℕ, ◌+◌, List, Option, Some, None, refl}
+use Rattle.std.specs.Option.{option_map_or}
+use Rattle.codespan_files.specs.FileModel.Lookup.{LineNumber}
+use Rattle.codespan_files.specs.LawfulFiles.{line_number_failure}
+use Rattle.codespan_files.specs.SimpleModel.{simple_file, simple_failure, missing_file, missing_failure}
+
+-- each line has its index plus 1, in a file that is missing too
+pub numbered : {Name Source : Type 0} (output : Name → Option (List ℕ)) (text : Source → List ℕ) (o : Option (Name × Source)) (i : ℕ)
+    → (option_map_or (λ entry. simple_file (output entry.0) (text entry.1)) o missing_file).number i ≡ i + 1
+numbered output text None i = refl
+numbered output text (Some entry) i = refl
+
+-- and fails as the default does
+pub number_fails : {Name Source : Type 0} (text : Source → List ℕ) (o : Option (Name × Source)) (i : ℕ)
+    → option_map_or (λ entry. simple_failure (text entry.1) (LineNumber i)) o (missing_failure (LineNumber i)) ≡ line_number_failure i
+number_fails text None i = refl
+number_fails text (Some entry) i = refl
