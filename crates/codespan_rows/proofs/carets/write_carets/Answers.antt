@@ -8,7 +8,7 @@ use Rattle.codespan_picture.specs.Arguments.{SingleLabelTuple, single_label_view
 use Rattle.codespan_rows.specs.LineViews.{context_view}
 use Rattle.codespan_rows.specs.Runs.{caret_run}
 use Rattle.codespan_rows.proofs.CaretRuns.{caret_count, carets_left, carets-same, carets-turn, carets-end, carets-past, counts-all}
-use Rattle.codespan_rows.proofs.ScanState.{ScanState, consecutive_within-follow, scan_state-to_end, scan_state-more}
+use Rattle.codespan_rows.proofs.ScanState.{ScanState, consecutive_within-follow, scan_state-fits, scan_state-to_end, scan_state-more}
 use Rattle.codespan_rows.proofs.SkippedCells.{carets-prefix, scan_state-left}
 use Rattle.codespan_rows.specs.LineSources.{CharInput}
 use Rattle.codespan_rows.proofs.carets.write_carets.Goals.{then-ne+in_ok-end_caret_run, else-ne, in_default, in-Some+then-metrics-end}
@@ -37,6 +37,12 @@ few g c = elim c.if-ne.branch [ then-ne+in_ok-end_caret_run w ↦ omega (arith, 
 -- all its cells are counted, since it begins before the greatest end
 counted : (g : Over) (c : goal.After-row_known-1 g) → c.in-Some.metrics.width ≡ caret_count (max_label_end (single_label_views c.args.line.labels.now)) c.style_under-style.result c.in-Some.metrics
 counted g c = counts-all c.style_under-style.result _ c.in-Some.metrics (subst (λ end. c.in-Some.metrics.byte_index < end) c.max_label_end-end.ensures c.if-metrics-end.false)
+
+pub overflow_add-run : goal.overflow_add-run
+overflow_add-run g c =
+    let l : ScanState (length c.args.line.text.now + 1) c.loop-metrics.run (c.in-Some.metrics ∷ g.S.Cursor.CharCursor.left c.next_metrics.new.self) = rw c.in-Some.ensures.next at c.loop-metrics.invariant.scan_state in
+    let fits = scan_state-fits _ _ c.in-Some.metrics _ (omega arith) (omega arith) l in
+    omega (arith, few g c)
 
 pub returns-in_err-end_caret_run : goal.returns-in_err-end_caret_run
 returns-in_err-end_caret_run g c = let p = err_from_is_err_and c.from_residual.result c.from_residual.ensures.1 in
