@@ -8,6 +8,7 @@ pub mod AnnotationLines
 pub mod AnnotationOutput
 pub mod FileLengths
 pub mod FileParts
+pub mod CollectedLines
 pub mod Collecting
 pub mod Contexts
 pub mod FileOrder
