@@ -1,6 +1,6 @@
 -- Steps that a walk over annotations finds, one after another, and the lookups of numbers with
 -- them.
-use Rattle.std.proofs.Common.{◌≡◌, ℕ, List, [], ◌++◌, Option, None, Some, refl, sym, ap, ◌∙◌, append-nil, append_assoc}
+use Rattle.std.proofs.Common.{◌≡◌, ℕ, List, [], ◌++◌, Option, None, Some, refl, sym, ap, subst, ◌∙◌, append-nil, append_assoc}
 use Rattle.std.proofs.lemmas.List.{map-append}
 use Rattle.std.proofs.lemmas.Grind.{flat_map-append}
 use Rattle.codespan_base.specs.declared.files.Error.{Error}
@@ -89,3 +89,16 @@ module _ {Id : Type 0} {failure : Failures Id} {id : Id} {layout : Layout} {f : 
   left_failed {e} failed =
       ap (numbers_failed failure id layout) (sym next_whole) ∙ numbers_failed-append failure id layout (left.taken ++ snippet_lines) next
       ∙ or_failure-some (numbers_failed failure id layout (left.taken ++ snippet_lines)) (numbers_failed failure id layout next) e (next_failed ∙ failed)
+
+module _ {Id : Type 0} {failure : Failures Id} {id : Id} {layout : Layout} {f : FileModel} {whole rest : List SnippetLine} {old now : List (RustLine Id)} (left : LinesLeft failure id layout f whole rest old now)
+    (none : rest ≡ []) where
+  -- where none are left, all were added
+  taken_all : left.taken ≡ whole
+  taken_all = sym (append-nil left.taken) ∙ (λ i. left.taken ++ sym none i) ∙ left.is_whole
+
+  pub left_added : AddsLines layout f old now whole
+  left_added = subst (AddsLines layout f old now) taken_all left.adds
+
+  -- and no lookup of a number failed
+  pub left_succeeded : numbers_failed failure id layout whole ≡ None
+  left_succeeded = ap (numbers_failed failure id layout) (sym taken_all) ∙ left.succeeded

@@ -185,6 +185,11 @@ module _ {Id : Type 0} {layout : Layout} {file : Id → FileModel} {es : List An
       let numbers = number_lookups layout es (ids_view files) in
       subst (λ o. FailsByOrFormat o located) (sym (first_error-none failure numbers (loci_lookups files) all.succeeded)) all.located_fails
 
+  -- and the plans are those of all, where no error is kept
+  pub plans-all : (files : List (RustFile Id)) (k : ℕ) → length files ≤ k → ArePlanned layout file es failure (take k files) now snippet_lines located
+      → IfOk located (λ _. ArePlans layout file es 0 files now snippet_lines)
+  plans-all files k past found = (subst (λ (fs : List (RustFile Id)). ArePlanned layout file es failure fs now snippet_lines located) (take_all k files past) found).plans
+
 module _ {Id : Type 0} {files : List (RustFile Id)} {k : ℕ} {f : RustFile Id} (here : IsElementAt files k f) where
   -- how many files are before this one
   files_before : length (take k files) ≡ k

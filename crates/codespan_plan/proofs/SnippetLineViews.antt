@@ -1,7 +1,7 @@
 -- The snippet lines of annotations as a view has them.
 use Rattle.std.proofs.Common.{◌≡◌, ℕ, ◌+◌, ◌-◌, ◌<◌, ◌≤◌, true, false, List, [], ◌++◌, map, length, take, drop, get_or, Option, Some, sym, ◌∙◌, ap, arith}
 use Rattle.std.specs.List.{prefix_len}
-use Rattle.std.proofs.lemmas.List.{drop-map, take-map, length-drop, length-map, length-take, get_or-map}
+use Rattle.std.proofs.lemmas.List.{drop-map, take-map, length-drop, length-map, length-take, get_or-map, at_drop_all}
 use Rattle.codespan_plan.specs.declared.annotation.Annotation.{Annotation as RustAnnotation}
 use Rattle.codespan_plan.specs.Annotations.{Annotation, is_on_line, shows_line}
 use Rattle.codespan_plan.specs.AnnotationViews.{annotation_view}
@@ -69,6 +69,11 @@ lines_to_shown xs from at n d was = lines_to was (views_of (between xs from at))
 -- start at an index
 abbrev pub lines_left : {Id : Type 0} → List (RustAnnotation Id) → ℕ → ℕ → Option ℕ → List SnippetLine
 lines_left xs from at was = lines_from was (views_of (between xs from at)) (groups (drop at (views_of xs)))
+
+-- past the last annotation none are left
+pub lines_left-none : {Id : Type 0} (xs : List (RustAnnotation Id)) (from at : ℕ) (was : Option ℕ) → length xs ≤ at → lines_left xs from at was ≡ []
+lines_left-none xs from at was past =
+    at_drop_all (λ (es : List Annotation). lines_from was (views_of (between xs from at)) (groups es)) (views_of xs) at (omega (arith, past, length-map xs annotation_view))
 
 -- no annotation is between an index and itself
 between-none : {Id : Type 0} (xs : List (RustAnnotation Id)) (k : ℕ) → between xs k k ≡ []

@@ -131,3 +131,7 @@ returns-clause-collected g c =
       };
       adds = subst (λ js. Adds (IsOfFiles file js) [] c.loop-index.found.annotations.items (annotations_after same file c.args.config.now (file_ids same xs) [] xs)) (sym done.ids_are) done.added;
     }
+
+pub returns-clause-failed : goal.returns-clause-failed
+returns-clause-failed g c =
+    (collected-all c.args.labels.now c.loop-index.index c.loop-index-test.false c.loop-index.invariant).succeeded

@@ -39,3 +39,8 @@ returns-else-index-len-clause-starts g c = unchanged g c (starts_view c.args.fil
 
 pub returns-else-index-len-clause-lanes : goal.returns-else-index-len-clause-lanes
 returns-else-index-len-clause-lanes g c = unchanged g c (lanes_view c.args.files.now.items) 0
+
+pub returns-else-index-len-clause-index : goal.returns-else-index-len-clause-index
+returns-else-index-len-clause-index g c =
+    let same = g.FileId.PartialEq.eq in
+    c.find_file-index.ensures ∙ ap (λ fs. index_of_file same (ids_view fs) c.args.id) c.deref.ensures.value

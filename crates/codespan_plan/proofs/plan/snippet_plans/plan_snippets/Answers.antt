@@ -5,7 +5,7 @@ use Rattle.codespan_plan.specs.AnnotationViews.{annotation_view}
 use Rattle.codespan_plan.specs.SnippetPlans.{ArePlans, plans_failure}
 use Rattle.codespan_plan.proofs.FileLengths.{rest-sorted}
 use Rattle.codespan_plan.proofs.FileParts.{from_file-first}
-use Rattle.codespan_plan.proofs.PlansFound.{IsAtFile, added-count, next_inside, next_left, own_lookups, own_lines, own_snippet_lines, planned-more, planned-fails, planned-unlocated, plans-add}
+use Rattle.codespan_plan.proofs.PlansFound.{IsAtFile, added-count, next_inside, next_left, own_lookups, own_lines, own_snippet_lines, planned-more, planned-fails, planned-unlocated, plans-add, plans-all}
 use Rattle.codespan_plan.proofs.plan.snippet_plans.plan_snippets.Given.{Over}
 use Rattle.codespan_plan.proofs.plan.snippet_plans.plan_snippets.Goals.{After-branch-located, After-file_len-len, in-Err, in-Ok+in_ok-push-in-Ok}
 use Rattle.codespan_plan.proofs.plan.snippet_plans.plan_snippets.Goals as goal
@@ -85,6 +85,11 @@ all-add : (g : Over) (c : After-branch-located g) → FailsByOrFormat (plans_fai
 all-add g c =
     plans-add c.args.collected.now.files.items c.loop-index.index
     (subst (λ fs. length fs ≤ c.loop-index.index) c.deref-file-items.ensures.value c.loop-index-test.false) c.loop-index.invariant.planned
+
+pub returns-clause-plans : goal.returns-clause-plans
+returns-clause-plans g c =
+    rw c.in_ok-located.was at (plans-all c.args.collected.now.files.items c.loop-index.index
+    (subst (λ fs. length fs ≤ c.loop-index.index) c.deref-file-items.ensures.value c.loop-index-test.false) c.loop-index.invariant.planned)
 
 pub returns-in_err-located-clause-failed : goal.returns-in_err-located-clause-failed
 returns-in_err-located-clause-failed g c =

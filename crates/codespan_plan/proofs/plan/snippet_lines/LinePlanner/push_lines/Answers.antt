@@ -3,8 +3,8 @@ use Rattle.std.proofs.lemmas.List.{get_or_default}
 use Rattle.std.proofs.lemmas.Result.{err_from_is_err_and}
 use Rattle.codespan_plan.specs.Annotations.{shows_line}
 use Rattle.codespan_plan.specs.AnnotationViews.{annotation_view}
-use Rattle.codespan_plan.proofs.SnippetLineViews.{IsCounted, views_of-hidden, views_of-shown, group_of_views-len, lines_to_shown}
-use Rattle.codespan_plan.proofs.LinesFound.{left_all, left_more, left_failed}
+use Rattle.codespan_plan.proofs.SnippetLineViews.{IsCounted, views_of-hidden, views_of-shown, group_of_views-len, lines_left-none, lines_to_shown}
+use Rattle.codespan_plan.proofs.LinesFound.{left_added, left_all, left_more, left_failed, left_succeeded}
 use Rattle.codespan_plan.proofs.plan.snippet_lines.LinePlanner.push_lines.Given.{Over}
 use Rattle.codespan_plan.proofs.plan.snippet_lines.LinePlanner.push_lines.Goals.{After-shows_line}
 use Rattle.codespan_plan.proofs.plan.snippet_lines.LinePlanner.push_lines.Goals as goal
@@ -61,3 +61,11 @@ loop-at-preserved g c =
       hidden_within = omega arith;
       left = rw (sym (views_of-hidden xs c.loop-at.hidden c.loop-at.at c.line_len.result c.index-annotations-at.result c.loop-at.last line (is_shown g (goal.at.loop-at-preserved g c).After-shows_line (sym c.if-shows_line.ensures)))) c.loop-at.invariant.left;
     }
+
+pub returns-clause-added : goal.returns-clause-added
+returns-clause-added g c =
+    left_added c.loop-at.invariant.left (lines_left-none c.args.annotations.now c.loop-at.hidden c.loop-at.at c.loop-at.last c.loop-at-test.false)
+
+pub returns-clause-failed : goal.returns-clause-failed
+returns-clause-failed g c =
+    left_succeeded c.loop-at.invariant.left (lines_left-none c.args.annotations.now c.loop-at.hidden c.loop-at.at c.loop-at.last c.loop-at-test.false)
