@@ -1,4 +1,5 @@
 pub mod Chains
+pub mod RendererRuns
 pub mod Failures
 pub mod OutputLoci
 pub mod Renderings

@@ -1,6 +1,6 @@
 -- Snippet lines that are rendered one after another: what is written and what is looked up.
-use Rattle.std.proofs.Common.{◌≡◌, ℕ, ◌+◌, List, [], ◌∷◌, ◌++◌, take, drop, map, Option, Result, Ok, Err, sym, subst, ap, ◌∙◌, append-nil}
-use Rattle.std.proofs.lemmas.List.{map-append, take-append-drop}
+use Rattle.std.proofs.Common.{◌≡◌, ℕ, ◌+◌, ◌≤◌, List, [], ◌∷◌, ◌++◌, length, take, drop, map, Option, None, Result, Ok, Err, sym, subst, ap, ◌∙◌, append-nil}
+use Rattle.std.proofs.lemmas.List.{map-append, take-append-drop, take_all}
 use Rattle.std.proofs.lemmas.Grind.{flat_map-append}
 use Rattle.codespan_base.specs.declared.files.Error.{Error}
 use Rattle.codespan_base.specs.declared.term.config.Config.{Config}
@@ -15,7 +15,11 @@ use Rattle.codespan_plan.specs.declared.plan.snippet_lines.SnippetLine.{SnippetL
 use Rattle.codespan_views.specs.Private.LookupsWhileRendering.{WritesWithLookups}
 use Rattle.codespan_plan.specs.SourceFiles.{failure_of, model_of}
 use Rattle.codespan_plan.specs.SnippetLineViews.{lookups_of_line, lookups_of_lines, line_view}
-use Rattle.codespan_plan.specs.SnippetLines.{SnippetLine, rows_of_line, rows_of_lines}
+use Rattle.codespan_plan.specs.SnippetLines.{SnippetLine, Filled, Labeled, rows_of_line, rows_of_lines}
+use Rattle.codespan_plan.specs.Annotations.{Annotation}
+use Rattle.codespan_renderer.specs.declared.term.renderer.Renderer.{Renderer}
+use Rattle.codespan_views.specs.Private.LineRendering.{RendersLine}
+use Rattle.codespan_views.proofs.RendererRuns.{renders_after}
 use Rattle.codespan_views.proofs.LookupRuns.{IsLookupRun, run_as, run_cut, run_of_nothing, run_then}
 use Rattle.codespan_plan.proofs.FirstErrors.{first_error-lookups}
 use Rattle.codespan_plan.proofs.LabelIndexing.{IsElementAt, take-at}
@@ -100,3 +104,15 @@ module _ {F Id Name Source : Type 0} {database : F → FileDatabase Id} {lines :
         rendered = run_as (sym (lookups-append database lines config first later)) (sym (rows-append database lines config first later))
             (run_cut (lookups_all database lines config later) (rows database lines config later) cut.rendered);
       })
+
+  -- all snippet lines are rendered
+  pub rendered-all : (whole : List (RustLine Id)) (i : ℕ) {s t : Sink} {r : Result (Unit {0}) Error} → length whole ≤ i → RendersAll database lines config (take i whole) s r t
+      → RendersAll database lines config whole s r t
+  rendered-all whole i {s} {t} {r} past all = subst (λ (snippet_lines : List (RustLine Id)). RendersAll database lines config snippet_lines s r t) (take_all i whole past) all
+
+-- a line that is filled in is rendered as a labeled one, after the lookups of it
+pub filled-rendered : {W F Id Name Source : Type 0} {sink : W → Sink} (database : F → FileDatabase Id) (lines : Snippet F Id Name Source) (lookups : List Lookup) {l index : ℕ} (annotations : List Annotation)
+    {old new : Renderer W} {r : Result (Unit {0}) Error} → l ≡ index → failure_of database lines.file lookups ≡ None
+    → RendersLine sink database lines [] (Labeled l annotations) old r new → RendersLine sink database lines lookups (Filled index annotations) old r new
+filled-rendered {sink = sink} database lines lookups annotations {old} {new} {r} same succeeded rendered =
+    renders_after succeeded (subst (λ (k : ℕ). RendersLine sink database lines [] (Labeled k annotations) old r new) same rendered)

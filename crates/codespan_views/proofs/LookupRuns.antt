@@ -1,18 +1,16 @@
 -- Rendering with lookups on the way, part by part: what has been written, what was looked up, and
 -- what an error cut short.
-use Rattle.std.proofs.Common.{◌≡◌, ◌≢◌, [], ◌∷◌, ◌++◌, List, Option, None, Some, Result, Ok, Err, inl, inr, ⊎_elim, refl, sym, subst, ap, ◌∙◌}
+use Rattle.std.proofs.Common.{◌≡◌, ◌≢◌, [], ◌++◌, Option, None, Some, Result, Ok, Err, inl, inr, ⊎_elim, refl, sym, subst, ◌∙◌}
 use Rattle.std.specs.Prelude.{IfErr}
 use Rattle.std.specs.Result.{IsErrOf}
-use Rattle.std.proofs.lemmas.List.{map-append}
 use Rattle.codespan_base.specs.declared.files.Error.{Error}
 use Rattle.codespan_base.specs.declared.files.Error.TheVariants.{OutOfMemory}
 use Rattle.codespan_base.specs.Errors.{IsIo}
-use Rattle.codespan_base.specs.FileModel.{Lookup, or_failure}
+use Rattle.codespan_base.specs.FileModel.{or_failure}
 use Rattle.codespan_base.specs.Streams.{Stream}
 use Rattle.codespan_base.specs.WriterLaw.{Sink, Writes, PrefixWritten}
 use Rattle.codespan_base.proofs.Writes.{with_written-nil, PrefixWritten-first, PrefixWritten-last}
 use Rattle.codespan_views.specs.Private.LookupsWhileRendering.{WrotePrefix, FailedWithLookups, WritesWithLookups}
-use Rattle.codespan_picture.specs.Lookups.{Failures, lookups_of_file, first_error}
 use Rattle.codespan_plan.proofs.FirstErrors.{or_failure-some, or_failure-succeeded}
 use Rattle.codespan_base.proofs.Chains.{written-then, failed-before, failed-then, known-after}
 use Rattle.codespan_views.proofs.Renderings.{PrefixWritten-none}

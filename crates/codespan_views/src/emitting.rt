@@ -182,16 +182,15 @@ pub fn emit_to_write_style<'files, F: Files<'files>, W: WriteStyle>(
     let mut renderer = Renderer::new(writer, config);
     match config.display_style {
         DisplayStyle::Rich => {
-            RichDiagnostic::new(diagnostic, config).render(files, &mut renderer)?;
+            RichDiagnostic::new(diagnostic, config).render(files, &mut renderer)
         }
         DisplayStyle::Medium => {
-            ShortDiagnostic::new(diagnostic, true).render(files, &mut renderer)?;
+            ShortDiagnostic::new(diagnostic, true).render(files, &mut renderer)
         }
         DisplayStyle::Short => {
-            ShortDiagnostic::new(diagnostic, false).render(files, &mut renderer)?;
+            ShortDiagnostic::new(diagnostic, false).render(files, &mut renderer)
         }
     }
-    Ok(())
 }
 
 /// Calls [`emit_to_io_write`]: its old name, as in the Rust crate.

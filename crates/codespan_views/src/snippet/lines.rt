@@ -3,7 +3,6 @@
 ghost use Rattle.std.specs.Prelude.{◌≡◌, [], IfOk, IfSome, IsTrue, map};
 ghost use Rattle.std.specs.List.{AllByRecursion};
 ghost use Rattle.codespan_base.specs.LawfulFiles.{FailsBy};
-ghost use Rattle.codespan_renderer.specs.Renderers.{SameRenderer};
 ghost use Rattle.codespan_plan.specs.FileLookups.{failure_in};
 ghost use Rattle.codespan_plan.specs.AnnotationViews.{IsLineAt, IsLineOf, annotation_view};
 ghost use Rattle.codespan_plan.specs.SnippetLineViews.{IsSnippetLineOf, lookups_of_line, lookups_of_filled, line_view};
@@ -66,8 +65,7 @@ impl<'context, 'files, F: Files<'files>> Snippet<'context, 'files, F> {
         requires snippet_lines { AllByRecursion
             (IsSnippetLineOf (model_of F.database self.now.file)) snippet_lines.now }
         requires fits { DoFit self.now.lane_count (map line_view snippet_lines.now) }
-        ensures same { SameRenderer renderer.old renderer.new }
-        ensures renders { RendersLines W.sink F.database self.now snippet_lines.now renderer.old
+        ensures { RendersLines W.sink F.database self.now snippet_lines.now renderer.old
             result
             renderer.new }
     {
@@ -93,8 +91,7 @@ impl<'context, 'files, F: Files<'files>> Snippet<'context, 'files, F> {
         requires snippet_line { IsSnippetLineOf (model_of F.database self.now.file)
             snippet_line.now }
         requires fits { IsTrue (does_line_fit self.now.lane_count (line_view snippet_line.now)) }
-        ensures same { SameRenderer renderer.old renderer.new }
-        ensures renders { RendersLine W.sink F.database self.now (lookups_of_line snippet_line.now)
+        ensures { RendersLine W.sink F.database self.now (lookups_of_line snippet_line.now)
             (line_view snippet_line.now)
             renderer.old result renderer.new }
     {
@@ -104,18 +101,17 @@ impl<'context, 'files, F: Files<'files>> Snippet<'context, 'files, F> {
                 labels,
                 *line,
                 *annotations,
-            )?,
+            ),
             SnippetLine::Filled {
                 index,
                 number,
                 annotations,
             } => {
                 let line = self.file.line(*index, *number)?;
-                self.render_line(renderer, labels, line, *annotations)?;
+                self.render_line(renderer, labels, line, *annotations)
             }
-            SnippetLine::Break { next } => self.render_break(renderer, labels, *next)?,
+            SnippetLine::Break { next } => self.render_break(renderer, labels, *next),
         }
-        Ok(())
     }
 
     /// Renders a line with its annotations.
@@ -137,8 +133,7 @@ impl<'context, 'files, F: Files<'files>> Snippet<'context, 'files, F> {
         requires line { IsLineOf (model_of F.database self.now.file) line }
         requires fits { IsTrue
             (do_annotations_fit self.now.lane_count (map annotation_view annotations.now)) }
-        ensures same { SameRenderer renderer.old renderer.new }
-        ensures renders { RendersLine W.sink F.database self.now []
+        ensures { RendersLine W.sink F.database self.now []
             (Labeled line.index (map annotation_view annotations.now)) renderer.old result
             renderer.new }
     {
@@ -167,8 +162,7 @@ impl<'context, 'files, F: Files<'files>> Snippet<'context, 'files, F> {
     ) -> Result<(), Error>
         requires fits { IsTrue (do_lane_marks_fit self.now.lane_count
             (map annotation_view next.now)) }
-        ensures same { SameRenderer renderer.old renderer.new }
-        ensures renders { RendersLine W.sink F.database self.now []
+        ensures { RendersLine W.sink F.database self.now []
             (Break (map annotation_view next.now))
             renderer.old result renderer.new }
     {

@@ -1,6 +1,5 @@
-use Rattle.std.proofs.Common.{◌≡◌, Bool, Result, rules, Ok, Err, ap, subst, sym, ◌∙◌}
+use Rattle.std.proofs.Common.{◌≡◌, Bool, Result, rules, subst, sym}
 use Rattle.std.specs.Cmp.{IsEquivalence}
-use Rattle.std.proofs.lemmas.Result.{err_from_is_err_and}
 use Rattle.codespan_base.specs.declared.diagnostic.Diagnostic.{Diagnostic}
 use Rattle.codespan_base.specs.declared.files.Error.{Error}
 use Rattle.codespan_base.specs.declared.term.config.Config.{Config}
@@ -21,26 +20,12 @@ written is equal lawful writes = record {
   means = λ rich. output_means_labels _ _ _ _ (subst IsEquivalence (sym is) equal) (λ i. (lawful i).some_line);
 }
 
-pub returns-in_err-render_without_labels-clause-renders : goal.returns-in_err-render_without_labels-clause-renders
-returns-in_err-render_without_labels-clause-renders g c =
-    let p = err_from_is_err_and c.from_residual.result c.from_residual.ensures.1 in
-    rw (p.1 ∙ ap Err p.2)
-    (written ((g.met.F.Files c.lifetimes (search rules)).same_is c.args.files.now) g.met.FileId.Eq.laws ((g.met.F.Files c.lifetimes (search rules)).lawful c.args.files.now)
-    (bare-whole (Err c.in_err-render_without_labels.field-0.0) (search rules) c.in_err-render_without_labels.ensures.writes c.in_err-render_without_labels.ensures.io))
-
-pub returns-in_ok-render_without_labels-clause-renders : goal.returns-in_ok-render_without_labels-clause-renders
-returns-in_ok-render_without_labels-clause-renders g c =
+pub returns-then-is_empty-clause-renders : goal.returns-then-is_empty-clause-renders
+returns-then-is_empty-clause-renders g c =
     written ((g.met.F.Files c.lifetimes (search rules)).same_is c.args.files.now) g.met.FileId.Eq.laws ((g.met.F.Files c.lifetimes (search rules)).lawful c.args.files.now)
-    (bare-whole (Ok tt) (search rules) c.in_ok-render_without_labels.ensures.writes tt)
+    (bare-whole c.render_without_labels.result (search rules) c.render_without_labels.ensures.writes c.render_without_labels.ensures.io)
 
-pub returns-in_err-render_labels-clause-renders : goal.returns-in_err-render_labels-clause-renders
-returns-in_err-render_labels-clause-renders g c =
-    let p = err_from_is_err_and c.from_residual-in_err-render_labels.result c.from_residual-in_err-render_labels.ensures.1 in
-    rw (p.1 ∙ ap Err p.2)
-    (written ((g.met.F.Files c.lifetimes (search rules)).same_is c.args.files.now) g.met.FileId.Eq.laws ((g.met.F.Files c.lifetimes (search rules)).lawful c.args.files.now)
-    c.in_err-render_labels.ensures.renders)
-
-pub returns-in_ok-render_labels-clause-renders : goal.returns-in_ok-render_labels-clause-renders
-returns-in_ok-render_labels-clause-renders g c =
+pub returns-else-is_empty-clause-renders : goal.returns-else-is_empty-clause-renders
+returns-else-is_empty-clause-renders g c =
     written ((g.met.F.Files c.lifetimes (search rules)).same_is c.args.files.now) g.met.FileId.Eq.laws ((g.met.F.Files c.lifetimes (search rules)).lawful c.args.files.now)
-    c.in_ok-render_labels.ensures.renders
+    c.render_labels.ensures.renders

@@ -3,21 +3,22 @@ use Rattle.std.proofs.lemmas.Result.{err_from_is_err_and}
 use Rattle.codespan_picture.specs.Arguments.{lane_mark_view, starts_in_order}
 use Rattle.codespan_plan.specs.AnnotationViews.{annotation_view}
 use Rattle.codespan_plan.specs.SnippetLines.{single_labels_in}
-use Rattle.codespan_views.proofs.LookupRuns.{run_out_of_memory, out_of_memory}
+use Rattle.codespan_views.proofs.LookupRuns.{out_of_memory}
+use Rattle.codespan_views.proofs.RendererRuns.{allocation_failed}
 use Rattle.codespan_plan.proofs.LaneMarks.{both-true, lanes_fit}
 use Rattle.codespan_views.proofs.snippet.lines.Snippet.render_line.Goals as goal
 
-pub returns-in_err-refill-clause-renders : goal.returns-in_err-refill-clause-renders
-returns-in_err-refill-clause-renders g c =
+pub returns-in_err-refill : goal.returns-in_err-refill
+returns-in_err-refill g c =
     let p = err_from_is_err_and c.from_residual.result c.from_residual.ensures.1 in
-    rw p.1 (run_out_of_memory (out_of_memory p.2 c.in_err-refill.ensures.failed))
+    rw p.1 (allocation_failed (out_of_memory p.2 c.in_err-refill.ensures.failed))
 
 pub invariant_of-lanes : goal.invariant_of-lanes
 invariant_of-lanes g c =
     let marks = ap (map lane_mark_view) c.as_slice.ensures.value ∙ c.in_ok-refill.ensures.multi_labels in
     record { in_order = lanes_fit c.args.self.now.lane_count (map annotation_view c.args.annotations.now) _ marks (both-true (starts_in_order (single_labels_in (map annotation_view c.args.annotations.now))) _ c.requires.fits).1 }
 
-pub returns-in_err-cached-clause-renders : goal.returns-in_err-cached-clause-renders
-returns-in_err-cached-clause-renders g c =
+pub returns-in_err-cached : goal.returns-in_err-cached
+returns-in_err-cached g c =
     let p = err_from_is_err_and c.from_residual-in_err-cached.result c.from_residual-in_err-cached.ensures.1 in
-    rw p.1 (run_out_of_memory (out_of_memory p.2 c.in_err-cached.ensures.failed))
+    rw p.1 (allocation_failed (out_of_memory p.2 c.in_err-cached.ensures.failed))

@@ -1,4 +1,4 @@
-use Rattle.std.proofs.Common.{◌≡◌, ◌+◌, true, Err, refl, sym, ap, ◌∙◌, subst}
+use Rattle.std.proofs.Common.{◌≡◌, ◌+◌, ◌≤◌, true, length, Err, refl, sym, ap, ◌∙◌, subst, arith}
 use Rattle.std.proofs.lemmas.List.Elements.{All-from_recursion}
 use Rattle.std.proofs.lemmas.Result.{err_from_is_err_and}
 use Rattle.codespan_laws.proofs.SortedLists.{all-mapped}
@@ -6,14 +6,15 @@ use Rattle.codespan_plan.specs.SnippetLineViews.{IsSnippetLineOf, line_view}
 use Rattle.codespan_plan.specs.SnippetLines.{does_line_fit}
 use Rattle.codespan_plan.specs.SourceFiles.{model_of}
 use Rattle.codespan_plan.proofs.LabelIndexing.{IsElementAt}
-use Rattle.codespan_views.proofs.LinesRendered.{rendered-cut, rendered-next, rendered-nothing}
+use Rattle.codespan_views.proofs.LinesRendered.{rendered-all, rendered-cut, rendered-next, rendered-nothing}
+use Rattle.codespan_views.proofs.RendererRuns.{same_renderer, same_twice}
 use Rattle.codespan_views.proofs.snippet.lines.Snippet.render_lines.Given.{Over}
 use Rattle.codespan_views.proofs.snippet.lines.Snippet.render_lines.Goals.{After-render_snippet_line}
 use Rattle.codespan_views.proofs.snippet.lines.Snippet.render_lines.Goals as goal
 
 pub loop-snippet_line-init : goal.loop-snippet_line-init
 loop-snippet_line-init g c = record {
-  same = record { reference = refl; config = refl };
+  same = same_renderer;
   rendered = rendered-nothing;
 }
 
@@ -39,18 +40,27 @@ render_snippet_line-requires g c κs =
       ),
     )
 
-pub returns-in_err-render_snippet_line-clause-renders : goal.returns-in_err-render_snippet_line-clause-renders
-returns-in_err-render_snippet_line-clause-renders g c =
-    let at = turn g (goal.at.returns-in_err-render_snippet_line-clause-renders g c).After-render_snippet_line in
+pub returns-in_err-render_snippet_line : goal.returns-in_err-render_snippet_line
+returns-in_err-render_snippet_line g c =
+    let at = turn g (goal.at.returns-in_err-render_snippet_line g c).After-render_snippet_line in
     let was = c.loop-snippet_line.invariant in
     let p = err_from_is_err_and c.from_residual.result c.from_residual.ensures.1 in
-    rw (p.1 ∙ ap Err p.2) (rendered-cut c.args.snippet_lines.now (c.loop-snippet_line.snippet_line-index + 1) (rendered-next at was.rendered was.same.config c.in_err-render_snippet_line.ensures.renders)).rendered.renders
+    rw (p.1 ∙ ap Err p.2) (record {
+      same = same_twice was.same c.in_err-render_snippet_line.ensures.same;
+      renders = (rendered-cut c.args.snippet_lines.now (c.loop-snippet_line.snippet_line-index + 1) (rendered-next at was.rendered was.same.config c.in_err-render_snippet_line.ensures.renders)).rendered.renders;
+    })
 
 pub loop-snippet_line-preserved : goal.loop-snippet_line-preserved
 loop-snippet_line-preserved g c =
-    let same = c.in_ok-render_snippet_line.ensures.same in
     let was = c.loop-snippet_line.invariant in
     record {
-      same = record { reference = same.reference ∙ was.same.reference; config = same.config ∙ was.same.config };
+      same = same_twice was.same c.in_ok-render_snippet_line.ensures.same;
       rendered = rendered-next (turn g (goal.at.loop-snippet_line-preserved g c).After-render_snippet_line) was.rendered was.same.config c.in_ok-render_snippet_line.ensures.renders;
     }
+
+pub returns : goal.returns
+returns g c =
+    let snippet_lines = c.args.snippet_lines.now in
+    let i = c.loop-snippet_line.snippet_line-index in
+    let past : length snippet_lines ≤ i = omega (arith, c.loop-snippet_line-test.false) in
+    record { same = c.loop-snippet_line.invariant.same; renders = (rendered-all snippet_lines i past c.loop-snippet_line.invariant.rendered).rendered.renders }
