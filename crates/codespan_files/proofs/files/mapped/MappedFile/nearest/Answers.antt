@@ -1,4 +1,4 @@
-use Rattle.std.proofs.Common.{◌-◌, sym, arith}
+use Rattle.std.proofs.Common.{ℕ, ◌-◌, Some, sym, ap, ◌∙◌, arith}
 use Rattle.std.proofs.lemmas.List.{get_or_default}
 use Rattle.codespan_files.proofs.Settings.{setting_at, setting_before_all, setting_in_gap}
 use Rattle.codespan_files.proofs.files.mapped.MappedFile.nearest.Goals as goal
@@ -8,7 +8,7 @@ returns-in-Ok-clause-value g c =
     let found = c.in-Ok.ensures.found in
     let is = setting_at _ c.args.self.now.sorted _ _ found in
     let read = get_or_default _ _ c.index.result.now (0, 0) found.in_range in
-    grind (arith)
+    ap Some (c.index.ensures ∙ read) ∙ sym is
 
 pub returns-in-Err-eq0-clause-value : goal.returns-in-Err-eq0-clause-value
 returns-in-Err-eq0-clause-value g c = sym (setting_before_all _ _ _ c.in-Err-eq0.ensures.absent (omega arith))
@@ -18,11 +18,11 @@ returns-in-Err-clause-value g c =
     let gap = c.in-Err.ensures.absent in
     let is = setting_in_gap _ _ _ gap (omega arith) in
     let read = get_or_default c.args.self.now.numbers.items (c.in-Err.at - 1) c.index-in-Err.result.now (0, 0) (omega (arith, gap.in_range)) in
-    grind (arith)
+    ap Some (c.index-in-Err.ensures ∙ read) ∙ sym is
 
 pub returns-in-Err-clause-below : goal.returns-in-Err-clause-below
 returns-in-Err-clause-below g c =
     let gap = c.in-Err.ensures.absent in
     let less = gap.smaller_before (c.in-Err.at - 1) (omega arith) in
     let read = get_or_default c.args.self.now.numbers.items (c.in-Err.at - 1) c.index-in-Err.result.now (0, 0) (omega (arith, gap.in_range)) in
-    grind (arith)
+    omega (arith, less, ap (λ (s : ℕ × ℕ). s.0) (c.index-in-Err.ensures ∙ read))

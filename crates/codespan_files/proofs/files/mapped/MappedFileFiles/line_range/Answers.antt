@@ -1,7 +1,7 @@
 use Rattle.std.proofs.Common.{◌+◌, ◌<◌, get_or, length, subst, arith}
 use Rattle.std.proofs.lemmas.List.{get_or_default}
 use Rattle.codespan_files.specs.Lemmas.Mapped.{next_above}
-use Rattle.codespan_files.proofs.PastEnd.{past_end_late}
+use Rattle.codespan_files.proofs.PastEnd.{past_end_late, past_end_early}
 use Rattle.codespan_files.proofs.files.mapped.MappedFileFiles.line_range.Goals as goal
 
 -- the next line starts after a newline
@@ -21,3 +21,10 @@ returns-then-line_index-count-clause-failed g c = λ _.
 -- the call that fails returns no range
 pub returns-then-line_index-count-clause-value : goal.returns-then-line_index-count-clause-value
 returns-then-line_index-count-clause-value g c = tt
+
+-- and no other one
+pub returns-then-line_index-count-2-clause-failed : goal.returns-then-line_index-count-2-clause-failed
+returns-then-line_index-count-2-clause-failed g c = past_end_early (g.Source.AsStr.text c.args.self.now.source) c.args.self.now.line_starts.items c.args.line_index c.args.self.now.starts (omega (arith, c.args.self.now.line_starts.ok.0))
+
+pub returns-else-line_index-count-2-clause-failed : goal.returns-else-line_index-count-2-clause-failed
+returns-else-line_index-count-2-clause-failed g c = past_end_early (g.Source.AsStr.text c.args.self.now.source) c.args.self.now.line_starts.items c.args.line_index c.args.self.now.starts (omega (arith, c.args.self.now.line_starts.ok.0))

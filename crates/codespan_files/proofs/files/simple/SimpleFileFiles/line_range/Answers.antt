@@ -4,7 +4,7 @@ use Rattle.codespan_files.specs.LawfulFiles.{IsLineRange}
 use Rattle.codespan_files.specs.Lemmas.Simple.{end_before_last}
 use Rattle.codespan_files.specs.Lines.{line_starts_of}
 use Rattle.codespan_files.specs.SimpleModel.{simple_file}
-use Rattle.codespan_files.proofs.PastEnd.{past_end_late}
+use Rattle.codespan_files.proofs.PastEnd.{past_end_late, past_end_early}
 use Rattle.codespan_files.proofs.files.simple.SimpleFileFiles.line_range.Goals as goal
 
 -- a line past the last fails so
@@ -31,3 +31,10 @@ returns-then-line_index-count-2-clause-value g c =
 -- the call that fails returns no range
 pub returns-then-line_index-count-clause-value : goal.returns-then-line_index-count-clause-value
 returns-then-line_index-count-clause-value g c = tt
+
+-- and no other one
+pub returns-then-line_index-count-2-clause-failed : goal.returns-then-line_index-count-2-clause-failed
+returns-then-line_index-count-2-clause-failed g c = past_end_early (g.Source.AsStr.text c.args.self.now.source) c.args.self.now.line_starts.items c.args.line_index c.args.self.now.starts (omega (arith, c.args.self.now.line_starts.ok.0))
+
+pub returns-else-line_index-count-2-clause-failed : goal.returns-else-line_index-count-2-clause-failed
+returns-else-line_index-count-2-clause-failed g c = past_end_early (g.Source.AsStr.text c.args.self.now.source) c.args.self.now.line_starts.items c.args.line_index c.args.self.now.starts (omega (arith, c.args.self.now.line_starts.ok.0))
