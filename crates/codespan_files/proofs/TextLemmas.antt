@@ -1,9 +1,9 @@
--- What a collected text holds after a value was written to it.
-use Rattle.std.proofs.Common.{◌≡◌, ℕ, List, [], ◌∷◌, ◌++◌, map, Option, Some, None, IfSome, string_bytes, ap, ◌∙◌}
+-- What a collected text holds after a value was written to it, and what a list views as with one copy more.
+use Rattle.std.proofs.Common.{◌≡◌, ℕ, ◌+◌, ◌<◌, List, [], ◌∷◌, ◌++◌, length, get_or, take, map, Option, Some, None, IfSome, string_bytes, refl, sym, ap, ◌∙◌}
 use Rattle.std.specs.Prelude.{String}
 use Rattle.std.specs.Global.{Global}
 use Rattle.std.specs.Fmt.{WritesText}
-use Rattle.std.proofs.lemmas.List.{map-append}
+use Rattle.std.proofs.lemmas.List.{map-append, take_more}
 use Rattle.std.proofs.lemmas.Fmt.{contents_after_writes}
 use Rattle.codespan_files.specs.declared.diagnostic.text.DisplayBuffer.{DisplayBuffer}
 
@@ -17,3 +17,10 @@ pub noted : (o : Option (List ℕ)) (text : String Global) (old new : List (Stri
     → IfSome o (λ bytes. map string_bytes new ≡ map string_bytes old ++ bytes ∷ [])
 noted None text old new wrote added = tt
 noted (Some bytes) text old new wrote added = rw added (map-append string_bytes old (text ∷ []) ∙ ap (λ (b : List ℕ). map string_bytes old ++ b ∷ []) wrote)
+
+-- a copy more of a list whose copies have the same views
+pub viewed_more : {X Y : Type 0} (view : X → Y) (items slice copies new : List X) (i : ℕ) (item copy : X) → slice ≡ items → i < length slice → item ≡ get_or slice i item
+    → map view copies ≡ map view (take i items) → new ≡ copies ++ copy ∷ [] → view copy ≡ view item → map view new ≡ map view (take (i + 1) items)
+viewed_more view items slice copies new i item copy same inside read before added equal =
+    let next : take (i + 1) items ≡ take i items ++ item ∷ [] = rw same at (take_more slice i item inside ∙ ap (λ y. take i slice ++ y ∷ []) (sym read)) in
+    rw (added, next) (simp map-append (rw (before, equal) refl))
