@@ -5,6 +5,18 @@ use Rattle.codespan_plan.specs.AnnotationViews.{annotation_view}
 use Rattle.codespan_plan.proofs.AnnotationOrder.{mark_rises, sorted-join}
 use Rattle.codespan_plan.proofs.annotation.order.lane_marks_end.Goals as goal
 
+pub loop-end-init : goal.loop-end-init
+loop-end-init g c =
+    let xs = c.args.annotations.now in
+    let first = c.index-annotations-start.result in
+    record {
+      after = omega arith;
+      within = omega (arith, c.requires);
+      sorted = λ k d from below. absurd (omega arith);
+      last = subst (λ e. IsLaneMarkOn first.file first.line.index c.in-Some.lane (annotation_view e))
+          (c.index-annotations-start.is ∙ ap (λ i. get_or xs i first) (omega arith)) c.in-Some.ensures;
+    }
+
 pub loop-end-preserved : goal.loop-end-preserved
 loop-end-preserved g c =
     let xs = c.args.annotations.now in

@@ -1,14 +1,16 @@
 use contract.Lifetimes.{Lfts}
-use Rattle.std.proofs.Common.{rules, ◌+◌, ◌≤◌, Err, ap, ◌∙◌, arith}
+use Rattle.std.proofs.Common.{rules, ◌≡◌, true, ◌+◌, ◌≤◌, Err, refl, sym, ap, ◌∙◌, arith}
+use Rattle.std.proofs.lemmas.Bool.{lt-leb, ltb-true, true≢false}
 use Rattle.std.proofs.lemmas.Result.{err_from_is_err_and}
 use Rattle.codespan_base.specs.declared.diagnostic.Label.{Label}
 use Rattle.codespan_base.specs.Lemmas.Lines.{line_of_below}
 use Rattle.codespan_plan.specs.declared.collect.label_annotations.LabelCollector.{LabelCollector}
 use Rattle.codespan_plan.specs.CollectedLabels.{CollectedLabel, label_of_collector}
+use Rattle.codespan_plan.specs.LabelSpans.{IsFarInside}
 use Rattle.codespan_plan.specs.SourceFiles.{line_failure}
 use Rattle.codespan_plan.proofs.Contexts.{CollectsLabel, CollectsLines, HasEnds, collected-start, collected-context, collected-reach, collected-failed, collected-snippet_line}
 use Rattle.codespan_plan.proofs.collect.label_annotations.LabelCollector.collect_lines.Given.{Over}
-use Rattle.codespan_plan.proofs.collect.label_annotations.LabelCollector.collect_lines.Goals.{Else-not-branch}
+use Rattle.codespan_plan.proofs.collect.label_annotations.LabelCollector.collect_lines.Goals.{Else-not-branch, then-far-index, else-far-index}
 use Rattle.codespan_plan.proofs.collect.label_annotations.LabelCollector.collect_lines.Goals as goal
 
 module _ (g : Over) where
@@ -28,6 +30,17 @@ loop-index-init g c =
     collected-start (has_ends g c.lifetimes (search rules) c.args.self.now c.args.label.now)
     (omega (arith, c.min-index.ensures, c.requires.last))
     (omega (arith, c.min-index.ensures, c.saturating_sub-first.ensures, c.requires.first))
+
+-- a line that is far from the ends is inside the label
+is_far_inside : (g : Over) (c : goal.After-collect_line-arg-1 g) → c.if-far-index.is_far ≡ true
+    → IsFarInside c.args.self.now.config.now c.args.self.now.lines.first c.args.self.now.lines.last c.loop-index.index
+is_far_inside g c far = elim c.if-far-index.branch [
+  | then-far-index w ↦ c.far_lines-far.ensures c.loop-index.index w.if-far-index.true (ltb-true _ _ (sym w.is_far-is ∙ far))
+  | else-far-index w ↦ absurd (true≢false (sym far ∙ w.is_far-is ∙ lt-leb _ _ w.if-far-index.false))
+]
+
+pub collect_line-requires : goal.collect_line-requires
+collect_line-requires g c κs = ((refl, (refl, (refl, tt))), (is_far_inside g c, (c.requires.first, c.requires.last)))
 
 pub returns-in_err-collect_line-clause-failed : goal.returns-in_err-collect_line-clause-failed
 returns-in_err-collect_line-clause-failed g c =
