@@ -1,4 +1,3 @@
-pub mod Chains
 pub mod RendererRuns
 pub mod Failures
 pub mod OutputLoci

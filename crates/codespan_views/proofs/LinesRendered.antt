@@ -8,18 +8,24 @@ use Rattle.codespan_base.specs.FileModel.{FileDatabase, FileModel, Lookup, or_fa
 use Rattle.codespan_base.specs.Streams.{Stream, newline}
 use Rattle.codespan_base.specs.WriterLaw.{Sink}
 use Rattle.codespan_picture.specs.Picture.{context_of}
-use Rattle.codespan_picture.specs.Rows.{RowContext, Row}
+use Rattle.codespan_picture.specs.Rows.{Line, RowContext, Row, rows_of}
 use Rattle.codespan_picture.specs.RowStreams.{stream_of, stream_of_rows}
 use Rattle.codespan_views.specs.declared.snippet.lines.Snippet.{Snippet}
 use Rattle.codespan_plan.specs.declared.plan.snippet_lines.SnippetLine.{SnippetLine as RustLine}
 use Rattle.codespan_views.specs.Private.LookupsWhileRendering.{WritesWithLookups}
 use Rattle.codespan_plan.specs.SourceFiles.{failure_of, model_of}
 use Rattle.codespan_plan.specs.SnippetLineViews.{lookups_of_line, lookups_of_lines, line_view}
-use Rattle.codespan_plan.specs.SnippetLines.{SnippetLine, Filled, Labeled, rows_of_line, rows_of_lines}
+use Rattle.codespan_plan.specs.SnippetLines.{SnippetLine, Filled, Labeled, lane_marks_in, line_of_group, rows_of_line, rows_of_lines, single_labels_in}
 use Rattle.codespan_plan.specs.Annotations.{Annotation}
 use Rattle.codespan_renderer.specs.declared.term.renderer.Renderer.{Renderer}
+use Rattle.codespan_renderer.specs.Renderers.{Renders, config_of}
+use Rattle.codespan_rows.specs.RenderedRows.{source_line}
+use Rattle.codespan_picture.specs.Arguments.{LaneMarkTuple, SingleLabelTuple, lane_mark_view, single_label_views}
+use Rattle.codespan_plan.specs.declared.annotation.LineInfo.{LineInfo}
+use Rattle.codespan_plan.specs.AnnotationViews.{IsLineOf}
+use Rattle.std.specs.Prelude.{slice_range}
 use Rattle.codespan_views.specs.Private.LineRendering.{RendersLine}
-use Rattle.codespan_views.proofs.RendererRuns.{renders_after}
+use Rattle.codespan_views.proofs.RendererRuns.{renders_after, renders_alone, renders_as}
 use Rattle.codespan_views.proofs.LookupRuns.{IsLookupRun, run_as, run_cut, run_of_nothing, run_then}
 use Rattle.codespan_plan.proofs.FirstErrors.{first_error-lookups}
 use Rattle.codespan_plan.proofs.LabelIndexing.{IsElementAt, take-at}
@@ -116,3 +122,18 @@ pub filled-rendered : {W F Id Name Source : Type 0} {sink : W → Sink} (databas
     → RendersLine sink database lines [] (Labeled l annotations) old r new → RendersLine sink database lines lookups (Filled index annotations) old r new
 filled-rendered {sink = sink} database lines lookups annotations {old} {new} {r} same succeeded rendered =
     renders_after succeeded (subst (λ (k : ℕ). RendersLine sink database lines [] (Labeled k annotations) old r new) same rendered)
+
+-- a line of a file, with its labels and its lane marks, is rendered as that of its group
+pub line-shown : {f : FileModel} {count : ℕ} {line : LineInfo} (annotations : List Annotation) {text source : List ℕ} (labels : List SingleLabelTuple) (marks : List LaneMarkTuple) → IsLineOf f line
+    → text ≡ f.text → source ≡ slice_range text line.start line.end
+    → single_label_views labels ≡ single_labels_in annotations → map lane_mark_view marks ≡ lane_marks_in annotations
+    → source_line line.number source labels count marks ≡ line_of_group f count line.index annotations
+line-shown annotations labels marks is same_text same_source same_labels same_marks = cc
+
+-- the rows of a line are rendered, and nothing is looked up
+pub line-rendered : {W F Id Name Source : Type 0} {sink : W → Sink} (database : F → FileDatabase Id) (lines : Snippet F Id Name Source) (l : ℕ) (annotations : List Annotation) {shown : Line}
+    {old new : Renderer W} {r : Result (Unit {0}) Error} → shown ≡ line_of_group (model_of database lines.file) lines.lane_count l annotations
+    → Renders sink (stream_of_rows (context_of (config_of old) lines.context.now.severity lines.context.now.padding) (rows_of shown)) old r new
+    → RendersLine sink database lines [] (Labeled l annotations) old r new
+line-rendered database lines l annotations {old = old} same rendered =
+    renders_alone (renders_as (ap (λ (x : Line). stream_of_rows (context_of (config_of old) lines.context.now.severity lines.context.now.padding) (rows_of x)) same) rendered)

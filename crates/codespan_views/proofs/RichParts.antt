@@ -31,10 +31,13 @@ use Rattle.codespan_picture.specs.Rows.{FinalRow, HeaderRow, Row}
 use Rattle.codespan_picture.specs.RowStreams.{header_row, stream_of, stream_of_rows}
 use Rattle.codespan_picture.specs.Snippets.{InFile, has_any, labeled_file_model, labeled_file_models, note_rows}
 use Rattle.codespan_base.proofs.Chains.{written-then, failed-before, failed-then, known-after}
-use Rattle.codespan_views.proofs.Chains.{PrefixWritten-as}
 use Rattle.codespan_views.proofs.Renderings.{after_header, before_header, early_failure, finished, late_failure, ByLoci, failed_by_writer, failed_early, failed_late}
 use Rattle.codespan_views.proofs.NoteRows.{whole_of_notes}
 use Rattle.codespan_plan.proofs.OutputPlanned.{labels-succeeded, labels-failed}
+
+-- a prefix of a stream is one of the same stream in other words
+PrefixWritten-as : (s t : Sink) (a b : Stream) → b ≡ a → PrefixWritten s a t → PrefixWritten s b t
+PrefixWritten-as s t a b same written_prefix = subst (λ (x : Stream). PrefixWritten s x t) (sym same) written_prefix
 
 module _ {Id : Type 0} (view : Config) (files : FileDatabase Id) (d : Diagnostic Id) (some : 0 < length d.labels.items) where
   -- its labels with their files are as many

@@ -19,7 +19,6 @@ use Rattle.codespan_picture.specs.Lookups.{lookups_of_file, first_error}
 use Rattle.codespan_picture.specs.Picture.{context_of}
 use Rattle.codespan_picture.specs.Rows.{RowContext, Row}
 use Rattle.codespan_picture.specs.RowStreams.{stream_of, stream_of_rows}
-use Rattle.codespan_base.proofs.Chains.{written-then, failed-then}
 use Rattle.codespan_views.proofs.LookupRuns.{IsLookupRun, run_after, run_as, run_cut, run_of_writes, run_then}
 
 -- the streams of rows, one after the other
@@ -29,11 +28,6 @@ rows-two row_context a b = flat_map-append (λ r. stream_of row_context r ++ new
 -- a call that writes what a configuration decides writes it by an equal one
 pub write_at : {K : Type 0} (f : K → Stream) {k m : K} → m ≡ k → (s t : Sink) (r : Result (Unit {0}) Error) → Writes s (f m) r t → Writes s (f k) r t
 write_at f same s t r writes = subst (λ (x : _). Writes s (f x) r t) same writes
-
--- a stream has been written, and then a call wrote another one
-pub written_after : (s t u : Sink) (a b : Stream) (r : Result (Unit {0}) Error) → WroteStream s a t → Writes t b r u → Writes s (a ++ b) r u
-written_after s t u a b (Ok x) written writes = written-then s a b written writes
-written_after s t u a b (Err e) written writes = failed-then a written writes
 
 -- ---- the snippet of a file
 

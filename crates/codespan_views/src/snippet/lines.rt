@@ -1,11 +1,9 @@
 //! The lines of a file's snippet.
 
-ghost use Rattle.std.specs.Prelude.{◌≡◌, [], IfOk, IfSome, IsTrue, map};
+ghost use Rattle.std.specs.Prelude.{◌≡◌, [], IsTrue, map};
 ghost use Rattle.std.specs.List.{AllByRecursion};
-ghost use Rattle.codespan_base.specs.LawfulFiles.{FailsBy};
-ghost use Rattle.codespan_plan.specs.FileLookups.{failure_in};
-ghost use Rattle.codespan_plan.specs.AnnotationViews.{IsLineAt, IsLineOf, annotation_view};
-ghost use Rattle.codespan_plan.specs.SnippetLineViews.{IsSnippetLineOf, lookups_of_line, lookups_of_filled, line_view};
+ghost use Rattle.codespan_plan.specs.AnnotationViews.{IsLineOf, annotation_view};
+ghost use Rattle.codespan_plan.specs.SnippetLineViews.{IsSnippetLineOf, lookups_of_line, line_view};
 ghost use Rattle.codespan_views.specs.Private.LineRendering.{RendersLine, RendersLines};
 ghost use Rattle.codespan_plan.specs.SourceFiles.{model_of};
 ghost use Rattle.codespan_plan.specs.SnippetLines.{Labeled, Break, do_annotations_fit, do_lane_marks_fit, does_line_fit, DoFit};

@@ -1,6 +1,8 @@
 use Rattle.std.proofs.Common.{map, ap, ◌∙◌}
 use Rattle.std.proofs.lemmas.Result.{err_from_is_err_and}
-use Rattle.codespan_picture.specs.Arguments.{lane_mark_view, starts_in_order}
+use Rattle.codespan_picture.specs.Arguments.{lane_mark_view, single_label_views, starts_in_order}
+use Rattle.codespan_rows.specs.LineViews.{line_view}
+use Rattle.codespan_views.proofs.LinesRendered.{line-rendered, line-shown}
 use Rattle.codespan_plan.specs.AnnotationViews.{annotation_view}
 use Rattle.codespan_plan.specs.SnippetLines.{single_labels_in}
 use Rattle.codespan_views.proofs.LookupRuns.{out_of_memory}
@@ -22,3 +24,11 @@ pub returns-in_err-cached : goal.returns-in_err-cached
 returns-in_err-cached g c =
     let p = err_from_is_err_and c.from_residual-in_err-cached.result c.from_residual-in_err-cached.ensures.1 in
     rw p.1 (allocation_failed (out_of_memory p.2 c.in_err-cached.ensures.failed))
+
+pub returns : goal.returns
+returns g c =
+    let annotations = map annotation_view c.args.annotations.now in
+    let labels = ap single_label_views c.as_slice-2.ensures.value ∙ c.in_ok-refill.ensures.single_labels in
+    let marks = ap (map lane_mark_view) c.as_slice.ensures.value ∙ c.in_ok-refill.ensures.multi_labels in
+    line-rendered g.F.Files.database c.args.self.now c.args.line.index annotations
+    (ap line_view c.in_ok-cached.ensures.line ∙ c.new-line.ensures.line ∙ line-shown annotations _ _ c.requires.line c.requires.text c.range-source.ensures.value labels marks) c.render.ensures
