@@ -1,9 +1,9 @@
 -- Headers of labels, one after another.
-use Rattle.std.proofs.Common.{◌≡◌, ◌≢◌, ℕ, ◌+◌, ◌<◌, Bool, true, false, cond, ◌||◌, List, [], ◌∷◌, ◌++◌, length, map, filter, flat_map, take, drop, Option, None, Some, Result, Ok, Err, ⊎_elim, inl, inr, refl, sym, subst, ap, ap₂, ◌∙◌, append_assoc, append-nil, arith}
+use Rattle.std.proofs.Common.{◌≡◌, ◌≢◌, ℕ, ◌+◌, ◌<◌, ◌≤◌, Bool, true, false, cond, ◌||◌, List, [], ◌∷◌, ◌++◌, length, map, filter, flat_map, take, drop, Option, None, Some, Result, Ok, Err, ⊎_elim, inl, inr, refl, sym, subst, ap, ap₂, ◌∙◌, append_assoc, append-nil, arith}
 use Rattle.std.specs.Prelude.{Contains, IfErr}
 use Rattle.std.specs.List.{AllZip}
 use Rattle.std.proofs.lemmas.Grind.{flat_map-append}
-use Rattle.std.proofs.lemmas.List.{map-append, map_more, length-append, take-append-drop}
+use Rattle.std.proofs.lemmas.List.{map-append, map_more, length-append, take-append-drop, take_all}
 use Rattle.std.proofs.lemmas.List.Elements.{Contains-append_left, Contains-append_right, Contains-append_cases, filter-append}
 use Rattle.codespan_base.specs.declared.diagnostic.Diagnostic.{Diagnostic}
 use Rattle.codespan_base.specs.declared.diagnostic.Label.{Label}
@@ -193,6 +193,14 @@ module _ {Id : Type 0} {config : Config} {file : Id → FileModel} {failure : Fa
     written = w.written;
     ended = w.ended;
   }
+
+-- the headers of all labels have been written
+pub all_written : {Id : Type 0} {config : Config} {file : Id → FileModel} {failure : Failures Id} {d : Diagnostic Id} {i : ℕ} {some : Bool} {s t : Sink} → length d.labels.items ≤ i
+    → HeadersWritten config file failure d s (primary_of (map label_of (take i d.labels.items))) t → some ≡ has_any (primary_of (map label_of (take i d.labels.items)))
+    → HeadersWritten config file failure d s (primary_labels d) t × (some ≡ has_any (primary_labels d))
+all_written {config = config} {file = file} {failure = failure} {d = d} {i = i} {some = some} {s = s} {t = t} past written same =
+    subst (λ (items : List (Label _)). HeadersWritten config file failure d s (primary_of (map label_of items)) t × (some ≡ has_any (primary_of (map label_of items))))
+    (take_all i d.labels.items past) (written, same)
 
 -- the headers of the labels before one have been written, and that one is next, by an equal
 -- configuration
