@@ -20,7 +20,7 @@ pub use Rattle.codespan_picture.specs.Lanes
 pub use Rattle.codespan_picture.specs.Rows
 pub use Rattle.codespan_picture.specs.RowParts
 pub use Rattle.codespan_picture.specs.RowStreams
-pub use Rattle.codespan_picture.specs.RowWords
+pub use Rattle.codespan_picture.specs.RowDefinitions
 pub use Rattle.codespan_picture.specs.Lines
 pub use Rattle.codespan_picture.specs.Sequences
 pub use Rattle.codespan_picture.specs.Snippets

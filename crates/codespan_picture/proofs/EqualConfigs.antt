@@ -11,7 +11,7 @@ use Rattle.codespan_base.specs.Streams.{bytes, style_mark, Reset, SourceBorder, 
 use Rattle.codespan_picture.specs.Rows.{HeaderText, Locus, RowContext, Row, HeaderRow, SnippetStartRow, EmptyRow, BreakRow, SourceRow, CaretRow, PointerRow, HangingRow, UnderlineRow, FirstNoteRow, LaterNoteRow, FinalRow}
 use Rattle.codespan_picture.specs.RowParts.{gutter, locus}
 use Rattle.codespan_picture.specs.RowStreams.{stream_of, stream_of_rows}
-use Rattle.codespan_picture.specs.RowWords.{row_words}
+use Rattle.codespan_picture.specs.RowDefinitions.{row_definitions}
 use Rattle.codespan_picture.specs.Padding.{padding_of}
 use Rattle.codespan_picture.specs.Picture.{context_of, rendered}
 use Rattle.codespan_picture.specs.Snippets.{LabeledFileModel, header_rows, note_rows, rich_rows}
@@ -31,7 +31,7 @@ module _ (config : Config) (severity : Severity) (padding : ℕ) (start other : 
 
   -- each row is the same
   row_equal : (row : Row) → stream_of (context start) row ≡ stream_of (context other) row
-  unfolding row_words
+  unfolding row_definitions
   row_equal (HeaderRow at heading) = refl
   row_equal (SnippetStartRow at) =
       ap (λ text. gutter padding ++ style_mark SourceBorder ++ bytes text ++ style_mark Reset ++ space ++ locus at) same

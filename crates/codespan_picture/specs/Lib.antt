@@ -22,7 +22,7 @@ pub mod Lanes
 pub mod Rows
 pub mod RowParts
 pub mod RowStreams
-pub mod RowWords
+pub mod RowDefinitions
 -- the output
 pub mod Lines
 pub mod Sequences

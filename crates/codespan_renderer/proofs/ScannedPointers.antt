@@ -17,7 +17,7 @@ use Rattle.codespan_picture.specs.RowParts.{starts_in, pointer_style, max_label_
 use Rattle.codespan_renderer.specs.Private.BestStyles.{primary_first, best_from, pointer_found}
 use Rattle.codespan_rows.specs.Runs.{AreHanging}
 use Rattle.codespan_renderer.proofs.Best.{best-cons, best-primary}
-use Rattle.codespan_rows.proofs.RowWords.{spaces-add}
+use Rattle.codespan_rows.proofs.RowEquations.{spaces-add}
 use Rattle.codespan_rows.proofs.Hanging.{hanging_parts, spaces_is}
 
 -- ---- the style of a pointer

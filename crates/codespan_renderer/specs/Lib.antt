@@ -29,5 +29,5 @@ pub use Rattle.codespan_picture.specs.Arguments
 -- a renderer, as its contracts see it, and what its calls render
 pub mod Renderers
 pub use Rattle.codespan_rows.specs.RenderedRows
--- words that private calls and proofs use
+-- definitions that private calls and proofs use
 pub mod Private

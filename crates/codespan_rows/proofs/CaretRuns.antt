@@ -12,7 +12,7 @@ use Rattle.codespan_picture.specs.Rows.{RowContext}
 use Rattle.codespan_picture.specs.RowParts.{change, styled, caret_glyphs, carets}
 use Rattle.codespan_rows.specs.Runs.{caret_run}
 use Rattle.codespan_picture.proofs.CaretEnds.{style_under-below}
-use Rattle.codespan_rows.proofs.RowWords.{spaces-add, repeated-add, change-same, regroup}
+use Rattle.codespan_rows.proofs.RowEquations.{spaces-add, repeated-add, change-same, regroup}
 use Rattle.codespan_rows.specs.CharCursors.{Follow}
 
 -- the carets of the remaining characters

@@ -15,7 +15,7 @@ use Rattle.codespan_rows.specs.LaneMarksLeft.{lane_mark_here, lane_marks_after}
 use Rattle.codespan_picture.specs.Lanes.{crossing_cells, lane_cells, lane_mark_in, row_shape, row_crossing}
 use Rattle.codespan_picture.specs.Rows.{RowContext, Lanes}
 use Rattle.codespan_picture.specs.RowParts.{lane_of, row_lanes}
-use Rattle.codespan_rows.proofs.RowWords.{spaces-add}
+use Rattle.codespan_rows.proofs.RowEquations.{spaces-add}
 
 -- ---- the first of the remaining multi-line label marks
 

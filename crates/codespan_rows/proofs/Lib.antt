@@ -1,5 +1,5 @@
 pub mod CharSteps
-pub mod RowWords
+pub mod RowEquations
 pub mod ScanState
 pub mod CaretRuns
 pub mod LaneCursor

@@ -19,7 +19,7 @@ use Rattle.codespan_picture.specs.Types.{LabelStyle, Primary}
 use Rattle.codespan_picture.proofs.CaretEnds.{style_under-below}
 use Rattle.codespan_rows.specs.declared.primary_lane_marks.PrimaryLaneMarks.{PrimaryLaneMarks}
 use Rattle.codespan_rows.specs.PrimaryLaneMarks.{CoversAsMarks, is_marked}
-use Rattle.codespan_rows.proofs.RowWords.{change-same}
+use Rattle.codespan_rows.proofs.RowEquations.{change-same}
 use Rattle.codespan_rows.proofs.TextRuns.{IsOver, text-end, text_rest}
 use Rattle.codespan_picture.specs.CharMetrics.{metrics_then, width_at}
 use Rattle.codespan_picture.specs.Rows.{Line, RowContext}

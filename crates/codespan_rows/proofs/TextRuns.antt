@@ -12,7 +12,7 @@ use Rattle.codespan_base.specs.Streams.{Stream, bytes, spaces, glyph}
 use Rattle.codespan_base.proofs.Writes.{bytes-append}
 use Rattle.codespan_picture.specs.declared.char_metrics.Metrics.{Metrics}
 use Rattle.codespan_rows.proofs.CharSteps.{bytes_left}
-use Rattle.codespan_rows.proofs.RowWords.{change-same, regroup}
+use Rattle.codespan_rows.proofs.RowEquations.{change-same, regroup}
 use Rattle.codespan_picture.specs.CharMetrics.{metrics_then, char_metrics, width_at}
 use Rattle.codespan_picture.specs.Rows.{RowContext, Line}
 use Rattle.codespan_picture.specs.RowParts.{change, styled, source_glyph, source_style, colored_text}

@@ -1,6 +1,6 @@
 -- what each call of a renderer renders
 pub mod RenderedRows
--- words that the calls of this crate and proofs use
+-- definitions that the calls of this crate and proofs use
 pub mod LineViews
 pub mod RowViews
 pub mod CharCursors

@@ -1,4 +1,5 @@
--- Words of the loops that write rows: runs of one character, labels that may be there, messages.
+-- Definitions for the loops that write rows: runs of one character, labels that may be there,
+-- messages.
 use Rattle.std.specs.Prelude.{◌≡◌, ℕ, List, ◌++◌, map, filter, fold, min, reverse, slice_get, Option, Some, None}
 use Rattle.std.specs.Option.{option_map}
 use Rattle.std.specs.Borrow.{Bor}

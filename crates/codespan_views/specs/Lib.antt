@@ -3,5 +3,5 @@ pub mod Failures
 pub mod Output
 pub mod WriteCalls
 pub mod Views
--- words that private calls and proofs use
+-- definitions that private calls and proofs use
 pub mod Private

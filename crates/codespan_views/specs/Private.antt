@@ -1,4 +1,5 @@
--- Words that private calls and proofs use: a reader of the public contracts needs none of them.
+-- Definitions that private calls and proofs use: a reader of the public contracts needs none of
+-- them.
 pub mod Headers
 pub mod LookupsWhileRendering
 pub mod Rendering

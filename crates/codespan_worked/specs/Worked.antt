@@ -15,14 +15,14 @@ use Rattle.codespan_base.specs.Ansi.{ansi_style, ansi_reset, escape, ansi_bold, 
 use Rattle.codespan_picture.specs.declared.arguments.MultiLabel.TheVariants as rust_variant
 use Rattle.codespan_picture.specs.Arguments.{LaneMarkTuple}
 use Rattle.codespan_picture.specs.Rows.{Line}
-use Rattle.codespan_picture.specs.RowWords.{row_words}
+use Rattle.codespan_picture.specs.RowDefinitions.{row_definitions}
 use Rattle.codespan_picture.specs.Snippets.{InFile, labeled_file_models}
 use Rattle.codespan_picture.specs.Picture.{rendered, starts}
 use Rattle.codespan_picture.specs.StatedPicture.{stated_locus}
 
 -- opens all definitions of an output, so that it computes
 unfoldable pub worked_definitions : Unit {0}
-unfolding unicode_width digits line_of row_words escape ansi_reset ansi_bold ansi_color ansi_style
+unfolding unicode_width digits line_of row_definitions escape ansi_reset ansi_bold ansi_color ansi_style
 worked_definitions = tt
 
 -- a file of a name and a text

@@ -1,4 +1,4 @@
-use Rattle.codespan_rows.proofs.RowWords.{gutter_spaces}
+use Rattle.codespan_rows.proofs.RowEquations.{gutter_spaces}
 use Rattle.codespan_rows.proofs.parts.outer_gutter.Goals as goal
 
 pub returns : goal.returns

@@ -1,4 +1,4 @@
-use Rattle.codespan_rows.proofs.RowWords.{below_lanes_are}
+use Rattle.codespan_rows.proofs.RowEquations.{below_lanes_are}
 use Rattle.codespan_base.proofs.Chains.{written-then, failed-then, failed-before, failed, writes-last}
 use Rattle.codespan_picture.specs.RowStreams.{row_start}
 use Rattle.codespan_rows.proofs.parts.write_row_start.Goals as goal

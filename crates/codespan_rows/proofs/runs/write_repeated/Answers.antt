@@ -1,7 +1,7 @@
 use Rattle.std.proofs.Common.{arith, refl, ◌-◌, ◌^◌}
 use Rattle.std.proofs.lemmas.Result.{err_from_is_err_and}
 use Rattle.codespan_base.proofs.Loops.{StillToWrite-start, StillToWrite-more, StillToWrite-failed, StillToWrite-last}
-use Rattle.codespan_rows.proofs.RowWords.{repeated-past}
+use Rattle.codespan_rows.proofs.RowEquations.{repeated-past}
 use Rattle.codespan_rows.proofs.runs.write_repeated.Goals as goal
 
 pub loop-left-init : goal.loop-left-init

@@ -6,7 +6,7 @@ use Rattle.codespan_rows.specs.LineViews.{context_view}
 use Rattle.codespan_rows.specs.LineSources.{CharInput}
 use Rattle.codespan_picture.specs.RowParts.{metrics_before}
 use Rattle.codespan_picture.proofs.Consecutive.{char_metrics-consecutive}
-use Rattle.codespan_rows.proofs.RowWords.{all_before}
+use Rattle.codespan_rows.proofs.RowEquations.{all_before}
 use Rattle.codespan_renderer.proofs.SpacedPointers.{spaced-all}
 use Rattle.codespan_renderer.proofs.term.renderer.cached.cached_line.CachedLineLineSource.caret_pointers.Goals as goal
 
