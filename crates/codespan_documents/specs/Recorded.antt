@@ -1,6 +1,6 @@
--- Words that only the writer that keeps runs and proofs use: how this writer is seen by the law of
--- writers, which knows bytes alone. It holds, for each run, a number that is no byte and stands for
--- its style, and then the run's bytes.
+-- Definitions that only the writer that keeps runs and proofs use: how this writer is seen by the
+-- law of writers, which knows bytes alone. It holds, for each run, a number that is no byte and
+-- stands for its style, and then the run's bytes.
 use Rattle.std.specs.Prelude.{ℕ, ◌+◌, ◌<◌, Bool, List, [], ◌∷◌, ◌++◌, map, Some}
 use Rattle.std.specs.List.{AllByRecursion, flat_map}
 use Rattle.codespan_base.specs.declared.diagnostic.LabelStyle.TheVariants.{Primary, Secondary}
