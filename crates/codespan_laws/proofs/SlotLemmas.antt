@@ -61,23 +61,23 @@ pub slots-flat_map : {X : Type 0} (k : ℕ) (f : X → Stream) (xs : List X) →
 slots-flat_map k f [] h = slots-nil k
 slots-flat_map k f (x ∷ xs) h = slots-append k (f x) (flat_map f xs) ∙ ap₂ (λ a b. a + b) (h x) (slots-flat_map k f xs h)
 
-ruleset words = (slots-append, slots-nil, slots-bytes, slots-style_mark, slots-spaces, slots-repeated)
+ruleset slots_of_parts = (slots-append, slots-nil, slots-bytes, slots-style_mark, slots-spaces, slots-repeated)
 
 pub slots-label_glyph : (k : ℕ) (severity : Severity) (style : LabelStyle) (c : ℕ) → slots k (label_glyph severity style c) ≡ 0
 unfolding label_glyph
-slots-label_glyph k severity style c = simp words
+slots-label_glyph k severity style c = simp slots_of_parts
 
 pub slots-crossing_cells : (k : ℕ) (severity : Severity) (chars : Chars) (m : Option LaneMark) (n : ℕ) → slots k (crossing_cells severity chars m n) ≡ 0
 unfolding crossing_cells
 slots-crossing_cells k severity chars None n = slots-spaces k n
-slots-crossing_cells k severity chars (Some m) n = simp words
+slots-crossing_cells k severity chars (Some m) n = simp slots_of_parts
 
 pub slots-lane_cells : (k : ℕ) (severity : Severity) (chars : Chars) (m : Option LaneMark) (style : LabelStyle) (shape : Shape) → slots k (lane_cells severity chars m style shape) ≡ 0
 unfolding lane_cells
 slots-lane_cells k severity chars m style Space = slots-crossing_cells k severity chars m 2
-slots-lane_cells k severity chars m style Bar = simp (words, slots-crossing_cells, slots-label_glyph)
-slots-lane_cells k severity chars m style TopCorner = simp (words, slots-crossing_cells, slots-label_glyph)
-slots-lane_cells k severity chars m style BottomCorner = simp (words, slots-crossing_cells, slots-label_glyph)
+slots-lane_cells k severity chars m style Bar = simp (slots_of_parts, slots-crossing_cells, slots-label_glyph)
+slots-lane_cells k severity chars m style TopCorner = simp (slots_of_parts, slots-crossing_cells, slots-label_glyph)
+slots-lane_cells k severity chars m style BottomCorner = simp (slots_of_parts, slots-crossing_cells, slots-label_glyph)
 
 pub slots-lane_of : (k : ℕ) (context : RowContext) (crossing : Option LaneMark) (shape : MultiLabel → Shape) (m : Option LaneMark) → slots k (lane_of context crossing shape m) ≡ 0
 unfolding lane_of
@@ -95,7 +95,7 @@ slots-row_lanes k context leading row lanes = slots-lanes_in k context _ _ lanes
 
 pub slots-locus : (k : ℕ) (p : Locus) → slots k (locus p) ≡ 0
 unfolding locus
-slots-locus k p = simp words
+slots-locus k p = simp slots_of_parts
 
 pub slots-gutter : (k n : ℕ) → slots k (gutter n) ≡ 0
 unfolding gutter
@@ -103,15 +103,15 @@ slots-gutter k n = slots-spaces k (n + 1)
 
 pub slots-numbered_gutter : (k p n : ℕ) → slots k (numbered_gutter p n) ≡ 0
 unfolding numbered_gutter
-slots-numbered_gutter k p n = simp words
+slots-numbered_gutter k p n = simp slots_of_parts
 
 pub slots-border : (k : ℕ) (chars : Chars) → slots k (border chars) ≡ 0
 unfolding border
-slots-border k chars = simp words
+slots-border k chars = simp slots_of_parts
 
 pub slots-break_border : (k : ℕ) (chars : Chars) → slots k (break_border chars) ≡ 0
 unfolding break_border
-slots-break_border k chars = simp words
+slots-break_border k chars = simp slots_of_parts
 
 pub slots-change : (k : ℕ) (severity : Severity) (a b : Option LabelStyle) → slots k (change severity a b) ≡ 0
 unfolding change
@@ -178,16 +178,16 @@ pub slots-pointers : (k : ℕ) (context : RowContext) (labels : List LabelModel)
 unfolding pointers
 slots-pointers k context labels cs = slots-flat_map k (pointer_at context labels (hanging labels)) cs (slots-pointer_at k context labels (hanging labels))
 
-ruleset parts = (words, slots-row_lanes, slots-locus, slots-gutter, slots-numbered_gutter, slots-border, slots-break_border, slots-colored_text, slots-carets, slots-pointers)
+ruleset parts = (slots_of_parts, slots-row_lanes, slots-locus, slots-gutter, slots-numbered_gutter, slots-border, slots-break_border, slots-colored_text, slots-carets, slots-pointers)
 
 pub slots-label_message : (k : ℕ) (severity : Severity) (style : LabelStyle) (message : Stream) → slots k (label_message severity style message) ≡ slots k message
 unfolding label_message
-slots-label_message k severity style message = simp words (omega arith)
+slots-label_message k severity style message = simp slots_of_parts (omega arith)
 
 pub slots-trailing_message : (k : ℕ) (severity : Severity) (x : Option LabelModel) → slots k (trailing_message severity x) ≡ weight_of (λ y. slots k y.message) x
 unfolding trailing_message
 slots-trailing_message k severity None = slots-nil k
-slots-trailing_message k severity (Some x) = simp (words, slots-label_message) (omega arith)
+slots-trailing_message k severity (Some x) = simp (slots_of_parts, slots-label_message) (omega arith)
 
 pub slots-underline_message : (k : ℕ) (message : Stream) → slots k (underline_message message) ≡ slots k message
 unfolding underline_message
@@ -202,15 +202,15 @@ part_slots k (Bottom end message) = slots k message
 
 pub slots-underline : (k : ℕ) (chars : Chars) (style : LabelStyle) (cs : List Metrics) (part : MultiLabel) → slots k (underline chars style cs part) ≡ part_slots k part
 unfolding underline
-slots-underline k chars style cs (Top start) = simp words
+slots-underline k chars style cs (Top start) = simp slots_of_parts
 slots-underline k chars style cs Left = slots-nil k
-slots-underline k chars style cs (Bottom end message) = simp (words, slots-underline_message) (omega arith)
+slots-underline k chars style cs (Bottom end message) = simp (slots_of_parts, slots-underline_message) (omega arith)
 
 pub slots-bracketed : (k : ℕ) (code : Option (List ℕ)) → slots k (bracketed code) ≡ 0
 unfolding bracketed
 slots-bracketed k None = slots-nil k
 slots-bracketed k (Some []) = slots-nil k
-slots-bracketed k (Some (c ∷ cs)) = simp words
+slots-bracketed k (Some (c ∷ cs)) = simp slots_of_parts
 
 pub slots-leading_locus : (k : ℕ) (at : Option Locus) → slots k (leading_locus at) ≡ 0
 unfolding leading_locus
