@@ -1,8 +1,0 @@
--- The bytes of a word.
-use Rattle.std.specs.Prelude.{ℕ}
-use Rattle.std.specs.declared.ops.Range.{Range}
-use Rattle.example_config.specs.declared.Word.{Word}
-
--- the range of a word
-abbrev pub bytes : Word → Range ℕ
-bytes w = record { start = w.start; end = w.end }

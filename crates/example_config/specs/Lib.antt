@@ -1,2 +1,0 @@
--- the bytes of a word
-pub mod Bytes

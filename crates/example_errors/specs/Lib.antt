@@ -1,2 +1,0 @@
--- where the errors are in the text of the settings
-pub mod ErrorRanges

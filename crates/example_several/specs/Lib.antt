@@ -1,2 +1,0 @@
--- several outputs, one after another
-pub mod Outputs

@@ -1,0 +1,8 @@
+-- The bytes of a word.
+use Rattle.std.specs.Prelude.{ℕ}
+use Rattle.std.specs.declared.ops.Range.{Range}
+use Rattle.examples.specs.declared.config.Word.{Word}
+
+-- the range of a word
+abbrev pub bytes : Word → Range ℕ
+bytes w = record { start = w.start; end = w.end }

@@ -1,0 +1,42 @@
+//! Reports three errors of an application's error type, over one text of settings.
+
+mod settings;
+
+use codespan_reporting::files::{Error, SimpleFile};
+use codespan_reporting::term::{Config, emit_to_io_write};
+use settings::{Key, SettingsError};
+
+/// The settings, with three errors.
+const SETTINGS: &str = "\
+port = 8080
+workers = four
+tmeout = 30
+port = 80
+";
+
+/// Prints the diagnostic of each error.
+pub fn run(rt: &HostRuntime) -> Result<(), Error> {
+    let alloc = rt.alloc();
+    let config = Config::default();
+    let file = SimpleFile::new(alloc, "server.conf", SETTINGS)?;
+    let errors = [
+        SettingsError::NotANumber {
+            key: Key::Workers,
+            value: 22..26,
+        },
+        SettingsError::UnknownKey {
+            name: 27..33,
+            suggestion: Some(Key::Timeout),
+        },
+        SettingsError::SetTwice {
+            key: Key::Port,
+            first: 0..4,
+            again: 39..43,
+        },
+    ];
+    for error in &errors {
+        let diagnostic = error.diagnostic(alloc, ())?;
+        emit_to_io_write(&mut rt.stdout(), &config, &file, &diagnostic)?;
+    }
+    Ok(())
+}

@@ -1,0 +1,28 @@
+//! `examples` runs five examples of how the libraries are used, one after another, each under a
+//! line with its name.
+//!
+//! Each module is one example, which starts in its `run`: [`preview`] has styles and colors,
+//! [`errors`] an error type of its own, [`several`] a list of diagnostics, [`files`] a file database
+//! of its own, and [`config`] the front end of a language of settings.
+#![tactic(auto)]
+
+mod config;
+mod errors;
+mod files;
+mod preview;
+mod several;
+
+use codespan_reporting::files::Error;
+
+fn main(rt: HostRuntime) -> Result<(), Error> {
+    println!(rt; "# preview")?;
+    preview::run(&rt)?;
+    println!(rt; "# errors")?;
+    errors::run(&rt)?;
+    println!(rt; "# several")?;
+    several::run(&rt)?;
+    println!(rt; "# files")?;
+    files::run(&rt)?;
+    println!(rt; "# config")?;
+    config::run(&rt)
+}
