@@ -72,7 +72,7 @@ pub struct Location {
 /// impl<'a, 'text: 'a> Files<'a> for Checked<'text> {
 ///     ghost use Rattle.codespan_base.specs.SimpleModel.{simple_file, simple_failure};
 ///     ghost use Rattle.codespan_base.specs.Lemmas.Simple.{simple_lawful, simple_past_end, text_fits, text_is_utf8};
-///     ghost use Rattle.example_files.specs.Parts.{one_part};
+///     ghost use Rattle.examples.specs.Parts.{one_part};
 ///
 ///     type FileId = Part;
 ///

@@ -131,7 +131,7 @@ pub fn emit_to_string<'files, F: Files<'files>>(
 ///
 /// # Example
 ///
-/// `crates/example_preview` has this code.
+/// The module `preview` of `crates/examples` has this code.
 ///
 /// ```rust
 /// let config = Config {
@@ -163,7 +163,7 @@ pub fn emit_to_io_write<'files, F: Files<'files>, W: Write>(
 ///
 /// # Example
 ///
-/// `crates/example_preview` has this code, which writes in color.
+/// The module `preview` of `crates/examples` has this code, which writes in color.
 ///
 /// ```rust
 /// let styles = Styles::default();
