@@ -1,7 +1,7 @@
 //! The characters of a drawn line.
 
 /// A character of a drawn line, or the placeholder after the last one.
-#[derive(Clone, Copy, Debug)]
+#[derive(Clone, Copy)]
 pub struct Metrics {
     /// The character.
     pub code: char,

@@ -1,7 +1,7 @@
 //! The lanes of a row.
 
 /// What a lane shows in a row.
-#[derive(Clone, Copy, Debug)]
+#[derive(Clone, Copy)]
 pub enum Shape {
     /// Spaces, or the line that runs right from another lane's corner.
     Space,
