@@ -2,11 +2,13 @@
 
 ghost use Rattle.std.specs.Prelude.{◌≡◌, ◌∷◌, [], IfOk, string_bytes, codes, map};
 
+use crate::asserts::assert_same;
 use codespan_base::diagnostic::{Diagnostic, Label, LabelStyle, Severity};
 use codespan_base::files::Error;
 use std::alloc::{AllocError, Global};
 use std::fmt;
 use std::fmt::{Display, Write};
+use std::process::Abort;
 use std::test::Fail;
 
 /// A value whose `Display` writes two bytes and then fails.
@@ -55,46 +57,44 @@ fn severities(rt: HostRuntime) {
     assert!(rt; LabelStyle::Primary < LabelStyle::Secondary);
 }
 
-#[test]
-fn constructors(rt: HostRuntime) -> Result<(), Fail> {
-    let alloc = rt.alloc();
-    let made: [(Diagnostic<usize>, Severity); 6] = [
-        (Diagnostic::bug(alloc), Severity::Bug),
-        (Diagnostic::error(alloc), Severity::Error),
-        (Diagnostic::warning(alloc), Severity::Warning),
-        (Diagnostic::note(alloc), Severity::Note),
-        (Diagnostic::help(alloc), Severity::Help),
-        (Diagnostic::new(alloc, Severity::Note), Severity::Note),
-    ];
-    for (diagnostic, severity) in &made {
-        assert_eq!(rt; diagnostic.severity, *severity);
-        assert!(rt; diagnostic.code.is_none());
-        assert_eq!(rt; diagnostic.message.as_str(), "");
-        assert!(rt; diagnostic.labels.is_empty());
-        assert!(rt; diagnostic.notes.is_empty());
-    }
-    Ok(())
+/// Asserts that a diagnostic has this severity, and nothing else.
+fn assert_is_new(rt: &impl Abort, made: Diagnostic<usize>, severity: Severity) {
+    assert_same(rt, &made.severity, &severity);
+    assert!(rt; made.code.is_none());
+    assert_same(rt, &made.message.as_str(), &"");
+    assert!(rt; made.labels.is_empty());
+    assert!(rt; made.notes.is_empty());
 }
 
 #[test]
-fn constructors_of_labels(rt: HostRuntime) -> Result<(), Fail> {
+fn constructors(rt: HostRuntime) {
     let alloc = rt.alloc();
-    let labels = [
-        (
-            Label::new(alloc, LabelStyle::Secondary, 3usize, 5..2),
-            LabelStyle::Secondary,
-        ),
-        (Label::primary(alloc, 3, 5..2), LabelStyle::Primary),
-        (Label::secondary(alloc, 3, 5..2), LabelStyle::Secondary),
-    ];
-    for (label, style) in &labels {
-        assert_eq!(rt; label.style, *style);
-        assert_eq!(rt; label.file_id, 3);
-        assert_eq!(rt; label.range.start, 5);
-        assert_eq!(rt; label.range.end, 2);
-        assert_eq!(rt; label.message.as_str(), "");
-    }
-    Ok(())
+    assert_is_new(&rt, Diagnostic::bug(alloc), Severity::Bug);
+    assert_is_new(&rt, Diagnostic::error(alloc), Severity::Error);
+    assert_is_new(&rt, Diagnostic::warning(alloc), Severity::Warning);
+    assert_is_new(&rt, Diagnostic::note(alloc), Severity::Note);
+    assert_is_new(&rt, Diagnostic::help(alloc), Severity::Help);
+    assert_is_new(&rt, Diagnostic::new(alloc, Severity::Note), Severity::Note);
+}
+
+/// Asserts that a label has this style, the file 3, the range `5..2` and no message.
+fn assert_is_label(rt: &impl Abort, label: Label<usize>, style: LabelStyle) {
+    assert_same(rt, &label.style, &style);
+    assert_same(rt, &label.file_id, &3);
+    assert_same(rt, &label.range.start, &5);
+    assert_same(rt, &label.range.end, &2);
+    assert_same(rt, &label.message.as_str(), &"");
+}
+
+#[test]
+fn constructors_of_labels(rt: HostRuntime) {
+    let alloc = rt.alloc();
+    let label = Label::new(alloc, LabelStyle::Secondary, 3, 5..2);
+    assert_is_label(&rt, label, LabelStyle::Secondary);
+    let label = Label::primary(alloc, 3, 5..2);
+    assert_is_label(&rt, label, LabelStyle::Primary);
+    let label = Label::secondary(alloc, 3, 5..2);
+    assert_is_label(&rt, label, LabelStyle::Secondary);
 }
 
 /// A label in the file `'a'`.
@@ -128,22 +128,21 @@ fn joined_notes<FileId>(
 #[test]
 fn texts(rt: HostRuntime) -> Result<(), Fail> {
     let diagnostic = with_texts(rt.alloc())?;
-    assert_eq!(rt; diagnostic.message.as_str(), "mismatched types");
-    assert_eq!(rt;
-        diagnostic.code.as_ref().map(|code| code.as_str()),
-        Some("308")
-    );
+    assert_same(&rt, &diagnostic.message.as_str(), &"mismatched types");
+    let code = diagnostic.code.as_ref().map(|code| code.as_str());
+    assert_same(&rt, &code, &Some("308"));
     Ok(())
 }
 
 #[test]
 fn texts_of_notes_and_labels(rt: HostRuntime) -> Result<(), Fail> {
     let diagnostic = with_texts(rt.alloc())?;
-    assert_eq!(rt; joined_notes(rt.alloc(), &diagnostic)?.as_str(), "one\n2\n");
+    let notes = joined_notes(rt.alloc(), &diagnostic)?;
+    assert_same(&rt, &notes.as_str(), &"one\n2\n");
     for label in &diagnostic.labels {
-        assert_eq!(rt; label.message.as_str(), "here");
+        assert_same(&rt, &label.message.as_str(), &"here");
     }
-    assert_eq!(rt; diagnostic.labels.len(), 1);
+    assert_same(&rt, &diagnostic.labels.len(), &1);
     Ok(())
 }
 
@@ -189,26 +188,32 @@ fn lists(rt: HostRuntime) -> Result<(), Fail> {
         .iter()
         .map(|label| label.file_id)
         .collect(rt.alloc())?;
-    assert_eq!(rt; ids.as_slice(), [7, 8, 9].as_slice());
+    assert_same(&rt, &ids.as_slice(), &[7, 8, 9].as_slice());
     Ok(())
 }
 
 #[test]
 fn lists_of_notes(rt: HostRuntime) -> Result<(), Fail> {
     let whole = with_notes_of_three(rt.alloc())?;
-    assert_eq!(rt; joined_notes(rt.alloc(), &whole)?.as_str(), "n\nn\nlast\n");
+    let notes = joined_notes(rt.alloc(), &whole)?;
+    assert_same(&rt, &notes.as_str(), &"n\nn\nlast\n");
     Ok(())
+}
+
+/// Returns whether a builder failed with `FormatError`.
+fn is_format_error<T>(returned: &Result<T, Error>) -> bool {
+    matches!(returned, Err(Error::FormatError))
 }
 
 #[test]
 fn failing_display(rt: HostRuntime) {
     let alloc = rt.alloc();
     let label = Label::primary(alloc, 0usize, 0..1).with_message(StopsAfterTwoBytes);
-    assert!(rt; matches!(label, Err(Error::FormatError)));
+    assert!(rt; is_format_error(&label));
     let message = Diagnostic::<usize>::error(alloc).with_message(StopsAfterTwoBytes);
-    assert!(rt; matches!(message, Err(Error::FormatError)));
+    assert!(rt; is_format_error(&message));
     let code = Diagnostic::<usize>::error(alloc).with_code(StopsAfterTwoBytes);
-    assert!(rt; matches!(code, Err(Error::FormatError)));
+    assert!(rt; is_format_error(&code));
     let note = Diagnostic::<usize>::error(alloc).with_note(StopsAfterTwoBytes);
-    assert!(rt; matches!(note, Err(Error::FormatError)));
+    assert!(rt; is_format_error(&note));
 }

@@ -4,6 +4,7 @@ mod example;
 mod generic;
 mod keys;
 
+use crate::asserts::{assert_ok, assert_same, assert_same_at};
 use codespan_base::files::{
     Error, Files, MappedFile, SimpleFile, SimpleFiles, column_index, default_line_number,
     line_starts,
@@ -15,7 +16,7 @@ use std::{fmt, io};
 #[test]
 fn columns_and_starts(rt: HostRuntime) -> Result<(), Fail> {
     let text = "\n\n🗻∈🌏\n\n";
-    assert_eq!(rt; column_index(text, 0..1, 0), 0);
+    assert_same(&rt, &column_index(text, 0..1, 0), &0);
     let bytes = [
         (0, 0),
         (2, 0),
@@ -27,10 +28,10 @@ fn columns_and_starts(rt: HostRuntime) -> Result<(), Fail> {
         (14, 3),
     ];
     for (byte, column) in bytes {
-        assert_eq!(rt; column_index(text, 2..13, byte), column, "at {byte}");
+        assert_same_at(&rt, byte, &column_index(text, 2..13, byte), &column);
     }
     let starts: Vec<usize> = line_starts(FOUR_LINES).collect(rt.alloc())?;
-    assert_eq!(rt; starts.as_slice(), [0, 4, 9, 10].as_slice());
+    assert_same(&rt, &starts.as_slice(), &[0, 4, 9, 10].as_slice());
     Ok(())
 }
 
@@ -42,7 +43,7 @@ fn ranges_of_lines(rt: HostRuntime) -> Result<(), Fail> {
     let file = SimpleFile::new(rt.alloc(), "f", FOUR_LINES)?;
     for (line, part) in ["foo\n", "bar\r\n", "\n", "baz"].iter().enumerate() {
         let range = file.line_range((), line)?;
-        assert_eq!(rt; FOUR_LINES.get(range), Some(*part), "line {line}");
+        assert_same_at(&rt, line, &FOUR_LINES.get(range), &Some(*part));
     }
     Ok(())
 }
@@ -50,32 +51,32 @@ fn ranges_of_lines(rt: HostRuntime) -> Result<(), Fail> {
 #[test]
 fn indices_of_lines(rt: HostRuntime) -> Result<(), Fail> {
     let file = SimpleFile::new(rt.alloc(), "f", FOUR_LINES)?;
-    assert_eq!(rt; file.line_index((), 5)?, 1);
-    assert_eq!(rt; file.line_index((), 99)?, 3);
+    assert_ok(&rt, file.line_index((), 5), 1);
+    assert_ok(&rt, file.line_index((), 99), 3);
     Ok(())
 }
 
 #[test]
 fn missing_file(rt: HostRuntime) -> Result<(), Fail> {
     let file = SimpleFile::new(rt.alloc(), "f", "a\nb")?;
-    assert!(rt;
-        matches!(
-            file.line_range((), 2),
-            Err(Error::LineTooLarge { given: 2, max: 1 })
-        )
-    );
+    assert!(rt; is_line_too_large(&file.line_range((), 2), (2, 1)));
     Ok(())
+}
+
+/// Returns whether a lookup failed with `FileMissing`.
+fn is_file_missing<T>(returned: &Result<T, Error>) -> bool {
+    matches!(returned, Err(Error::FileMissing))
 }
 
 /// Counts the lookups of a file that fail with `FileMissing`, of the six that need the file.
 fn missing_lookups<'a, F: Files<'a>>(files: &'a F, id: F::FileId) -> usize {
     let failures = [
-        matches!(files.name(id), Err(Error::FileMissing)),
-        matches!(files.source(id), Err(Error::FileMissing)),
-        matches!(files.line_index(id, 0), Err(Error::FileMissing)),
-        matches!(files.column_number(id, 0, 0), Err(Error::FileMissing)),
-        matches!(files.location(id, 0), Err(Error::FileMissing)),
-        matches!(files.line_range(id, 0), Err(Error::FileMissing)),
+        is_file_missing(&files.name(id)),
+        is_file_missing(&files.source(id)),
+        is_file_missing(&files.line_index(id, 0)),
+        is_file_missing(&files.column_number(id, 0, 0)),
+        is_file_missing(&files.location(id, 0)),
+        is_file_missing(&files.line_range(id, 0)),
     ];
     failures.iter().filter(|failed| **failed).count()
 }
@@ -91,11 +92,11 @@ fn two_files(alloc: Global) -> Result<SimpleFiles<&'static str, &'static str>, E
 #[test]
 fn file_table(rt: HostRuntime) -> Result<(), Fail> {
     let mut files = two_files(rt.alloc())?;
-    assert_eq!(rt; files.add("h", "")?, 2);
+    assert_ok(&rt, files.add("h", ""), 2);
     for (id, missing) in [(0, 0), (2, 0), (3, 6), (7, 6)] {
-        assert_eq!(rt; missing_lookups(&files, id), missing, "file {id}");
+        assert_same_at(&rt, id, &missing_lookups(&files, id), &missing);
     }
-    assert_eq!(rt; files.line_number(7, 0)?, 1);
+    assert_ok(&rt, files.line_number(7, 0), 1);
     Ok(())
 }
 
@@ -103,10 +104,19 @@ fn file_table(rt: HostRuntime) -> Result<(), Fail> {
 fn file_of_table(rt: HostRuntime) -> Result<(), Fail> {
     let files = two_files(rt.alloc())?;
     let file = files.get(1)?;
-    assert_eq!(rt; *file.name(), "g");
-    assert_eq!(rt; *file.source(), "c\nd");
-    assert!(rt; matches!(files.get(2), Err(Error::FileMissing)));
+    assert_same(&rt, file.name(), &"g");
+    assert_same(&rt, file.source(), &"c\nd");
+    assert!(rt; is_file_missing(&files.get(2)));
     Ok(())
+}
+
+/// Returns the text of a line, without its newline.
+fn line_of<'a>(
+    file: &'a MappedFile<&'static str, &'static str>,
+    line: usize,
+) -> Result<Option<&'a str>, Error> {
+    let range = file.line_range((), line)?;
+    Ok(file.source(())?.get(range))
 }
 
 #[test]
@@ -114,10 +124,9 @@ fn mapped_numbers(rt: HostRuntime) -> Result<(), Fail> {
     let mut file = MappedFile::new(rt.alloc(), "m", "a\nb\nc\nd")?;
     file.set_line(2, 100)?;
     for (line, number) in [(0, 1), (1, 2), (2, 100), (3, 101)] {
-        assert_eq!(rt; file.line_number((), line)?, number, "line {line}");
+        assert_ok(&rt, file.line_number((), line), number);
     }
-    let range = file.line_range((), 1)?;
-    assert_eq!(rt; file.source(())?.get(range), Some("b"));
+    assert_ok(&rt, line_of(&file, 1), Some("b"));
     Ok(())
 }
 
@@ -125,13 +134,11 @@ fn mapped_numbers(rt: HostRuntime) -> Result<(), Fail> {
 fn mapped_overflow(rt: HostRuntime) -> Result<(), Fail> {
     let mut file = MappedFile::new(rt.alloc(), "m", "a\nb\nc\nd")?;
     file.set_line(1, usize::MAX)?;
-    assert_eq!(rt; file.line_number((), 1)?, usize::MAX);
-    let past = file.line_number((), 2);
-    assert!(rt; matches!(past, Err(Error::LineTooLarge { given: 2, max: 1 })));
-    let failed = file.set_line(4, 1);
-    assert!(rt; matches!(failed, Err(Error::LineTooLarge { given: 4, max: 3 })));
-    assert_eq!(rt; file.line_number((), 0)?, 1);
-    assert_eq!(rt; file.line_number((), 1)?, usize::MAX);
+    assert_ok(&rt, file.line_number((), 1), usize::MAX);
+    assert!(rt; is_line_too_large(&file.line_number((), 2), (2, 1)));
+    assert!(rt; is_line_too_large(&file.set_line(4, 1), (4, 3)));
+    assert_ok(&rt, file.line_number((), 0), 1);
+    assert_ok(&rt, file.line_number((), 1), usize::MAX);
     Ok(())
 }
 
@@ -145,8 +152,8 @@ fn is_line_too_large<T>(returned: &Result<T, Error>, limits: (usize, usize)) -> 
 
 #[test]
 fn greatest_indices(rt: HostRuntime) -> Result<(), Fail> {
-    assert_eq!(rt; column_index("é", 0..9, usize::MAX), 1);
-    assert_eq!(rt; column_index("ab", 5..1, 9), 0);
+    assert_same(&rt, &column_index("é", 0..9, usize::MAX), &1);
+    assert_same(&rt, &column_index("ab", 5..1, 9), &0);
     let file = SimpleFile::new(rt.alloc(), "f", "a\nb")?;
     let past_end = file.line_range((), usize::MAX);
     assert!(rt; is_line_too_large(&past_end, (usize::MAX, 1)));
@@ -156,13 +163,10 @@ fn greatest_indices(rt: HostRuntime) -> Result<(), Fail> {
 #[test]
 fn greatest_numbers(rt: HostRuntime) -> Result<(), Fail> {
     let file = SimpleFile::new(rt.alloc(), "f", "a\nb")?;
-    assert_eq!(rt; file.line_number((), usize::MAX - 1)?, usize::MAX);
-    for past in [
-        file.line_number((), usize::MAX),
-        default_line_number(usize::MAX),
-    ] {
-        assert!(rt; is_line_too_large(&past, (usize::MAX, usize::MAX - 1)));
-    }
+    assert_ok(&rt, file.line_number((), usize::MAX - 1), usize::MAX);
+    let limits = (usize::MAX, usize::MAX - 1);
+    assert!(rt; is_line_too_large(&file.line_number((), usize::MAX), limits));
+    assert!(rt; is_line_too_large(&default_line_number(usize::MAX), limits));
     Ok(())
 }
 
@@ -192,7 +196,7 @@ fn error_texts(rt: HostRuntime) -> Result<(), Fail> {
         (Error::from(AllocError), "out of memory"),
     ];
     for (error, text) in &errors {
-        assert_eq!(rt; error.to_string(rt.alloc())?.as_str(), *text);
+        assert_same(&rt, &error.to_string(rt.alloc())?.as_str(), text);
     }
     Ok(())
 }

@@ -10,3 +10,5 @@ mod marks;
 mod parts;
 pub mod sequences;
 pub mod stopping;
+#[cfg(test)]
+mod written;

@@ -1,5 +1,6 @@
 //! Labels for ids of more than one type. `docs/FILES.md` has this code.
 
+use crate::asserts::assert_same;
 use codespan_base::diagnostic::Label;
 use std::alloc::Global;
 use std::ops::Range;
@@ -30,9 +31,9 @@ fn label<FileId: Key>(alloc: Global, index: usize, range: Range<usize>) -> Label
 #[test]
 fn ids_of_two_types(rt: HostRuntime) -> Result<(), Fail> {
     let numbered: Label<usize> = label(rt.alloc(), 3, 1..2);
-    assert_eq!(rt; numbered.file_id, 3);
-    assert_eq!(rt; numbered.range.start, 1);
+    assert_same(&rt, &numbered.file_id, &3);
+    assert_same(&rt, &numbered.range.start, &1);
     let only: Label<()> = label(rt.alloc(), 0, 4..7);
-    assert_eq!(rt; only.range.end, 7);
+    assert_same(&rt, &only.range.end, &7);
     Ok(())
 }

@@ -1,21 +1,12 @@
 //! Which calls flush.
 
+use crate::asserts::assert_same;
 use crate::writers::counting::Counting;
-use crate::writers::marks::write_style_marks;
+use crate::writers::written::{Part, styled, write_and_flush};
 use codespan_base::term::config::plain_ref::PlainWriterRef;
-use codespan_base::term::config::writing::{put_all, put_spaces};
-use codespan_base::term::{Ansi, NoColor, PlainWriter, Styles, StylesWriter, WriteStyle};
+use codespan_base::term::{Ansi, NoColor, PlainWriter};
 use std::io;
 use std::test::Fail;
-
-/// Writes every style mark, some text in both ways, and then flushes once.
-fn write_and_flush<W: WriteStyle>(w: &mut W) -> io::Result<()> {
-    write_style_marks(w)?;
-    put_all(w, b"text")?;
-    put_spaces(w, 70)?;
-    w.write_all(b"text")?;
-    w.flush()
-}
 
 /// How often a writer of plain text flushes.
 fn flushes_of_plain() -> io::Result<usize> {
@@ -33,17 +24,15 @@ fn flushes_of_plain_ref() -> io::Result<usize> {
 
 /// How often a writer in color flushes.
 fn flushes_of_ansi() -> io::Result<usize> {
-    let styles = Styles::default();
     let mut inner = Counting::default();
-    write_and_flush(&mut StylesWriter::new(Ansi::new(&mut inner), &styles))?;
+    styled(Ansi::new(&mut inner), Part::Flushed)?;
     Ok(inner.flushes)
 }
 
 /// How often a writer without color flushes.
 fn flushes_of_no_color() -> io::Result<usize> {
-    let styles = Styles::default();
     let mut inner = Counting::default();
-    write_and_flush(&mut StylesWriter::new(NoColor::new(&mut inner), &styles))?;
+    styled(NoColor::new(&mut inner), Part::Flushed)?;
     Ok(inner.flushes)
 }
 
@@ -56,6 +45,6 @@ fn only_flush_flushes(rt: HostRuntime) -> Result<(), Fail> {
         flushes_of_ansi()?,
         flushes_of_no_color()?,
     ];
-    assert_eq!(rt; flushes, [1, 1, 1, 1]);
+    assert_same(&rt, &flushes, &[1, 1, 1, 1]);
     Ok(())
 }

@@ -1,5 +1,6 @@
 //! Parts of rows, written to writers that take little at a time, or stop.
 
+use crate::asserts::assert_same;
 use crate::writers::example::TagWriter;
 use crate::writers::stopping::{Stop, Stopping};
 use codespan_base::diagnostic::{LabelStyle, Severity};
@@ -7,7 +8,9 @@ use codespan_base::term::config::writing::{
     put_all, put_char, put_number, put_repeated, put_spaces,
 };
 use codespan_base::term::{PlainWriter, WriteStyle};
+use std::alloc::Global;
 use std::io;
+use std::process::Abort;
 use std::test::Fail;
 
 /// A row with a part of each kind.
@@ -34,6 +37,35 @@ const PLAIN_ROW: &str = "1024┌─·   ──";
 const TAG_ROW: &str =
     "1024┌─·   ──[header][message][number][bullet][border][primary][secondary][/]";
 
+/// Asserts that a writer has what it should of a row.
+fn assert_is_right(rt: &impl Abort, inner: &Stopping, is_ok: bool, row: &str, case: &Case) {
+    let Case { stop, most, writes } = case;
+    assert!(rt;
+        inner.is_right(is_ok, row.as_bytes()),
+        "{stop:?} {most} {writes}"
+    );
+}
+
+/// How a writer stops, how much it takes at a time, and after how many writes it stops.
+#[derive(Drop)]
+struct Case {
+    stop: Stop,
+    most: usize,
+    writes: usize,
+}
+
+/// Asserts that a row is right over a writer that stops so, in tags and plain.
+fn assert_rows_stop(rt: &impl Abort, alloc: Global, case: &Case) {
+    let mut inner = Stopping::new(alloc, case.most, case.writes, case.stop);
+    let result = write_row(&mut TagWriter::new(&mut inner));
+    assert_is_right(rt, &inner, result.is_ok(), TAG_ROW, case);
+
+    let mut plain = PlainWriter::new(Stopping::new(alloc, case.most, case.writes, case.stop));
+    let result = write_row(&mut plain);
+    assert_same(rt, &plain.has_failed(), &result.is_err());
+    assert_is_right(rt, &plain.into_inner(), result.is_ok(), PLAIN_ROW, case);
+}
+
 #[test]
 fn rows_over_writers_that_stop(rt: HostRuntime) -> Result<(), Fail> {
     for stop in [
@@ -44,21 +76,7 @@ fn rows_over_writers_that_stop(rt: HostRuntime) -> Result<(), Fail> {
     ] {
         for most in [1, 2, 5, 100] {
             for writes in 0..100 {
-                let mut inner = Stopping::new(rt.alloc(), most, writes, stop);
-                let result = write_row(&mut TagWriter::new(&mut inner));
-                assert!(rt;
-                    inner.is_right(result.is_ok(), TAG_ROW.as_bytes()),
-                    "{stop:?} {most} {writes}"
-                );
-
-                let mut plain = PlainWriter::new(Stopping::new(rt.alloc(), most, writes, stop));
-                let result = write_row(&mut plain);
-                assert_eq!(rt; plain.has_failed(), result.is_err());
-                let inner = plain.into_inner();
-                assert!(rt;
-                    inner.is_right(result.is_ok(), PLAIN_ROW.as_bytes()),
-                    "{stop:?} {most} {writes}"
-                );
+                assert_rows_stop(&rt, rt.alloc(), &Case { stop, most, writes });
             }
         }
     }
