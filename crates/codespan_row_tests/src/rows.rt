@@ -8,7 +8,9 @@ mod stopping;
 use crate::rows::stopping::assert_rows_stop;
 use codespan_base::diagnostic::{LabelStyle, Severity};
 use codespan_base::files::Error;
-use codespan_base::term::{Ansi, Config, NoColor, PlainWriter, Styles, StylesWriter, WriteStyle};
+use codespan_base::term::{
+    Ansi, Config, NoColor, PlainWriter, Styles, StylesWriter, WriteColor, WriteStyle,
+};
 use codespan_base_tests::writers::sequences::without_sequences;
 use codespan_renderer::term::renderer::{MultiLabel, Renderer, SingleLabel, lanes_in_order};
 use std::alloc::Global;
@@ -16,7 +18,7 @@ use std::process::Abort;
 use std::test::Fail;
 
 /// The arguments of a line.
-#[derive(Clone, Copy)]
+#[derive(Drop)]
 struct LineInput<'a> {
     number: usize,
     text: &'a str,
@@ -42,7 +44,7 @@ impl<'a> LineInput<'a> {
 fn render_line<W: WriteStyle>(
     rt: &impl Abort,
     renderer: &mut Renderer<'_, '_, W>,
-    line: LineInput<'_>,
+    line: &LineInput<'_>,
 ) -> Result<(), Error> {
     assert!(rt; lanes_in_order(line.count, line.marks));
     renderer.render_snippet_source(
@@ -54,12 +56,6 @@ fn render_line<W: WriteStyle>(
         line.count,
         line.marks,
     )
-}
-
-/// Renders a line to a writer, by the default configuration.
-fn render_on<W: WriteStyle>(rt: &impl Abort, w: &mut W, line: LineInput<'_>) -> Result<(), Error> {
-    let config = Config::default();
-    render_line(rt, &mut Renderer::new(w, &config), line)
 }
 
 /// Rows that direct calls render.
@@ -79,8 +75,18 @@ impl<'a> Rows for LineInput<'a> {
         rt: &impl Abort,
         renderer: &mut Renderer<'_, '_, W>,
     ) -> Result<(), Error> {
-        render_line(rt, renderer, *self)
+        render_line(rt, renderer, self)
     }
+}
+
+/// Renders rows to a writer.
+fn render_to<R: Rows, W: WriteStyle>(
+    rt: &impl Abort,
+    w: &mut W,
+    config: &Config<'_>,
+    rows: &R,
+) -> Result<(), Error> {
+    rows.render(rt, &mut Renderer::new(w, config))
 }
 
 /// Returns the rows, plain.
@@ -91,8 +97,22 @@ fn plain_rows<R: Rows>(
     rows: &R,
 ) -> Result<Vec<u8>, Error> {
     let mut plain = PlainWriter::new(Vec::new(alloc));
-    rows.render(rt, &mut Renderer::new(&mut plain, config))?;
+    render_to(rt, &mut plain, config, rows)?;
     Ok(plain.into_inner())
+}
+
+/// Renders rows over a writer of colors, by the default styles. Returns that writer, and what the
+/// call returned.
+fn render_styled<R: Rows, C: WriteColor + Drop>(
+    rt: &impl Abort,
+    config: &Config<'_>,
+    rows: &R,
+    colors: C,
+) -> (C, Result<(), Error>) {
+    let styles = Styles::default();
+    let mut styled = StylesWriter::new(colors, &styles);
+    let returned = render_to(rt, &mut styled, config, rows);
+    (styled.into_inner(), returned)
 }
 
 /// Returns the rows over [`NoColor`].
@@ -102,10 +122,9 @@ fn rows_without_color<R: Rows>(
     config: &Config<'_>,
     rows: &R,
 ) -> Result<Vec<u8>, Error> {
-    let styles = Styles::default();
     let mut bytes = Vec::new(alloc);
-    let mut without_color = StylesWriter::new(NoColor::new(&mut bytes), &styles);
-    rows.render(rt, &mut Renderer::new(&mut without_color, config))?;
+    let (_, returned) = render_styled(rt, config, rows, NoColor::new(&mut bytes));
+    returned?;
     Ok(bytes)
 }
 
@@ -116,10 +135,14 @@ fn rows_in_color<R: Rows>(
     config: &Config<'_>,
     rows: &R,
 ) -> Result<Vec<u8>, Error> {
-    let styles = Styles::default();
-    let mut colored = StylesWriter::new(Ansi::new(Vec::new(alloc)), &styles);
-    rows.render(rt, &mut Renderer::new(&mut colored, config))?;
-    Ok(colored.into_inner().into_inner())
+    let (colored, returned) = render_styled(rt, config, rows, Ansi::new(Vec::new(alloc)));
+    returned?;
+    Ok(colored.into_inner())
+}
+
+/// Asserts that these bytes are this text.
+fn assert_text(rt: &impl Abort, text: &[u8], expected: &str) {
+    assert_eq!(rt; text, expected.as_bytes());
 }
 
 /// Asserts that the rows are this text: plain, over [`NoColor`], and over [`Ansi`] once the escape
@@ -132,25 +155,29 @@ fn assert_rows<R: Rows>(
     expected: &str,
 ) -> Result<(), Error> {
     let plain = plain_rows(rt, alloc, config, rows)?;
-    assert_eq!(rt; plain.as_slice(), expected.as_bytes());
+    assert_text(rt, plain.as_slice(), expected);
     let without_color = rows_without_color(rt, alloc, config, rows)?;
-    assert_eq!(rt; without_color.as_slice(), expected.as_bytes());
+    assert_text(rt, without_color.as_slice(), expected);
     let colored = rows_in_color(rt, alloc, config, rows)?;
     let text = without_sequences(alloc, colored.as_slice())?;
-    assert_eq!(rt; text.as_slice(), expected.as_bytes());
+    assert_text(rt, text.as_slice(), expected);
     assert_rows_stop(rt, config, rows, &plain, &colored)
+}
+
+/// Asserts so of rows by the default configuration.
+fn assert_default_rows<R: Rows>(
+    rt: &impl Abort,
+    alloc: Global,
+    rows: &R,
+    expected: &str,
+) -> Result<(), Error> {
+    assert_rows(rt, alloc, &Config::default(), rows, expected)
 }
 
 #[test]
 fn reversed_handed_in(rt: HostRuntime) -> Result<(), Fail> {
     let line = LineInput::labeled("abc", &[(LabelStyle::Secondary, 2..1, "r")]);
-    assert_rows(
-        &rt,
-        rt.alloc(),
-        &Config::default(),
-        &line,
-        "1 │ abc\n  │   r\n",
-    )?;
+    assert_default_rows(&rt, rt.alloc(), &line, "1 │ abc\n  │   r\n")?;
     Ok(())
 }
 
@@ -162,7 +189,7 @@ fn overlapping_labels(rt: HostRuntime) -> Result<(), Fail> {
     ];
     let line = LineInput::labeled("abcdef", &labels);
     let expected = "1 │ abcdef\n  │ --^^--\n  │ │ │\n  │ │ p\n  │ s\n";
-    assert_rows(&rt, rt.alloc(), &Config::default(), &line, expected)?;
+    assert_default_rows(&rt, rt.alloc(), &line, expected)?;
     Ok(())
 }
 
@@ -175,7 +202,7 @@ fn wide_pointers(rt: HostRuntime) -> Result<(), Fail> {
     ];
     let line = LineInput::labeled("路ab", &labels);
     let expected = "1 │ 路ab\n  │ ^^-- t\n  │ │ │ \n  │ │ s\n  │ w\n";
-    assert_rows(&rt, rt.alloc(), &Config::default(), &line, expected)?;
+    assert_default_rows(&rt, rt.alloc(), &line, expected)?;
     Ok(())
 }
 
@@ -188,7 +215,7 @@ fn wide_and_combining(rt: HostRuntime) -> Result<(), Fail> {
     ];
     let line = LineInput::labeled("a路b\u{301}c", &labels);
     let expected = "1 │ a路b\u{301}c\n  │  ^^  m\n  │  │  \n  │  w\n";
-    assert_rows(&rt, rt.alloc(), &Config::default(), &line, expected)?;
+    assert_default_rows(&rt, rt.alloc(), &line, expected)?;
     Ok(())
 }
 
@@ -200,7 +227,7 @@ fn moon_jump(rt: HostRuntime) -> Result<(), Fail> {
     let line = LineInput::labeled("🐄🌑🐄🌒🐄🌓🐄🌔🐄🌕🐄🌖🐄🌗🐄🌘🐄", &labels);
     let expected = "1 │ 🐄🌑🐄🌒🐄🌓🐄🌔🐄🌕🐄🌖🐄🌗🐄🌘🐄\n\
                 \x20 │ ------ Cow does not start or end at boundary.\n";
-    assert_rows(&rt, rt.alloc(), &Config::default(), &line, expected)?;
+    assert_default_rows(&rt, rt.alloc(), &line, expected)?;
     Ok(())
 }
 
@@ -240,12 +267,9 @@ fn tab_stops(rt: HostRuntime) -> Result<(), Fail> {
 
 #[test]
 fn coloured_label(rt: HostRuntime) -> Result<(), Fail> {
-    let styles = Styles::default();
-    let mut text = Vec::new(rt.alloc());
-    let mut w = StylesWriter::new(Ansi::new(&mut text), &styles);
     let line = LineInput::labeled("abc", &[(LabelStyle::Primary, 1..2, "m")]);
-    render_on(&rt, &mut w, line)?;
-    assert_eq!(rt; text.as_slice(), COLORED.as_bytes());
+    let text = rows_in_color(&rt, rt.alloc(), &Config::default(), &line)?;
+    assert_text(&rt, text.as_slice(), COLORED);
     Ok(())
 }
 

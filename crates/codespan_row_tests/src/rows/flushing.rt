@@ -1,17 +1,16 @@
 //! Which calls flush.
 
+use crate::rows::headers::{locus_of, write_marks};
 use crate::rows::lanes::render_crossing;
-use codespan_base::diagnostic::{LabelStyle, Severity};
-use codespan_base::files::{Error, Location};
+use codespan_base::diagnostic::Severity;
+use codespan_base::files::Error;
 use codespan_base::term::{Config, PlainWriter, WriteStyle};
 use codespan_base_tests::writers::counting::Counting;
 use codespan_renderer::term::renderer::{Locus, Renderer};
-use std::io;
-use std::io::Write;
 use std::process::Abort;
 use std::test::Fail;
 
-/// Renders rows by each call.
+/// Renders rows by each call, writes every style mark and some text, and then flushes once.
 fn render_rows<W: WriteStyle>(
     rt: &impl Abort,
     renderer: &mut Renderer<'_, '_, W>,
@@ -23,38 +22,20 @@ fn render_rows<W: WriteStyle>(
     render_crossing(rt, renderer)?;
     renderer.render_snippet_break(1, Severity::Error, 2, &[])?;
     renderer.render_snippet_note(1, "a\nb")?;
-    renderer.render_empty()
-}
-
-/// Writes every style mark, and some text.
-fn set_styles<W: WriteStyle>(w: &mut W) -> io::Result<()> {
-    w.set_header(Severity::Error)?;
-    w.set_header_message()?;
-    w.set_line_number()?;
-    w.set_note_bullet()?;
-    w.set_source_border()?;
-    w.set_label(Severity::Error, LabelStyle::Primary)?;
-    w.reset()?;
-    w.write_all(b"text")
+    renderer.render_empty()?;
+    write_marks(renderer)?;
+    Ok(())
 }
 
 /// A renderer passes on a flush, and no other call flushes.
 #[test]
 fn only_flush_flushes(rt: HostRuntime) -> Result<(), Fail> {
     let config = Config::default();
-    let locus = Locus {
-        name: String::from_str(rt.alloc(), "f")?,
-        location: Location {
-            line_number: 1,
-            column_number: 1,
-        },
-    };
+    let locus = locus_of(rt.alloc(), "f", 1, 1)?;
     let mut inner = Counting::default();
     let mut plain = PlainWriter::new(&mut inner);
     let mut renderer = Renderer::new(&mut plain, &config);
     render_rows(&rt, &mut renderer, &locus)?;
-    set_styles(&mut renderer)?;
-    renderer.flush()?;
     assert_eq!(rt; inner.flushes, 1);
     Ok(())
 }

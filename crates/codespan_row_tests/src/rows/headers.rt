@@ -1,44 +1,55 @@
 //! Tests of headers and notes.
 
-use crate::rows::{Rows, assert_rows};
+use crate::rows::{Rows, assert_default_rows, assert_text, rows_in_color};
 use codespan_base::diagnostic::{LabelStyle, Severity};
 use codespan_base::files::{Error, Location};
-use codespan_base::term::{Ansi, Config, Styles, StylesWriter, WriteStyle};
+use codespan_base::term::{Config, WriteStyle};
 use codespan_renderer::term::renderer::{Locus, Renderer};
 use std::alloc::Global;
+use std::io;
 use std::io::Write;
 use std::process::Abort;
 use std::test::Fail;
 
-/// Renders a header, then writes the same header and each other style mark through the renderer as
-/// a writer.
-fn render_header<W: WriteStyle>(w: &mut W) -> Result<(), Error> {
-    let config = Config::default();
-    let mut renderer = Renderer::new(w, &config);
-    renderer.render_header(None, Severity::Error, None, "m")?;
-    renderer.set_header(Severity::Error)?;
-    renderer.write_all(b"error")?;
-    renderer.set_header_message()?;
-    renderer.put(b": m")?;
-    renderer.reset()?;
-    renderer.put(b"\n")?;
-    renderer.set_line_number()?;
-    renderer.set_note_bullet()?;
-    renderer.set_source_border()?;
-    renderer.set_label(Severity::Error, LabelStyle::Primary)?;
-    renderer.flush()?;
-    Ok(())
+/// A header, then the same header and each other style mark.
+#[derive(Drop)]
+struct HeaderAndMarks;
+
+/// Writes a header and each other style mark, and then flushes once.
+pub fn write_marks<W: WriteStyle>(w: &mut W) -> io::Result<()> {
+    w.set_header(Severity::Error)?;
+    w.write_all(b"error")?;
+    w.set_header_message()?;
+    w.put(b": m")?;
+    w.reset()?;
+    w.put(b"\n")?;
+    w.set_line_number()?;
+    w.set_note_bullet()?;
+    w.set_source_border()?;
+    w.set_label(Severity::Error, LabelStyle::Primary)?;
+    w.flush()
+}
+
+impl Rows for HeaderAndMarks {
+    /// Renders the header, then writes it and the marks through the renderer as a writer.
+    fn render<W: WriteStyle>(
+        &self,
+        _rt: &impl Abort,
+        renderer: &mut Renderer<'_, '_, W>,
+    ) -> Result<(), Error> {
+        renderer.render_header(None, Severity::Error, None, "m")?;
+        write_marks(renderer)?;
+        Ok(())
+    }
 }
 
 #[test]
 fn coloured_header(rt: HostRuntime) -> Result<(), Fail> {
-    let styles = Styles::default();
-    let mut text = Vec::new(rt.alloc());
-    render_header(&mut StylesWriter::new(Ansi::new(&mut text), &styles))?;
+    let text = rows_in_color(&rt, rt.alloc(), &Config::default(), &HeaderAndMarks)?;
     let expected = "\x1b[0m\x1b[1m\x1b[38;5;9merror\x1b[0m\x1b[1m: m\x1b[0m\n\
                 \x1b[0m\x1b[1m\x1b[38;5;9merror\x1b[0m\x1b[1m: m\x1b[0m\n\
                 \x1b[0m\x1b[36m\x1b[0m\x1b[36m\x1b[0m\x1b[36m\x1b[0m\x1b[31m";
-    assert_eq!(rt; text.as_slice(), expected.as_bytes());
+    assert_text(&rt, text.as_slice(), expected);
     Ok(())
 }
 
@@ -59,7 +70,7 @@ pub fn locus_of(
 }
 
 /// A header, and a note of several pieces.
-#[derive(Clone, Copy)]
+#[derive(Drop)]
 struct NotePieces;
 
 impl Rows for NotePieces {
@@ -78,7 +89,7 @@ impl Rows for NotePieces {
 #[test]
 fn note_pieces(rt: HostRuntime) -> Result<(), Fail> {
     let expected = "error: m\n = a\n   \n   b\n\n";
-    assert_rows(&rt, rt.alloc(), &Config::default(), &NotePieces, expected)?;
+    assert_default_rows(&rt, rt.alloc(), &NotePieces, expected)?;
     Ok(())
 }
 
@@ -108,6 +119,6 @@ fn medium_and_short(rt: HostRuntime) -> Result<(), Fail> {
     let expected = "Test.fun:4:11: error[E0001]: unexpected type in application of `_+_`\n\
                 error: where did my errorcode go?\n";
     let rows = MediumAndShort { locus };
-    assert_rows(&rt, rt.alloc(), &Config::default(), &rows, expected)?;
+    assert_default_rows(&rt, rt.alloc(), &rows, expected)?;
     Ok(())
 }

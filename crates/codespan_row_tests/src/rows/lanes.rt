@@ -1,53 +1,49 @@
 //! Tests of lanes.
 
 use crate::rows::headers::locus_of;
-use crate::rows::{LineInput, Rows, assert_rows, render_line};
+use crate::rows::{LineInput, Rows, assert_default_rows, render_line};
 use codespan_base::diagnostic::{LabelStyle, Severity};
 use codespan_base::files::Error;
-use codespan_base::term::{Config, WriteStyle};
+use codespan_base::term::WriteStyle;
 use codespan_renderer::term::renderer::{Locus, MultiLabel, Renderer, lanes_in_order};
 use std::process::Abort;
 use std::test::Fail;
+
+/// Renders a line with two lanes and no label of its own.
+fn render_marked<W: WriteStyle>(
+    rt: &impl Abort,
+    renderer: &mut Renderer<'_, '_, W>,
+    number: usize,
+    text: &str,
+    marks: &[(usize, LabelStyle, MultiLabel<'_>)],
+) -> Result<(), Error> {
+    let line = LineInput {
+        number,
+        text,
+        labels: &[],
+        count: 2,
+        marks,
+    };
+    render_line(rt, renderer, &line)
+}
 
 /// Renders the lines of a text with two multi-line labels whose underlines cross.
 pub fn render_crossing<W: WriteStyle>(
     rt: &impl Abort,
     renderer: &mut Renderer<'_, '_, W>,
 ) -> Result<(), Error> {
-    let table = [
-        (
-            1,
-            "ab\n",
-            [
-                (0, LabelStyle::Secondary, MultiLabel::Top(1)),
-                (1, LabelStyle::Primary, MultiLabel::Top(0)),
-            ],
-        ),
-        (
-            2,
-            "cd\n",
-            [
-                (0, LabelStyle::Secondary, MultiLabel::Bottom(1, "q")),
-                (1, LabelStyle::Primary, MultiLabel::Left),
-            ],
-        ),
+    let marks = [
+        (0, LabelStyle::Secondary, MultiLabel::Top(1)),
+        (1, LabelStyle::Primary, MultiLabel::Top(0)),
     ];
-    for (number, text, marks) in table {
-        let line = LineInput {
-            number,
-            count: 2,
-            marks: &marks,
-            ..LineInput::labeled(text, &[])
-        };
-        render_line(rt, renderer, line)?;
-    }
-    let line = LineInput {
-        number: 3,
-        count: 2,
-        marks: &[(1, LabelStyle::Primary, MultiLabel::Bottom(1, "p"))],
-        ..LineInput::labeled("ef", &[])
-    };
-    render_line(rt, renderer, line)
+    render_marked(rt, renderer, 1, "ab\n", &marks)?;
+    let marks = [
+        (0, LabelStyle::Secondary, MultiLabel::Bottom(1, "q")),
+        (1, LabelStyle::Primary, MultiLabel::Left),
+    ];
+    render_marked(rt, renderer, 2, "cd\n", &marks)?;
+    let marks = [(1, LabelStyle::Primary, MultiLabel::Bottom(1, "p"))];
+    render_marked(rt, renderer, 3, "ef", &marks)
 }
 
 /// An output with two multi-line labels whose underlines cross.
@@ -77,7 +73,7 @@ fn crossing_lanes(rt: HostRuntime) -> Result<(), Fail> {
     let expected = "error: \n  ┌─ f:1:1\n  │    \n1 │   ╭ ab\n  │ ╭────'\n2 │ │ │ cd\n\
                 \x20 │ ╰─│─' q\n3 │   │ ef\n  │   ╰─^ p\n\n";
     let rows = CrossingLanes { locus };
-    assert_rows(&rt, rt.alloc(), &Config::default(), &rows, expected)?;
+    assert_default_rows(&rt, rt.alloc(), &rows, expected)?;
     Ok(())
 }
 

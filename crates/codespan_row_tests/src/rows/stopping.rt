@@ -1,9 +1,9 @@
 //! Writers that take little at a time, or stop.
 
-use crate::rows::{COLORED, LineInput, Rows};
+use crate::rows::{COLORED, LineInput, Rows, assert_text, render_styled, render_to};
 use codespan_base::diagnostic::{LabelStyle, Severity};
 use codespan_base::files::Error;
-use codespan_base::term::{Ansi, Config, PlainWriter, Styles, StylesWriter};
+use codespan_base::term::{Ansi, Config, PlainWriter};
 use codespan_base_tests::writers::stopping::{Stop, Stopping, is_failed};
 use codespan_renderer::term::renderer::{MultiLabel, Renderer};
 use std::process::Abort;
@@ -49,7 +49,7 @@ fn assert_plain_stops<R: Rows>(
     whole: &[u8],
 ) {
     let mut plain = PlainWriter::new(inner);
-    let returned = rows.render(rt, &mut Renderer::new(&mut plain, config));
+    let returned = render_to(rt, &mut plain, config, rows);
     assert!(rt; is_as_expected(&plain.into_inner(), &returned, whole));
 }
 
@@ -62,10 +62,8 @@ fn assert_colored_stops<R: Rows>(
     inner: Stopping,
     whole: &[u8],
 ) -> bool {
-    let styles = Styles::default();
-    let mut w = StylesWriter::new(Ansi::new(inner), &styles);
-    let returned = rows.render(rt, &mut Renderer::new(&mut w, config));
-    let inner = w.into_inner().into_inner();
+    let (colored, returned) = render_styled(rt, config, rows, Ansi::new(inner));
+    let inner = colored.into_inner();
     assert!(rt; is_as_expected(&inner, &returned, whole));
     inner.has_failed()
 }
@@ -107,7 +105,7 @@ fn endless_padding(rt: HostRuntime) -> Result<(), Fail> {
         let mut renderer = Renderer::new(&mut plain, &config);
         let result = renderer.render_snippet_empty(padding, Severity::Error, lanes, &marks);
         assert!(rt; matches!(result, Err(Error::Io(_))));
-        assert_eq!(rt; plain.into_inner().text.as_slice(), expected.as_bytes());
+        assert_text(&rt, plain.into_inner().text.as_slice(), expected);
     }
     Ok(())
 }
