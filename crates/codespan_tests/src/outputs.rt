@@ -7,6 +7,6 @@ mod label_orders;
 mod listing;
 mod longest_file;
 mod other_files;
-mod rendering;
+pub mod rendering;
 mod stopping;
 mod styles;

@@ -1,5 +1,6 @@
 //! The quick start of README.md.
 
+use crate::outputs::rendering::{assert_bytes, assert_text};
 use codespan_reporting::diagnostic::{Diagnostic, Label, LabelStyle, Severity};
 use codespan_reporting::files::{Error, SimpleFiles};
 use codespan_reporting::term::{Config, PlainWriter, Renderer, emit_into_string};
@@ -54,7 +55,7 @@ fn quick_start(rt: HostRuntime) -> Result<(), Fail> {
                 │\n\
                 1 │ retries = many\n  \
                 │           ^^^^ expected a number\n\n";
-    assert_eq!(rt; text.as_str(), expected);
+    assert_text(&rt, text.as_str(), expected);
 
     let rows = rows(rt.alloc())?;
     let expected = "3 │     v.push(v.pop().unwrap());\n\
@@ -62,6 +63,6 @@ fn quick_start(rt: HostRuntime) -> Result<(), Fail> {
                 \x20 │     │ │     \n\
                 \x20 │     │ first borrow later used by call\n\
                 \x20 │     first mutable borrow occurs here\n";
-    assert_eq!(rt; rows.as_slice(), expected.as_bytes());
+    assert_bytes(&rt, rows.as_slice(), expected);
     Ok(())
 }

@@ -1,14 +1,14 @@
 //! A tab width and contexts of the greatest `usize`.
 
-use crate::outputs::rendering::assert_view_writes;
+use crate::outputs::rendering::{assert_bytes, assert_output};
 use codespan_base_tests::writers::stopping::{Stop, Stopping};
 use codespan_reporting::diagnostic::{Diagnostic, Label};
 use codespan_reporting::files::{Error, SimpleFile};
 use codespan_reporting::term::{
-    Config, NoColor, RichDiagnostic, Styles, StylesWriter, emit_into_string, emit_to_io_write,
-    emit_to_write_style,
+    Config, NoColor, Styles, StylesWriter, emit_to_io_write, emit_to_write_style,
 };
 use std::alloc::Global;
+use std::process::Abort;
 use std::test::Fail;
 
 /// A configuration whose tabs have the greatest width.
@@ -28,6 +28,12 @@ fn after_tab(alloc: Global) -> Result<Diagnostic<()>, Error> {
 /// What is written of a tab of the greatest width by 40 writes of a byte each.
 const PREFIX: &str = "error: \n  ┌─ f:1:2\n  │\n1 │      ";
 
+/// Asserts that a rendering failed with `Io` after this prefix.
+fn assert_stopped(rt: &impl Abort, failed: &Result<(), Error>, text: &[u8]) {
+    assert!(rt; matches!(failed, Err(Error::Io(_))));
+    assert_bytes(rt, text, PREFIX);
+}
+
 /// A tab of the greatest width is written as spaces until the writer fails.
 #[test]
 fn endless_tab(rt: HostRuntime) -> Result<(), Fail> {
@@ -35,9 +41,19 @@ fn endless_tab(rt: HostRuntime) -> Result<(), Fail> {
     let diagnostic = after_tab(rt.alloc())?;
     let mut inner = Stopping::new(rt.alloc(), 1, 40, Stop::Fails);
     let failed = emit_to_io_write(&mut inner, &widest_tabs(), &file, &diagnostic);
-    assert!(rt; matches!(failed, Err(Error::Io(_))));
-    assert_eq!(rt; inner.text.as_slice(), PREFIX.as_bytes());
+    assert_stopped(&rt, &failed, inner.text.as_slice());
     Ok(())
+}
+
+/// Emits to a writer of styles over this one.
+fn emit_without_color(
+    inner: &mut Stopping,
+    file: &SimpleFile<&str, &str>,
+    diagnostic: &Diagnostic<()>,
+) -> Result<(), Error> {
+    let styles = Styles::default();
+    let mut without_color = StylesWriter::new(NoColor::new(inner), &styles);
+    emit_to_write_style(&mut without_color, &widest_tabs(), file, diagnostic)
 }
 
 /// So it is by a writer of styles.
@@ -45,12 +61,9 @@ fn endless_tab(rt: HostRuntime) -> Result<(), Fail> {
 fn endless_tab_without_color(rt: HostRuntime) -> Result<(), Fail> {
     let file = SimpleFile::new(rt.alloc(), "f", "\tx")?;
     let diagnostic = after_tab(rt.alloc())?;
-    let styles = Styles::default();
     let mut inner = Stopping::new(rt.alloc(), 1, 40, Stop::Fails);
-    let mut without_color = StylesWriter::new(NoColor::new(&mut inner), &styles);
-    let failed = emit_to_write_style(&mut without_color, &widest_tabs(), &file, &diagnostic);
-    assert!(rt; matches!(failed, Err(Error::Io(_))));
-    assert_eq!(rt; inner.text.as_slice(), PREFIX.as_bytes());
+    let failed = emit_without_color(&mut inner, &file, &diagnostic);
+    assert_stopped(&rt, &failed, inner.text.as_slice());
     Ok(())
 }
 
@@ -87,9 +100,6 @@ fn endless_context(rt: HostRuntime) -> Result<(), Fail> {
                    \x20 │ ╰─' n\n\
                    5 │   e\n\
                    6 │   \n\n";
-    let text = emit_into_string(&config, &file, &diagnostic)?;
-    assert_eq!(rt; text.as_str(), output);
-    let view = RichDiagnostic::new(&diagnostic, &config);
-    assert_view_writes(&rt, alloc, &config, view, &file, output)??;
+    assert_output(&rt, &config, &file, &diagnostic, output)?;
     Ok(())
 }

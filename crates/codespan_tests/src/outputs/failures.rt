@@ -4,7 +4,7 @@ use crate::outputs::listing::{Failed, Listing};
 use crate::outputs::rendering::assert_view_writes;
 use codespan_reporting::diagnostic::{Diagnostic, Label};
 use codespan_reporting::files::{Error, Files, SimpleFile};
-use codespan_reporting::term::{Config, Layout, RichDiagnostic, emit_into_string};
+use codespan_reporting::term::{Config, Layout, emit_into_string};
 use std::alloc::Global;
 use std::fmt;
 use std::fmt::Display;
@@ -13,7 +13,7 @@ use std::process::Abort;
 use std::test::Fail;
 
 /// A lookup of a [`Listing`].
-#[derive(Clone, Copy)]
+#[derive(Drop)]
 enum LookupCall {
     Name,
     Source,
@@ -26,38 +26,21 @@ enum LookupCall {
 impl LookupCall {
     /// Returns these failures and that of this lookup. With the line of a byte those of later bytes
     /// fail too.
-    fn failed_beside(self, failed: Failed) -> Failed {
-        match self {
-            LookupCall::Name => Failed {
-                name: true,
-                ..failed
-            },
-            LookupCall::Source => Failed {
-                source: true,
-                ..failed
-            },
-            LookupCall::Location(_) => Failed {
-                location: true,
-                ..failed
-            },
-            LookupCall::LineIndex(byte) => Failed {
-                line_index: Some(byte),
-                ..failed
-            },
-            LookupCall::LineNumber(line) => Failed {
-                line_number: Some(line),
-                ..failed
-            },
-            LookupCall::LineRange(line) => Failed {
-                line_range: Some(line),
-                ..failed
-            },
+    fn failed_beside(&self, mut failed: Failed) -> Failed {
+        match *self {
+            LookupCall::Name => failed.name = true,
+            LookupCall::Source => failed.source = true,
+            LookupCall::Location(_) => failed.location = true,
+            LookupCall::LineIndex(byte) => failed.line_index = Some(byte),
+            LookupCall::LineNumber(line) => failed.line_number = Some(line),
+            LookupCall::LineRange(line) => failed.line_range = Some(line),
         }
+        failed
     }
 
     /// Returns whether the error is that of this lookup.
-    fn is_known(self, returned: &Result<(), Error>) -> bool {
-        let numbers = match self {
+    fn is_known<T>(&self, returned: &Result<T, Error>) -> bool {
+        let numbers = match *self {
             LookupCall::Name => (1, 0),
             LookupCall::Source => (2, 0),
             LookupCall::Location(byte) => (3, byte),
@@ -89,9 +72,14 @@ fn failed_lookups(rt: HostRuntime) -> Result<(), Fail> {
     for (lookup, prefix) in cases {
         let failed = lookup.failed_beside(Failed::default());
         let files = Listing::new(alloc, "f", "ab", failed)?;
-        assert_failed_lookup(&rt, alloc, lookup, &files, prefix)?;
+        assert_failed_lookup(&rt, alloc, &lookup, &files, prefix)?;
     }
     Ok(())
+}
+
+/// Returns a diagnostic with a label of the first byte.
+fn with_label(alloc: Global) -> Result<Diagnostic<()>, Error> {
+    Diagnostic::error(alloc).with_label(Label::primary(alloc, (), 0..1))
 }
 
 /// Asserts that the view and a call that emits return the error of this lookup of a file, and that
@@ -99,17 +87,15 @@ fn failed_lookups(rt: HostRuntime) -> Result<(), Fail> {
 fn assert_failed_lookup(
     rt: &impl Abort,
     alloc: Global,
-    lookup: LookupCall,
+    lookup: &LookupCall,
     files: &Listing<'_>,
     prefix: &str,
 ) -> Result<(), Error> {
     let config = Config::default();
-    let diagnostic = Diagnostic::error(alloc).with_label(Label::primary(alloc, (), 0..1))?;
-    let view = RichDiagnostic::new(&diagnostic, &config);
-    let returned = assert_view_writes(rt, alloc, &config, view, files, prefix)?;
-    assert!(rt; lookup.is_known(&returned));
-    let returned = emit_into_string(&config, files, &diagnostic).map(|_| ());
-    assert!(rt; lookup.is_known(&returned));
+    let diagnostic = with_label(alloc)?;
+    let returned = assert_view_writes(rt, &config, files, &diagnostic, prefix)?;
+    let emitted = emit_into_string(&config, files, &diagnostic);
+    assert!(rt; lookup.is_known(&returned) && lookup.is_known(&emitted));
     Ok(())
 }
 
@@ -117,29 +103,43 @@ fn assert_failed_lookup(
 /// of the line 5, which is filled in between those around them.
 fn lookups_in_order(alloc: Global, layout: Layout) -> Result<Vec<LookupCall>, Error> {
     let mut order = Vec::new(alloc);
-    for (start, end, lines) in [(2, 7, 0..5), (14, 15, 6..9)] {
-        order.push(LookupCall::LineIndex(start))?;
-        order.push(LookupCall::LineIndex(end))?;
-        for line in lines {
-            order.push(LookupCall::LineRange(line))?;
-            order.push(LookupCall::LineNumber(line))?;
-        }
-    }
-    if matches!(layout, Layout::Unbroken) {
-        order.push(LookupCall::LineNumber(5))?;
-    }
-    order.push(LookupCall::Name)?;
-    order.push(LookupCall::Location(2))?;
-    order.push(LookupCall::Source)?;
-    order.push(LookupCall::LineRange(5))?;
-    if matches!(layout, Layout::Classic) {
-        order.push(LookupCall::LineNumber(5))?;
+    push_label(&mut order, 2, 7, 0..5)?;
+    push_label(&mut order, 14, 15, 6..9)?;
+    for lookup in last_lookups(layout) {
+        order.push(lookup)?;
     }
     Ok(order)
 }
 
+/// Adds the lookups of a label from one byte to another, on these lines.
+fn push_label(
+    order: &mut Vec<LookupCall>,
+    start: usize,
+    end: usize,
+    lines: Range<usize>,
+) -> Result<(), Error> {
+    order.push(LookupCall::LineIndex(start))?;
+    order.push(LookupCall::LineIndex(end))?;
+    for line in lines {
+        order.push(LookupCall::LineRange(line))?;
+        order.push(LookupCall::LineNumber(line))?;
+    }
+    Ok(())
+}
+
+/// Returns the lookups after those of the labels.
+fn last_lookups(layout: Layout) -> [LookupCall; 5] {
+    let (name, number) = (LookupCall::Name, LookupCall::LineNumber(5));
+    let (location, source) = (LookupCall::Location(2), LookupCall::Source);
+    let range = LookupCall::LineRange(5);
+    match layout {
+        Layout::Classic => [name, location, source, range, number],
+        Layout::Unbroken => [number, name, location, source, range],
+    }
+}
+
 /// Returns what is written before this lookup of those.
-fn written_before(lookup: LookupCall, layout: Layout) -> &'static str {
+fn written_before(lookup: &LookupCall, layout: Layout) -> &'static str {
     let lines_before = "error: \n\
                         \x20 ┌─ f:1:1\n\
                         \x20 │  \n\
@@ -149,7 +149,7 @@ fn written_before(lookup: LookupCall, layout: Layout) -> &'static str {
                         3 │ │ d\n\
                         \x20 │ ╰─^\n\
                         4 │   e\n";
-    match lookup {
+    match *lookup {
         LookupCall::Source => "error: \n",
         LookupCall::LineRange(5) => lines_before,
         LookupCall::LineNumber(5) if matches!(layout, Layout::Classic) => lines_before,
@@ -168,26 +168,30 @@ fn with_two_labels(
         .with_label(Label::primary(alloc, (), second))
 }
 
+/// Returns a configuration with a line before each label and one after it.
+fn around_labels<'chars>(layout: Layout) -> Config<'chars> {
+    Config {
+        before_label_lines: 1,
+        after_label_lines: 1,
+        layout,
+        ..Config::default()
+    }
+}
+
 /// Asserts that the error of the first one of two lookups that fail is returned.
 fn assert_first_error(
     rt: &impl Abort,
     alloc: Global,
     layout: Layout,
-    first: LookupCall,
-    next: LookupCall,
+    first: &LookupCall,
+    next: &LookupCall,
 ) -> Result<(), Error> {
     let diagnostic = with_two_labels(alloc, 2..7, 14..15)?;
-    let config = Config {
-        before_label_lines: 1,
-        after_label_lines: 1,
-        layout,
-        ..Config::default()
-    };
+    let config = around_labels(layout);
     let failed = first.failed_beside(next.failed_beside(Failed::default()));
     let files = Listing::new(alloc, "f", "a\nb\nc\nd\ne\nf\ng\nh\ni", failed)?;
-    let view = RichDiagnostic::new(&diagnostic, &config);
     let prefix = written_before(first, layout);
-    let returned = assert_view_writes(rt, alloc, &config, view, &files, prefix)?;
+    let returned = assert_view_writes(rt, &config, &files, &diagnostic, prefix)?;
     assert!(rt; first.is_known(&returned));
     Ok(())
 }
@@ -201,9 +205,25 @@ fn first_error(rt: HostRuntime) -> Result<(), Fail> {
         let order = lookups_in_order(alloc, layout)?;
         for (position, first) in order.iter().enumerate() {
             let next = order.get(position + 1).unwrap_or(first);
-            assert_first_error(&rt, alloc, layout, *first, *next)?;
+            assert_first_error(&rt, alloc, layout, first, next)?;
         }
     }
+    Ok(())
+}
+
+/// Asserts that the failed number of a filled line is returned after this text.
+fn assert_failed_number(
+    rt: &impl Abort,
+    alloc: Global,
+    config: Config<'_>,
+    prefix: &str,
+) -> Result<(), Error> {
+    let lookup = LookupCall::LineNumber(1);
+    let failed = lookup.failed_beside(Failed::default());
+    let files = Listing::new(alloc, "f", "a\nb\nc", failed)?;
+    let diagnostic = with_two_labels(alloc, 0..1, 4..5)?;
+    let returned = assert_view_writes(rt, &config, &files, &diagnostic, prefix)?;
+    assert!(rt; lookup.is_known(&returned));
     Ok(())
 }
 
@@ -211,11 +231,6 @@ fn first_error(rt: HostRuntime) -> Result<(), Fail> {
 /// header in the unbroken one.
 #[test]
 fn failed_number_of_filled_line(rt: HostRuntime) -> Result<(), Fail> {
-    let alloc = rt.alloc();
-    let lookup = LookupCall::LineNumber(1);
-    let failed = lookup.failed_beside(Failed::default());
-    let files = Listing::new(alloc, "f", "a\nb\nc", failed)?;
-    let diagnostic = with_two_labels(alloc, 0..1, 4..5)?;
     let cases = [
         (Layout::Classic, "error: \n  ┌─ f:0:1\n  │\n0 │ a\n  │ ^\n"),
         (Layout::Unbroken, ""),
@@ -225,9 +240,7 @@ fn failed_number_of_filled_line(rt: HostRuntime) -> Result<(), Fail> {
             layout,
             ..Config::default()
         };
-        let view = RichDiagnostic::new(&diagnostic, &config);
-        let returned = assert_view_writes(&rt, alloc, &config, view, &files, prefix)?;
-        assert!(rt; lookup.is_known(&returned));
+        assert_failed_number(&rt, rt.alloc(), config, prefix)?;
     }
     Ok(())
 }
@@ -243,20 +256,19 @@ impl Display for Unprintable {
     }
 }
 
+/// Returns whether `FormatError` was returned.
+fn is_format_error<T>(returned: &Result<T, Error>) -> bool {
+    matches!(returned, Err(Error::FormatError))
+}
+
 /// A name whose `Display` fails leads to `FormatError`, and nothing is written.
 #[test]
 fn unprintable_name(rt: HostRuntime) -> Result<(), Fail> {
     let files = SimpleFile::new(rt.alloc(), Unprintable, "ab")?;
-    let diagnostic = Diagnostic::error(rt.alloc()).with_label(Label::primary(
-        rt.alloc(),
-        (),
-        0..1,
-    ))?;
+    let diagnostic = with_label(rt.alloc())?;
     let config = Config::default();
-    let view = RichDiagnostic::new(&diagnostic, &config);
-    let returned = assert_view_writes(&rt, rt.alloc(), &config, view, &files, "")?;
-    assert!(rt; matches!(returned, Err(Error::FormatError)));
-    let returned = emit_into_string(&config, &files, &diagnostic);
-    assert!(rt; matches!(returned, Err(Error::FormatError)));
+    let returned = assert_view_writes(&rt, &config, &files, &diagnostic, "")?;
+    let emitted = emit_into_string(&config, &files, &diagnostic);
+    assert!(rt; is_format_error(&returned) && is_format_error(&emitted));
     Ok(())
 }

@@ -9,15 +9,25 @@ use codespan_reporting::term::{
 use std::alloc::Global;
 use std::test::Fail;
 
-/// Emits a diagnostic by each call that writes, and returns how often these flushed.
+/// Emits a diagnostic by each call that writes.
+fn emit_by_each(
+    inner: &mut Counting,
+    config: &Config<'_>,
+    file: &SimpleFile<&str, &str>,
+    diagnostic: &Diagnostic<()>,
+) -> Result<(), Error> {
+    emit_to_io_write(inner, config, file, diagnostic)?;
+    emit(inner, config, file, diagnostic)?;
+    let mut plain = PlainWriter::new(inner);
+    emit_to_write_style(&mut plain, config, file, diagnostic)
+}
+
+/// Returns how often these calls flush.
 fn flushes_of(alloc: Global, config: &Config<'_>) -> Result<usize, Error> {
     let file = SimpleFile::new(alloc, "f", "ab")?;
     let diagnostic = Diagnostic::error(alloc).with_label(Label::primary(alloc, (), 0..1))?;
     let mut inner = Counting::default();
-    emit_to_io_write(&mut inner, config, &file, &diagnostic)?;
-    emit(&mut inner, config, &file, &diagnostic)?;
-    let mut plain = PlainWriter::new(&mut inner);
-    emit_to_write_style(&mut plain, config, &file, &diagnostic)?;
+    emit_by_each(&mut inner, config, &file, &diagnostic)?;
     Ok(inner.flushes)
 }
 

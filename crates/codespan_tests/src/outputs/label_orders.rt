@@ -1,11 +1,10 @@
 //! An output of many labels, in three orders.
 
-use crate::outputs::rendering::assert_view_writes;
+use crate::outputs::rendering::assert_output;
 use codespan_reporting::diagnostic::{Diagnostic, Label, LabelStyle};
 use codespan_reporting::files::{Error, SimpleFile};
-use codespan_reporting::term::{Config, RichDiagnostic, emit_into_string};
+use codespan_reporting::term::Config;
 use std::alloc::Global;
-use std::process::Abort;
 use std::test::Fail;
 
 /// Returns the text: fifty equal lines.
@@ -68,30 +67,15 @@ fn with_labels_in(alloc: Global, order: usize) -> Result<Diagnostic<()>, Error> 
     Ok(diagnostic)
 }
 
-/// Asserts that a diagnostic has this output, by a call that emits and by the view.
-fn assert_output(
-    rt: &impl Abort,
-    alloc: Global,
-    source: &str,
-    diagnostic: &Diagnostic<()>,
-    expected: &str,
-) -> Result<(), Error> {
-    let files = SimpleFile::new(alloc, "f", source)?;
-    let config = Config::default();
-    let text = emit_into_string(&config, &files, diagnostic)?;
-    assert_eq!(rt; text.as_str(), expected);
-    let view = RichDiagnostic::new(diagnostic, &config);
-    assert_view_writes(rt, alloc, &config, view, &files, expected)?
-}
-
 #[test]
 fn label_orders(rt: HostRuntime) -> Result<(), Fail> {
     let source = source_of(rt.alloc())?;
-    let expected = output(rt.alloc())?;
+    let files = SimpleFile::new(rt.alloc(), "f", source.as_str())?;
+    let output = output(rt.alloc())?;
+    let output = output.as_str();
     for order in 0..3 {
         let diagnostic = with_labels_in(rt.alloc(), order)?;
-        let (source, expected) = (source.as_str(), expected.as_str());
-        assert_output(&rt, rt.alloc(), source, &diagnostic, expected)?;
+        assert_output(&rt, &Config::default(), &files, &diagnostic, output)?;
     }
     Ok(())
 }

@@ -10,7 +10,7 @@ use std::ops::Range;
 
 /// Which lookups fail. Each fails with a `given` of its kind, and with the line or the byte that
 /// was looked up as `max`.
-#[derive(Clone, Copy, Default)]
+#[derive(Drop, Default)]
 pub struct Failed {
     /// The name: 1.
     pub name: bool,

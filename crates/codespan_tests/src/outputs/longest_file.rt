@@ -5,8 +5,10 @@ ghost use Rattle.std.specs.Prelude.{refl};
 use crate::outputs::rendering::assert_view_writes;
 use codespan_reporting::diagnostic::{Diagnostic, Label};
 use codespan_reporting::files::{Error, Files, Location};
-use codespan_reporting::term::{Config, Layout, RichDiagnostic};
+use codespan_reporting::term::{Config, Layout};
+use std::alloc::Global;
 use std::ops::Range;
+use std::process::Abort;
 use std::test::Fail;
 
 /// A text of newlines that is as long as a text can be. Its lines are empty and numbered by their
@@ -78,16 +80,27 @@ impl<'a, 'text: 'a> Files<'a> for LongestFile<'text> {
     ghost past_end = { λ s _ i. longest_past_end s.name.now i };
 }
 
+/// Returns a diagnostic with a label on the fourth line from the end, and one on the last.
+fn with_last_labels(alloc: Global) -> Result<Diagnostic<()>, Error> {
+    let (position, last) = (usize::MAX - 3, usize::MAX);
+    Diagnostic::error(alloc)
+        .with_label(Label::primary(alloc, (), position..position))?
+        .with_label(Label::secondary(alloc, (), last..last))
+}
+
+/// Asserts that the header of that diagnostic is written, and that the source is looked up then.
+fn assert_header(rt: &impl Abort, alloc: Global, config: &Config<'_>) -> Result<(), Error> {
+    let files = LongestFile { name: "f" };
+    let diagnostic = with_last_labels(alloc)?;
+    let returned = assert_view_writes(rt, config, &files, &diagnostic, "error: \n")?;
+    assert!(rt; matches!(returned, Err(Error::FileMissing)));
+    Ok(())
+}
+
 /// A context ends with the greatest index, and rendering goes on: the header is written, and then
 /// the source is looked up.
 #[test]
 fn context_past_all_indices(rt: HostRuntime) -> Result<(), Fail> {
-    let alloc = rt.alloc();
-    let files = LongestFile { name: "f" };
-    let (position, last) = (usize::MAX - 3, usize::MAX);
-    let diagnostic = Diagnostic::error(alloc)
-        .with_label(Label::primary(alloc, (), position..position))?
-        .with_label(Label::secondary(alloc, (), last..last))?;
     for layout in [Layout::Classic, Layout::Unbroken] {
         for after_label_lines in [0, 3, 4, 5, usize::MAX] {
             let config = Config {
@@ -95,9 +108,7 @@ fn context_past_all_indices(rt: HostRuntime) -> Result<(), Fail> {
                 layout,
                 ..Config::default()
             };
-            let view = RichDiagnostic::new(&diagnostic, &config);
-            let returned = assert_view_writes(&rt, alloc, &config, view, &files, "error: \n")?;
-            assert!(rt; matches!(returned, Err(Error::FileMissing)));
+            assert_header(&rt, rt.alloc(), &config)?;
         }
     }
     Ok(())

@@ -1,20 +1,24 @@
 //! A failed line number, a missing file, and a view and a renderer of two configurations.
 
-use crate::outputs::rendering::{assert_view_writes, files_of};
+use crate::outputs::rendering::{assert_view_writes, files_of, render_alike};
 use codespan_reporting::diagnostic::{Diagnostic, Label};
 use codespan_reporting::files::{Error, MappedFile, SimpleFile};
-use codespan_reporting::term::{
-    Chars, Config, Layout, PlainWriter, Renderer, RichDiagnostic, emit_into_string,
-};
+use codespan_reporting::term::{Chars, Config, Layout, RichDiagnostic, emit_into_string};
 use std::alloc::Global;
 use std::process::Abort;
 use std::test::Fail;
 
+/// Returns a file whose second line has the greatest number.
+fn numbered_to_the_end(alloc: Global) -> Result<MappedFile<&'static str, &'static str>, Error> {
+    let mut file = MappedFile::new(alloc, "m", "a\nb\nc\nd")?;
+    file.set_line(1, usize::MAX)?;
+    Ok(file)
+}
+
 /// A context line whose number fails fails the call; it does not end the context.
 #[test]
 fn mapped_overflow(rt: HostRuntime) -> Result<(), Fail> {
-    let mut file = MappedFile::new(rt.alloc(), "m", "a\nb\nc\nd")?;
-    file.set_line(1, usize::MAX)?;
+    let file = numbered_to_the_end(rt.alloc())?;
     let label = Label::primary(rt.alloc(), (), 0..1);
     let diagnostic = Diagnostic::error(rt.alloc()).with_label(label)?;
     let config = Config {
@@ -47,15 +51,10 @@ fn missing_file(rt: HostRuntime) -> Result<(), Fail> {
 /// .. and nothing is written.
 #[test]
 fn missing_file_in_view(rt: HostRuntime) -> Result<(), Fail> {
-    let alloc = rt.alloc();
-    let files = files_of(alloc, &[("f", "ab")])?;
-    let diagnostic = in_first_and_eighth(alloc)?;
-    let config = Config::default();
-    let mut plain = PlainWriter::new(Vec::new(alloc));
-    let mut renderer = Renderer::new(&mut plain, &config);
-    let failed = RichDiagnostic::new(&diagnostic, &config).render(&files, &mut renderer);
+    let files = files_of(rt.alloc(), &[("f", "ab")])?;
+    let diagnostic = in_first_and_eighth(rt.alloc())?;
+    let failed = assert_view_writes(&rt, &Config::default(), &files, &diagnostic, "")?;
     assert!(rt; matches!(failed, Err(Error::FileMissing)));
-    assert!(rt; plain.into_inner().is_empty());
     Ok(())
 }
 
@@ -68,6 +67,28 @@ fn with_multi_line_label(alloc: Global) -> Result<Diagnostic<()>, Error> {
         .with_label(single)
 }
 
+/// Returns the configuration of the renderer.
+fn renderer_config<'chars>(layout: Layout) -> Config<'chars> {
+    Config {
+        chars: Chars::ascii(),
+        tab_width: 2,
+        layout,
+        ..Config::default()
+    }
+}
+
+/// Returns the configuration of the view.
+fn view_config<'chars>(layout: Layout) -> Config<'chars> {
+    Config {
+        start_context_lines: 1,
+        end_context_lines: 0,
+        before_label_lines: 1,
+        after_label_lines: 1,
+        layout,
+        ..Config::default()
+    }
+}
+
 /// Renders a multi-line label where the configurations of the view and of the renderer differ in
 /// all that the output shows.
 fn assert_rendered_by_two(
@@ -77,24 +98,12 @@ fn assert_rendered_by_two(
     renderer_layout: Layout,
     output: &str,
 ) -> Result<(), Error> {
-    let renderer_config = Config {
-        chars: Chars::ascii(),
-        tab_width: 2,
-        layout: renderer_layout,
-        ..Config::default()
-    };
-    let view_config = Config {
-        start_context_lines: 1,
-        end_context_lines: 0,
-        before_label_lines: 1,
-        after_label_lines: 1,
-        layout: view_layout,
-        ..Config::default()
-    };
+    let view_config = view_config(view_layout);
     let file = SimpleFile::new(alloc, "f", "a\nb\nc\nd\n\tgh\ni\nj\nk\n\tl\nm")?;
     let diagnostic = with_multi_line_label(alloc)?;
     let view = RichDiagnostic::new(&diagnostic, &view_config);
-    assert_view_writes(rt, alloc, &renderer_config, view, &file, output)?
+    let rendered = render_alike(rt, alloc, &renderer_config(renderer_layout), view, &file)?;
+    rendered.returned_after(rt, output)
 }
 
 /// The view's configuration chooses the lines and the padding width; the renderer's chooses the

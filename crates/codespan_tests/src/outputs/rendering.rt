@@ -1,9 +1,12 @@
-//! File databases of names and texts, and a view rendered plain and in colors.
+//! File databases of names and texts, a view rendered plain and in colors, and what is asserted of
+//! outputs.
 
 use codespan_base_tests::writers::sequences::without_sequences;
+use codespan_reporting::diagnostic::Diagnostic;
 use codespan_reporting::files::{Error, Files, SimpleFiles};
 use codespan_reporting::term::{
     Ansi, Config, NoColor, PlainWriter, Renderer, RichDiagnostic, Styles, StylesWriter, WriteStyle,
+    emit_into_string,
 };
 use std::alloc::Global;
 use std::process::Abort;
@@ -20,17 +23,33 @@ pub fn files_of<'text>(
     Ok(files)
 }
 
+/// Asserts that a text is this one.
+pub fn assert_text(rt: &impl Abort, text: &str, expected: &str) {
+    assert_eq!(rt; text, expected);
+}
+
+/// Asserts that bytes are those of this text.
+pub fn assert_bytes(rt: &impl Abort, bytes: &[u8], expected: &str) {
+    assert_eq!(rt; bytes, expected.as_bytes());
+}
+
 /// What a rendering returned, and what it wrote.
 #[derive(Drop)]
-struct Rendered {
+pub struct Rendered {
     returned: Result<(), Error>,
     text: Vec<u8>,
 }
 
 impl Rendered {
-    /// Returns whether the rendering failed or not, as is said, and wrote this text.
-    fn is(&self, is_ok: bool, text: &str) -> bool {
-        self.returned.is_ok() == is_ok && self.text.as_slice() == text.as_bytes()
+    /// Asserts that the rendering wrote this text, and returns what it returned.
+    pub fn returned_after(self, rt: &impl Abort, text: &str) -> Result<(), Error> {
+        assert_bytes(rt, self.text.as_slice(), text);
+        self.returned
+    }
+
+    /// Returns whether a rendering returned `Ok` exactly where this one did, and wrote the same.
+    fn is_same(&self, returned: &Result<(), Error>, text: &[u8]) -> bool {
+        returned.is_ok() == self.returned.is_ok() && text == self.text.as_slice()
     }
 }
 
@@ -47,51 +66,80 @@ fn rendered_plain<'files, F: Files<'files>>(
     Rendered { returned, text }
 }
 
-/// Renders a view over [`NoColor`].
-fn rendered_without_color<'files, F: Files<'files>>(
+/// Returns whether a view is rendered the same over [`NoColor`].
+fn is_same_without_color<'files, F: Files<'files>>(
     alloc: Global,
     config: &Config<'_>,
     view: RichDiagnostic<'_, '_, F::FileId>,
     files: &'files F,
-) -> Rendered {
+    plain: &Rendered,
+) -> bool {
     let styles = Styles::default();
     let mut text = Vec::new(alloc);
     let mut without_color = StylesWriter::new(NoColor::new(&mut text), &styles);
     let returned = render_view(&mut without_color, config, view, files);
-    Rendered { returned, text }
+    plain.is_same(&returned, text.as_slice())
 }
 
-/// Renders a view over [`Ansi`], and takes out the escape sequences.
-fn rendered_in_color<'files, F: Files<'files>>(
+/// Returns whether a view is rendered the same over [`Ansi`], once the escape sequences are taken
+/// out.
+fn is_same_in_color<'files, F: Files<'files>>(
     alloc: Global,
     config: &Config<'_>,
     view: RichDiagnostic<'_, '_, F::FileId>,
     files: &'files F,
-) -> Result<Rendered, Error> {
+    plain: &Rendered,
+) -> Result<bool, Error> {
     let styles = Styles::default();
     let mut bytes = Vec::new(alloc);
     let mut colored = StylesWriter::new(Ansi::new(&mut bytes), &styles);
     let returned = render_view(&mut colored, config, view, files);
     let text = without_sequences(alloc, bytes.as_slice())?;
-    Ok(Rendered { returned, text })
+    Ok(plain.is_same(&returned, text.as_slice()))
 }
 
-/// Asserts that a view writes this text: plain, over [`NoColor`], and over [`Ansi`] once the escape
-/// sequences are taken out. Returns the plain result; in colors it is `Ok` exactly where that is.
-pub fn assert_view_writes<'files, F: Files<'files>>(
+/// Renders a view plain, over [`NoColor`], and over [`Ansi`]. Asserts that all three or none return
+/// `Ok`, and that they write the same, once the escape sequences are taken out. Returns the plain
+/// rendering.
+pub fn render_alike<'files, F: Files<'files>>(
     rt: &impl Abort,
     alloc: Global,
     config: &Config<'_>,
     view: RichDiagnostic<'_, '_, F::FileId>,
     files: &'files F,
+) -> Result<Rendered, Error> {
+    let plain = rendered_plain(alloc, config, view, files);
+    assert!(rt; is_same_without_color(alloc, config, view, files, &plain));
+    assert!(rt; is_same_in_color(alloc, config, view, files, &plain)?);
+    Ok(plain)
+}
+
+/// Asserts that the view of a diagnostic writes this text, plain and in colors. Returns the plain
+/// result; in colors it is `Ok` exactly where that is.
+pub fn assert_view_writes<'files, F: Files<'files>>(
+    rt: &impl Abort,
+    config: &Config<'_>,
+    files: &'files F,
+    diagnostic: &Diagnostic<F::FileId>,
     text: &str,
 ) -> Result<Result<(), Error>, Error> {
-    let plain = rendered_plain(alloc, config, view, files);
-    assert_eq!(rt; plain.text.as_slice(), text.as_bytes());
-    let is_ok = plain.returned.is_ok();
-    assert!(rt; rendered_without_color(alloc, config, view, files).is(is_ok, text));
-    assert!(rt; rendered_in_color(alloc, config, view, files)?.is(is_ok, text));
-    Ok(plain.returned)
+    let alloc = *diagnostic.labels.allocator();
+    let view = RichDiagnostic::new(diagnostic, config);
+    let rendered = render_alike(rt, alloc, config, view, files)?;
+    Ok(rendered.returned_after(rt, text))
+}
+
+/// Asserts that a diagnostic has this output, by a call that emits and by the view.
+pub fn assert_output<'files, F: Files<'files>>(
+    rt: &impl Abort,
+    config: &Config<'_>,
+    files: &'files F,
+    diagnostic: &Diagnostic<F::FileId>,
+    output: &str,
+) -> Result<(), Error> {
+    let text = emit_into_string(config, files, diagnostic)?;
+    assert_text(rt, text.as_str(), output);
+    assert_view_writes(rt, config, files, diagnostic, output)?
 }
 
 /// Renders a view to a writer, by a renderer with this configuration.

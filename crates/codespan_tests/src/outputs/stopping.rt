@@ -1,75 +1,59 @@
 //! A view over a writer that stops.
 
+use codespan_base_tests::writers::stopping::{Stop, Stopping, is_failed};
 use codespan_reporting::diagnostic::{Diagnostic, Label};
 use codespan_reporting::files::{Error, SimpleFile};
 use codespan_reporting::term::{Config, PlainWriter, Renderer, RichDiagnostic};
 use std::alloc::Global;
-use std::io;
-use std::io::{ErrorKind, Write};
 use std::process::Abort;
 use std::test::Fail;
 
-/// A writer that takes at most three bytes at a time, and fails after so many writes.
-#[derive(Drop)]
-struct Stopping {
-    text: Vec<u8>,
-    writes_left: usize,
+/// Renders to a writer, and returns whether it failed with `Io`; `None` if it failed otherwise.
+fn is_failed_over(
+    plain: &mut PlainWriter<Stopping>,
+    file: &SimpleFile<&str, &str>,
+    diagnostic: &Diagnostic<()>,
+) -> Option<bool> {
+    let config = Config::default();
+    let mut renderer = Renderer::new(plain, &config);
+    is_failed(&RichDiagnostic::new(diagnostic, &config).render(file, &mut renderer))
 }
 
-impl Write for Stopping {
-    fn write(&mut self, buf: &[u8]) -> io::Result<usize> {
-        if self.writes_left == 0 {
-            return Err(io::Error::from(ErrorKind::Interrupted));
-        }
-        self.writes_left -= 1;
-        let count = buf.len().min(3);
-        self.text.extend_from_slice(&buf[..count])?;
-        Ok(count)
-    }
-
-    fn flush(&mut self) -> io::Result<()> {
-        Ok(())
-    }
-}
-
-/// Renders to a writer that fails after so many writes, and returns whether the whole output was
-/// written. If it was not, the error is `Io`, and the writer has a prefix of it.
+/// Renders to a writer that takes at most three bytes at a time and fails after so many writes, and
+/// returns whether the whole output was written. If it was not, the error is `Io`, and the writer
+/// has a prefix of it.
 fn is_whole_after(
     rt: &impl Abort,
     alloc: Global,
-    config: &Config<'_>,
+    file: &SimpleFile<&str, &str>,
     diagnostic: &Diagnostic<()>,
     writes: usize,
-) -> Result<bool, Error> {
-    let files = SimpleFile::new(alloc, "f", "ab")?;
-    let mut plain = PlainWriter::new(Stopping {
-        text: Vec::new(alloc),
-        writes_left: writes,
-    });
-    let mut renderer = Renderer::new(&mut plain, config);
-    let returned = RichDiagnostic::new(diagnostic, config).render(&files, &mut renderer);
+) -> bool {
+    let mut plain = PlainWriter::new(Stopping::new(alloc, 3, writes, Stop::IsInterrupted));
+    let failed = is_failed_over(&mut plain, file, diagnostic);
     let text = plain.into_inner().text;
     let whole = "error: m\n  ┌─ f:1:1\n  │\n1 │ ab\n  │ ^ x\n\n".as_bytes();
-    assert!(rt; whole.starts_with(text.as_slice()));
     let is_whole = text.len() == whole.len();
-    match returned {
-        Ok(()) => assert!(rt; is_whole),
-        Err(error) => assert!(rt; !is_whole && matches!(error, Error::Io(_))),
-    }
-    Ok(is_whole)
+    assert!(rt; whole.starts_with(text.as_slice()) && failed == Some(!is_whole));
+    is_whole
+}
+
+/// Returns a diagnostic with a label of the first byte.
+fn with_label(alloc: Global) -> Result<Diagnostic<()>, Error> {
+    let label = Label::primary(alloc, (), 0..1).with_message("x")?;
+    Diagnostic::error(alloc)
+        .with_message("m")?
+        .with_label(label)
 }
 
 #[test]
 fn writer_that_stops(rt: HostRuntime) -> Result<(), Fail> {
-    let alloc = rt.alloc();
-    let config = Config::default();
-    let diagnostic = Diagnostic::error(alloc)
-        .with_message("m")?
-        .with_label(Label::primary(alloc, (), 0..1).with_message("x")?)?;
+    let file = SimpleFile::new(rt.alloc(), "f", "ab")?;
+    let diagnostic = with_label(rt.alloc())?;
     for writes in 0..100 {
-        is_whole_after(&rt, alloc, &config, &diagnostic, writes)?;
+        is_whole_after(&rt, rt.alloc(), &file, &diagnostic, writes);
     }
-    assert!(rt; !is_whole_after(&rt, alloc, &config, &diagnostic, 20)?);
-    assert!(rt; is_whole_after(&rt, alloc, &config, &diagnostic, 100)?);
+    assert!(rt; !is_whole_after(&rt, rt.alloc(), &file, &diagnostic, 20));
+    assert!(rt; is_whole_after(&rt, rt.alloc(), &file, &diagnostic, 100));
     Ok(())
 }

@@ -1,6 +1,6 @@
 //! Tests of short and medium style, and of the calls that emit.
 
-use crate::outputs::rendering::files_of;
+use crate::outputs::rendering::{assert_bytes, assert_text, files_of};
 use codespan_base_tests::writers::example::TagWriter;
 use codespan_base_tests::writers::sequences::without_sequences;
 use codespan_reporting::diagnostic::{Diagnostic, Label};
@@ -10,6 +10,7 @@ use codespan_reporting::term::{
     emit_into_string, emit_to_io_write, emit_to_string, emit_to_write_style,
 };
 use std::alloc::Global;
+use std::process::Abort;
 use std::test::Fail;
 
 /// Returns the default configuration in a style.
@@ -20,41 +21,104 @@ fn in_style<'chars>(display_style: DisplayStyle) -> Config<'chars> {
     }
 }
 
+/// A style, what a string or a vector holds, the output of a bug, and both.
+#[derive(Drop)]
+struct Row {
+    style: DisplayStyle,
+    prefix: &'static str,
+    output: &'static str,
+    text: &'static str,
+}
+
+/// Asserts what is returned.
+fn assert_into_string(rt: &impl Abort, alloc: Global, row: &Row) -> Result<(), Error> {
+    let (config, bug) = (in_style(row.style), Diagnostic::bug(alloc));
+    let files: SimpleFiles<&str, &str> = SimpleFiles::new(alloc);
+    let string = emit_into_string(&config, &files, &bug)?;
+    assert_text(rt, string.as_str(), row.output);
+    Ok(())
+}
+
+/// Asserts what is appended to a string.
+fn assert_to_string(rt: &impl Abort, alloc: Global, row: &Row) -> Result<(), Error> {
+    let (config, bug) = (in_style(row.style), Diagnostic::bug(alloc));
+    let files: SimpleFiles<&str, &str> = SimpleFiles::new(alloc);
+    let prefix = row.prefix;
+    let mut string = prefix.to_string(alloc)?;
+    emit_to_string(&mut string, &config, &files, &bug)?;
+    assert_text(rt, string.as_str(), row.text);
+    Ok(())
+}
+
+/// Asserts what is written to a writer of plain text.
+fn assert_to_write_style(rt: &impl Abort, alloc: Global, row: &Row) -> Result<(), Error> {
+    let (config, bug) = (in_style(row.style), Diagnostic::bug(alloc));
+    let files: SimpleFiles<&str, &str> = SimpleFiles::new(alloc);
+    let mut plain = PlainWriter::new(Vec::new(alloc));
+    emit_to_write_style(&mut plain, &config, &files, &bug)?;
+    assert_bytes(rt, plain.into_inner().as_slice(), row.output);
+    Ok(())
+}
+
+/// Asserts what is appended to a vector.
+fn assert_to_io_write(rt: &impl Abort, alloc: Global, row: &Row) -> Result<(), Error> {
+    let (config, bug) = (in_style(row.style), Diagnostic::bug(alloc));
+    let files: SimpleFiles<&str, &str> = SimpleFiles::new(alloc);
+    let mut bytes = row.prefix.to_string(alloc)?.into_bytes();
+    emit_to_io_write(&mut bytes, &config, &files, &bug)?;
+    assert_bytes(rt, bytes.as_slice(), row.text);
+    Ok(())
+}
+
+/// Asserts what [`emit`] appends to a vector.
+fn assert_emit(rt: &impl Abort, alloc: Global, row: &Row) -> Result<(), Error> {
+    let (config, bug) = (in_style(row.style), Diagnostic::bug(alloc));
+    let files: SimpleFiles<&str, &str> = SimpleFiles::new(alloc);
+    let mut bytes = row.prefix.to_string(alloc)?.into_bytes();
+    emit(&mut bytes, &config, &files, &bug)?;
+    assert_bytes(rt, bytes.as_slice(), row.text);
+    Ok(())
+}
+
+/// The rows.
+fn rows() -> [Row; 3] {
+    [
+        Row {
+            style: DisplayStyle::Rich,
+            prefix: "kept",
+            output: "bug: \n\n",
+            text: "keptbug: \n\n",
+        },
+        Row {
+            style: DisplayStyle::Medium,
+            prefix: "",
+            output: "bug: \n",
+            text: "bug: \n",
+        },
+        Row {
+            style: DisplayStyle::Short,
+            prefix: "kept",
+            output: "bug: \n",
+            text: "keptbug: \n",
+        },
+    ]
+}
+
 /// Each call that emits renders, and appends to what a string or a vector holds.
 #[test]
 fn bare_bug(rt: HostRuntime) -> Result<(), Fail> {
-    let alloc = rt.alloc();
-    let files: SimpleFiles<&str, &str> = SimpleFiles::new(alloc);
-    let bug = Diagnostic::bug(alloc);
-    let rows = [
-        (DisplayStyle::Rich, "kept", "keptbug: \n\n"),
-        (DisplayStyle::Medium, "", "bug: \n"),
-        (DisplayStyle::Short, "kept", "keptbug: \n"),
-    ];
-    for (style, prefix, text) in rows {
-        let config = in_style(style);
-        let output = &text[prefix.len()..];
-        assert_eq!(rt; emit_into_string(&config, &files, &bug)?.as_str(), output);
-        let mut string = prefix.to_string(alloc)?;
-        emit_to_string(&mut string, &config, &files, &bug)?;
-        assert_eq!(rt; string.as_str(), text);
-        let mut plain = PlainWriter::new(Vec::new(alloc));
-        emit_to_write_style(&mut plain, &config, &files, &bug)?;
-        assert_eq!(rt; plain.into_inner().as_slice(), output.as_bytes());
-        let mut bytes = prefix.to_string(alloc)?.into_bytes();
-        emit_to_io_write(&mut bytes, &config, &files, &bug)?;
-        assert_eq!(rt; bytes.as_slice(), text.as_bytes());
-        let mut bytes = prefix.to_string(alloc)?.into_bytes();
-        emit(&mut bytes, &config, &files, &bug)?;
-        assert_eq!(rt; bytes.as_slice(), text.as_bytes());
+    for row in &rows() {
+        assert_into_string(&rt, rt.alloc(), row)?;
+        assert_to_string(&rt, rt.alloc(), row)?;
+        assert_to_write_style(&rt, rt.alloc(), row)?;
+        assert_to_io_write(&rt, rt.alloc(), row)?;
+        assert_emit(&rt, rt.alloc(), row)?;
     }
     Ok(())
 }
 
-/// The views render the same.
-#[test]
-fn bare_views(rt: HostRuntime) -> Result<(), Fail> {
-    let alloc = rt.alloc();
+/// Renders a bug by each view, in one text.
+fn by_views(alloc: Global) -> Result<Vec<u8>, Error> {
     let files: SimpleFiles<&str, &str> = SimpleFiles::new(alloc);
     let bug = Diagnostic::bug(alloc);
     let config = Config::default();
@@ -63,10 +127,14 @@ fn bare_views(rt: HostRuntime) -> Result<(), Fail> {
     RichDiagnostic::new(&bug, &config).render(&files, &mut renderer)?;
     ShortDiagnostic::new(&bug, true).render(&files, &mut renderer)?;
     ShortDiagnostic::new(&bug, false).render(&files, &mut renderer)?;
-    assert_eq!(rt;
-        plain.into_inner().as_slice(),
-        b"bug: \n\nbug: \nbug: \n".as_slice()
-    );
+    Ok(plain.into_inner())
+}
+
+/// The views render the same.
+#[test]
+fn bare_views(rt: HostRuntime) -> Result<(), Fail> {
+    let bytes = by_views(rt.alloc())?;
+    assert_bytes(&rt, bytes.as_slice(), "bug: \n\nbug: \nbug: \n");
     Ok(())
 }
 
@@ -75,8 +143,16 @@ fn bare_views(rt: HostRuntime) -> Result<(), Fail> {
 fn colours_change_no_text(rt: HostRuntime) -> Result<(), Fail> {
     let colored = b"\x1b[0m\x1b[1m\x1b[38;5;9merror\x1b[0m\x1b[1m: m\x1b[0m\n";
     let text = without_sequences(rt.alloc(), colored)?;
-    assert_eq!(rt; text.as_slice(), b"error: m\n".as_slice());
+    assert_bytes(&rt, text.as_slice(), "error: m\n");
     Ok(())
+}
+
+/// Returns a diagnostic with a label in the first file, and a note.
+fn with_note(alloc: Global) -> Result<Diagnostic<usize>, Error> {
+    Diagnostic::error(alloc)
+        .with_message("m")?
+        .with_label(Label::primary(alloc, 0, 1..2))?
+        .with_note("n")
 }
 
 /// A custom `WriteStyle`, in short and in medium style.
@@ -84,20 +160,19 @@ fn colours_change_no_text(rt: HostRuntime) -> Result<(), Fail> {
 fn tags_of_styles(rt: HostRuntime) -> Result<(), Fail> {
     let alloc = rt.alloc();
     let files = files_of(alloc, &[("f", "ab")])?;
-    let diagnostic = Diagnostic::error(alloc)
-        .with_message("m")?
-        .with_label(Label::primary(alloc, 0, 1..2))?
-        .with_note("n")?;
-    let header = "f:1:2: [header]error[message]: m[/]\n";
-    let note = " [bullet]=[/] n\n";
-    for (style, has_note) in [(DisplayStyle::Short, false), (DisplayStyle::Medium, true)] {
+    let diagnostic = with_note(alloc)?;
+    let rows = [
+        (DisplayStyle::Short, "f:1:2: [header]error[message]: m[/]\n"),
+        (
+            DisplayStyle::Medium,
+            "f:1:2: [header]error[message]: m[/]\n [bullet]=[/] n\n",
+        ),
+    ];
+    for (style, output) in rows {
         let mut bytes = Vec::new(alloc);
         let mut tags = TagWriter::new(&mut bytes);
         emit_to_write_style(&mut tags, &in_style(style), &files, &diagnostic)?;
-        let note = if has_note { note } else { "" };
-        let text = bytes.as_slice();
-        assert!(rt; text.starts_with(header.as_bytes()));
-        assert_eq!(rt; &text[header.len()..], note.as_bytes());
+        assert_bytes(&rt, bytes.as_slice(), output);
     }
     Ok(())
 }
@@ -111,31 +186,56 @@ fn half_missing(alloc: Global) -> Result<Diagnostic<usize>, Error> {
         .with_label(Label::primary(alloc, 7, 0..1))
 }
 
+/// Asserts that a file was missing, and that a writer has this text.
+fn assert_missing(rt: &impl Abort, failed: &Result<(), Error>, bytes: &[u8], text: &str) {
+    assert!(rt; matches!(failed, Err(Error::FileMissing)));
+    assert_bytes(rt, bytes, text);
+}
+
+/// Asserts that a string is unchanged.
+fn assert_unchanged(
+    rt: &impl Abort,
+    alloc: Global,
+    config: &Config<'_>,
+    files: &SimpleFiles<&str, &str>,
+    diagnostic: &Diagnostic<usize>,
+) -> Result<(), Error> {
+    let mut string = "kept".to_string(alloc)?;
+    let failed = emit_to_string(&mut string, config, files, diagnostic);
+    assert_missing(rt, &failed, string.as_bytes(), "kept");
+    Ok(())
+}
+
+/// Asserts that a file is missing by each call that emits to a writer, which then has this text, or
+/// to a string, which is unchanged.
+fn assert_half_missing(
+    rt: &impl Abort,
+    alloc: Global,
+    config: &Config<'_>,
+    written: &str,
+) -> Result<(), Error> {
+    let files = files_of(alloc, &[("f", "ab")])?;
+    let diagnostic = half_missing(alloc)?;
+    assert_unchanged(rt, alloc, config, &files, &diagnostic)?;
+    let mut plain = PlainWriter::new(Vec::new(alloc));
+    let failed = emit_to_write_style(&mut plain, config, &files, &diagnostic);
+    assert_missing(rt, &failed, plain.into_inner().as_slice(), written);
+    let mut bytes = Vec::new(alloc);
+    let failed = emit_to_io_write(&mut bytes, config, &files, &diagnostic);
+    assert_missing(rt, &failed, bytes.as_slice(), written);
+    Ok(())
+}
+
 /// The string is unchanged; a writer has the headers before the error, or in rich style nothing.
 #[test]
 fn missing_file(rt: HostRuntime) -> Result<(), Fail> {
-    let alloc = rt.alloc();
-    let files = files_of(alloc, &[("f", "ab")])?;
-    let diagnostic = half_missing(alloc)?;
     let rows = [
         (DisplayStyle::Rich, ""),
         (DisplayStyle::Medium, "f:1:1: error: m\n"),
         (DisplayStyle::Short, "f:1:1: error: m\n"),
     ];
     for (style, written) in rows {
-        let config = in_style(style);
-        let mut string = "kept".to_string(alloc)?;
-        let failed = emit_to_string(&mut string, &config, &files, &diagnostic);
-        assert!(rt; matches!(failed, Err(Error::FileMissing)));
-        assert_eq!(rt; string.as_str(), "kept");
-        let mut plain = PlainWriter::new(Vec::new(alloc));
-        let failed = emit_to_write_style(&mut plain, &config, &files, &diagnostic);
-        assert!(rt; matches!(failed, Err(Error::FileMissing)));
-        assert_eq!(rt; plain.into_inner().as_slice(), written.as_bytes());
-        let mut bytes = Vec::new(alloc);
-        let failed = emit_to_io_write(&mut bytes, &config, &files, &diagnostic);
-        assert!(rt; matches!(failed, Err(Error::FileMissing)));
-        assert_eq!(rt; bytes.as_slice(), written.as_bytes());
+        assert_half_missing(&rt, rt.alloc(), &in_style(style), written)?;
     }
     Ok(())
 }
