@@ -1,4 +1,4 @@
--- What a collected text holds after a value was written to it, and what a list views as with one copy more.
+-- Texts that a value was written to, and the views of a list with one element more.
 use Rattle.std.proofs.Common.{◌≡◌, ℕ, ◌+◌, ◌<◌, List, [], ◌∷◌, ◌++◌, length, get_or, take, map, Option, Some, None, IfSome, string_bytes, refl, sym, ap, ◌∙◌}
 use Rattle.std.specs.Prelude.{String}
 use Rattle.std.specs.Global.{Global}
