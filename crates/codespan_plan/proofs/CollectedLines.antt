@@ -1,5 +1,5 @@
 -- What is found of one line of a label, by the lines on which the label starts and ends.
-use Rattle.std.proofs.Common.{◌≡◌, ℕ, Bool, true, false, max, List, [], Option, None, ap, ◌∙◌, arith}
+use Rattle.std.proofs.Common.{◌≡◌, ℕ, Bool, true, false, max, List, [], None, ap, ◌∙◌, arith}
 use Rattle.std.specs.Prelude.{◌&&◌, ◌||◌, ◌==◌, decimal, fold, length, nat_le, if◌then◌else◌}
 use Rattle.std.proofs.lemmas.Bool.{and_from, le-leb, or_left, or_right}
 use Rattle.codespan_base.specs.Labels.{first_line, last_line}

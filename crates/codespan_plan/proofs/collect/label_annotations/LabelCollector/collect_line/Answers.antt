@@ -1,11 +1,10 @@
-use Rattle.std.proofs.Common.{◌≡◌, ◌<◌, ◌∙◌, false, true, rules, ap, subst, sym, [], Bool, List, ℕ}
+use Rattle.std.proofs.Common.{◌≡◌, ◌<◌, ◌∙◌, false, true, rules, ap, subst, sym, [], Bool, ℕ}
 use Rattle.std.specs.Prelude.{if◌then◌else◌}
 use Rattle.codespan_base.specs.FileModel.{line_count}
 use Rattle.codespan_plan.specs.Annotations.{line_annotations}
 use Rattle.codespan_plan.specs.AnnotationViews.{IsLineAt}
-use Rattle.codespan_plan.specs.CollectedLabels.{AddsLine, CollectedLabel, label_of_collector}
+use Rattle.codespan_plan.specs.CollectedLabels.{AddsLine, label_of_collector}
 use Rattle.codespan_plan.specs.LabelSpans.{spans_line}
-use Rattle.codespan_plan.specs.declared.annotation.Annotation.{Annotation as RustAnnotation}
 use Rattle.codespan_plan.specs.declared.collect.label_annotations.FoundAnnotations.{FoundAnnotations}
 use Rattle.codespan_picture.specs.Lookups.{is_looked_up}
 use Rattle.codespan_picture.specs.Picture.{label_of}
