@@ -3,7 +3,7 @@
 //! document, `gallery html NAME` as an HTML element, and `gallery terminal NAME` as text that is
 //! safe to print on a terminal. `gallery styles < CASES` writes the style sheet of HTML documents.
 //!
-//! [`gallery_cases::cases`] documents the input, and `tools/gallery/README.md` how the cases of the
+//! [`gallery_script::cases`] documents the input, and `tools/gallery/README.md` how the cases of the
 //! file `stdin` and their expected outputs were made.
 //!
 //! | status | standard output | standard error |
@@ -13,7 +13,8 @@
 //! | 2 | nothing: the arguments are wrong | one line: the usage |
 #![tactic(auto)]
 
-use gallery_cases::run::{conclude, run};
+use gallery_cases::run::run;
+use gallery_script::errors::conclude;
 use program_io::arguments::arguments;
 use std::process::ExitCode;
 

@@ -1,8 +1,5 @@
--- what is parsed of escapes, and of escaped texts
-pub mod Escaping
--- the last case, and cases parsed line by line
-pub mod LastCase
-pub mod LineByLine
+-- outputs that are appended one by one
+pub mod CaseByCase
 -- what holds over the file database of a case
 pub mod OneFile
 -- the runs of a case are those of its output

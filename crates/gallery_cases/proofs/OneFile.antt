@@ -2,11 +2,11 @@
 use Rattle.std.proofs.Common.{◌≡◌, ℕ, List, [], map, Result, Ok, Err, OnOk, IfOk, sym, subst}
 use Rattle.codespan_base.specs.declared.diagnostic.Diagnostic.{Diagnostic}
 use Rattle.codespan_base.specs.FileModel.{FileDatabase}
-use Rattle.gallery_cases.specs.declared.case.Case.{Case}
-use Rattle.gallery_cases.specs.declared.case.Table.TheVariants.{One, Several, Mapped}
-use Rattle.gallery_cases.specs.Cases.{file_view}
-use Rattle.gallery_cases.specs.CaseOutputs.{InTable, HoldsOfOnlyFile, HoldsOfAllFiles, BorrowedFile, Property, borrowed_view, mapped_database, several_database, simple_database, with_numbers}
-use Rattle.gallery_cases.specs.Database.{IsOnlyFile}
+use Rattle.gallery_script.specs.declared.case.Case.{Case}
+use Rattle.gallery_script.specs.declared.case.Table.TheVariants.{One, Several, Mapped}
+use Rattle.gallery_script.specs.Cases.{file_view}
+use Rattle.gallery_cases.specs.CaseOutputs.{InTable, HoldsOfOnlyFile, HoldsOfAllFiles, Property, mapped_database, several_database, simple_database}
+use Rattle.gallery_script.specs.Database.{BorrowedFile, IsOnlyFile, borrowed_view, with_numbers}
 
 -- it holds over all files of a case
 pub over_several : (case : Case) (files : List BorrowedFile) (Holds : Property) → case.table ≡ Several → map borrowed_view files ≡ map file_view case.files.items

@@ -2,11 +2,13 @@
 use Rattle.std.proofs.Common.{◌≤◌, IfErr, IfSome, OnOk, IsErrOf, Result, refl, sym, ap, ◌∙◌, ◌≡◌, ◌≢◌, ℕ, List, [], Option, Some, None, Ok, Err, subst, arith}
 use Rattle.std.specs.Option.{ok_or, option_map}
 use Rattle.std.specs.Str.Lines.{lines}
-use Rattle.gallery_cases.specs.declared.case.Case.{Case}
-use Rattle.gallery_cases.specs.declared.errors.RunError.{RunError}
-use Rattle.gallery_cases.specs.declared.errors.RunError.TheVariants.{WrongArguments, CannotReadInput, NotUtf8, Line, UnknownCase, CannotRender, OutOfMemory, CannotWriteOutput}
-use Rattle.gallery_cases.specs.Cases.{AppliesLines}
-use Rattle.gallery_cases.specs.Requests.{IsResponse, IsResponseOf, RequestView, ErrorMeans, IsStatusOf, IsFailureOf}
+use Rattle.gallery_script.specs.declared.case.Case.{Case}
+use Rattle.gallery_script.specs.declared.errors.RunError.{RunError}
+use Rattle.gallery_script.specs.declared.errors.RunError.TheVariants.{WrongArguments, CannotReadInput, NotUtf8, Line, UnknownCase, CannotRender, OutOfMemory, CannotWriteOutput}
+use Rattle.gallery_script.specs.Cases.{AppliesLines}
+use Rattle.gallery_script.specs.Errors.{IsStatusOf}
+use Rattle.gallery_script.specs.Requests.{RequestView}
+use Rattle.gallery_cases.specs.Requests.{IsResponse, IsResponseOf, ErrorMeans, IsFailureOf}
 
 -- the status is one of three
 pub status_at_most : (outcome : Result (Unit {0}) RunError) (status : ℕ) → IsStatusOf outcome status → status ≤ 2

@@ -1,5 +1,5 @@
 -- The runs of a case are those of its output: for `runs_over` and `runs_of_case`.
-use Rattle.std.proofs.Common.{◌≡◌, ℕ, List, IsSome, None, Some, Result, Ok, Err, IfOk, refl, ◌∙◌, ap}
+use Rattle.std.proofs.Common.{ℕ, List, IsSome, None, Some, Result, Ok, Err, IfOk, refl, ◌∙◌, ap}
 use Rattle.std.specs.List.{slice_get}
 use Rattle.std.specs.Prelude.{Contains}
 use Rattle.std.specs.Option.{option_map_or}
@@ -15,7 +15,7 @@ use Rattle.codespan_laws.proofs.StatedNames.{output_stated}
 use Rattle.codespan_styled.specs.Outputs.{EmitsRuns}
 use Rattle.codespan_styled.specs.Runs.{StyledRun, runs_of}
 use Rattle.gallery_cases.specs.Documents.{AreRunsOver}
-use Rattle.gallery_cases.specs.CaseOutputs.{BorrowedFile}
+use Rattle.gallery_script.specs.Database.{BorrowedFile}
 
 module _ {Id : Type 0} (config : Config) (files : FileDatabase Id) (d : Diagnostic Id) where
   -- where names are stated, the runs of an output with some loci are those of the output

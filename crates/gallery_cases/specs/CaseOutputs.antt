@@ -1,47 +1,17 @@
 -- The output of a case.
 use Rattle.std.specs.Prelude.{◌≡◌, ℕ, nat_eq, true, List, [], ◌∷◌, ◌++◌, map, Option, Some}
-use Rattle.std.specs.Borrow.{Bor}
 use Rattle.codespan_base.specs.declared.diagnostic.Diagnostic.{Diagnostic}
-use Rattle.codespan_base.specs.Diagnostics.{DiagnosticView, LabelView, diagnostic_view}
+use Rattle.codespan_base.specs.Diagnostics.{diagnostic_view}
 use Rattle.codespan_base.specs.declared.files.Error.{Error}
 use Rattle.codespan_base.specs.FileModel.{FileDatabase, FileModel, Lookup}
-use Rattle.codespan_base.specs.MappedModel.{mapped_file, mapped_failure, with_number}
+use Rattle.codespan_base.specs.MappedModel.{mapped_file, mapped_failure}
 use Rattle.codespan_base.specs.SimpleModel.{simple_file, simple_failure, database_file, database_failure}
 use Rattle.codespan_views.specs.Output.{IsRendered}
-use Rattle.gallery_cases.specs.declared.case.Case.{Case}
-use Rattle.gallery_cases.specs.declared.case.Table.{Table}
-use Rattle.gallery_cases.specs.declared.case.Table.TheVariants.{One, Several, Mapped}
-use Rattle.gallery_cases.specs.Cases.{file_view}
-
--- a label by the id of a database of one file
-abbrev pub label_by_unit_id : LabelView ℕ → LabelView (Unit {0})
-label_by_unit_id label =
-    record { style = label.style; file_id = tt; range = label.range; message = label.message }
-
--- a diagnostic by the id of a database of one file
-abbrev pub by_unit_id : DiagnosticView ℕ → DiagnosticView (Unit {0})
-by_unit_id diagnostic =
-    record {
-      severity = diagnostic.severity;
-      code = diagnostic.code;
-      message = diagnostic.message;
-      labels = map label_by_unit_id diagnostic.labels;
-      notes = diagnostic.notes;
-    }
-
--- the settings of line numbers after those of a list, one after another
-abbrev pub with_numbers : List (ℕ × ℕ) → List (ℕ × ℕ) → List (ℕ × ℕ)
-with_numbers settings [] = settings
-with_numbers settings (setting ∷ more) =
-    with_numbers (with_number setting.0 setting.1 settings) more
-
--- a borrowed name and source
-abbrev pub BorrowedFile : Type 0
-BorrowedFile = Bor (List ℕ) × Bor (List ℕ)
-
--- the same by their texts
-abbrev pub borrowed_view : BorrowedFile → List ℕ × List ℕ
-borrowed_view file = (file.0.now, file.1.now)
+use Rattle.gallery_script.specs.declared.case.Case.{Case}
+use Rattle.gallery_script.specs.declared.case.Table.{Table}
+use Rattle.gallery_script.specs.declared.case.Table.TheVariants.{One, Several, Mapped}
+use Rattle.gallery_script.specs.Cases.{file_view}
+use Rattle.gallery_script.specs.Database.{BorrowedFile, borrowed_view, by_unit_id, with_numbers}
 
 -- ---- file databases
 

@@ -1,6 +1,5 @@
 -- Documents in colors of the output of a case.
-use Rattle.std.specs.Prelude.{◌≡◌, ℕ, List, ◌++◌, codes, Option, Some, None, if◌then◌else◌}
-use Rattle.std.specs.Str.{bytes_eq}
+use Rattle.std.specs.Prelude.{◌≡◌, ℕ, List, ◌++◌}
 use Rattle.codespan_base.specs.declared.term.config.Config.{Config}
 use Rattle.codespan_base.specs.declared.diagnostic.Diagnostic.{Diagnostic}
 use Rattle.codespan_base.specs.FileModel.{FileDatabase}
@@ -12,18 +11,10 @@ use Rattle.codespan_styled.specs.Html.{html_document}
 use Rattle.codespan_styled.specs.Runs.{StyledRun, runs_of}
 use Rattle.codespan_styled.specs.Svg.{svg_document}
 use Rattle.codespan_styled.specs.Terminal.{terminal_text}
-use Rattle.gallery_cases.specs.declared.case.Case.{Case}
-use Rattle.gallery_cases.specs.declared.document.Format.{Format}
-use Rattle.gallery_cases.specs.declared.document.Format.TheVariants.{Html, Svg, Terminal}
+use Rattle.gallery_script.specs.declared.case.Case.{Case}
+use Rattle.gallery_script.specs.declared.request.Format.{Format}
+use Rattle.gallery_script.specs.declared.request.Format.TheVariants.{Html, Svg, Terminal}
 use Rattle.gallery_cases.specs.CaseOutputs.{InTable}
-
--- the form of a name
-abbrev pub format_named : List ℕ → Option Format
-format_named name =
-    if bytes_eq name (codes "svg") then Some Svg
-    else if bytes_eq name (codes "html") then Some Html
-    else if bytes_eq name (codes "terminal") then Some Terminal
-    else None
 
 -- the runs are those of an output; no lookup fails
 pub record AreRunsOver {Id : Type 0} (config : Config) (files : FileDatabase Id)

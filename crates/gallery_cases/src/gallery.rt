@@ -1,15 +1,16 @@
 //! The output of every case, each under its name.
 
 ghost use Rattle.std.specs.Prelude.{◌≡◌, ℕ, List, ◌++◌, IfOk, OnOk};
-ghost use Rattle.gallery_cases.specs.declared.case.Colors.TheVariants.{Plain, Svg};
+ghost use Rattle.gallery_script.specs.declared.case.Colors.TheVariants.{Plain, Svg};
 ghost use Rattle.gallery_cases.specs.CaseOutputs.{AppendsOutput};
 ghost use Rattle.gallery_cases.specs.Documents.{AppendsSvg};
 ghost use Rattle.gallery_cases.specs.Galleries.{title, shown, IsSection, IsGallery, IsErrorLine};
 
-use crate::case::{Case, Colors};
-use crate::document::{Format, document};
+use crate::document::document;
 use crate::rendering::render;
 use codespan_base::files::Error;
+use gallery_script::case::{Case, Colors};
+use gallery_script::request::Format;
 use std::alloc::{AllocError, Global};
 
 /// Returns the sections of the cases, one after another.

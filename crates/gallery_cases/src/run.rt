@@ -2,16 +2,16 @@
 
 ghost use Rattle.std.specs.Prelude.{◌≡◌, ◌≢◌, ◌≤◌, ◌↔◌, ℕ, List, MatchResult, None, OnOk, IfErr, IfOk, IfSome, IsErrAnd, IsErrOf, IsOkAnd, map, string_bytes};
 ghost use Rattle.std.specs.Io.KnownBytes.{Appends};
-ghost use Rattle.std.specs.Option.{option_copied};
-ghost use Rattle.gallery_cases.specs.Requests.{IsResponse, IsResponseOf, ErrorMeans, IsStatusOf, IsFailureOf, request_of, case_named, request_view};
+ghost use Rattle.gallery_cases.specs.Requests.{IsResponse, IsResponseOf, ErrorMeans, IsFailureOf};
+ghost use Rattle.gallery_script.specs.Requests.{request_of, request_view};
 
-use crate::case::Case;
-use crate::cases::parse_cases;
 use crate::document::{default_style_sheet, document};
-use crate::errors::RunError;
 use crate::gallery::render_cases;
-use crate::request::Request;
 use codespan_base::files::Error;
+use gallery_script::case::Case;
+use gallery_script::cases::{named, parse_cases};
+use gallery_script::errors::{RunError, conclude};
+use gallery_script::request::Request;
 use program_io::input::read_text;
 use program_io::output::write_and_flush;
 use std::alloc::Global;
@@ -40,24 +40,6 @@ pub fn run<R: Read, W: Write, E: Write>(
         × Appends (W.contents output.old) (W.contents output.new) response)) }
 {
     conclude(show(alloc, args, input, output), error_output)
-}
-
-/// Writes the error, if there is one, in one line, and returns the program's status. An error of
-/// `error_output` is ignored.
-pub fn conclude<E: Write>(outcome: Result<(), RunError>, error_output: &mut E) -> u8
-    ensures status { IsStatusOf outcome result }
-    ensures no_error { OnOk outcome (error_output.new ≡ error_output.old) }
-{
-    match outcome {
-        Ok(()) => 0,
-        Err(error) => {
-            let _ = error.write_line(error_output);
-            match error {
-                RunError::WrongArguments => 2,
-                _ => 1,
-            }
-        }
-    }
 }
 
 /// Reads the cases, renders what is requested, and writes it.
@@ -127,16 +109,4 @@ fn bytes_of(document: Result<String, Error>) -> Result<Vec<u8>, RunError>
         Ok(document) => Ok(document.into_bytes()),
         Err(error) => Err(RunError::CannotRender(error)),
     }
-}
-
-/// Returns the first case of a name.
-fn named<'cases, 'input>(cases: &'cases [Case<'input>], name: &str) -> Option<&'cases Case<'input>>
-    ensures { option_copied result ≡ case_named name.now cases.now }
-{
-    for case in cases {
-        if case.name == name {
-            return Some(case);
-        }
-    }
-    None
 }

@@ -1,5 +1,5 @@
 use Rattle.std.proofs.Common.{◌∙◌, ◌++◌, ap, arith}
-use Rattle.gallery_cases.proofs.LineByLine.{next_case}
+use Rattle.gallery_cases.proofs.CaseByCase.{next_case}
 use Rattle.gallery_cases.proofs.gallery.render_cases.Goals as goal
 
 pub loop-case-preserved : goal.loop-case-preserved

@@ -1,8 +1,9 @@
 use Rattle.std.proofs.Common.{List, ℕ, IfSome, map, rules, string_bytes, subst, sym}
 use Rattle.std.specs.Str.Lines.{lines}
-use Rattle.gallery_cases.specs.declared.case.Case.{Case}
-use Rattle.gallery_cases.specs.Cases.{AppliesLines}
-use Rattle.gallery_cases.specs.Requests.{IsResponseOf, ErrorMeans, IsFailureOf, request_of, request_view}
+use Rattle.gallery_script.specs.declared.case.Case.{Case}
+use Rattle.gallery_script.specs.Cases.{AppliesLines}
+use Rattle.gallery_script.specs.Requests.{request_of, request_view}
+use Rattle.gallery_cases.specs.Requests.{IsResponseOf, ErrorMeans, IsFailureOf}
 use Rattle.gallery_cases.proofs.Outcomes.{responded, requested, failed}
 use Rattle.gallery_cases.proofs.run.show.Goals as goal
 

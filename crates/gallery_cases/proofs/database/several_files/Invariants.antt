@@ -1,8 +1,0 @@
-use Rattle.std.proofs.Common.{◌≡◌, map, take}
-use Rattle.codespan_base.specs.DatabaseViews.{entries}
-use Rattle.gallery_cases.specs.Cases.{file_view}
-use Rattle.gallery_cases.specs.CaseOutputs.{borrowed_view}
-use Rattle.gallery_cases.proofs.database.several_files.Given as goal
-
-abbrev pub invariant-loop-file : goal.invariant-loop-file
-invariant-loop-file l = map borrowed_view (entries l.table) ≡ map file_view (take l.file-index l.files)

@@ -1,0 +1,39 @@
+use Rattle.std.proofs.Common.{◌∙◌, refl, sym, arith}
+use Rattle.std.specs.Char.{encode_utf8}
+use Rattle.gallery_script.proofs.Escaping.{letter_read, no_escape}
+use Rattle.gallery_script.proofs.escape.read_escape.Goals as goal
+
+pub returns-in_default-clause-read : goal.returns-in_default-clause-read
+returns-in_default-clause-read c =
+    no_escape c.args.text.now c.next.new.self.rest.now c.in_ok-letter.letter (sym c.chars-characters.ensures.rest ∙ c.in_ok-letter.ensures.steps.0)
+    (omega arith) (omega arith) (omega arith) (omega arith) (omega arith) (omega arith)
+
+pub returns-in-n-clause-read : goal.returns-in-n-clause-read
+unfolding encode_utf8
+returns-in-n-clause-read c =
+    letter_read c.args.text.now c.next.new.self.rest.now c.as_str-left.result.now 110 10
+    (rw c.in-n.is at (sym c.chars-characters.ensures.rest ∙ c.in_ok-letter.ensures.steps.0)) c.as_str-left.ensures (omega arith) refl
+
+pub returns-in-r-clause-read : goal.returns-in-r-clause-read
+unfolding encode_utf8
+returns-in-r-clause-read c =
+    letter_read c.args.text.now c.next.new.self.rest.now c.as_str-left.result.now 114 13
+    (rw c.in-r.is at (sym c.chars-characters.ensures.rest ∙ c.in_ok-letter.ensures.steps.0)) c.as_str-left.ensures (omega arith) refl
+
+pub returns-in-t-clause-read : goal.returns-in-t-clause-read
+unfolding encode_utf8
+returns-in-t-clause-read c =
+    letter_read c.args.text.now c.next.new.self.rest.now c.as_str-left.result.now 116 9
+    (rw c.in-t.is at (sym c.chars-characters.ensures.rest ∙ c.in_ok-letter.ensures.steps.0)) c.as_str-left.ensures (omega arith) refl
+
+pub returns-in-0-clause-read : goal.returns-in-0-clause-read
+unfolding encode_utf8
+returns-in-0-clause-read c =
+    letter_read c.args.text.now c.next.new.self.rest.now c.as_str-left.result.now 48 0
+    (rw c.in-0.is at (sym c.chars-characters.ensures.rest ∙ c.in_ok-letter.ensures.steps.0)) c.as_str-left.ensures (omega arith) refl
+
+pub returns-in-92-clause-read : goal.returns-in-92-clause-read
+unfolding encode_utf8
+returns-in-92-clause-read c =
+    letter_read c.args.text.now c.next.new.self.rest.now c.as_str-left.result.now 92 92
+    (rw c.in-92.is at (sym c.chars-characters.ensures.rest ∙ c.in_ok-letter.ensures.steps.0)) c.as_str-left.ensures (omega arith) refl

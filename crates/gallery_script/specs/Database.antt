@@ -1,0 +1,61 @@
+-- The file database of a case.
+use Rattle.std.specs.Prelude.{◌≡◌, ℕ, List, [], ◌∷◌, map}
+use Rattle.std.specs.Borrow.{Bor}
+use Rattle.codespan_base.specs.declared.diagnostic.Diagnostic.{Diagnostic}
+use Rattle.codespan_base.specs.Diagnostics.{DiagnosticView, LabelView, diagnostic_view}
+use Rattle.codespan_base.specs.MappedModel.{with_number}
+use Rattle.codespan_base.specs.DatabaseViews.{entries, mapped_name_of, mapped_source_of, name_of, settings_of, source_of}
+use Rattle.gallery_script.specs.declared.case.Case.{Case}
+use Rattle.gallery_script.specs.declared.case.Table.TheVariants as database
+use Rattle.gallery_script.specs.declared.database.Database.{Database}
+use Rattle.gallery_script.specs.declared.database.Database.TheVariants.{One, Several, Mapped}
+use Rattle.gallery_script.specs.Cases.{file_view}
+
+-- a label by the id of a database of one file
+abbrev pub label_by_unit_id : LabelView ℕ → LabelView (Unit {0})
+label_by_unit_id label =
+    record { style = label.style; file_id = tt; range = label.range; message = label.message }
+
+-- a diagnostic by the id of a database of one file
+abbrev pub by_unit_id : DiagnosticView ℕ → DiagnosticView (Unit {0})
+by_unit_id diagnostic =
+    record {
+      severity = diagnostic.severity;
+      code = diagnostic.code;
+      message = diagnostic.message;
+      labels = map label_by_unit_id diagnostic.labels;
+      notes = diagnostic.notes;
+    }
+
+-- the settings of line numbers after those of a list, one after another
+abbrev pub with_numbers : List (ℕ × ℕ) → List (ℕ × ℕ) → List (ℕ × ℕ)
+with_numbers settings [] = settings
+with_numbers settings (setting ∷ more) =
+    with_numbers (with_number setting.0 setting.1 settings) more
+
+-- a borrowed name and source
+abbrev pub BorrowedFile : Type 0
+BorrowedFile = Bor (List ℕ) × Bor (List ℕ)
+
+-- the same by their texts
+abbrev pub borrowed_view : BorrowedFile → List ℕ × List ℕ
+borrowed_view file = (file.0.now, file.1.now)
+
+-- the only file of a case has this name and this source, and this is its diagnostic by the file's
+-- id
+pub record IsOnlyFile (case : Case) (name source : List ℕ)
+    (diagnostic : Diagnostic (Unit {0})) : Type 0 where
+  pub only : map file_view case.files.items ≡ (name, source) ∷ []
+  pub same : diagnostic_view diagnostic ≡ by_unit_id (diagnostic_view case.diagnostic)
+
+-- this is the file database of a case
+abbrev pub IsDatabaseOf : Case → Database → Type 0
+IsDatabaseOf case (One file diagnostic) =
+    (case.table ≡ database.One) × IsOnlyFile case (name_of file).now (source_of file).now diagnostic
+IsDatabaseOf case (Several files) =
+    (case.table ≡ database.Several)
+    × (map borrowed_view (entries files) ≡ map file_view case.files.items)
+IsDatabaseOf case (Mapped file diagnostic) =
+    (case.table ≡ database.Mapped) × IsOnlyFile case (mapped_name_of file).now
+    (mapped_source_of file).now diagnostic
+    × (settings_of file ≡ with_numbers [] case.numbers.items)

@@ -1,0 +1,14 @@
+-- the fields and the words of lines, and the names that may follow these
+pub mod Fields
+pub mod Words
+-- texts with escapes
+pub mod Escapes
+-- what a line describes, and what it does to the cases before it
+pub mod Statements
+pub mod Cases
+-- the file database of a case
+pub mod Database
+-- what the arguments request
+pub mod Requests
+-- the errors of a run, and its status
+pub mod Errors

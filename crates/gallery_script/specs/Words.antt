@@ -1,0 +1,93 @@
+-- The words of lines, and the names that may follow them.
+use Rattle.std.specs.Prelude.{ℕ, List, Option, Some, None, codes, if◌then◌else◌}
+use Rattle.std.specs.Str.{bytes_eq}
+use Rattle.codespan_base.specs.declared.diagnostic.Severity as severities
+use Rattle.codespan_base.specs.declared.diagnostic.Severity.TheVariants as severity
+use Rattle.codespan_base.specs.declared.term.config.DisplayStyle.{DisplayStyle}
+use Rattle.codespan_base.specs.declared.term.config.DisplayStyle.TheVariants.{Rich, Medium, Short}
+use Rattle.codespan_base.specs.declared.term.config.Layout as layouts
+use Rattle.codespan_base.specs.declared.term.config.Layout.TheVariants.{Classic, Unbroken}
+use Rattle.codespan_base.specs.declared.term.config.chars.Chars.{Chars}
+use Rattle.codespan_base.specs.Characters.{box_drawing, ascii}
+use Rattle.gallery_script.specs.declared.case.Table as database
+use Rattle.gallery_script.specs.declared.case.Table.TheVariants.{One, Several, Mapped}
+use Rattle.gallery_script.specs.declared.case.Colors as colors
+use Rattle.gallery_script.specs.declared.case.Colors.TheVariants.{Plain, Ansi, Svg}
+use Rattle.gallery_script.specs.declared.case.CharacterSet.{CharacterSet}
+use Rattle.gallery_script.specs.declared.case.CharacterSet.TheVariants as sets
+use Rattle.gallery_script.specs.declared.words.Word.{Word}
+use Rattle.gallery_script.specs.declared.words.Word.TheVariants.{Table, File, Source, Number, Style, Layout, Tab, Context, Characters, Colors, Severity, Code, Message, Primary, Secondary, Note}
+
+-- the word of this spelling
+unfoldable pub word_named : List ℕ → Option Word
+word_named text =
+    if bytes_eq text (codes "table") then Some Table
+    else if bytes_eq text (codes "file") then Some File
+    else if bytes_eq text (codes "|") then Some Source
+    else if bytes_eq text (codes "number") then Some Number
+    else if bytes_eq text (codes "style") then Some Style
+    else if bytes_eq text (codes "layout") then Some Layout
+    else if bytes_eq text (codes "tab") then Some Tab
+    else if bytes_eq text (codes "context") then Some Context
+    else if bytes_eq text (codes "characters") then Some Characters
+    else if bytes_eq text (codes "colours") then Some Colors
+    else if bytes_eq text (codes "severity") then Some Severity
+    else if bytes_eq text (codes "code") then Some Code
+    else if bytes_eq text (codes "message") then Some Message
+    else if bytes_eq text (codes "primary") then Some Primary
+    else if bytes_eq text (codes "secondary") then Some Secondary
+    else if bytes_eq text (codes "note") then Some Note
+    else None
+
+-- the kind of file database of this name
+unfoldable pub table_named : List ℕ → Option database.Table
+table_named text =
+    if bytes_eq text (codes "one") then Some One
+    else if bytes_eq text (codes "several") then Some Several
+    else if bytes_eq text (codes "mapped") then Some Mapped
+    else None
+
+-- the style of this name
+unfoldable pub style_named : List ℕ → Option DisplayStyle
+style_named text =
+    if bytes_eq text (codes "rich") then Some Rich
+    else if bytes_eq text (codes "medium") then Some Medium
+    else if bytes_eq text (codes "short") then Some Short
+    else None
+
+-- the layout of this name
+unfoldable pub layout_named : List ℕ → Option layouts.Layout
+layout_named text =
+    if bytes_eq text (codes "classic") then Some Classic
+    else if bytes_eq text (codes "unbroken") then Some Unbroken
+    else None
+
+-- the characters of this name
+unfoldable pub characters_named : List ℕ → Option CharacterSet
+characters_named text =
+    if bytes_eq text (codes "box") then Some sets.Box
+    else if bytes_eq text (codes "ascii") then Some sets.Ascii
+    else None
+
+-- the way to write colors of this name
+unfoldable pub colors_named : List ℕ → Option colors.Colors
+colors_named text =
+    if bytes_eq text (codes "none") then Some Plain
+    else if bytes_eq text (codes "ansi") then Some Ansi
+    else if bytes_eq text (codes "svg") then Some Svg
+    else None
+
+-- the severity of this name
+unfoldable pub severity_named : List ℕ → Option severities.Severity
+severity_named text =
+    if bytes_eq text (codes "bug") then Some severity.Bug
+    else if bytes_eq text (codes "error") then Some severity.Error
+    else if bytes_eq text (codes "warning") then Some severity.Warning
+    else if bytes_eq text (codes "note") then Some severity.Note
+    else if bytes_eq text (codes "help") then Some severity.Help
+    else None
+
+-- the characters of a set
+abbrev pub chars_of : CharacterSet → Chars
+chars_of sets.Box = box_drawing
+chars_of sets.Ascii = ascii

@@ -1,0 +1,180 @@
+//! A case: a diagnostic, its files, and a configuration.
+
+ghost use Rattle.std.specs.Prelude.{◌≡◌, ◌⊎◌, [], ◌∷◌, ◌++◌, map, OnOk, IfErr, string_bytes};
+ghost use Rattle.codespan_base.specs.ConfigEquality.{IsChars};
+ghost use Rattle.gallery_script.specs.Cases.{IsNew, Applies, IsSource, ContinuesSource, file_view};
+ghost use Rattle.gallery_script.specs.Words.{chars_of};
+ghost use Rattle.gallery_script.specs.declared.errors.LineError.TheVariants.{NoFile, OutOfMemory};
+
+use crate::errors::LineError;
+use crate::statement::{Context, Statement};
+use codespan_base::diagnostic::Diagnostic;
+use codespan_base::term::{Chars, Config};
+use std::alloc::Global;
+
+/// The type of the file database of a case.
+#[derive(Clone, Copy)]
+pub enum Table {
+    /// A `SimpleFile`.
+    One,
+    /// `SimpleFiles`.
+    Several,
+    /// A `MappedFile`.
+    Mapped,
+}
+
+/// A set of characters for borders, carets and lanes.
+#[derive(Clone, Copy)]
+pub enum CharacterSet {
+    /// Those of box drawing.
+    Box,
+    /// ASCII alone.
+    Ascii,
+}
+
+impl CharacterSet {
+    /// Returns the characters of this set.
+    pub fn chars<'chars>(self) -> Chars<'chars>
+        ensures { IsChars (chars_of self) result }
+    {
+        match self {
+            CharacterSet::Box => Chars::box_drawing(),
+            CharacterSet::Ascii => Chars::ascii(),
+        }
+    }
+}
+
+/// How colors are written.
+#[derive(Clone, Copy, PartialEq, Eq)]
+pub enum Colors {
+    /// Not at all.
+    Plain,
+    /// By escape sequences.
+    Ansi,
+    /// As an SVG document.
+    Svg,
+}
+
+/// A file of a case.
+#[derive(Drop)]
+pub struct File {
+    /// The displayed name.
+    pub name: String,
+    /// The source.
+    pub source: String,
+}
+
+/// A diagnostic to be rendered.
+#[derive(Drop)]
+pub struct Case<'input> {
+    /// The name of the case, its heading.
+    pub name: &'input str,
+    /// The type of the file database.
+    pub table: Table,
+    /// The files in their order.
+    pub files: Vec<File>,
+    /// The lines whose numbers are set, by their indices from 0, with these numbers. Only a
+    /// `MappedFile` uses them.
+    pub numbers: Vec<(usize, usize)>,
+    /// The configuration.
+    pub config: Config<'input>,
+    /// How colors are written.
+    pub colors: Colors,
+    /// The diagnostic.
+    pub diagnostic: Diagnostic<usize>,
+}
+
+impl<'input> Case<'input> {
+    /// Returns a case of this name alone: an empty error, by the default configuration, without
+    /// colors.
+    pub fn new(alloc: Global, name: &'input str) -> Case<'input>
+        ensures { IsNew name.now result }
+    {
+        Case {
+            name,
+            table: Table::Several,
+            files: Vec::new(alloc),
+            numbers: Vec::new(alloc),
+            config: Config::default(),
+            colors: Colors::Plain,
+            diagnostic: Diagnostic::error(alloc),
+        }
+    }
+
+    /// Applies a statement. It replaces an earlier one of the same kind, unless the kind adds to a
+    /// list.
+    ///
+    /// # Errors
+    ///
+    /// `NoFile` for the continuation of a source if there is no file, and `OutOfMemory` if an
+    /// allocation fails.
+    pub fn apply(&mut self, statement: Statement) -> Result<(), LineError>
+        ensures applied { OnOk result (Applies statement self.old self.new) }
+        ensures failed { IfErr result (λ line_error. (line_error ≡ OutOfMemory)
+            ⊎ ((line_error ≡ NoFile) × IsSource statement × (self.old.files.items ≡ []))) }
+    {
+        match statement {
+            Statement::Table(table) => self.table = table,
+            Statement::File(name) => self.add_file(name)?,
+            Statement::Source(text) => self.add_source(text.as_str())?,
+            Statement::Number(line, number) => self.numbers.push((line, number))?,
+            Statement::Style(style) => self.config.display_style = style,
+            Statement::Layout(layout) => self.config.layout = layout,
+            Statement::Tab(width) => self.config.tab_width = width,
+            Statement::Context(context) => self.set_context(context),
+            Statement::Characters(set) => self.config.chars = set.chars(),
+            Statement::Colors(colors) => self.colors = colors,
+            Statement::Severity(severity) => self.diagnostic.severity = severity,
+            Statement::Code(code) => self.diagnostic.code = Some(code),
+            Statement::Message(message) => self.diagnostic.message = message,
+            Statement::Label(label) => self.diagnostic.labels.push(label)?,
+            Statement::Note(note) => self.diagnostic.notes.push(note)?,
+        }
+        Ok(())
+    }
+
+    /// Adds a file with an empty source.
+    fn add_file(&mut self, name: String) -> Result<(), LineError>
+        ensures others { self.new ≡ record self.old { files = self.new.files } }
+        ensures files { OnOk result (map file_view self.new.files.items
+            ≡ map file_view self.old.files.items ++ (string_bytes name, []) ∷ []) }
+        ensures failed { IfErr result (λ line_error. line_error ≡ OutOfMemory) }
+    {
+        let source = String::new(*self.files.allocator());
+        self.files.push(File { name, source })?;
+        Ok(())
+    }
+
+    /// Appends a text to the source of the last file.
+    fn add_source(&mut self, text: &str) -> Result<(), LineError>
+        ensures others { self.new ≡ record self.old { files = self.new.files } }
+        ensures files { OnOk result
+            (ContinuesSource text.now (map file_view self.old.files.items)
+            (map file_view self.new.files.items)) }
+        ensures failed { IfErr result (λ line_error. (line_error ≡ OutOfMemory)
+            ⊎ ((line_error ≡ NoFile) × (self.old.files.items ≡ []))) }
+    {
+        let Some(file) = self.files.last_mut() else {
+            return Err(LineError::NoFile);
+        };
+        file.source.push_str(text)?;
+        Ok(())
+    }
+
+    /// Sets how many lines are shown around those of labels.
+    fn set_context(&mut self, context: Context)
+        ensures { self.new ≡ record self.old {
+          config = record self.old.config {
+            start_context_lines = context.start;
+            end_context_lines = context.end;
+            before_label_lines = context.before;
+            after_label_lines = context.after;
+          };
+        } }
+    {
+        self.config.start_context_lines = context.start;
+        self.config.end_context_lines = context.end;
+        self.config.before_label_lines = context.before;
+        self.config.after_label_lines = context.after;
+    }
+}

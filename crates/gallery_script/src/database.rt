@@ -1,0 +1,120 @@
+//! The file database of a case.
+
+ghost use Rattle.std.specs.Prelude.{◌≡◌, ◌∷◌, [], map, IfOk};
+ghost use Rattle.codespan_base.specs.Diagnostics.{diagnostic_view, label_view};
+ghost use Rattle.codespan_base.specs.DatabaseViews.{entries, mapped_name_of, mapped_source_of, settings_of};
+ghost use Rattle.gallery_script.specs.Cases.{file_view};
+ghost use Rattle.gallery_script.specs.Database.{IsDatabaseOf, by_unit_id, label_by_unit_id, borrowed_view, with_numbers};
+
+use crate::case::{Case, File, Table};
+use codespan_base::diagnostic::{Diagnostic, Label};
+use codespan_base::files::{Error, MappedFile, SimpleFile, SimpleFiles};
+use std::alloc::Global;
+
+/// The file database of a case; for a database of one file, with the diagnostic by its id.
+#[derive(Drop)]
+pub enum Database<'case> {
+    /// A database of one file.
+    One(SimpleFile<&'case str, &'case str>, Diagnostic<()>),
+    /// A database of all files; the case has the diagnostic by their ids.
+    Several(SimpleFiles<&'case str, &'case str>),
+    /// A database of one file, with the line numbers that are set.
+    Mapped(MappedFile<&'case str, &'case str>, Diagnostic<()>),
+}
+
+/// Returns the file database of a case.
+///
+/// # Errors
+///
+/// `FileMissing` if a database of one file has another number of files, or a label is in another
+/// file; `OutOfMemory` if an allocation fails.
+pub fn database_of<'case>(alloc: Global, case: &'case Case<'_>) -> Result<Database<'case>, Error>
+    ensures { IfOk result (IsDatabaseOf case.now) }
+{
+    match case.table {
+        Table::One => {
+            let file = only_file(case.files.as_slice())?;
+            let files = SimpleFile::new(alloc, file.name.as_str(), file.source.as_str())?;
+            Ok(Database::One(files, in_one_file(alloc, &case.diagnostic)?))
+        }
+        Table::Several => Ok(Database::Several(several_files(alloc, case.files.as_slice())?)),
+        Table::Mapped => {
+            let file = only_file(case.files.as_slice())?;
+            let files = mapped_file(alloc, file, case.numbers.as_slice())?;
+            Ok(Database::Mapped(files, in_one_file(alloc, &case.diagnostic)?))
+        }
+    }
+}
+
+/// Returns the file, if there is exactly one.
+fn only_file(files: &[File]) -> Result<&File, Error>
+    ensures { IfOk result (λ file. files.now ≡ file.now ∷ []) }
+{
+    match files {
+        [file] => Ok(file),
+        _ => Err(Error::FileMissing),
+    }
+}
+
+/// Returns a database of the files.
+fn several_files(alloc: Global, files: &[File]) -> Result<SimpleFiles<&str, &str>, Error>
+    ensures { IfOk result (λ table. map borrowed_view (entries table) ≡ map file_view files.now) }
+{
+    let mut table = SimpleFiles::new(alloc);
+    for file in files {
+        table.add(file.name.as_str(), file.source.as_str())?;
+    }
+    Ok(table)
+}
+
+/// Returns the file, with the line numbers that are set.
+fn mapped_file<'case>(
+    alloc: Global,
+    file: &'case File,
+    numbers: &[(usize, usize)],
+) -> Result<MappedFile<&'case str, &'case str>, Error>
+    ensures file { IfOk result (λ mapped.
+        ((mapped_name_of mapped).now, (mapped_source_of mapped).now) ≡ file_view file.now) }
+    ensures numbers { IfOk result (λ mapped. settings_of mapped ≡ with_numbers [] numbers.now) }
+{
+    let mut mapped = MappedFile::new(alloc, file.name.as_str(), file.source.as_str())?;
+    for (line, number) in numbers {
+        mapped.set_line(*line, *number)?;
+    }
+    Ok(mapped)
+}
+
+/// Returns the diagnostic by the id of a database of one file.
+fn in_one_file(alloc: Global, diagnostic: &Diagnostic<usize>) -> Result<Diagnostic<()>, Error>
+    ensures { IfOk result (λ converted. diagnostic_view converted
+        ≡ by_unit_id (diagnostic_view diagnostic.now)) }
+{
+    let diagnostic = diagnostic.clone()?;
+    let mut labels = Vec::new(alloc);
+    for label in diagnostic.labels.as_slice() {
+        labels.push(in_this_file(label)?)?;
+    }
+    Ok(Diagnostic {
+        severity: diagnostic.severity,
+        code: diagnostic.code,
+        message: diagnostic.message,
+        labels,
+        notes: diagnostic.notes,
+    })
+}
+
+/// Returns the label by the id of a database of one file.
+fn in_this_file(label: &Label<usize>) -> Result<Label<()>, Error>
+    ensures { IfOk result (λ converted. label_view converted
+        ≡ label_by_unit_id (label_view label.now)) }
+{
+    if label.file_id != 0 {
+        return Err(Error::FileMissing);
+    }
+    Ok(Label {
+        style: label.style,
+        file_id: (),
+        range: label.range.start..label.range.end,
+        message: label.message.clone()?,
+    })
+}

@@ -1,0 +1,79 @@
+//! Texts with escapes.
+
+ghost use Rattle.std.specs.Prelude.{◌≡◌, ◌⊎◌, ℕ, ◌≤◌, ◌<◌, length, IfSome, MatchResult, Some, None, string_bytes};
+ghost use Rattle.std.specs.Option.{option_map};
+ghost use Rattle.gallery_script.specs.Escapes.{Unescapes, ReadsEscape, ReadsNumbered, IsNumbered};
+ghost use Rattle.gallery_script.specs.declared.errors.LineError.TheVariants.{BadEscape, OutOfMemory};
+
+use crate::errors::LineError;
+use std::alloc::Global;
+
+/// Returns the text that an escaped one stands for.
+///
+/// | escape | stands for |
+/// |---|---|
+/// | `\n` | the newline |
+/// | `\r` | the carriage return |
+/// | `\t` | the tab |
+/// | `\0` | the character of the number 0 |
+/// | `\\` | the backslash |
+/// | `\u{HEX}` | the character of a number in hexadecimal digits |
+pub fn unescape(alloc: Global, text: &str) -> Result<String, LineError>
+    ensures { MatchResult result (λ unescaped. Unescapes text.now (Some (string_bytes unescaped)))
+        (λ line_error. (line_error ≡ OutOfMemory) ⊎
+        ((line_error ≡ BadEscape) × Unescapes text.now None)) }
+{
+    let mut unescaped = String::new(alloc);
+    let mut rest = text;
+    'escapes: while let Some((plain, escape)) = rest.split_once('\\') {
+        unescaped.push_str(plain)?;
+        let Some((character, left)) = read_escape(escape) else {
+            return Err(LineError::BadEscape);
+        };
+        unescaped.push(character)?;
+        rest = left;
+    }
+    unescaped.push_str(rest)?;
+    Ok(unescaped)
+}
+
+/// Parses the escape at the start of a text, after its backslash, and returns its character with
+/// what follows.
+fn read_escape(text: &str) -> Option<(char, &str)>
+    ensures read { ReadsEscape text.now (option_map (λ read. (read.0, read.1.now)) result) }
+    ensures shorter { IfSome result (λ read. length read.1.now < length text.now) }
+{
+    let mut characters = text.chars();
+    let letter = characters.next()?;
+    let left = characters.as_str();
+    match letter {
+        'n' => Some(('\n', left)),
+        'r' => Some(('\r', left)),
+        't' => Some(('\t', left)),
+        '0' => Some(('\0', left)),
+        '\\' => Some(('\\', left)),
+        'u' => read_numbered(left),
+        _ => None,
+    }
+}
+
+/// Parses the number in braces at the start of a text, and returns its character with what follows.
+fn read_numbered(text: &str) -> Option<(char, &str)>
+    ensures read { ReadsNumbered text.now (option_map (λ read. (read.0, read.1.now)) result) }
+    ensures shorter { IfSome result (λ read. length read.1.now ≤ length text.now) }
+{
+    let braced = text.strip_prefix('{')?;
+    let (digits, left) = braced.split_once('}')?;
+    Some((numbered_character(digits)?, left))
+}
+
+/// Returns the character of a number in hexadecimal digits, if there is one.
+fn numbered_character(digits: &str) -> Option<char>
+    ensures found { IfSome result (IsNumbered digits.now) }
+    ensures absent { result ≡ None → (c : ℕ) → ¬ (IsNumbered digits.now c) }
+{
+    match u32::from_str_radix(digits, 16) {
+        Ok(number) => char::from_u32(number),
+        Err(_) => None,
+    }
+}

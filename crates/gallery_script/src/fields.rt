@@ -1,0 +1,52 @@
+//! The fields of a line.
+
+ghost use Rattle.std.specs.Prelude.{◌≡◌, IfOk, IfErr};
+ghost use Rattle.std.specs.Str.Parse.{ParsesUnsigned};
+ghost use Rattle.gallery_script.specs.Fields.{field_of, past_space, IsNumber, IsNoNumber, is_ignored};
+ghost use Rattle.gallery_script.specs.declared.errors.LineError.TheVariants.{BadNumber};
+
+use crate::errors::LineError;
+
+/// Returns what precedes the first space of a text, and what follows it; the whole text and an
+/// empty one if there is no space.
+pub fn cut(text: &str) -> (&str, &str)
+    ensures before { result.0.now ≡ field_of text.now }
+    ensures after { result.1.now ≡ past_space text.now }
+{
+    match text.split_once(' ') {
+        Some((before, after)) => (before, after),
+        None => (text, ""),
+    }
+}
+
+/// Parses a number of decimal digits, which may follow a plus sign.
+pub fn parse_number(text: &str) -> Result<usize, LineError>
+    ensures value { ParsesUnsigned 64 10 text.now result }
+    ensures failed { IfErr result (λ line_error. line_error ≡ BadNumber) }
+{
+    match text.parse() {
+        Ok(number) => Ok(number),
+        Err(_) => Err(LineError::BadNumber),
+    }
+}
+
+/// Parses the number before the first space of a text, and returns it with what follows that space.
+pub fn cut_number(text: &str) -> Result<(usize, &str), LineError>
+    ensures number { IfOk result (λ read. IsNumber (field_of text.now) read.0) }
+    ensures left { IfOk result (λ read. read.1.now ≡ past_space text.now) }
+    ensures failed { IfErr result (λ line_error. (line_error ≡ BadNumber)
+        × IsNoNumber (field_of text.now)) }
+{
+    let (number, left) = cut(text);
+    Ok((parse_number(number)?, left))
+}
+
+/// Returns whether a line is ignored: it is empty or begins with `#`.
+pub fn is_ignored(line: &str) -> bool
+    ensures { result ≡ is_ignored line.now }
+{
+    match line.as_bytes() {
+        [] => true,
+        [first, ..] => *first == b'#',
+    }
+}

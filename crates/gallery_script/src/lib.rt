@@ -1,0 +1,14 @@
+//! What `gallery` is requested to render: its arguments, and its cases with their files.
+//!
+//! [`cases`] documents the input.
+#![tactic(auto)]
+
+pub mod case;
+pub mod cases;
+pub mod database;
+pub mod errors;
+pub mod escape;
+pub mod fields;
+pub mod request;
+pub mod statement;
+pub mod words;

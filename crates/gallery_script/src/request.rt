@@ -1,0 +1,60 @@
+//! What the arguments request.
+
+ghost use Rattle.std.specs.Prelude.{◌≡◌, map, string_bytes};
+ghost use Rattle.std.specs.Option.{option_map};
+ghost use Rattle.gallery_script.specs.Requests.{format_named};
+
+/// The form of a document.
+#[derive(Clone, Copy)]
+pub enum Format {
+    /// An SVG document, in the default styles.
+    Svg,
+    /// An HTML element.
+    Html,
+    /// Text that is safe to print on a terminal, in the default styles.
+    Terminal,
+}
+
+impl Format {
+    /// Returns the form of a name; `None` for any other.
+    pub fn named(name: &str) -> Option<Format>
+        ensures { result ≡ format_named name.now }
+    {
+        match name {
+            "svg" => Some(Format::Svg),
+            "html" => Some(Format::Html),
+            "terminal" => Some(Format::Terminal),
+            _ => None,
+        }
+    }
+}
+
+/// What a run writes.
+#[derive(Clone, Copy)]
+pub enum Request<'args> {
+    /// The output of every case.
+    All,
+    /// `styles`: the style sheet of HTML documents.
+    Styles,
+    /// `svg NAME`, `html NAME` or `terminal NAME`: a document of the case of this name.
+    Document(Format, &'args str),
+}
+
+impl<'args> Request<'args> {
+    ghost use Rattle.gallery_script.specs.Requests.{request_of, request_view};
+
+    /// Returns the request of the arguments; `None` if their number or the first word is another.
+    pub fn from_arguments(args: &'args [String]) -> Option<Request<'args>>
+        ensures { option_map request_view result ≡ request_of (map string_bytes args.now) }
+    {
+        match args {
+            [] => Some(Request::All),
+            [word] if word.as_str() == "styles" => Some(Request::Styles),
+            [word, name] => match Format::named(word.as_str()) {
+                Some(format) => Some(Request::Document(format, name.as_str())),
+                None => None,
+            },
+            _ => None,
+        }
+    }
+}

@@ -1,0 +1,171 @@
+//! The parser of a line.
+
+ghost use Rattle.std.specs.Prelude.{◌≡◌, Some, IfOk, IfErr};
+ghost use Rattle.std.specs.Option.{ok_or};
+ghost use Rattle.gallery_script.specs.Statements.{ParsesTo, Describes, IsWrong, IsWrongLine, style_word};
+ghost use Rattle.gallery_script.specs.declared.errors.LineError.TheVariants.{UnknownName};
+ghost use Rattle.gallery_script.specs.declared.words.Word.TheVariants as words;
+
+use crate::case::{CharacterSet, Colors, Table};
+use crate::errors::LineError;
+use crate::escape::unescape;
+use crate::fields::{cut, cut_number, is_ignored, parse_number};
+use crate::words::{
+    Word, parse_characters, parse_colors, parse_layout, parse_severity, parse_style, parse_table,
+    parse_word,
+};
+use codespan_base::diagnostic::{Label, LabelStyle, Severity};
+use codespan_base::term::{DisplayStyle, Layout};
+use std::alloc::Global;
+
+/// A parsed line.
+#[derive(Drop)]
+pub enum Line<'input> {
+    /// It is empty or begins with `#`, and is ignored.
+    Ignored,
+    /// `case NAME`: it begins a case of this name.
+    Title(&'input str),
+    /// It describes the last case.
+    Description(Statement),
+}
+
+/// A part of the description of a case.
+#[derive(Drop)]
+pub enum Statement {
+    /// `table KIND`: the type of its file database.
+    Table(Table),
+    /// `file NAME`: one more file.
+    File(String),
+    /// `| TEXT`: the continuation of the source of the last file.
+    Source(String),
+    /// `number LINE NUMBER`: the number of a line, by its index from 0.
+    Number(usize, usize),
+    /// `style NAME`: the display style.
+    Style(DisplayStyle),
+    /// `layout NAME`: the layout of line numbers and lanes.
+    Layout(Layout),
+    /// `tab WIDTH`: the cells between tab stops.
+    Tab(usize),
+    /// `context START END BEFORE AFTER`: how many lines are shown around those of labels.
+    Context(Context),
+    /// `characters NAME`: the characters of borders, carets and lanes.
+    Characters(CharacterSet),
+    /// `colours NAME`: how colors are written.
+    Colors(Colors),
+    /// `severity NAME`: the severity.
+    Severity(Severity),
+    /// `code TEXT`: the code.
+    Code(String),
+    /// `message TEXT`: the message.
+    Message(String),
+    /// `primary FILE START END TEXT` or `secondary FILE START END TEXT`: one more label.
+    Label(Label<usize>),
+    /// `note TEXT`: one more note.
+    Note(String),
+}
+
+/// How many lines are shown around those of labels.
+#[derive(Clone, Copy)]
+pub struct Context {
+    /// After the first line of a multi-line label.
+    pub start: usize,
+    /// Before the last line of a multi-line label.
+    pub end: usize,
+    /// Before the first line of a label.
+    pub before: usize,
+    /// After the last line of a label.
+    pub after: usize,
+}
+
+/// Parses a line.
+///
+/// # Errors
+///
+/// The error of the line, and `OutOfMemory` if an allocation fails.
+pub fn parse_line<'input>(alloc: Global, line: &'input str) -> Result<Line<'input>, LineError>
+    ensures parsed { IfOk result (ParsesTo line.now) }
+    ensures wrong { IfErr result (IsWrongLine line.now) }
+{
+    if is_ignored(line) {
+        return Ok(Line::Ignored);
+    }
+    let (word, rest) = cut(line);
+    if word == "case" {
+        return Ok(Line::Title(rest));
+    }
+    let word = parse_word(word).ok_or(LineError::UnknownWord)?;
+    Ok(Line::Description(parse_statement(alloc, word, rest)?))
+}
+
+/// Parses the rest of a line that begins with this word.
+fn parse_statement(alloc: Global, word: Word, rest: &str) -> Result<Statement, LineError>
+    ensures parsed { IfOk result (Describes (Some word) rest.now) }
+    ensures wrong { IfErr result (IsWrong (Some word) rest.now) }
+{
+    match word {
+        Word::Table => Ok(Statement::Table(known(parse_table(rest))?)),
+        Word::File => Ok(Statement::File(unescape(alloc, rest)?)),
+        Word::Source => Ok(Statement::Source(unescape(alloc, rest)?)),
+        Word::Number => parse_line_number(rest),
+        Word::Style => Ok(Statement::Style(known(parse_style(rest))?)),
+        Word::Layout => Ok(Statement::Layout(known(parse_layout(rest))?)),
+        Word::Tab => Ok(Statement::Tab(parse_number(rest)?)),
+        Word::Context => parse_context(rest),
+        Word::Characters => Ok(Statement::Characters(known(parse_characters(rest))?)),
+        Word::Colors => Ok(Statement::Colors(known(parse_colors(rest))?)),
+        Word::Severity => Ok(Statement::Severity(known(parse_severity(rest))?)),
+        Word::Code => Ok(Statement::Code(unescape(alloc, rest)?)),
+        Word::Message => Ok(Statement::Message(unescape(alloc, rest)?)),
+        Word::Primary => parse_label(alloc, LabelStyle::Primary, rest),
+        Word::Secondary => parse_label(alloc, LabelStyle::Secondary, rest),
+        Word::Note => Ok(Statement::Note(unescape(alloc, rest)?)),
+    }
+}
+
+/// Returns what a name stands for, or `UnknownName`.
+fn known<T: Drop>(named: Option<T>) -> Result<T, LineError>
+    ensures { result ≡ ok_or named UnknownName }
+{
+    named.ok_or(LineError::UnknownName)
+}
+
+/// Parses the rest of a `number` line.
+fn parse_line_number(rest: &str) -> Result<Statement, LineError>
+    ensures parsed { IfOk result (Describes (Some words.Number) rest.now) }
+    ensures wrong { IfErr result (IsWrong (Some words.Number) rest.now) }
+{
+    let (line, left) = cut_number(rest)?;
+    Ok(Statement::Number(line, parse_number(left)?))
+}
+
+/// Parses the rest of a `context` line.
+fn parse_context(rest: &str) -> Result<Statement, LineError>
+    ensures parsed { IfOk result (Describes (Some words.Context) rest.now) }
+    ensures wrong { IfErr result (IsWrong (Some words.Context) rest.now) }
+{
+    let (start, left) = cut_number(rest)?;
+    let (end, left) = cut_number(left)?;
+    let (before, left) = cut_number(left)?;
+    Ok(Statement::Context(Context {
+        start,
+        end,
+        before,
+        after: parse_number(left)?,
+    }))
+}
+
+/// Parses the rest of a line of a label in this style.
+fn parse_label(alloc: Global, style: LabelStyle, rest: &str) -> Result<Statement, LineError>
+    ensures parsed { IfOk result (Describes (Some (style_word style)) rest.now) }
+    ensures wrong { IfErr result (IsWrong (Some (style_word style)) rest.now) }
+{
+    let (file_id, left) = cut_number(rest)?;
+    let (start, left) = cut_number(left)?;
+    let (end, left) = cut_number(left)?;
+    Ok(Statement::Label(Label {
+        style,
+        file_id,
+        range: start..end,
+        message: unescape(alloc, left)?,
+    }))
+}

@@ -1,0 +1,149 @@
+//! The words of lines, and the names that may follow them.
+
+ghost use Rattle.std.specs.Prelude.{◌≡◌};
+ghost use Rattle.gallery_script.specs.Words.{word_named, table_named, style_named, layout_named, characters_named, colors_named, severity_named};
+
+use crate::case::{CharacterSet, Colors, Table};
+use codespan_base::diagnostic::Severity;
+use codespan_base::term::{DisplayStyle, Layout};
+
+/// The first word of a line that describes a case.
+#[derive(Clone, Copy)]
+pub enum Word {
+    /// The type of the file database.
+    Table,
+    /// The name of one more file.
+    File,
+    /// The continuation of a source.
+    Source,
+    /// The number of a line.
+    Number,
+    /// The display style.
+    Style,
+    /// The layout of line numbers and lanes.
+    Layout,
+    /// The cells between tab stops.
+    Tab,
+    /// How many lines are shown around those of labels.
+    Context,
+    /// The characters of borders, carets and lanes.
+    Characters,
+    /// How colors are written.
+    Colors,
+    /// The severity.
+    Severity,
+    /// The code.
+    Code,
+    /// The message.
+    Message,
+    /// A primary label.
+    Primary,
+    /// A secondary label.
+    Secondary,
+    /// A note.
+    Note,
+}
+
+/// Returns the word of this spelling, or `None`.
+#[tactic(auto, unfolding(crate::specs::Words::word_named))]
+pub fn parse_word(text: &str) -> Option<Word>
+    ensures { result ≡ word_named text.now }
+{
+    match text {
+        "table" => Some(Word::Table),
+        "file" => Some(Word::File),
+        "|" => Some(Word::Source),
+        "number" => Some(Word::Number),
+        "style" => Some(Word::Style),
+        "layout" => Some(Word::Layout),
+        "tab" => Some(Word::Tab),
+        "context" => Some(Word::Context),
+        "characters" => Some(Word::Characters),
+        "colours" => Some(Word::Colors),
+        "severity" => Some(Word::Severity),
+        "code" => Some(Word::Code),
+        "message" => Some(Word::Message),
+        "primary" => Some(Word::Primary),
+        "secondary" => Some(Word::Secondary),
+        "note" => Some(Word::Note),
+        _ => None,
+    }
+}
+
+/// Returns the kind of file database of this name, or `None`.
+#[tactic(auto, unfolding(crate::specs::Words::table_named))]
+pub fn parse_table(text: &str) -> Option<Table>
+    ensures { result ≡ table_named text.now }
+{
+    match text {
+        "one" => Some(Table::One),
+        "several" => Some(Table::Several),
+        "mapped" => Some(Table::Mapped),
+        _ => None,
+    }
+}
+
+/// Returns the style of this name, or `None`.
+#[tactic(auto, unfolding(crate::specs::Words::style_named))]
+pub fn parse_style(text: &str) -> Option<DisplayStyle>
+    ensures { result ≡ style_named text.now }
+{
+    match text {
+        "rich" => Some(DisplayStyle::Rich),
+        "medium" => Some(DisplayStyle::Medium),
+        "short" => Some(DisplayStyle::Short),
+        _ => None,
+    }
+}
+
+/// Returns the layout of this name, or `None`.
+#[tactic(auto, unfolding(crate::specs::Words::layout_named))]
+pub fn parse_layout(text: &str) -> Option<Layout>
+    ensures { result ≡ layout_named text.now }
+{
+    match text {
+        "classic" => Some(Layout::Classic),
+        "unbroken" => Some(Layout::Unbroken),
+        _ => None,
+    }
+}
+
+/// Returns the characters of this name, or `None`.
+#[tactic(auto, unfolding(crate::specs::Words::characters_named))]
+pub fn parse_characters(text: &str) -> Option<CharacterSet>
+    ensures { result ≡ characters_named text.now }
+{
+    match text {
+        "box" => Some(CharacterSet::Box),
+        "ascii" => Some(CharacterSet::Ascii),
+        _ => None,
+    }
+}
+
+/// Returns the way to write colors of this name, or `None`.
+#[tactic(auto, unfolding(crate::specs::Words::colors_named))]
+pub fn parse_colors(text: &str) -> Option<Colors>
+    ensures { result ≡ colors_named text.now }
+{
+    match text {
+        "none" => Some(Colors::Plain),
+        "ansi" => Some(Colors::Ansi),
+        "svg" => Some(Colors::Svg),
+        _ => None,
+    }
+}
+
+/// Returns the severity of this name, or `None`.
+#[tactic(auto, unfolding(crate::specs::Words::severity_named))]
+pub fn parse_severity(text: &str) -> Option<Severity>
+    ensures { result ≡ severity_named text.now }
+{
+    match text {
+        "bug" => Some(Severity::Bug),
+        "error" => Some(Severity::Error),
+        "warning" => Some(Severity::Warning),
+        "note" => Some(Severity::Note),
+        "help" => Some(Severity::Help),
+        _ => None,
+    }
+}
