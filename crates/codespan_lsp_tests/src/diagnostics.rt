@@ -1,5 +1,6 @@
 //! Worked diagnostics, and the first program of `docs/LSP.md`.
 
+use crate::asserts::{assert_same, is_column_too_large, is_file_missing};
 use codespan_base::diagnostic::{Diagnostic, Label, Severity};
 use codespan_base::files::{Error, SimpleFile, SimpleFiles};
 use codespan_lsp::{
@@ -71,7 +72,7 @@ fn severities(rt: HostRuntime) {
         (Severity::Help, 4),
     ];
     for (severity, number) in cases {
-        assert_eq!(rt; DiagnosticSeverity::from(severity).number(), number);
+        assert_same(&rt, &DiagnosticSeverity::from(severity).number(), &number);
     }
 }
 
@@ -88,7 +89,7 @@ fn sent(alloc: Global) -> Result<Vec<LspDiagnostic<usize>>, Error> {
 #[test]
 fn two_primary_labels(rt: HostRuntime) -> Result<(), Fail> {
     let sent = sent(rt.alloc())?;
-    assert_eq!(rt; sent.len(), 2);
+    assert_same(&rt, &sent.len(), &2);
     let labels = [
         (
             on_line(2, 0, 3),
@@ -100,8 +101,8 @@ fn two_primary_labels(rt: HostRuntime) -> Result<(), Fail> {
         ),
     ];
     for (one, (range, message)) in sent.iter().zip(labels.iter()) {
-        assert_eq!(rt; one.range, *range);
-        assert_eq!(rt; one.message.as_str(), *message);
+        assert_same(&rt, &one.range, range);
+        assert_same(&rt, &one.message.as_str(), message);
     }
     Ok(())
 }
@@ -110,8 +111,8 @@ fn two_primary_labels(rt: HostRuntime) -> Result<(), Fail> {
 #[test]
 fn same_of_each_primary_label(rt: HostRuntime) -> Result<(), Fail> {
     for one in &sent(rt.alloc())? {
-        assert_eq!(rt; one.file_id, 0);
-        assert_eq!(rt; one.severity, DiagnosticSeverity::Error);
+        assert_same(&rt, &one.file_id, &0);
+        assert_same(&rt, &one.severity, &DiagnosticSeverity::Error);
         assert!(rt; matches!(&one.code, Some(code) if code.as_str() == "E0061"));
     }
     Ok(())
@@ -121,11 +122,11 @@ fn same_of_each_primary_label(rt: HostRuntime) -> Result<(), Fail> {
 #[test]
 fn related_information(rt: HostRuntime) -> Result<(), Fail> {
     for one in &sent(rt.alloc())? {
-        assert_eq!(rt; one.related_information.len(), 1);
+        assert_same(&rt, &one.related_information.len(), &1);
         for related in &one.related_information {
-            assert_eq!(rt; related.file_id, 1);
-            assert_eq!(rt; related.range, on_line(0, 6, 10));
-            assert_eq!(rt; related.message.as_str(), "declared here");
+            assert_same(&rt, &related.file_id, &1);
+            assert_same(&rt, &related.range, &on_line(0, 6, 10));
+            assert_same(&rt, &related.message.as_str(), &"declared here");
         }
     }
     Ok(())
@@ -147,8 +148,7 @@ fn label_past_end(rt: HostRuntime) -> Result<(), Fail> {
     let file = SimpleFile::new(rt.alloc(), "f", "abc")?;
     let label = Label::primary(rt.alloc(), (), 0..9);
     let diagnostic = Diagnostic::warning(rt.alloc()).with_label(label)?;
-    let failed = to_lsp_diagnostics(&file, &diagnostic);
-    assert!(rt; matches!(failed, Err(Error::ColumnTooLarge { given: 9, max: 3 })));
+    assert!(rt; is_column_too_large(&to_lsp_diagnostics(&file, &diagnostic), (9, 3)));
     Ok(())
 }
 
@@ -158,11 +158,6 @@ fn missing_file(rt: HostRuntime) -> Result<(), Fail> {
     let files: SimpleFiles<&str, &str> = SimpleFiles::new(rt.alloc());
     let label = Label::primary(rt.alloc(), 0, 0..0);
     let diagnostic = Diagnostic::warning(rt.alloc()).with_label(label)?;
-    assert!(rt;
-        matches!(
-            to_lsp_diagnostics(&files, &diagnostic),
-            Err(Error::FileMissing)
-        )
-    );
+    assert!(rt; is_file_missing(&to_lsp_diagnostics(&files, &diagnostic)));
     Ok(())
 }

@@ -1,16 +1,36 @@
 //! Positions and ranges of worked files.
 
+use crate::asserts::{
+    assert_ok, assert_same, assert_same_at, inside_character, is_column_too_large, is_file_missing,
+    is_line_too_large,
+};
 use codespan_base::files::{Error, Files, Location, MappedFile, SimpleFile, SimpleFiles};
 use codespan_lsp::{
     Position, PositionEncoding, Range, byte_index_to_position, byte_span_to_range,
     position_to_byte_index, range_to_byte_span,
 };
 use std::alloc::Global;
+use std::process::Abort;
 use std::test::Fail;
 
 /// A position from its numbers.
 fn at(line: u32, character: u32) -> Position {
     Position { line, character }
+}
+
+/// Asserts that a byte has this position, and the position this byte.
+fn assert_at<'a, F: Files<'a>>(
+    rt: &impl Abort,
+    files: &'a F,
+    id: F::FileId,
+    byte_index: usize,
+    position: Position,
+) -> Result<(), Error> {
+    let found = byte_index_to_position(files, id, byte_index)?;
+    assert_same_at(rt, byte_index, &found, &position);
+    let back = position_to_byte_index(files, id, &position)?;
+    assert_same_at(rt, byte_index, &back, &byte_index);
+    Ok(())
 }
 
 /// The protocol's own example: of `a𐐀b` the character of `a` is 0, that of `𐐀` is 1, and that of
@@ -19,10 +39,7 @@ fn at(line: u32, character: u32) -> Position {
 fn protocol_example(rt: HostRuntime) -> Result<(), Fail> {
     let file = SimpleFile::new(rt.alloc(), "f", "a𐐀b")?;
     for (byte_index, character) in [(0, 0), (1, 1), (5, 3), (6, 4)] {
-        let position = byte_index_to_position(&file, (), byte_index)?;
-        assert_eq!(rt; position, at(0, character), "at {byte_index}");
-        let back = position_to_byte_index(&file, (), &position)?;
-        assert_eq!(rt; back, byte_index, "at {character}");
+        assert_at(&rt, &file, (), byte_index, at(0, character))?;
     }
     Ok(())
 }
@@ -33,10 +50,7 @@ fn inside_characters(rt: HostRuntime) -> Result<(), Fail> {
     let file = SimpleFile::new(rt.alloc(), "f", "a𐐀b")?;
     for byte_index in 2..5 {
         let result = byte_index_to_position(&file, (), byte_index);
-        let Err(Error::InvalidCharBoundary { given }) = result else {
-            return Err(Fail::from("a position inside a character"));
-        };
-        assert_eq!(rt; given, byte_index);
+        assert_same(&rt, &inside_character(&result), &Some(byte_index));
     }
     let cases = [
         (PositionEncoding::Utf8, 2),
@@ -45,9 +59,11 @@ fn inside_characters(rt: HostRuntime) -> Result<(), Fail> {
     ];
     for (encoding, character) in cases {
         let result = encoding.position_to_byte_index(&file, (), &at(0, character));
-        assert!(rt;
-            matches!(result, Err(Error::InvalidCharBoundary { given: 1 })),
-            "at {character}"
+        assert_same_at(
+            &rt,
+            character as usize,
+            &inside_character(&result),
+            &Some(1),
         );
     }
     Ok(())
@@ -66,9 +82,9 @@ fn encodings(rt: HostRuntime) -> Result<(), Fail> {
     for (encoding, characters) in cases {
         for (byte_index, character) in bytes.iter().zip(characters.iter()) {
             let position = encoding.byte_index_to_position(&file, (), *byte_index)?;
-            assert_eq!(rt; position, at(0, *character), "at {byte_index}");
+            assert_same_at(&rt, *byte_index, &position, &at(0, *character));
             let back = encoding.position_to_byte_index(&file, (), &position)?;
-            assert_eq!(rt; back, *byte_index, "at {character}");
+            assert_same_at(&rt, *byte_index, &back, byte_index);
         }
     }
     Ok(())
@@ -89,54 +105,26 @@ fn line_ends(rt: HostRuntime) -> Result<(), Fail> {
         (13, at(3, 3)),
     ];
     for (byte_index, position) in cases {
-        assert_eq!(rt;
-            byte_index_to_position(&file, (), byte_index)?,
-            position,
-            "at {byte_index}"
-        );
-        assert_eq!(rt;
-            position_to_byte_index(&file, (), &position)?,
-            byte_index,
-            "at {byte_index}"
-        );
+        assert_at(&rt, &file, (), byte_index, position)?;
     }
     // after the newline of a line the next one starts
-    assert_eq!(rt; position_to_byte_index(&file, (), &at(0, 4))?, 4);
-    assert_eq!(rt; position_to_byte_index(&file, (), &at(1, 5))?, 9);
+    assert_ok(&rt, position_to_byte_index(&file, (), &at(0, 4)), 4);
+    assert_ok(&rt, position_to_byte_index(&file, (), &at(1, 5)), 9);
     Ok(())
-}
-
-/// A number that is too large, and the greatest that is not.
-#[derive(Clone, Copy, Debug, PartialEq)]
-enum TooLarge {
-    Line(usize, usize),
-    Column(usize, usize),
-}
-
-/// Returns the numbers of a lookup that failed since a line or a column is too large.
-fn too_large<T>(returned: &Result<T, Error>) -> Option<TooLarge> {
-    match returned {
-        Err(Error::LineTooLarge { given, max }) => Some(TooLarge::Line(*given, *max)),
-        Err(Error::ColumnTooLarge { given, max }) => Some(TooLarge::Column(*given, *max)),
-        _ => None,
-    }
 }
 
 /// Past the end of a line, of the text and of the lines.
 #[test]
 fn past_ends(rt: HostRuntime) -> Result<(), Fail> {
     let file = SimpleFile::new(rt.alloc(), "f", "é𐐀\nb")?;
-    let cases = [
-        (at(0, 5), TooLarge::Column(5, 4)),
-        (at(1, u32::MAX), TooLarge::Column(4294967295, 1)),
-        (at(2, 0), TooLarge::Line(2, 1)),
-    ];
-    for (position, failure) in cases {
-        let past = position_to_byte_index(&file, (), &position);
-        assert_eq!(rt; too_large(&past), Some(failure));
-    }
+    let past = position_to_byte_index(&file, (), &at(0, 5));
+    assert!(rt; is_column_too_large(&past, (5, 4)));
+    let past = position_to_byte_index(&file, (), &at(1, u32::MAX));
+    assert!(rt; is_column_too_large(&past, (4294967295, 1)));
+    let past = position_to_byte_index(&file, (), &at(2, 0));
+    assert!(rt; is_line_too_large(&past, (2, 1)));
     let past = byte_index_to_position(&file, (), 9);
-    assert_eq!(rt; too_large(&past), Some(TooLarge::Column(2, 1)));
+    assert!(rt; is_column_too_large(&past, (2, 1)));
     Ok(())
 }
 
@@ -144,8 +132,7 @@ fn past_ends(rt: HostRuntime) -> Result<(), Fail> {
 #[test]
 fn empty_file(rt: HostRuntime) -> Result<(), Fail> {
     let file = SimpleFile::new(rt.alloc(), "f", "")?;
-    assert_eq!(rt; byte_index_to_position(&file, (), 0)?, at(0, 0));
-    assert_eq!(rt; position_to_byte_index(&file, (), &at(0, 0))?, 0);
+    assert_at(&rt, &file, (), 0, at(0, 0))?;
     Ok(())
 }
 
@@ -154,11 +141,11 @@ fn empty_file(rt: HostRuntime) -> Result<(), Fail> {
 fn past_empty_file(rt: HostRuntime) -> Result<(), Fail> {
     let file = SimpleFile::new(rt.alloc(), "f", "")?;
     let past_text = byte_index_to_position(&file, (), 1);
-    assert_eq!(rt; too_large(&past_text), Some(TooLarge::Column(1, 0)));
+    assert!(rt; is_column_too_large(&past_text, (1, 0)));
     let past_line = position_to_byte_index(&file, (), &at(0, 1));
-    assert_eq!(rt; too_large(&past_line), Some(TooLarge::Column(1, 0)));
+    assert!(rt; is_column_too_large(&past_line, (1, 0)));
     let past_lines = position_to_byte_index(&file, (), &at(1, 0));
-    assert_eq!(rt; too_large(&past_lines), Some(TooLarge::Line(1, 0)));
+    assert!(rt; is_line_too_large(&past_lines, (1, 0)));
     Ok(())
 }
 
@@ -168,14 +155,11 @@ fn rust_crate_values(rt: HostRuntime) -> Result<(), Fail> {
     let text = "\nlet test = 2\nlet test1 = \"\"\nte\n";
     let file = SimpleFile::new(rt.alloc(), "test", text)?;
     let byte_index = position_to_byte_index(&file, (), &at(3, 2))?;
-    let location = file.location((), byte_index)?;
-    assert_eq!(rt;
-        location,
-        Location {
-            line_number: 4,
-            column_number: 3
-        }
-    );
+    let location = Location {
+        line_number: 4,
+        column_number: 3,
+    };
+    assert_ok(&rt, file.location((), byte_index), location);
     Ok(())
 }
 
@@ -198,8 +182,7 @@ fn rust_crate_values_in_files(rt: HostRuntime) -> Result<(), Fail> {
         (1, 11, at(1, 6)),
     ];
     for (id, byte_index, position) in cases {
-        assert_eq!(rt; position_to_byte_index(&files, id, &position)?, byte_index);
-        assert_eq!(rt; byte_index_to_position(&files, id, byte_index)?, position);
+        assert_at(&rt, &files, id, byte_index, position)?;
     }
     Ok(())
 }
@@ -208,10 +191,8 @@ fn rust_crate_values_in_files(rt: HostRuntime) -> Result<(), Fail> {
 #[test]
 fn missing_file(rt: HostRuntime) -> Result<(), Fail> {
     let files = unicode_files(rt.alloc())?;
-    let position = byte_index_to_position(&files, 2, 0);
-    assert!(rt; matches!(position, Err(Error::FileMissing)));
-    let byte_index = position_to_byte_index(&files, 2, &at(0, 0));
-    assert!(rt; matches!(byte_index, Err(Error::FileMissing)));
+    assert!(rt; is_file_missing(&byte_index_to_position(&files, 2, 0)));
+    assert!(rt; is_file_missing(&position_to_byte_index(&files, 2, &at(0, 0))));
     Ok(())
 }
 
@@ -229,11 +210,11 @@ fn spans(rt: HostRuntime) -> Result<(), Fail> {
     ];
     for (span, start, end) in cases {
         let range = byte_span_to_range(&file, (), span.start..span.end)?;
-        assert_eq!(rt; range, Range { start, end });
-        assert_eq!(rt; range_to_byte_span(&file, (), &range)?, span);
+        assert_same(&rt, &range, &Range { start, end });
+        assert_same(&rt, &range_to_byte_span(&file, (), &range)?, &span);
     }
     let late = byte_span_to_range(&file, (), 0..2);
-    assert!(rt; matches!(late, Err(Error::InvalidCharBoundary { given: 2 })));
+    assert_same(&rt, &inside_character(&late), &Some(2));
     Ok(())
 }
 
@@ -245,23 +226,19 @@ fn documented(rt: HostRuntime) -> Result<(), Fail> {
         (PositionEncoding::Utf16, 4),
         (PositionEncoding::Utf32, 3),
     ] {
-        assert_eq!(rt; encoding.code_units("a𐐀b"), units);
+        assert_same(&rt, &encoding.code_units("a𐐀b"), &units);
     }
 
     let file = SimpleFile::new(rt.alloc(), "f", "\na𐐀b")?;
     for (byte_index, line, character) in [(0, 0, 0), (1, 1, 0), (2, 1, 1), (6, 1, 3), (7, 1, 4)] {
         let position = byte_index_to_position(&file, (), byte_index)?;
-        assert_eq!(rt; position, Position { line, character });
+        assert_same(&rt, &position, &Position { line, character });
     }
     let inside = Position {
         line: 1,
         character: 2,
     };
-    assert!(rt;
-        matches!(
-            position_to_byte_index(&file, (), &inside),
-            Err(Error::InvalidCharBoundary { given: 2 })
-        )
-    );
+    let returned = position_to_byte_index(&file, (), &inside);
+    assert_same(&rt, &inside_character(&returned), &Some(2));
     Ok(())
 }

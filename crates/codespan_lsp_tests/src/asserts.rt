@@ -1,0 +1,56 @@
+//! Assertions in functions: each is proved once for all tests that call it.
+
+use codespan_base::files::Error;
+use std::fmt::Debug;
+use std::process::Abort;
+
+/// Asserts that two values are equal.
+pub fn assert_same<T: PartialEq + Debug>(rt: &impl Abort, left: &T, right: &T) {
+    assert_eq!(rt; left, right);
+}
+
+/// Asserts that two values are equal, and names the place in a table.
+pub fn assert_same_at<T: PartialEq + Debug>(rt: &impl Abort, at: usize, left: &T, right: &T) {
+    assert_eq!(rt; left, right, "at {at}");
+}
+
+/// Asserts that a call returned this value.
+pub fn assert_ok<T: Copy + PartialEq + Debug>(
+    rt: &impl Abort,
+    returned: Result<T, Error>,
+    expected: T,
+) {
+    match returned {
+        Ok(value) => assert_same(rt, &value, &expected),
+        Err(error) => panic!(rt; "error: {error:?}"),
+    }
+}
+
+/// Returns whether a call failed with `FileMissing`.
+pub fn is_file_missing<T>(returned: &Result<T, Error>) -> bool {
+    matches!(returned, Err(Error::FileMissing))
+}
+
+/// Returns whether a call failed with these limits of a line.
+pub fn is_line_too_large<T>(returned: &Result<T, Error>, limits: (usize, usize)) -> bool {
+    match returned {
+        Err(Error::LineTooLarge { given, max }) => (*given, *max) == limits,
+        _ => false,
+    }
+}
+
+/// Returns whether a call failed with these limits of a column.
+pub fn is_column_too_large<T>(returned: &Result<T, Error>, limits: (usize, usize)) -> bool {
+    match returned {
+        Err(Error::ColumnTooLarge { given, max }) => (*given, *max) == limits,
+        _ => false,
+    }
+}
+
+/// Returns the number that a call was given, where it failed since that is inside a character.
+pub fn inside_character<T>(returned: &Result<T, Error>) -> Option<usize> {
+    match returned {
+        Err(Error::InvalidCharBoundary { given }) => Some(*given),
+        _ => None,
+    }
+}
