@@ -9,3 +9,5 @@ mod style_sheet;
 mod svg;
 #[cfg(test)]
 mod terminal;
+#[cfg(test)]
+mod texts;

@@ -1,8 +1,12 @@
 //! Style sheets against the colors of xterm, as its manual and `rgb.txt` have them: `red3` for red,
 //! `red` for bright red, and the like, but for its two blues.
 
+use crate::texts::assert_text;
+use codespan_base::files::Error;
 use codespan_base::term::{Color, ColorSpec, Styles};
 use codespan_styled::html_styles;
+use std::alloc::Global;
+use std::process::Abort;
 use std::test::Fail;
 
 #[test]
@@ -22,7 +26,47 @@ fn default_styles(rt: HostRuntime) -> Result<(), Fail> {
                 .diagnostic .line-number { color: #00cdcd; }\n\
                 .diagnostic .source-border { color: #00cdcd; }\n\
                 .diagnostic .note-bullet { color: #00cdcd; }\n";
-    assert_eq!(rt; html_styles(rt.alloc(), &Styles::default())?.as_str(), want);
+    let css = html_styles(rt.alloc(), &Styles::default())?;
+    assert_text(&rt, css.as_str(), want);
+    Ok(())
+}
+
+/// Returns styles with this color behind the first one and, bold and bright, in the last one.
+fn with_color(color: Color) -> Styles {
+    let mut styles = Styles::no_color();
+    styles.header_bug = ColorSpec {
+        fg: None,
+        bg: Some(color),
+        bold: false,
+        intense: false,
+    };
+    styles.note_bullet = ColorSpec {
+        fg: Some(color),
+        bg: None,
+        bold: true,
+        intense: true,
+    };
+    styles
+}
+
+/// Asserts that a style sheet has these colors, a color and the bright one of it.
+fn assert_colors(
+    rt: &impl Abort,
+    alloc: Global,
+    color: Color,
+    normal: &str,
+    bright: &str,
+) -> Result<(), Error> {
+    let first = format!(in alloc;
+        ".diagnostic .header-bug {{ background-color: {normal}; }}\n\
+         .diagnostic .header-error {{ }}\n"
+    )?;
+    let last = format!(in alloc;
+        ".diagnostic .note-bullet {{ color: {bright}; font-weight: bold; }}\n"
+    )?;
+    let css = html_styles(alloc, &with_color(color))?;
+    let css = css.as_str();
+    assert!(rt; css.starts_with(first.as_str()) && css.ends_with(last.as_str()));
     Ok(())
 }
 
@@ -39,29 +83,7 @@ fn each_color(rt: HostRuntime) -> Result<(), Fail> {
         (Color::White, "#e5e5e5", "#ffffff"),
     ];
     for (color, normal, bright) in table {
-        let mut styles = Styles::no_color();
-        styles.header_bug = ColorSpec {
-            fg: None,
-            bg: Some(color),
-            bold: false,
-            intense: false,
-        };
-        styles.note_bullet = ColorSpec {
-            fg: Some(color),
-            bg: None,
-            bold: true,
-            intense: true,
-        };
-        let css = html_styles(rt.alloc(), &styles)?;
-        let first = format!(in rt.alloc();
-            ".diagnostic .header-bug {{ background-color: {normal}; }}\n\
-             .diagnostic .header-error {{ }}\n"
-        )?;
-        let last = format!(in rt.alloc();
-            ".diagnostic .note-bullet {{ color: {bright}; font-weight: bold; }}\n"
-        )?;
-        assert!(rt; css.as_str().starts_with(first.as_str()));
-        assert!(rt; css.as_str().ends_with(last.as_str()));
+        assert_colors(&rt, rt.alloc(), color, normal, bright)?;
     }
     Ok(())
 }

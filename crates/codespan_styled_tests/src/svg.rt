@@ -1,23 +1,11 @@
 //! A document against one that another program made by the rules of the format, in Python:
 //! `document` of `tools/gallery/inks.py`.
 
+use crate::texts::{assert_text, text_of};
 use codespan_base::diagnostic::{LabelStyle, Severity};
 use codespan_base::term::Styles;
-use codespan_styled::{Run, Style, StyledText, to_svg};
-use std::alloc::{AllocError, Global};
+use codespan_styled::{Style, to_svg};
 use std::test::Fail;
-
-/// Makes a styled text.
-fn text_of(alloc: Global, parts: &[(Style, &str)]) -> Result<StyledText, AllocError> {
-    let mut runs = Vec::new(alloc);
-    for (style, text) in parts {
-        runs.push(Run {
-            style: *style,
-            text: text.to_string(alloc)?,
-        })?;
-    }
-    Ok(StyledText { runs })
-}
 
 #[test]
 fn inks_and_cells(rt: HostRuntime) -> Result<(), Fail> {
@@ -43,9 +31,7 @@ fn inks_and_cells(rt: HostRuntime) -> Result<(), Fail> {
                 e\u{301}</text>\
                 <text x=\"39\" y=\"43\" textLength=\"45\"> &amp; \"\\e[\u{fffd}</text>\
                 <text x=\"84\" y=\"43\" textLength=\"9\" fill=\"#56d4dd\">│</text></svg>\n";
-    assert_eq!(rt;
-        to_svg(rt.alloc(), &text, &Styles::default())?.as_str(),
-        want
-    );
+    let svg = to_svg(rt.alloc(), &text, &Styles::default())?;
+    assert_text(&rt, svg.as_str(), want);
     Ok(())
 }

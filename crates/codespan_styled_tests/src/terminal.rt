@@ -1,26 +1,22 @@
 //! What is left out of hostile texts, and which sequences a terminal receives.
 
+use crate::texts::{assert_terminal, assert_text};
 use codespan_base::diagnostic::{Diagnostic, Label, LabelStyle, Severity};
-use codespan_base::files::SimpleFiles;
+use codespan_base::files::{Error, SimpleFiles};
 use codespan_base::term::{Ansi, Config, Styles, StylesWriter};
-use codespan_reporting::term::emit_to_write_style;
+use codespan_views::emitting::emit_to_write_style;
 use codespan_styled::render::styled_text;
 use codespan_styled::style::Style;
 use codespan_styled::terminal::{is_safe, safe_text, to_terminal};
-use codespan_styled::text::{Run, StyledText};
 use std::alloc::{AllocError, Global};
+use std::process::Abort;
 use std::test::Fail;
 
-/// Makes a styled text.
-fn text_of(alloc: Global, parts: &[(Style, &str)]) -> Result<StyledText, AllocError> {
-    let mut runs = Vec::new(alloc);
-    for (style, text) in parts {
-        runs.push(Run {
-            style: *style,
-            text: text.to_string(alloc)?,
-        })?;
-    }
-    Ok(StyledText { runs })
+/// Asserts that a text is safe as this one.
+fn assert_safe(rt: &impl Abort, alloc: Global, source: &str, want: &str) -> Result<(), AllocError> {
+    let safe = safe_text(alloc, source)?;
+    assert_text(rt, safe.as_str(), want);
+    Ok(())
 }
 
 #[test]
@@ -34,7 +30,7 @@ fn harmless_text_is_unchanged(rt: HostRuntime) -> Result<(), Fail> {
         "👩\u{200d}🚀 \u{feff}\u{ad}",
         "שלום",
     ] {
-        assert_eq!(rt; safe_text(rt.alloc(), text)?.as_str(), text);
+        assert_safe(&rt, rt.alloc(), text, text)?;
     }
     Ok(())
 }
@@ -63,7 +59,7 @@ fn reordered_source_is_in_order(rt: HostRuntime) -> Result<(), Fail> {
         ),
     ];
     for (source, want) in table {
-        assert_eq!(rt; safe_text(rt.alloc(), source)?.as_str(), want);
+        assert_safe(&rt, rt.alloc(), source, want)?;
     }
     Ok(())
 }
@@ -84,7 +80,7 @@ fn controls_are_left_out(rt: HostRuntime) -> Result<(), Fail> {
         ("a\x00b\x0bc\x0cd\x0ee\x0ff\x7fg\u{85}h\n", "abcdefgh\n"),
     ];
     for (source, want) in table {
-        assert_eq!(rt; safe_text(rt.alloc(), source)?.as_str(), want);
+        assert_safe(&rt, rt.alloc(), source, want)?;
     }
     Ok(())
 }
@@ -127,13 +123,9 @@ fn header_has_its_sequences_alone(rt: HostRuntime) -> Result<(), Fail> {
         (Style::SourceBorder, "┌─"),
         (Style::Plain, " \x1b]0;a.rs\x07\n"),
     ];
-    let text = text_of(rt.alloc(), &parts)?;
     let want = "\x1b[0m\x1b[1m\x1b[38;5;9merror\x1b[0m\x1b[1m: [2Jbad name\x1b[0m\n  \
                 \x1b[0m\x1b[36m┌─\x1b[0m ]0;a.rs\n";
-    assert_eq!(rt;
-        to_terminal(rt.alloc(), &text, &Styles::default())?.as_str(),
-        want
-    );
+    assert_terminal(&rt, rt.alloc(), &parts, want)?;
     Ok(())
 }
 
@@ -159,18 +151,18 @@ fn each_style_has_its_sequence(rt: HostRuntime) -> Result<(), Fail> {
         ),
     ];
     for (style, want) in table {
-        let text = text_of(rt.alloc(), &[(style, "a")])?;
-        assert_eq!(rt;
-            to_terminal(rt.alloc(), &text, &Styles::default())?.as_str(),
-            want
-        );
+        assert_terminal(&rt, rt.alloc(), &[(style, "a")], want)?;
     }
-    let empty = text_of(rt.alloc(), &[])?;
-    assert_eq!(rt;
-        to_terminal(rt.alloc(), &empty, &Styles::default())?.as_str(),
-        ""
-    );
+    assert_terminal(&rt, rt.alloc(), &[], "")?;
     Ok(())
+}
+
+/// Returns a diagnostic with a label in this file.
+fn unused_variable(alloc: Global, id: usize) -> Result<Diagnostic<usize>, Error> {
+    let label = Label::primary(alloc, id, 4..5).with_message("not used")?;
+    Diagnostic::warning(alloc)
+        .with_message("a variable")?
+        .with_label(label)
 }
 
 #[test]
@@ -178,10 +170,7 @@ fn output_is_as_written_to_ansi(rt: HostRuntime) -> Result<(), Fail> {
     let alloc = rt.alloc();
     let mut files = SimpleFiles::new(alloc);
     let id = files.add("a.rs", "let x = 1;\n")?;
-    let label = Label::primary(alloc, id, 4..5).with_message("not used")?;
-    let diagnostic = Diagnostic::warning(alloc)
-        .with_message("a variable")?
-        .with_label(label)?;
+    let diagnostic = unused_variable(alloc, id)?;
     let config = Config::default();
     let styles = Styles::default();
 
