@@ -4,8 +4,8 @@ use crate::texts::{assert_html, assert_text};
 use codespan_base::diagnostic::{Diagnostic, Label, LabelStyle, Severity};
 use codespan_base::files::{Error, SimpleFile};
 use codespan_base::term::{Config, DisplayStyle};
-use codespan_views::emitting::emit_into_string;
 use codespan_styled::{Style, StyledText, styled_text, to_html};
+use codespan_views::emitting::emit_into_string;
 use std::alloc::{AllocError, Global};
 use std::test::Fail;
 

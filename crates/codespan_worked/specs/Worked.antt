@@ -22,7 +22,8 @@ use Rattle.codespan_picture.specs.StatedPicture.{stated_locus}
 
 -- opens all definitions of an output, so that it computes
 unfoldable pub worked_definitions : Unit {0}
-unfolding unicode_width digits line_of row_definitions escape ansi_reset ansi_bold ansi_color ansi_style
+unfolding unicode_width digits line_of row_definitions escape ansi_reset ansi_bold ansi_color
+    ansi_style
 worked_definitions = tt
 
 -- a file of a name and a text
