@@ -6,6 +6,8 @@ use codespan_native::raw::{
     RawStyles, RawText,
 };
 use codespan_native::status::write_status;
+use std::alloc::Global;
+use std::process::Abort;
 
 fn color(fg: u32) -> RawColorSpec {
     RawColorSpec {
@@ -76,8 +78,14 @@ fn label<'a>(file: usize, start: usize, end: usize, message: &'a [u8]) -> RawLab
     }
 }
 
-#[test]
-fn a_file_cut_at_newlines(rt: HostRuntime) {
+/// Asserts that a call over this file writes this output.
+fn assert_emits(
+    rt: &impl Abort,
+    alloc: Global,
+    file: RawFile<'_>,
+    diagnostic: &RawDiagnostic<'_>,
+    output: &[u8],
+) {
     let mut out = [0u8; 1024];
     let mut written = 0;
     let mut detail = Detail {
@@ -85,189 +93,164 @@ fn a_file_cut_at_newlines(rt: HostRuntime) {
         index: 0,
     };
     let status = emit(
-        rt.alloc(),
-        &[RawFile {
-            name: b"f.txt",
-            source: b"abc\n",
-            first_byte: 0,
-            first_line: 0,
-            lines: &[],
-            loci: &[],
-        }],
-        &RawDiagnostic {
-            severity: 3,
-            code: b"E1",
-            message: b"bad",
-            labels: &[label(0, 0, 3, b"here")],
-            notes: &[RawText { bytes: b"a note" }],
-        },
+        alloc,
+        &[file],
+        diagnostic,
         &config(),
         &mut out,
         &mut written,
         &mut detail,
     );
     assert_eq!(rt; status, 0);
-    assert_eq!(rt;
-        &out[..written],
-        b"error[E1]: bad\n  --> f.txt:1:1\n  |\n1 | abc\n  | ^^^ here\n  |\n  = a note\n\n".as_slice()
+    assert_eq!(rt; &out[..written], output);
+}
+
+/// Asserts that a call without files returns this status, names this argument by its number and its
+/// index, and writes nothing.
+fn assert_refused(
+    rt: &impl Abort,
+    alloc: Global,
+    diagnostic: &RawDiagnostic<'_>,
+    refusal: (u32, u32, usize),
+) {
+    let mut out = [7u8; 4];
+    let mut written = 9;
+    let mut detail = Detail {
+        argument: 9,
+        index: 9,
+    };
+    let status = emit(
+        alloc,
+        &[],
+        diagnostic,
+        &config(),
+        &mut out,
+        &mut written,
+        &mut detail,
     );
+    assert_eq!(rt; (status, detail.argument, detail.index), refusal);
+    assert_eq!(rt; written, 0);
+    assert_eq!(rt; out, [7, 7, 7, 7]);
+}
+
+#[test]
+fn a_file_cut_at_newlines(rt: HostRuntime) {
+    let file = RawFile {
+        name: b"f.txt",
+        source: b"abc\n",
+        first_byte: 0,
+        first_line: 0,
+        lines: &[],
+        loci: &[],
+    };
+    let diagnostic = RawDiagnostic {
+        severity: 3,
+        code: b"E1",
+        message: b"bad",
+        labels: &[label(0, 0, 3, b"here")],
+        notes: &[RawText { bytes: b"a note" }],
+    };
+    let output =
+        b"error[E1]: bad\n  --> f.txt:1:1\n  |\n1 | abc\n  | ^^^ here\n  |\n  = a note\n\n";
+    assert_emits(&rt, rt.alloc(), file, &diagnostic, output);
 }
 
 #[test]
 fn a_window_from_line_100(rt: HostRuntime) {
-    let mut out = [0u8; 1024];
-    let mut written = 0;
-    let mut detail = Detail {
-        argument: 0,
-        index: 0,
+    let file = RawFile {
+        name: b"f.txt",
+        source: b"one\ntwo\n",
+        first_byte: 5000,
+        first_line: 99,
+        lines: &[],
+        loci: &[],
     };
-    let status = emit(
-        rt.alloc(),
-        &[RawFile {
-            name: b"f.txt",
-            source: b"one\ntwo\n",
-            first_byte: 5000,
-            first_line: 99,
-            lines: &[],
-            loci: &[],
-        }],
-        &RawDiagnostic {
-            severity: 2,
-            code: b"",
-            message: b"bad",
-            labels: &[label(0, 5004, 5007, b"")],
-            notes: &[],
-        },
-        &config(),
-        &mut out,
-        &mut written,
-        &mut detail,
-    );
-    assert_eq!(rt; status, 0);
-    assert_eq!(rt;
-        &out[..written],
-        b"warning: bad\n    --> f.txt:101:1\n    |\n101 | two\n    | ^^^\n\n".as_slice()
-    );
+    let diagnostic = RawDiagnostic {
+        severity: 2,
+        code: b"",
+        message: b"bad",
+        labels: &[label(0, 5004, 5007, b"")],
+        notes: &[],
+    };
+    let output = b"warning: bad\n    --> f.txt:101:1\n    |\n101 | two\n    | ^^^\n\n";
+    assert_emits(&rt, rt.alloc(), file, &diagnostic, output);
 }
 
 #[test]
 fn given_lines_and_loci(rt: HostRuntime) {
-    let mut out = [0u8; 1024];
-    let mut written = 0;
-    let mut detail = Detail {
-        argument: 0,
-        index: 0,
-    };
-    let status = emit(
-        rt.alloc(),
-        &[RawFile {
-            name: b"f.txt",
-            source: b"one;two;",
-            first_byte: 10,
-            first_line: 0,
-            lines: &[
-                RawLine {
-                    start: 10,
-                    end: 13,
-                    number: 7,
-                },
-                RawLine {
-                    start: 14,
-                    end: 17,
-                    number: 9,
-                },
-            ],
-            loci: &[RawLocus {
-                byte: 14,
-                line_number: 70,
-                column_number: 80,
-            }],
+    let file = RawFile {
+        name: b"f.txt",
+        source: b"one;two;",
+        first_byte: 10,
+        first_line: 0,
+        lines: &[
+            RawLine {
+                start: 10,
+                end: 13,
+                number: 7,
+            },
+            RawLine {
+                start: 14,
+                end: 17,
+                number: 9,
+            },
+        ],
+        loci: &[RawLocus {
+            byte: 14,
+            line_number: 70,
+            column_number: 80,
         }],
-        &RawDiagnostic {
-            severity: 0,
-            code: b"",
-            message: b"bad",
-            labels: &[label(0, 14, 17, b"")],
-            notes: &[],
-        },
-        &config(),
-        &mut out,
-        &mut written,
-        &mut detail,
-    );
-    assert_eq!(rt; status, 0);
-    assert_eq!(rt;
-        &out[..written],
-        b"help: bad\n  --> f.txt:70:80\n  |\n9 | two\n  | ^^^\n\n".as_slice()
-    );
+    };
+    let diagnostic = RawDiagnostic {
+        severity: 0,
+        code: b"",
+        message: b"bad",
+        labels: &[label(0, 14, 17, b"")],
+        notes: &[],
+    };
+    let output = b"help: bad\n  --> f.txt:70:80\n  |\n9 | two\n  | ^^^\n\n";
+    assert_emits(&rt, rt.alloc(), file, &diagnostic, output);
 }
 
 #[test]
 fn an_invalid_argument_before_others(rt: HostRuntime) {
-    let mut out = [7u8; 4];
-    let mut written = 9;
-    let mut detail = Detail {
-        argument: 9,
-        index: 9,
+    let diagnostic = RawDiagnostic {
+        severity: 0,
+        code: b"",
+        message: b"bad",
+        labels: &[label(0, 0, 1, b""), label(0, 0, 1, b"\xff")],
+        notes: &[RawText { bytes: b"\xff" }],
     };
-    let status = emit(
-        rt.alloc(),
-        &[],
-        &RawDiagnostic {
-            severity: 0,
-            code: b"",
-            message: b"bad",
-            labels: &[label(0, 0, 1, b""), label(0, 0, 1, b"\xff")],
-            notes: &[RawText { bytes: b"\xff" }],
-        },
-        &config(),
-        &mut out,
-        &mut written,
-        &mut detail,
-    );
     // INVALID, for the message of the label 1: the file of a label and a note come after it
-    assert_eq!(rt; (status, detail.argument, detail.index), (4, 17, 1));
-    assert_eq!(rt; written, 0);
-    assert_eq!(rt; out, [7, 7, 7, 7]);
+    assert_refused(&rt, rt.alloc(), &diagnostic, (4, 17, 1));
 }
 
 #[test]
 fn a_missing_file_before_a_note(rt: HostRuntime) {
-    let mut out = [7u8; 4];
-    let mut written = 9;
-    let mut detail = Detail {
-        argument: 9,
-        index: 9,
+    let diagnostic = RawDiagnostic {
+        severity: 0,
+        code: b"",
+        message: b"bad",
+        labels: &[label(0, 0, 1, b"")],
+        notes: &[RawText { bytes: b"\xff" }],
     };
-    let status = emit(
-        rt.alloc(),
-        &[],
-        &RawDiagnostic {
-            severity: 0,
-            code: b"",
-            message: b"bad",
-            labels: &[label(0, 0, 1, b"")],
-            notes: &[RawText { bytes: b"\xff" }],
-        },
-        &config(),
-        &mut out,
-        &mut written,
-        &mut detail,
-    );
     // FILE_MISSING, for the label 0: the note comes after it
-    assert_eq!(rt; (status, detail.argument, detail.index), (3, 18, 0));
-    assert_eq!(rt; written, 0);
-    assert_eq!(rt; out, [7, 7, 7, 7]);
+    assert_refused(&rt, rt.alloc(), &diagnostic, (3, 18, 0));
+}
+
+/// Asserts that the text of a status, whose argument has this number, is this.
+fn assert_status_text(rt: &impl Abort, status: u32, argument: u32, text: &[u8]) {
+    let mut out = [7u8; 100];
+    let mut written = 9;
+    assert_eq!(rt; write_status(status, argument, &mut out, &mut written), 0);
+    assert_eq!(rt; &out[..written], text);
 }
 
 #[test]
 fn texts_of_statuses(rt: HostRuntime) {
-    let mut text = [0u8; 100];
+    assert_status_text(&rt, 2, 0, b"out of memory");
+    assert_status_text(&rt, 4, 14, b"the code must be UTF-8");
     let mut written = 0;
-    assert_eq!(rt; write_status(2, 0, &mut text, &mut written), 0);
-    assert_eq!(rt; &text[..written], b"out of memory".as_slice());
-    assert_eq!(rt; write_status(4, 14, &mut text, &mut written), 0);
-    assert_eq!(rt; &text[..written], b"the code must be UTF-8".as_slice());
-    assert_eq!(rt; write_status(2, 0, &mut text[..12], &mut written), 1);
+    assert_eq!(rt; write_status(2, 0, &mut [0; 12], &mut written), 1);
     assert_eq!(rt; written, 13);
 }
