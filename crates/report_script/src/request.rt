@@ -7,7 +7,7 @@ ghost use Rattle.report_script.specs.Requests.{number_of, style_of};
 use codespan_base::term::DisplayStyle;
 
 /// A request for an error with one label over the input.
-#[derive(Clone, Copy, Debug)]
+#[derive(Clone, Copy)]
 pub struct Request<'args> {
     /// The display style.
     pub style: DisplayStyle,
@@ -43,7 +43,7 @@ impl<'args> Request<'args> {
 }
 
 /// What the arguments request.
-#[derive(Clone, Copy, Debug)]
+#[derive(Clone, Copy)]
 pub enum Command<'args> {
     /// An error with one label over the input.
     OneLabel(Request<'args>),

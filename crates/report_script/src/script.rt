@@ -26,7 +26,7 @@ use std::ops::Range;
 pub type ScriptLabel<'input> = (LabelStyle, Range<usize>, &'input str);
 
 /// What a script states, with texts borrowed from the input that it was parsed from.
-#[derive(Debug, Drop)]
+#[derive(Drop)]
 pub struct Script<'input> {
     /// The severity; an error if the script states none.
     pub severity: Severity,
@@ -43,7 +43,7 @@ pub struct Script<'input> {
 }
 
 /// The kinds of errors in scripts, in the order of their numbers, from 1.
-#[derive(Clone, Copy, Debug, PartialEq, Eq)]
+#[derive(Clone, Copy)]
 pub enum FaultNumber {
     /// A line begins with a word that scripts do not have.
     UnknownWord,
@@ -103,7 +103,7 @@ impl FaultNumber {
 }
 
 /// The first error of a script, and its range in the input.
-#[derive(Clone, Debug, Drop, PartialEq, Eq)]
+#[derive(Drop)]
 pub struct Fault {
     /// The kind of error.
     pub number: FaultNumber,
@@ -114,7 +114,7 @@ pub struct Fault {
 }
 
 /// Why a text was not read as a script.
-#[derive(Debug, Drop)]
+#[derive(Drop)]
 pub enum ScriptError {
     /// The text is no script.
     Fault(Fault),

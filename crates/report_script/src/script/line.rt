@@ -6,7 +6,7 @@ use super::lines::cut;
 use std::ops::Range;
 
 /// A line of a script.
-#[derive(Clone, Copy, Debug)]
+#[derive(Clone, Copy)]
 pub(super) struct Line<'input> {
     /// The byte index in the input at which it starts.
     pub(super) start: usize,

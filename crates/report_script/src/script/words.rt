@@ -6,7 +6,7 @@ ghost use Rattle.report_script.specs.ScriptWords.{word_named, severity_named};
 use codespan_base::diagnostic::Severity;
 
 /// The word with which a line begins.
-#[derive(Clone, Copy, Debug, PartialEq, Eq)]
+#[derive(Clone, Copy)]
 pub enum Word {
     /// The rest is the severity.
     Severity,
