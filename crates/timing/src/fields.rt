@@ -10,7 +10,7 @@ use crate::fault::Fault;
 use std::str;
 
 /// The remaining fields.
-#[derive(Clone, Copy)]
+#[derive(Drop)]
 pub struct Fields<'a> {
     left: &'a [u8],
 }
