@@ -6,6 +6,7 @@ use report_runs::run::run;
 use std::alloc::{AllocError, Global};
 use std::io;
 use std::io::{ErrorKind, Read, Write};
+use std::process::Abort;
 use std::test::Fail;
 
 /// The arguments of most runs.
@@ -22,21 +23,10 @@ const USAGE: &str = "usage: report STYLE NAME START END MESSAGE\n";
 
 /// An input that counts its reads, and fails one of them.
 #[derive(Drop)]
-pub struct Input<'a> {
+struct Input<'a> {
     left: &'a [u8],
     reads: usize,
     failed_read: Option<usize>,
-}
-
-impl<'a> Input<'a> {
-    /// Returns an input that fails no read.
-    pub fn new(text: &'a [u8]) -> Self {
-        Input {
-            left: text,
-            reads: 0,
-            failed_read: None,
-        }
-    }
 }
 
 impl Read for Input<'_> {
@@ -55,21 +45,11 @@ impl Read for Input<'_> {
 pub struct Output {
     pub accepted: Vec<u8>,
     writes: usize,
-    pub failed_write: Option<usize>,
+    failed_write: Option<usize>,
     fails_flush: bool,
 }
 
 impl Output {
-    /// Returns an output that fails nothing.
-    pub fn new(alloc: Global) -> Self {
-        Output {
-            accepted: Vec::new(alloc),
-            writes: 0,
-            failed_write: None,
-            fails_flush: false,
-        }
-    }
-
     /// Returns what it has taken, as a text.
     pub fn text(&self) -> &str {
         match std::str::from_utf8(self.accepted.as_slice()) {
@@ -97,85 +77,132 @@ impl Write for Output {
     }
 }
 
+/// What fails in a run.
+#[derive(Clone, Copy)]
+pub struct Failing {
+    /// The read of this number.
+    pub read: Option<usize>,
+    /// The write of this number to the output.
+    pub write: Option<usize>,
+    /// Each flush of the output.
+    pub flush: bool,
+    /// The write of this number to the error output.
+    pub error_write: Option<usize>,
+}
+
+/// Nothing fails.
+pub const NO_FAILURES: Failing = Failing {
+    read: None,
+    write: None,
+    flush: false,
+    error_write: None,
+};
+
+/// What a run returned and wrote, and how often it read.
+#[derive(Drop)]
+pub struct Outcome {
+    pub status: u8,
+    pub output: Output,
+    pub error_output: Output,
+    pub reads: usize,
+}
+
+impl Outcome {
+    /// Returns the texts of both outputs, and the status.
+    pub fn seen(&self) -> (&str, &str, u8) {
+        (self.output.text(), self.error_output.text(), self.status)
+    }
+}
+
 /// Returns the words as the program has them.
-pub fn arguments(alloc: Global, words: &[&str]) -> Result<Vec<String>, AllocError> {
+fn arguments(alloc: Global, words: &[&str]) -> Result<Vec<String>, AllocError> {
     words
         .iter()
         .map(|word| String::from_str(alloc, word))
         .try_collect(alloc)
 }
 
-/// What a run returned and wrote.
-#[derive(Drop)]
-pub struct Outcome {
-    pub status: u8,
-    pub output: Output,
-    pub error_output: Output,
-}
-
-/// Runs over an input and an output that fail nothing.
-pub fn ran(alloc: Global, words: &[&str], text: &[u8]) -> Result<Outcome, AllocError> {
+/// Runs over an input and outputs in which this fails.
+pub fn ran(
+    alloc: Global,
+    words: &[&str],
+    text: &[u8],
+    failing: Failing,
+) -> Result<Outcome, AllocError> {
     let args = arguments(alloc, words)?;
-    let mut output = Output::new(alloc);
-    let mut error_output = Output::new(alloc);
-    let status = run(
-        alloc,
-        &args,
-        &mut Input::new(text),
-        &mut output,
-        &mut error_output,
-    );
+    let mut input = Input {
+        left: text,
+        reads: 0,
+        failed_read: failing.read,
+    };
+    let mut output = Output {
+        accepted: Vec::new(alloc),
+        writes: 0,
+        failed_write: failing.write,
+        fails_flush: failing.flush,
+    };
+    let mut error_output = Output {
+        accepted: Vec::new(alloc),
+        writes: 0,
+        failed_write: failing.error_write,
+        fails_flush: false,
+    };
+    let status = run(alloc, &args, &mut input, &mut output, &mut error_output);
     Ok(Outcome {
         status,
         output,
         error_output,
+        reads: input.reads,
     })
 }
 
-#[test]
-fn report_run(rt: HostRuntime) -> Result<(), Fail> {
-    let rendered = ran(rt.alloc(), &REQUEST, b"abc\n")?;
-    assert_eq!(rt;
-        (
-            rendered.output.text(),
-            rendered.error_output.text(),
-            rendered.status
-        ),
-        (OUTPUT, "", 0)
-    );
-    let wrong = ran(rt.alloc(), &["rich", "f.txt", "0", "x", "bad"], b"abc\n")?;
-    assert_eq!(rt;
-        (wrong.output.text(), wrong.error_output.text(), wrong.status),
-        ("", USAGE, 2)
-    );
-    Ok(())
-}
+/// The arguments of a run, its input, and what is seen of it where nothing fails.
+type Run<'run> = (&'run [&'run str], &'run [u8], (&'run str, &'run str, u8));
 
-#[test]
-fn report_short_and_medium(rt: HostRuntime) -> Result<(), Fail> {
-    for style in ["short", "medium"] {
-        let rendered = ran(rt.alloc(), &[style, "f.txt", "0", "3", "bad"], b"abc\n")?;
-        assert_eq!(rt;
-            (
-                rendered.output.text(),
-                rendered.error_output.text(),
-                rendered.status
-            ),
-            ("f.txt:1:1: error: bad\n", "", 0),
-            "{style}"
-        );
+/// Makes the runs.
+fn check<R: Abort + AllocGlobal>(rt: &R, runs: &[Run<'_>]) -> Result<(), Fail> {
+    for (words, text, expected) in runs {
+        let outcome = ran(rt.alloc(), words, text, NO_FAILURES)?;
+        assert_eq!(rt; outcome.seen(), *expected, "{words:?} {text:?}");
     }
     Ok(())
 }
 
 #[test]
+fn report_run(rt: HostRuntime) -> Result<(), Fail> {
+    let runs: [Run<'_>; 2] = [
+        (&REQUEST, b"abc\n", (OUTPUT, "", 0)),
+        (
+            &["rich", "f.txt", "0", "x", "bad"],
+            b"abc\n",
+            ("", USAGE, 2),
+        ),
+    ];
+    check(&rt, &runs)
+}
+
+#[test]
+fn report_short_and_medium(rt: HostRuntime) -> Result<(), Fail> {
+    let line = "f.txt:1:1: error: bad\n";
+    let runs: [Run<'_>; 2] = [
+        (
+            &["short", "f.txt", "0", "3", "bad"],
+            b"abc\n",
+            (line, "", 0),
+        ),
+        (
+            &["medium", "f.txt", "0", "3", "bad"],
+            b"abc\n",
+            (line, "", 0),
+        ),
+    ];
+    check(&rt, &runs)
+}
+
+#[test]
 fn report_two_lines(rt: HostRuntime) -> Result<(), Fail> {
-    let two = ran(rt.alloc(), &["rich", "f.txt", "0", "4", "bad"], b"abc\nd")?;
-    assert_eq!(rt;
-        (two.output.text(), two.error_output.text(), two.status),
-        (TWO_LINES, "", 0)
-    );
-    Ok(())
+    let words = ["rich", "f.txt", "0", "4", "bad"];
+    check(&rt, &[(&words, b"abc\nd", (TWO_LINES, "", 0))])
 }
 
 #[test]
@@ -198,49 +225,32 @@ fn wrong_arguments(rt: HostRuntime) -> Result<(), Fail> {
         &["rich", "f.txt", "0", "18446744073709551616", "bad"],
     ];
     for words in wrong {
-        let args = arguments(rt.alloc(), words)?;
-        let mut input = Input::new(b"abc\n");
-        let mut output = Output::new(rt.alloc());
-        let mut error_output = Output::new(rt.alloc());
-        let status = run(
-            rt.alloc(),
-            &args,
-            &mut input,
-            &mut output,
-            &mut error_output,
-        );
+        let outcome = ran(rt.alloc(), words, b"abc\n", NO_FAILURES)?;
         assert_eq!(rt;
-            (output.text(), error_output.text(), status),
-            ("", USAGE, 2),
+            (outcome.seen(), outcome.reads),
+            (("", USAGE, 2), 0),
             "{words:?}"
         );
-        assert_eq!(rt; input.reads, 0, "{words:?}");
     }
     Ok(())
 }
 
 #[test]
 fn right_numbers(rt: HostRuntime) -> Result<(), Fail> {
-    let leading_zeros = ran(rt.alloc(), &["rich", "f.txt", "000", "03", "bad"], b"abc\n")?;
-    assert_eq!(rt;
-        (leading_zeros.output.text(), leading_zeros.status),
-        (OUTPUT, 0)
-    );
     let words = ["rich", "f.txt", "0", "18446744073709551615", "bad"];
-    let greatest = ran(rt.alloc(), &words, b"abc")?;
+    let greatest = ran(rt.alloc(), &words, b"abc", NO_FAILURES)?;
     assert_eq!(rt; (greatest.error_output.text(), greatest.status), ("", 0));
-    Ok(())
+    let leading_zeros = ["rich", "f.txt", "000", "03", "bad"];
+    check(&rt, &[(&leading_zeros, b"abc\n", (OUTPUT, "", 0))])
 }
 
 #[test]
 fn input_not_utf8(rt: HostRuntime) -> Result<(), Fail> {
     let line = "report: input is not UTF-8\n";
-    for text in [b"\xff".as_slice(), b"abc\xe2\x94", b"\xc0\x80\n"] {
-        let odd = ran(rt.alloc(), &REQUEST, text)?;
-        assert_eq!(rt;
-            (odd.output.text(), odd.error_output.text(), odd.status),
-            ("", line, 1)
-        );
-    }
-    Ok(())
+    let runs: [Run<'_>; 3] = [
+        (&REQUEST, b"\xff", ("", line, 1)),
+        (&REQUEST, b"abc\xe2\x94", ("", line, 1)),
+        (&REQUEST, b"\xc0\x80\n", ("", line, 1)),
+    ];
+    check(&rt, &runs)
 }

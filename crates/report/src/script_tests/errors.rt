@@ -5,200 +5,190 @@ use std::test::Fail;
 
 #[test]
 fn scripts_with_unknown_words(rt: HostRuntime) -> Result<(), Fail> {
-    check(
-        &rt,
-        "rich",
-        "---\r",
+    let runs = [
         (
-            "",
-            "error[S1]: unknown word\n  ┌─ script:1:1\n  │\n1 │ ---\n  │ ^^^^ expected severity, code, message, primary, secondary or note\n\n",
-            3,
+            "rich",
+            "---\r",
+            (
+                "",
+                "error[S1]: unknown word\n  ┌─ script:1:1\n  │\n1 │ ---\n  │ ^^^^ expected severity, code, message, primary, secondary or note\n\n",
+                3,
+            ),
         ),
-    )?;
-    check(
-        &rt,
-        "rich",
-        "--- \n",
         (
-            "",
-            "error[S1]: unknown word\n  ┌─ script:1:1\n  │\n1 │ --- \n  │ ^^^ expected severity, code, message, primary, secondary or note\n\n",
-            3,
+            "rich",
+            "--- \n",
+            (
+                "",
+                "error[S1]: unknown word\n  ┌─ script:1:1\n  │\n1 │ --- \n  │ ^^^ expected severity, code, message, primary, secondary or note\n\n",
+                3,
+            ),
         ),
-    )?;
-    check(
-        &rt,
-        "rich",
-        " code a\n---\n",
         (
-            "",
-            "error[S1]: unknown word\n  ┌─ script:1:1\n  │\n1 │  code a\n  │ ^ expected severity, code, message, primary, secondary or note\n\n",
-            3,
+            "rich",
+            " code a\n---\n",
+            (
+                "",
+                "error[S1]: unknown word\n  ┌─ script:1:1\n  │\n1 │  code a\n  │ ^ expected severity, code, message, primary, secondary or note\n\n",
+                3,
+            ),
         ),
-    )?;
-    check(
-        &rt,
-        "rich",
-        "primary\t0 1\n---\n",
         (
-            "",
-            "error[S1]: unknown word\n  ┌─ script:1:1\n  │\n1 │ primary 0 1\n  │ ^^^^^^^^^ expected severity, code, message, primary, secondary or note\n\n",
-            3,
+            "rich",
+            "primary\t0 1\n---\n",
+            (
+                "",
+                "error[S1]: unknown word\n  ┌─ script:1:1\n  │\n1 │ primary 0 1\n  │ ^^^^^^^^^ expected severity, code, message, primary, secondary or note\n\n",
+                3,
+            ),
         ),
-    )?;
-    check(
-        &rt,
-        "rich",
-        "bad",
         (
-            "",
-            "error[S1]: unknown word\n  ┌─ script:1:1\n  │\n1 │ bad\n  │ ^^^ expected severity, code, message, primary, secondary or note\n\n",
-            3,
+            "rich",
+            "bad",
+            (
+                "",
+                "error[S1]: unknown word\n  ┌─ script:1:1\n  │\n1 │ bad\n  │ ^^^ expected severity, code, message, primary, secondary or note\n\n",
+                3,
+            ),
         ),
-    )?;
-    Ok(())
+    ];
+    check(&rt, &runs)
 }
 
 #[test]
 fn scripts_with_unknown_severities(rt: HostRuntime) -> Result<(), Fail> {
-    check(
-        &rt,
-        "rich",
-        "severity\n---\n",
+    let runs = [
         (
-            "",
-            "error[S2]: unknown severity\n  ┌─ script:1:9\n  │\n1 │ severity\n  │         ^ expected bug, error, warning, note or help\n\n",
-            3,
+            "rich",
+            "severity\n---\n",
+            (
+                "",
+                "error[S2]: unknown severity\n  ┌─ script:1:9\n  │\n1 │ severity\n  │         ^ expected bug, error, warning, note or help\n\n",
+                3,
+            ),
         ),
-    )?;
-    check(
-        &rt,
-        "rich",
-        "severity  bug\n---\n",
         (
-            "",
-            "error[S2]: unknown severity\n  ┌─ script:1:10\n  │\n1 │ severity  bug\n  │          ^^^^ expected bug, error, warning, note or help\n\n",
-            3,
+            "rich",
+            "severity  bug\n---\n",
+            (
+                "",
+                "error[S2]: unknown severity\n  ┌─ script:1:10\n  │\n1 │ severity  bug\n  │          ^^^^ expected bug, error, warning, note or help\n\n",
+                3,
+            ),
         ),
-    )?;
-    check(
-        &rt,
-        "rich",
-        "severity Error\n---\n",
         (
-            "",
-            "error[S2]: unknown severity\n  ┌─ script:1:10\n  │\n1 │ severity Error\n  │          ^^^^^ expected bug, error, warning, note or help\n\n",
-            3,
+            "rich",
+            "severity Error\n---\n",
+            (
+                "",
+                "error[S2]: unknown severity\n  ┌─ script:1:10\n  │\n1 │ severity Error\n  │          ^^^^^ expected bug, error, warning, note or help\n\n",
+                3,
+            ),
         ),
-    )?;
-    check(
-        &rt,
-        "rich",
-        "severity bug\nseverity x\n---\n",
         (
-            "",
-            "error[S4]: repeated word\n  ┌─ script:2:1\n  │\n1 │ severity bug\n  │ -------- first given here\n2 │ severity x\n  │ ^^^^^^^^ given again\n\n",
-            3,
+            "rich",
+            "severity bug\nseverity x\n---\n",
+            (
+                "",
+                "error[S4]: repeated word\n  ┌─ script:2:1\n  │\n1 │ severity bug\n  │ -------- first given here\n2 │ severity x\n  │ ^^^^^^^^ given again\n\n",
+                3,
+            ),
         ),
-    )?;
-    check(
-        &rt,
-        "rich",
-        "severity x\nseverity bug\n---\n",
         (
-            "",
-            "error[S2]: unknown severity\n  ┌─ script:1:10\n  │\n1 │ severity x\n  │          ^ expected bug, error, warning, note or help\n\n",
-            3,
+            "rich",
+            "severity x\nseverity bug\n---\n",
+            (
+                "",
+                "error[S2]: unknown severity\n  ┌─ script:1:10\n  │\n1 │ severity x\n  │          ^ expected bug, error, warning, note or help\n\n",
+                3,
+            ),
         ),
-    )?;
-    Ok(())
+    ];
+    check(&rt, &runs)
 }
 
 #[test]
 fn scripts_with_bad_numbers(rt: HostRuntime) -> Result<(), Fail> {
-    check(
-        &rt,
-        "rich",
-        "primary\n---\n",
+    let runs = [
         (
-            "",
-            "error[S3]: bad number\n  ┌─ script:1:8\n  │\n1 │ primary\n  │        ^ expected a decimal number\n\n",
-            3,
+            "rich",
+            "primary\n---\n",
+            (
+                "",
+                "error[S3]: bad number\n  ┌─ script:1:8\n  │\n1 │ primary\n  │        ^ expected a decimal number\n\n",
+                3,
+            ),
         ),
-    )?;
-    check(
-        &rt,
-        "rich",
-        "secondary 0\n---\n",
         (
-            "",
-            "error[S3]: bad number\n  ┌─ script:1:12\n  │\n1 │ secondary 0\n  │            ^ expected a decimal number\n\n",
-            3,
+            "rich",
+            "secondary 0\n---\n",
+            (
+                "",
+                "error[S3]: bad number\n  ┌─ script:1:12\n  │\n1 │ secondary 0\n  │            ^ expected a decimal number\n\n",
+                3,
+            ),
         ),
-    )?;
-    check(
-        &rt,
-        "rich",
-        "primary x y\n---\n",
         (
-            "",
-            "error[S3]: bad number\n  ┌─ script:1:9\n  │\n1 │ primary x y\n  │         ^ expected a decimal number\n\n",
-            3,
+            "rich",
+            "primary x y\n---\n",
+            (
+                "",
+                "error[S3]: bad number\n  ┌─ script:1:9\n  │\n1 │ primary x y\n  │         ^ expected a decimal number\n\n",
+                3,
+            ),
         ),
-    )?;
-    check(
-        &rt,
-        "rich",
-        "primary 0 18446744073709551616\n---\n",
         (
-            "",
-            "error[S3]: bad number\n  ┌─ script:1:11\n  │\n1 │ primary 0 18446744073709551616\n  │           ^^^^^^^^^^^^^^^^^^^^ expected a decimal number\n\n",
-            3,
+            "rich",
+            "primary 0 18446744073709551616\n---\n",
+            (
+                "",
+                "error[S3]: bad number\n  ┌─ script:1:11\n  │\n1 │ primary 0 18446744073709551616\n  │           ^^^^^^^^^^^^^^^^^^^^ expected a decimal number\n\n",
+                3,
+            ),
         ),
-    )?;
-    check(
-        &rt,
-        "rich",
-        "primary +1 2\n---\n",
         (
-            "",
-            "error[S3]: bad number\n  ┌─ script:1:9\n  │\n1 │ primary +1 2\n  │         ^^ expected a decimal number\n\n",
-            3,
+            "rich",
+            "primary +1 2\n---\n",
+            (
+                "",
+                "error[S3]: bad number\n  ┌─ script:1:9\n  │\n1 │ primary +1 2\n  │         ^^ expected a decimal number\n\n",
+                3,
+            ),
         ),
-    )?;
-    Ok(())
+    ];
+    check(&rt, &runs)
 }
 
 #[test]
 fn scripts_without_end(rt: HostRuntime) -> Result<(), Fail> {
-    check(
-        &rt,
-        "rich",
-        "code é路\nnote\ncode b\r\n---\n",
+    let runs = [
         (
-            "",
-            "error[S4]: repeated word\n  ┌─ script:3:1\n  │\n1 │ code é路\n  │ ---- first given here\n2 │ note\n3 │ code b\n  │ ^^^^ given again\n\n",
-            3,
+            "rich",
+            "code é路\nnote\ncode b\r\n---\n",
+            (
+                "",
+                "error[S4]: repeated word\n  ┌─ script:3:1\n  │\n1 │ code é路\n  │ ---- first given here\n2 │ note\n3 │ code b\n  │ ^^^^ given again\n\n",
+                3,
+            ),
         ),
-    )?;
-    check(
-        &rt,
-        "rich",
-        "message a\r",
         (
-            "",
-            "error[S5]: missing end of script\n  ┌─ script:1:11\n  │\n1 │ message a\n  │            expected ---\n\n",
-            3,
+            "rich",
+            "message a\r",
+            (
+                "",
+                "error[S5]: missing end of script\n  ┌─ script:1:11\n  │\n1 │ message a\n  │            expected ---\n\n",
+                3,
+            ),
         ),
-    )?;
-    check(
-        &rt,
-        "rich",
-        "note 路 \n\n",
         (
-            "",
-            "error[S5]: missing end of script\n  ┌─ script:3:1\n  │\n3 │ \n  │ ^ expected ---\n\n",
-            3,
+            "rich",
+            "note 路 \n\n",
+            (
+                "",
+                "error[S5]: missing end of script\n  ┌─ script:3:1\n  │\n3 │ \n  │ ^ expected ---\n\n",
+                3,
+            ),
         ),
-    )?;
-    Ok(())
+    ];
+    check(&rt, &runs)
 }

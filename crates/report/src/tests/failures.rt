@@ -1,70 +1,45 @@
 //! Runs over readers and writers that fail.
 
-use crate::tests::{Input, OUTPUT, Output, REQUEST, arguments};
-use report_runs::run::run;
+use crate::tests::{Failing, NO_FAILURES, OUTPUT, REQUEST, ran};
 use std::test::Fail;
 
 #[test]
 fn failed_input(rt: HostRuntime) -> Result<(), Fail> {
-    let args = arguments(rt.alloc(), &REQUEST)?;
+    let line = "report: cannot read input\n";
     for read in 0..2 {
-        let mut input = Input::new(b"abc\n");
-        input.failed_read = Some(read);
-        let mut output = Output::new(rt.alloc());
-        let mut error_output = Output::new(rt.alloc());
-        let status = run(
-            rt.alloc(),
-            &args,
-            &mut input,
-            &mut output,
-            &mut error_output,
-        );
-        let line = "report: cannot read input\n";
-        assert_eq!(rt;
-            (output.text(), error_output.text(), status),
-            ("", line, 1),
-            "read {read}"
-        );
+        let failing = Failing {
+            read: Some(read),
+            ..NO_FAILURES
+        };
+        let outcome = ran(rt.alloc(), &REQUEST, b"abc\n", failing)?;
+        assert_eq!(rt; outcome.seen(), ("", line, 1), "read {read}");
     }
     Ok(())
 }
 
 #[test]
 fn failed_output(rt: HostRuntime) -> Result<(), Fail> {
-    let args = arguments(rt.alloc(), &REQUEST)?;
     let line = "report: cannot write output\n";
     for write in 0..OUTPUT.len().div_ceil(4) {
-        let mut output = Output::new(rt.alloc());
-        output.failed_write = Some(write);
-        let mut error_output = Output::new(rt.alloc());
-        let status = run(
-            rt.alloc(),
-            &args,
-            &mut Input::new(b"abc\n"),
-            &mut output,
-            &mut error_output,
-        );
-        assert_eq!(rt; (error_output.text(), status), (line, 1), "write {write}");
+        let failing = Failing {
+            write: Some(write),
+            ..NO_FAILURES
+        };
+        let outcome = ran(rt.alloc(), &REQUEST, b"abc\n", failing)?;
+        let written = outcome.output.accepted.as_slice();
+        assert_eq!(rt; written, &OUTPUT.as_bytes()[..write * 4], "write {write}");
         assert_eq!(rt;
-            output.accepted.as_slice(),
-            &OUTPUT.as_bytes()[..write * 4],
+            (outcome.error_output.text(), outcome.status),
+            (line, 1),
             "write {write}"
         );
     }
-    let mut output = Output::new(rt.alloc());
-    output.fails_flush = true;
-    let mut error_output = Output::new(rt.alloc());
-    let status = run(
-        rt.alloc(),
-        &args,
-        &mut Input::new(b"abc\n"),
-        &mut output,
-        &mut error_output,
-    );
-    assert_eq!(rt;
-        (output.text(), error_output.text(), status),
-        (OUTPUT, line, 1)
-    );
+    let failing = Failing {
+        flush: true,
+        ..NO_FAILURES
+    };
+    let outcome = ran(rt.alloc(), &REQUEST, b"abc\n", failing)?;
+    assert_eq!(rt; outcome.seen(), (OUTPUT, line, 1));
     Ok(())
 }
 
@@ -75,22 +50,22 @@ fn failed_faults(rt: HostRuntime) -> Result<(), Fail> {
         (&REQUEST, b"\xff", None, 1),
         (&REQUEST, b"abc\n", Some(0), 1),
     ];
-    for (words, text, failed_read, expected) in runs {
-        let args = arguments(rt.alloc(), words)?;
-        let mut input = Input::new(text);
-        input.failed_read = failed_read;
-        let mut output = Output::new(rt.alloc());
-        let mut error_output = Output::new(rt.alloc());
-        error_output.failed_write = Some(1);
-        let status = run(
-            rt.alloc(),
-            &args,
-            &mut input,
-            &mut output,
-            &mut error_output,
+    for (words, text, read, expected) in runs {
+        let failing = Failing {
+            read,
+            error_write: Some(1),
+            ..NO_FAILURES
+        };
+        let outcome = ran(rt.alloc(), words, text, failing)?;
+        assert_eq!(rt;
+            (
+                outcome.output.text(),
+                outcome.error_output.accepted.len(),
+                outcome.status
+            ),
+            ("", 4, expected),
+            "{words:?}"
         );
-        assert_eq!(rt; (output.text(), status), ("", expected), "{words:?}");
-        assert_eq!(rt; error_output.accepted.len(), 4, "{words:?}");
     }
     Ok(())
 }
