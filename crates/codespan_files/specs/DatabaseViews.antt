@@ -40,15 +40,15 @@ module _ {Name Source : Type 0} {texts : Ghosts Source} where
 
   -- the name of a file whose line numbers are set
   abbrev pub mapped_name_of : MappedFile Name Source texts → Name
-  mapped_name_of file = file.name
+  mapped_name_of file = name_of file.file
 
   -- its source
   abbrev pub mapped_source_of : MappedFile Name Source texts → Source
-  mapped_source_of file = file.source
+  mapped_source_of file = source_of file.file
 
   -- its text
   abbrev pub mapped_text_of : MappedFile Name Source texts → List ℕ
-  mapped_text_of file = texts.text file.source
+  mapped_text_of file = text_of file.file
 
   -- its set line indices with their numbers, the indices ascending
   abbrev pub settings_of : MappedFile Name Source texts → List (ℕ × ℕ)

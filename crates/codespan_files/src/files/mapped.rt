@@ -1,11 +1,10 @@
 //! A file database of one text whose line numbers can be set, as `#line` does in C.
 
-ghost use Rattle.std.specs.Prelude.{◌≡◌, ◌^◌, ◌<◌, ◌≤◌, [], length, refl, IfOk, IsOk, IfErr, IfSome, OnOk, OnErr, IsErrOf, None};
-ghost use Rattle.std.specs.Str.{IsUtf8};
+ghost use Rattle.std.specs.Prelude.{◌≡◌, ◌≤◌, [], refl, IfOk, IsOk, IfErr, IfSome, OnOk, OnErr, IsErrOf, None};
 ghost use Rattle.codespan_files.specs.Lines.{line_starts_of};
 ghost use Rattle.codespan_files.specs.Settings.{IsStrictlySorted, IsAt, IsGapFor};
 
-use crate::files::{Error, Files, Location, column_index, default_line_number, line_starts};
+use crate::files::{Error, Files, Location, SimpleFile, column_index, default_line_number};
 use std::alloc::Global;
 use std::convert::AsStr;
 use std::fmt::Display;
@@ -30,14 +29,9 @@ use std::ops::Range;
 /// ```
 #[derive(Debug, Drop)]
 pub struct MappedFile<Name, Source: AsStr> {
-    name: Name,
-    source: Source,
-    line_starts: Vec<usize>,
+    file: SimpleFile<Name, Source>,
     // The line indices whose numbers are set, in ascending order, with these numbers.
     numbers: Vec<(usize, usize)>,
-    ghost starts: { line_starts.items ≡ line_starts_of (Source.text source) },
-    ghost utf8: { ∥ IsUtf8 (Source.text source) ∥₁ },
-    ghost fits: { length (Source.text source) < 2 ^ 64 },
     ghost sorted: { IsStrictlySorted numbers.items },
 }
 
@@ -56,11 +50,8 @@ impl<Name: Drop, Source: AsStr + Drop> MappedFile<Name, Source> {
         ensures numbers { IfOk result (λ file. settings_of file ≡ []) }
         ensures failed { OnErr result (IsErrOf result Error.OutOfMemory) }
     {
-        let line_starts = line_starts(source.as_str()).collect(alloc)?;
         Ok(MappedFile {
-            name,
-            source,
-            line_starts,
+            file: SimpleFile::new(alloc, name, source)?,
             numbers: Vec::new(alloc),
         })
     }
@@ -90,7 +81,7 @@ impl<Name, Source: AsStr> MappedFile<Name, Source> {
         ensures err { OnErr result (settings_of self.new ≡ settings_of self.old) }
         ensures failed { FailsBy (past_end (mapped_text_of self.old) line_index) result }
     {
-        let lines = self.line_starts.len();
+        let lines = self.file.line_count();
         if line_index >= lines {
             return Err(Error::LineTooLarge {
                 given: line_index,
@@ -142,7 +133,7 @@ impl<'a, Name: Display + 'a, Source: AsStr + 'a> Files<'a> for MappedFile<Name, 
     ghost use Rattle.codespan_files.specs.LawfulFiles.{IsLineRange, NeedsNoMemory, FailsBy};
     ghost use Rattle.codespan_files.specs.FileModel.Lookup.{LineNumber, LocationAt};
     ghost use Rattle.codespan_files.specs.Lemmas.Mapped.{mapped_lawful, mapped_past_end};
-    ghost use Rattle.std.proofs.lemmas.Str.{IsUtf8-had};
+    ghost use Rattle.codespan_files.specs.Lemmas.Simple.{text_fits, text_is_utf8};
 
     /// The one id.
     type FileId = ();
@@ -161,7 +152,7 @@ impl<'a, Name: Display + 'a, Source: AsStr + 'a> Files<'a> for MappedFile<Name, 
 
     ghost lawful = { λ s _.
         mapped_lawful (Name.output (mapped_name_of s)) (mapped_text_of s) (settings_of s)
-        (IsUtf8-had _ s.utf8) s.fits };
+        (text_is_utf8 s.file) (text_fits s.file) };
 
     ghost same_file = { λ s i j e. (refl, refl) };
 
@@ -178,7 +169,7 @@ impl<'a, Name: Display + 'a, Source: AsStr + 'a> Files<'a> for MappedFile<Name, 
             Name.output name.now ≡ Name.output (mapped_name_of self.now)) }
         ensures failed { FailsBy None result }
     {
-        Ok(&self.name)
+        Ok(self.file.name())
     }
 
     /// Returns the source's text. Never fails.
@@ -187,21 +178,18 @@ impl<'a, Name: Display + 'a, Source: AsStr + 'a> Files<'a> for MappedFile<Name, 
         ensures borrowed { IfOk result (λ text. text.now ≡ mapped_text_of self.now) }
         ensures failed { FailsBy None result }
     {
-        Ok(self.source.as_str())
+        Ok(self.file.source().as_str())
     }
 
     /// Returns the index of the byte's line, from 0, by binary search; past the end that of the
     /// last line. Never fails.
-    fn line_index(&'a self, _id: (), byte_index: usize) -> Result<usize, Error>
+    fn line_index(&'a self, id: (), byte_index: usize) -> Result<usize, Error>
         ensures succeeds { IsOk result }
         ensures value { IfOk result (λ line.
             line ≡ line_of (line_starts_of (mapped_text_of self.now)) byte_index) }
         ensures failed { FailsBy None result }
     {
-        match self.line_starts.binary_search(&byte_index) {
-            Ok(line) => Ok(line),
-            Err(next) => Ok(next - 1),
-        }
+        self.file.line_index(id, byte_index)
     }
 
     /// Returns the number that is set nearest at or above the line, plus the lines from there on,
@@ -244,7 +232,7 @@ impl<'a, Name: Display + 'a, Source: AsStr + 'a> Files<'a> for MappedFile<Name, 
         ensures memory { NeedsNoMemory result }
     {
         let range = self.line_range(id, line_index)?;
-        Ok(column_index(self.source.as_str(), range, byte_index) + 1)
+        Ok(column_index(self.file.source().as_str(), range, byte_index) + 1)
     }
 
     /// Returns the number of the byte's line, and of its column there in characters from 1.
@@ -275,24 +263,16 @@ impl<'a, Name: Display + 'a, Source: AsStr + 'a> Files<'a> for MappedFile<Name, 
     /// [`Error::LineTooLarge`] with `given` the index and `max` that of the last line, where the
     /// text has no such line.
     #[tactic(auto, using(crate::specs::Lemmas::Mapped::mapped_range))]
-    fn line_range(&'a self, _id: (), line_index: usize) -> Result<Range<usize>, Error>
+    fn line_range(&'a self, id: (), line_index: usize) -> Result<Range<usize>, Error>
         ensures value { IfOk result (IsLineRange (mapped_file_of Name.output self.now) line_index) }
         ensures failed { FailsBy (past_end (mapped_text_of self.now) line_index) result }
         ensures memory { NeedsNoMemory result }
     {
-        let count = self.line_starts.len();
-        if line_index >= count {
-            return Err(Error::LineTooLarge {
-                given: line_index,
-                max: count - 1,
-            });
-        }
-        let start = self.line_starts[line_index];
-        let end = if line_index + 1 < count {
-            self.line_starts[line_index + 1] - 1
+        let range = self.file.line_range(id, line_index)?;
+        if line_index + 1 < self.file.line_count() {
+            Ok(range.start..range.end - 1)
         } else {
-            self.source.as_str().len()
-        };
-        Ok(start..end)
+            Ok(range)
+        }
     }
 }

@@ -1,6 +1,6 @@
 //! A file database of one text.
 
-ghost use Rattle.std.specs.Prelude.{◌≡◌, ◌-◌, ◌+◌, ◌^◌, ◌<◌, length, refl, IfOk, IsOk, OnErr, IsErrOf, None};
+ghost use Rattle.std.specs.Prelude.{◌≡◌, ◌-◌, ◌+◌, ◌^◌, ◌<◌, ◌≤◌, length, refl, IfOk, IsOk, OnErr, IsErrOf, None};
 ghost use Rattle.std.specs.Str.{IsUtf8};
 ghost use Rattle.codespan_files.specs.Lines.{line_starts_of};
 
@@ -65,7 +65,7 @@ impl<Name: Drop, Source: AsStr + Drop> SimpleFile<Name, Source> {
 }
 
 impl<Name, Source: AsStr> SimpleFile<Name, Source> {
-    ghost use Rattle.codespan_files.specs.DatabaseViews.{name_of, source_of};
+    ghost use Rattle.codespan_files.specs.DatabaseViews.{name_of, source_of, text_of};
 
     /// Borrows the name.
     pub fn name(&self) -> &Name
@@ -79,6 +79,14 @@ impl<Name, Source: AsStr> SimpleFile<Name, Source> {
         ensures { result.now ≡ source_of self.now }
     {
         &self.source
+    }
+
+    /// Returns how many lines the text has: at least one.
+    pub(super) fn line_count(&self) -> usize
+        ensures value { result ≡ length (line_starts_of (text_of self.now)) }
+        ensures some { 1 ≤ result }
+    {
+        self.line_starts.len()
     }
 }
 

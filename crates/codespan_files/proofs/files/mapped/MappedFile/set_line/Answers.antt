@@ -1,10 +1,11 @@
-use Rattle.std.proofs.Common.{◌∙◌, arith}
+use Rattle.std.proofs.Common.{◌∙◌, refl, arith}
+use Rattle.codespan_files.specs.DatabaseViews.{mapped_text_of}
 use Rattle.codespan_files.proofs.Settings.{set_replaces, sorted_set, insert_adds, sorted_either}
 use Rattle.codespan_files.proofs.PastEnd.{past_end_late, past_end_early}
 use Rattle.codespan_files.proofs.files.mapped.MappedFile.set_line.Goals as goal
 
-pub invariant_of-self-in-Err-clause-sorted : goal.invariant_of-self-in-Err-clause-sorted
-invariant_of-self-in-Err-clause-sorted g c = sorted_either _ _ _ c.in-Err.ensures.absent _ c.args.self.now.sorted _ _ c.insert.ensures.items
+pub invariant_of-self-in-Err : goal.invariant_of-self-in-Err
+invariant_of-self-in-Err g c = record { sorted = sorted_either _ _ _ c.in-Err.ensures.absent _ c.args.self.now.sorted _ _ c.insert.ensures.items }
 
 pub returns-in-Ok-clause-ok : goal.returns-in-Ok-clause-ok
 returns-in-Ok-clause-ok g c = set_replaces _ c.args.self.now.sorted _ _ c.in-Ok.ensures.found _
@@ -12,16 +13,15 @@ returns-in-Ok-clause-ok g c = set_replaces _ c.args.self.now.sorted _ _ c.in-Ok.
 pub returns-in_ok-insert-in-Err-clause-ok : goal.returns-in_ok-insert-in-Err-clause-ok
 returns-in_ok-insert-in-Err-clause-ok g c = c.in_ok-insert-in-Err.ensures.items ∙ insert_adds _ _ _ c.in-Err.ensures.absent _
 
-pub invariant_of-self-clause-sorted : goal.invariant_of-self-clause-sorted
-invariant_of-self-clause-sorted g c = sorted_set _ c.args.self.now.sorted _ _ c.in-Ok.ensures.found _
+pub invariant_of-self : goal.invariant_of-self
+invariant_of-self g c = record { sorted = sorted_set _ c.args.self.now.sorted _ _ c.in-Ok.ensures.found _ }
 
 -- a line past the last fails, and no other one
 pub returns-then-line_index-lines-clause-failed : goal.returns-then-line_index-lines-clause-failed
-returns-then-line_index-lines-clause-failed g c = λ _.
-    past_end_late (g.Source.AsStr.text c.args.self.now.source) c.args.self.now.line_starts.items _ _ c.args.self.now.starts (omega (arith, c.args.self.now.line_starts.ok.0)) c.if-line_index-lines.true
+returns-then-line_index-lines-clause-failed g c = λ _. past_end_late (mapped_text_of c.args.self.now) _ _ _ refl c.line_count-lines.ensures.value c.if-line_index-lines.true
 
 pub returns-in-Ok-clause-failed : goal.returns-in-Ok-clause-failed
-returns-in-Ok-clause-failed g c = past_end_early (g.Source.AsStr.text c.args.self.now.source) c.args.self.now.line_starts.items c.args.line_index c.args.self.now.starts (omega (arith, c.args.self.now.line_starts.ok.0))
+returns-in-Ok-clause-failed g c = past_end_early (mapped_text_of c.args.self.now) _ c.args.line_index refl (omega (arith, c.line_count-lines.ensures.value))
 
 pub returns-in_ok-insert-in-Err-clause-failed : goal.returns-in_ok-insert-in-Err-clause-failed
-returns-in_ok-insert-in-Err-clause-failed g c = past_end_early (g.Source.AsStr.text c.args.self.now.source) c.args.self.now.line_starts.items c.args.line_index c.args.self.now.starts (omega (arith, c.args.self.now.line_starts.ok.0))
+returns-in_ok-insert-in-Err-clause-failed g c = past_end_early (mapped_text_of c.args.self.now) _ c.args.line_index refl (omega (arith, c.line_count-lines.ensures.value))
