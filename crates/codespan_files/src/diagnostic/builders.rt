@@ -86,7 +86,7 @@ impl<FileId: Drop> Diagnostic<FileId> {
     /// Whichever iterator `into_iter` returns: its `next` may be called, and its items come to an
     /// end.
     pub fn with_labels_iter<I: IntoIterator<Item = Label<FileId>>>(
-        mut self,
+        self,
         labels: I,
     ) -> Result<Self, Error>
     where
@@ -100,9 +100,8 @@ impl<FileId: Drop> Diagnostic<FileId> {
         ensures others { IfOk result (λ d. d ≡ record self { labels = d.labels }) }
         ensures failed { OnErr result (IsErrOf result Error.OutOfMemory) }
     {
-        let mut more: Vec<Label<FileId>> = labels.into_iter().collect(*self.labels.allocator())?;
-        self.labels.append(&mut more)?;
-        Ok(self)
+        let labels: Vec<Label<FileId>> = labels.into_iter().collect(*self.labels.allocator())?;
+        self.with_labels(labels)
     }
 
     /// Returns the diagnostic with the text that `note` displays as one more note at the end.
@@ -150,10 +149,7 @@ impl<FileId: Drop> Diagnostic<FileId> {
     ///
     /// Whichever iterator `into_iter` returns: its `next` may be called, and its items come to an
     /// end.
-    pub fn with_notes_iter<I: IntoIterator<Item = String>>(
-        mut self,
-        notes: I,
-    ) -> Result<Self, Error>
+    pub fn with_notes_iter<I: IntoIterator<Item = String>>(self, notes: I) -> Result<Self, Error>
     where
         I::IntoIter: Drop,
         requires { (it : I.IntoIter) → I.into_iter_gives notes it →
@@ -165,8 +161,7 @@ impl<FileId: Drop> Diagnostic<FileId> {
         ensures others { IfOk result (λ d. d ≡ record self { notes = d.notes }) }
         ensures failed { OnErr result (IsErrOf result Error.OutOfMemory) }
     {
-        let mut more: Vec<String> = notes.into_iter().collect(*self.notes.allocator())?;
-        self.notes.append(&mut more)?;
-        Ok(self)
+        let notes: Vec<String> = notes.into_iter().collect(*self.notes.allocator())?;
+        self.with_notes(notes)
     }
 }
