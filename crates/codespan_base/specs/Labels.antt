@@ -1,8 +1,8 @@
 -- Labels, as rendering sees them.
 use Rattle.std.specs.Prelude.{ℕ, ◌+◌, ◌-◌, ◌^◌, min, max, Bool, true, false, not, ◌&&◌, ◌||◌, ◌==◌, nat_lt, List, [], ◌∷◌, map, filter, reverse, Option, Some, None, if◌then◌else◌}
 use Rattle.std.specs.List.{enumerate_from, filter_map}
-use Rattle.codespan_files.specs.declared.diagnostic.LabelStyle.{LabelStyle}
-use Rattle.codespan_files.specs.declared.diagnostic.LabelStyle.TheVariants.{Primary, Secondary}
+use Rattle.codespan_diagnostics.specs.declared.diagnostic.LabelStyle.{LabelStyle}
+use Rattle.codespan_diagnostics.specs.declared.diagnostic.LabelStyle.TheVariants.{Primary, Secondary}
 use Rattle.codespan_base.specs.Streams.{Stream}
 use Rattle.codespan_files.specs.FileModel.{FileModel, line_of, line_start}
 

@@ -1,5 +1,5 @@
 -- re-exports: diagnostics and files
-pub use Rattle.codespan_files.specs.Diagnostics
+pub use Rattle.codespan_diagnostics.specs.Diagnostics
 pub use Rattle.codespan_files.specs.Lines
 pub use Rattle.codespan_files.specs.LineStarts
 pub use Rattle.codespan_files.specs.FileModel

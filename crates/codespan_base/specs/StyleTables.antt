@@ -1,9 +1,9 @@
 -- The styles of the parts of the output, and which style each style mark has.
 use Rattle.std.specs.Prelude.{ℕ, true, false, List, Option, Some, None}
-use Rattle.codespan_files.specs.declared.diagnostic.Severity.{Severity}
-use Rattle.codespan_files.specs.declared.diagnostic.Severity.TheVariants.{Bug, Error, Warning, Note, Help}
-use Rattle.codespan_files.specs.declared.diagnostic.LabelStyle.{LabelStyle}
-use Rattle.codespan_files.specs.declared.diagnostic.LabelStyle.TheVariants.{Primary, Secondary}
+use Rattle.codespan_diagnostics.specs.declared.diagnostic.Severity.{Severity}
+use Rattle.codespan_diagnostics.specs.declared.diagnostic.Severity.TheVariants.{Bug, Error, Warning, Note, Help}
+use Rattle.codespan_diagnostics.specs.declared.diagnostic.LabelStyle.{LabelStyle}
+use Rattle.codespan_diagnostics.specs.declared.diagnostic.LabelStyle.TheVariants.{Primary, Secondary}
 use Rattle.codespan_base.specs.declared.term.config.color.Color.{Color}
 use Rattle.codespan_base.specs.declared.term.config.color.Color.TheVariants.{Red, Green, Yellow, Cyan}
 use Rattle.codespan_base.specs.declared.term.config.color.ColorSpec.{ColorSpec}

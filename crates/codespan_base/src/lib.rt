@@ -5,6 +5,7 @@
 #![tactic(auto)]
 
 pub mod files;
+pub mod laws;
 pub mod term;
 
-pub use codespan_files::{diagnostic, laws};
+pub use codespan_diagnostics::diagnostic;

@@ -1,6 +1,3 @@
--- texts and lists of diagnostics
-pub mod TextLemmas
--- files
 pub mod ColumnLemmas
 pub mod Settings
 pub mod SetNumbers

@@ -1,5 +1,3 @@
--- diagnostics
-pub mod Diagnostics
 -- files
 pub mod Lines
 pub mod LineStarts

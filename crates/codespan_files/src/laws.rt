@@ -1,47 +1,19 @@
-//! Laws of diagnostics, files and line starts. Each is the contract of a function that does nothing
-//! and does not fail.
+//! Laws of files and line starts. Each is the contract of a function that does nothing and does not
+//! fail.
 //!
 //! Users name them as `codespan_base::laws`.
 
-ghost use Rattle.std.specs.Prelude.{◌≡◌, ◌↔◌, ℕ, List, Option, Some, IsTrue};
+ghost use Rattle.std.specs.Prelude.{◌≡◌, ℕ, List, Option};
 ghost use Rattle.std.specs.Iterator.{IsFinite, Drains};
 ghost use Rattle.std.specs.Str.{IsUtf8};
-ghost use Rattle.std.specs.Ordering.{nat_cmp};
-ghost use Rattle.codespan_files.specs.Diagnostics.{severity_rank, style_rank};
 ghost use Rattle.codespan_files.specs.FileLaws.{LinesJoin, LineCountsNewlines, ColumnsRise, setting_after};
 ghost use Rattle.codespan_files.specs.MappedModel.{setting, with_number};
 ghost use Rattle.codespan_files.specs.Settings.{IsStrictlySorted};
 ghost use Rattle.codespan_files.specs.LineStarts.{starts_left};
 ghost use Rattle.codespan_files.specs.SimpleModel.{simple_file};
-ghost use Rattle.codespan_files.specs.declared.diagnostic.Severity.{Severity};
-ghost use Rattle.codespan_files.specs.declared.diagnostic.LabelStyle.{LabelStyle};
 ghost use Rattle.codespan_files.specs.declared.files.starts.LineStarts.{LineStarts};
 
-use crate::diagnostic::{LabelStyle, Severity};
 use crate::files::LineStarts;
-use std::hash::Hash;
-
-/// States that severities are ordered `Help` < `Note` < `Warning` < `Error` < `Bug`, that `Ord` and
-/// `PartialOrd` agree, that two are `==` exactly where they are one, and that equal ones have equal
-/// hashes.
-pub fn severities_agree()
-    ensures order { (x y : Severity) →
-        ⟦<Severity as Ord>⟧.cmp x y ≡ nat_cmp (severity_rank x) (severity_rank y) }
-    ensures partial { (x y : Severity) →
-        ⟦<Severity as PartialOrd>⟧.partial_cmp x y ≡ Some (⟦<Severity as Ord>⟧.cmp x y) }
-    ensures equal { (x y : Severity) → IsTrue (⟦<Severity as PartialEq>⟧.eq x y) ↔ (x ≡ y) }
-    ensures hash { (x y : Severity) → IsTrue (⟦<Severity as PartialEq>⟧.eq x y) →
-        ⟦<Severity as Hash>⟧.hash_input x ≡ ⟦<Severity as Hash>⟧.hash_input y }
-{}
-
-/// States that label styles are ordered `Primary` < `Secondary`, and that two are `==` exactly
-/// where they are one.
-pub fn label_styles_agree()
-    ensures order { (x y : LabelStyle) →
-        ⟦<LabelStyle as PartialOrd>⟧.partial_cmp x y
-        ≡ Some (nat_cmp (style_rank x) (style_rank y)) }
-    ensures equal { (x y : LabelStyle) → IsTrue (⟦<LabelStyle as PartialEq>⟧.eq x y) ↔ (x ≡ y) }
-{}
 
 /// States that the line ranges of a text follow each other from byte 0 to its length, and that its
 /// lines join to it.

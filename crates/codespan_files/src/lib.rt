@@ -1,10 +1,9 @@
-//! Diagnostics as data, and the file databases that rendering looks up.
+//! The file databases that rendering looks up, and the error of every call.
 //!
-//! This crate is a layer of `codespan_base`. Users name its items as
-//! `codespan_reporting::diagnostic`, `codespan_reporting::files` and `codespan_base::laws`.
+//! This crate is a layer of `codespan_base`. Users name its items as `codespan_reporting::files` and
+//! `codespan_base::laws`.
 #![tactic(auto)]
 
-pub mod diagnostic;
 pub mod files;
 pub mod laws;
 mod worked;

@@ -4,7 +4,7 @@ ghost use Rattle.std.specs.Prelude.{◌≡◌};
 ghost use Rattle.codespan_base.specs.StyleTables.{colored, bright};
 
 use crate::term::config::color::{Color, ColorSpec};
-use codespan_files::diagnostic::{LabelStyle, Severity};
+use codespan_diagnostics::diagnostic::{LabelStyle, Severity};
 
 /// The styles of the parts of the output.
 ///

@@ -1,0 +1,2 @@
+-- texts and lists of diagnostics
+pub mod TextLemmas

@@ -1,0 +1,2 @@
+-- diagnostics
+pub mod Diagnostics

@@ -1,0 +1,52 @@
+//! The text of a value's `Display` as a `String`.
+
+ghost use Rattle.std.specs.Prelude.{◌≡◌, ◌++◌, IfOk, IfSome, IfErr, string_bytes};
+ghost use Rattle.codespan_diagnostics.specs.Diagnostics.{IsTextFailure};
+
+use codespan_files::files::Error;
+use std::alloc::Global;
+use std::fmt;
+use std::fmt::{Display, Write};
+
+/// Collects a text, and keeps whether an allocation for it failed.
+#[derive(Drop)]
+struct DisplayBuffer {
+    text: String,
+    failed: bool,
+}
+
+impl Write for DisplayBuffer {
+    ghost write_str_gives = { λ s bytes t. string_bytes t.text ≡ string_bytes s.text ++ bytes };
+
+    fn write_str(&mut self, piece: &str) -> fmt::Result {
+        match self.text.push_str(piece) {
+            Ok(()) => Ok(()),
+            Err(_) => {
+                self.failed = true;
+                Err(fmt::Error)
+            }
+        }
+    }
+}
+
+/// Returns the text that `value` displays.
+///
+/// # Errors
+///
+/// - [`Error::OutOfMemory`] where an allocation of the text fails.
+/// - [`Error::FormatError`] where the `Display` fails otherwise.
+pub fn display_text<D: Display + Drop>(alloc: Global, value: D) -> Result<String, Error>
+    ensures text { IfOk result (λ text.
+        IfSome (D.output value) (λ bytes. string_bytes text ≡ bytes)) }
+    ensures failed { IfErr result IsTextFailure }
+{
+    let mut growing = DisplayBuffer {
+        text: String::new(alloc),
+        failed: false,
+    };
+    match write!(growing, "{value}") {
+        Ok(()) => Ok(growing.text),
+        Err(_) if growing.failed => Err(Error::OutOfMemory),
+        Err(_) => Err(Error::FormatError),
+    }
+}
