@@ -1,8 +1,4 @@
--- the bytes of a word
-pub mod Bytes
 -- where the errors are in the text of the settings
 pub mod ErrorRanges
--- several outputs, one after another
-pub mod Outputs
 -- the two parts: what each prints as, which of two values is that of a part, and when two are one
 pub mod Parts

@@ -1,11 +1,9 @@
 //! Reports two diagnostics, each over a file of its own, in one text.
 
-mod render;
-
 use codespan_reporting::diagnostic::{Diagnostic, Label};
 use codespan_reporting::files::{Error, SimpleFiles};
 use codespan_reporting::term::Config;
-use render::render_all;
+use examples_library::several::render_all;
 use std::io::Write;
 
 /// Prints the text.

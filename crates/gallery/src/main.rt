@@ -3,8 +3,8 @@
 //! document, `gallery html NAME` as an HTML element, and `gallery terminal NAME` as text that is
 //! safe to print on a terminal. `gallery styles < CASES` writes the style sheet of HTML documents.
 //!
-//! [`gallery_script::cases`] documents the input, and `tools/gallery/README.md` how the cases of the
-//! file `stdin` and their expected outputs were made.
+//! [`gallery_script::cases`] documents the input, and `tools/gallery/README.md` how the cases of
+//! the file `stdin` and their expected outputs were made.
 //!
 //! | status | standard output | standard error |
 //! |---|---|---|

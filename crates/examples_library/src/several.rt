@@ -1,7 +1,7 @@
 //! The output of several diagnostics.
 
 ghost use Rattle.std.specs.Prelude.{[], IfOk, OnOk, string_bytes};
-ghost use Rattle.examples.specs.Outputs.{AreAppended};
+ghost use Rattle.examples_library.specs.Outputs.{AreAppended};
 
 use codespan_reporting::diagnostic::Diagnostic;
 use codespan_reporting::files::{Error, Files, SimpleFiles};

@@ -1,7 +1,7 @@
 -- The bytes of a word.
 use Rattle.std.specs.Prelude.{ℕ}
 use Rattle.std.specs.declared.ops.Range.{Range}
-use Rattle.examples.specs.declared.config.Word.{Word}
+use Rattle.examples_library.specs.declared.config.Word.{Word}
 
 -- the range of a word
 abbrev pub bytes : Word → Range ℕ
