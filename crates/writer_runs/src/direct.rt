@@ -1,5 +1,7 @@
 //! The calls of `Renderer` that write rows.
 
+pub mod rows;
+
 use crate::rendering::Render;
 use codespan_base::diagnostic::{LabelStyle, Severity};
 use codespan_base::files::{Error, Location};
@@ -49,15 +51,15 @@ pub enum RowCall<'text> {
 /// Returns the name of the call.
 impl fmt::Display for RowCall<'_> {
     fn fmt<W: fmt::Write>(&self, f: &mut fmt::Formatter<W>) -> fmt::Result {
-        match self {
-            RowCall::Header(_, _) => write!(f, "render_header"),
-            RowCall::Empty => write!(f, "render_empty"),
-            RowCall::Start => write!(f, "render_snippet_start"),
-            RowCall::Source(_) => write!(f, "render_snippet_source"),
-            RowCall::SnippetEmpty(_, _) => write!(f, "render_snippet_empty"),
-            RowCall::Break(_, _, _) => write!(f, "render_snippet_break"),
-            RowCall::Note(_, _) => write!(f, "render_snippet_note"),
-        }
+        f.write_str(match self {
+            RowCall::Header(_, _) => "render_header",
+            RowCall::Empty => "render_empty",
+            RowCall::Start => "render_snippet_start",
+            RowCall::Source(_) => "render_snippet_source",
+            RowCall::SnippetEmpty(_, _) => "render_snippet_empty",
+            RowCall::Break(_, _, _) => "render_snippet_break",
+            RowCall::Note(_, _) => "render_snippet_note",
+        })
     }
 }
 
@@ -116,25 +118,32 @@ fn render_break<W: WriteStyle>(
     renderer.render_snippet_break(padding, Severity::Error, lanes, marks)
 }
 
+/// Makes a call, which may write this locus.
+fn render_call<W: WriteStyle>(
+    call: RowCall<'_>,
+    locus: &Locus,
+    renderer: &mut Renderer<'_, '_, W>,
+) -> Result<(), Error> {
+    match call {
+        RowCall::Header(code, message) => {
+            renderer.render_header(Some(locus), Severity::Error, code, message)
+        }
+        RowCall::Empty => renderer.render_empty(),
+        RowCall::Start => renderer.render_snippet_start(1, locus),
+        RowCall::Source(line) => render_line(renderer, line),
+        RowCall::SnippetEmpty(padding, lanes) => {
+            renderer.render_snippet_empty(padding, Severity::Error, lanes, &[])
+        }
+        RowCall::Break(padding, lanes, marks) => render_break(renderer, padding, lanes, marks),
+        RowCall::Note(padding, message) => renderer.render_snippet_note(padding, message),
+    }
+}
+
 impl<'text> Render for Direct<'text> {
     fn render<W: WriteStyle>(&self, writer: &mut W) -> Result<(), Error> {
         let config = Config::default();
         let mut renderer = Renderer::new(writer, &config);
-        match self.call {
-            RowCall::Header(code, message) => {
-                renderer.render_header(Some(&self.locus), Severity::Error, code, message)
-            }
-            RowCall::Empty => renderer.render_empty(),
-            RowCall::Start => renderer.render_snippet_start(1, &self.locus),
-            RowCall::Source(line) => render_line(&mut renderer, line),
-            RowCall::SnippetEmpty(padding, lanes) => {
-                renderer.render_snippet_empty(padding, Severity::Error, lanes, &[])
-            }
-            RowCall::Break(padding, lanes, marks) => {
-                render_break(&mut renderer, padding, lanes, marks)
-            }
-            RowCall::Note(padding, message) => renderer.render_snippet_note(padding, message),
-        }
+        render_call(self.call, &self.locus, &mut renderer)
     }
 
     fn render_plain<W: Write>(&self, writer: &mut W) -> Result<(), Error> {

@@ -1,12 +1,14 @@
-//! The errors of a run.
+//! What is wrong in a run, and the errors that end the program.
 
 use crate::path::Path;
 use crate::rendering::Call;
 use codespan_base::files::Error;
 use codespan_base::term::DisplayStyle;
 use codespan_base_tests::writers::stopping::Stop;
-use std::fmt;
+use gallery_script::errors::LineError;
+use program_io::input::InputError;
 use std::fmt::Write;
+use std::{fmt, io};
 
 /// How a writer stops.
 #[derive(Clone, Copy)]
@@ -24,18 +26,17 @@ pub enum Ending {
 pub enum Failure {
     /// A call or an allocation failed, although no writer stops.
     Failed(Error),
-    /// The text differs from the one that the case states.
-    OtherCaseText,
+    /// The text differs from the one that the row states.
+    OtherRowText,
     /// A string to which the text was appended is not its old text followed by the new one.
     OtherString,
     /// The bytes written on a path differ from the text.
     OtherText(Path),
-    /// The text in escape sequences differs from what the case states.
+    /// The text in escape sequences differs from what the row states.
     OtherColors,
     /// On a path, with a writer that stops in this way after this many writes or style marks: the
-    /// result
-    /// is not `Io`, the writer does not hold exactly what it accepted before, or it was called
-    /// again.
+    /// result is not `Io`, the writer does not hold exactly what it accepted before, or it was
+    /// called again.
     Stopped(Path, Ending, usize),
 }
 
@@ -50,6 +51,41 @@ pub struct FailureAt {
     pub failure: Failure,
 }
 
+/// An error that ends the program.
+#[derive(Drop)]
+pub enum RunError {
+    /// Reading the input failed, or it is not UTF-8.
+    NoText(InputError),
+    /// The line of this number, from 1, has an error.
+    Line(usize, LineError),
+    /// Writing the output failed.
+    CannotWriteOutput,
+}
+
+impl From<InputError> for RunError {
+    fn from(error: InputError) -> RunError {
+        RunError::NoText(error)
+    }
+}
+
+impl From<io::Error> for RunError {
+    fn from(_error: io::Error) -> RunError {
+        RunError::CannotWriteOutput
+    }
+}
+
+/// Writes a few words.
+impl fmt::Display for RunError {
+    fn fmt<W: Write>(&self, f: &mut fmt::Formatter<W>) -> fmt::Result {
+        match self {
+            RunError::NoText(InputError::Unreadable) => write!(f, "cannot read input"),
+            RunError::NoText(InputError::NotUtf8) => write!(f, "input is not UTF-8"),
+            RunError::Line(number, line_error) => write!(f, "line {number}: {line_error}"),
+            RunError::CannotWriteOutput => write!(f, "cannot write output"),
+        }
+    }
+}
+
 impl From<Error> for Failure {
     fn from(error: Error) -> Failure {
         Failure::Failed(error)
@@ -59,14 +95,14 @@ impl From<Error> for Failure {
 /// Writes a few words.
 impl fmt::Display for Ending {
     fn fmt<W: Write>(&self, f: &mut fmt::Formatter<W>) -> fmt::Result {
-        match self {
-            Ending::Slow => write!(f, "takes one byte at a time"),
-            Ending::AtWrite(Stop::Fails) => write!(f, "fails at a write"),
-            Ending::AtWrite(Stop::TakesNothing) => write!(f, "takes nothing of a write"),
-            Ending::AtWrite(Stop::IsInterrupted) => write!(f, "is interrupted"),
-            Ending::AtWrite(Stop::TakesOneByte) => write!(f, "takes one byte and then fails"),
-            Ending::AtStyleMark => write!(f, "fails at a style mark"),
-        }
+        f.write_str(match self {
+            Ending::Slow => "takes one byte at a time",
+            Ending::AtWrite(Stop::Fails) => "fails at a write",
+            Ending::AtWrite(Stop::TakesNothing) => "takes nothing of a write",
+            Ending::AtWrite(Stop::IsInterrupted) => "is interrupted",
+            Ending::AtWrite(Stop::TakesOneByte) => "takes one byte and then fails",
+            Ending::AtStyleMark => "fails at a style mark",
+        })
     }
 }
 
@@ -75,7 +111,7 @@ impl fmt::Display for Failure {
     fn fmt<W: Write>(&self, f: &mut fmt::Formatter<W>) -> fmt::Result {
         match self {
             Failure::Failed(error) => write!(f, "error: {error}"),
-            Failure::OtherCaseText => write!(f, "another text than stated"),
+            Failure::OtherRowText => write!(f, "another text than stated"),
             Failure::OtherString => write!(f, "another string"),
             Failure::OtherText(path) => write!(f, "by {path}: another text"),
             Failure::OtherColors => write!(f, "other colors than stated"),
@@ -89,12 +125,12 @@ impl fmt::Display for Failure {
 /// Writes the error, after its style and its call.
 impl fmt::Display for FailureAt {
     fn fmt<W: Write>(&self, f: &mut fmt::Formatter<W>) -> fmt::Result {
-        match self.style {
-            Some(DisplayStyle::Rich) => write!(f, "rich, ")?,
-            Some(DisplayStyle::Medium) => write!(f, "medium, ")?,
-            Some(DisplayStyle::Short) => write!(f, "short, ")?,
-            None => {}
-        }
+        f.write_str(match self.style {
+            Some(DisplayStyle::Rich) => "rich, ",
+            Some(DisplayStyle::Medium) => "medium, ",
+            Some(DisplayStyle::Short) => "short, ",
+            None => "",
+        })?;
         if let Some(call) = self.call {
             write!(f, "{call}, ")?;
         }

@@ -5,7 +5,7 @@ use crate::failure::Failure;
 use crate::record::Record;
 use crate::rendering::Render;
 use codespan_base::files::Error;
-use codespan_base::term::{Ansi, NoColor, Styles, StylesWriter};
+use codespan_base::term::{Ansi, NoColor, Styles, StylesWriter, WriteColor};
 use codespan_base_tests::writers::sequences::without_sequences;
 use std::alloc::Global;
 use std::fmt;
@@ -30,23 +30,28 @@ pub const PATHS: [Path; 4] = [Path::Plain, Path::Ansi, Path::NoColor, Path::Cust
 /// Returns the name of the writer.
 impl fmt::Display for Path {
     fn fmt<W: fmt::Write>(&self, f: &mut fmt::Formatter<W>) -> fmt::Result {
-        match self {
-            Path::Plain => write!(f, "plain text"),
-            Path::Ansi => write!(f, "Ansi"),
-            Path::NoColor => write!(f, "NoColor"),
-            Path::Custom => write!(f, "a writer of one's own"),
-        }
+        f.write_str(match self {
+            Path::Plain => "plain text",
+            Path::Ansi => "Ansi",
+            Path::NoColor => "NoColor",
+            Path::Custom => "a writer of one's own",
+        })
     }
+}
+
+/// Renders to a `StylesWriter` over a writer of colors, in the default styles.
+fn render_in_styles<D: Render, W: WriteColor + Drop>(output: &D, writer: W) -> Result<(), Error> {
+    let styles = Styles::default();
+    output.render(&mut StylesWriter::new(writer, &styles))
 }
 
 impl Path {
     /// Renders on this path.
     pub fn render<D: Render, W: Write>(self, output: &D, writer: &mut W) -> Result<(), Error> {
-        let styles = Styles::default();
         match self {
             Path::Plain => output.render_plain(writer),
-            Path::Ansi => output.render(&mut StylesWriter::new(Ansi::new(writer), &styles)),
-            Path::NoColor => output.render(&mut StylesWriter::new(NoColor::new(writer), &styles)),
+            Path::Ansi => render_in_styles(output, Ansi::new(writer)),
+            Path::NoColor => render_in_styles(output, NoColor::new(writer)),
             Path::Custom => output.render(&mut FailingWriter::new(writer, usize::MAX)),
         }
     }

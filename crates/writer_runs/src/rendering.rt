@@ -1,13 +1,13 @@
-//! The calls that render a case.
+//! The calls that render a row.
 
-use crate::zero::FromZero;
 use codespan_base::diagnostic::Diagnostic;
-use codespan_base::files::{Error, Files, MappedFile, SimpleFiles};
+use codespan_base::files::{Error, Files};
 use codespan_base::term::{Config, DisplayStyle, PlainWriter, WriteStyle};
 use codespan_renderer::term::renderer::Renderer;
 use codespan_views::emitting::{emit, emit_to_io_write, emit_to_write_style};
 use codespan_views::rich::RichDiagnostic;
 use codespan_views::short::ShortDiagnostic;
+use gallery_script::database::Database;
 use std::fmt;
 use std::io::Write;
 
@@ -36,12 +36,12 @@ pub const CALLS: [Call; 4] = [
 /// Returns the name of the call.
 impl fmt::Display for Call {
     fn fmt<W: fmt::Write>(&self, f: &mut fmt::Formatter<W>) -> fmt::Result {
-        match self {
-            Call::Render => write!(f, "render"),
-            Call::EmitToWriteStyle => write!(f, "emit_to_write_style"),
-            Call::EmitToIoWrite => write!(f, "emit_to_io_write"),
-            Call::Emit => write!(f, "emit"),
-        }
+        f.write_str(match self {
+            Call::Render => "render",
+            Call::EmitToWriteStyle => "emit_to_write_style",
+            Call::EmitToIoWrite => "emit_to_io_write",
+            Call::Emit => "emit",
+        })
     }
 }
 
@@ -57,50 +57,50 @@ pub trait Render {
     fn has_style_marks(&self) -> bool;
 }
 
-/// The file database of a case, and its diagnostic over it.
+/// What is rendered: a diagnostic over the file database of its case, in a configuration.
 #[derive(Clone, Copy)]
-pub enum Input<'a, 'text> {
-    /// Several files.
-    Several(&'a SimpleFiles<&'text str, &'text str>, &'a Diagnostic<usize>),
-    /// A file with custom line numbers.
-    Mapped(&'a MappedFile<&'text str, &'text str>, &'a Diagnostic<()>),
-    /// A file whose lines are numbered from 0.
-    FromZero(&'a FromZero<'text>, &'a Diagnostic<()>),
+pub struct Input<'a, 'text> {
+    /// The configuration.
+    pub config: &'a Config<'text>,
+    /// The file database; one of one file has a diagnostic by its own id.
+    pub database: &'a Database<'a>,
+    /// The diagnostic, where the database is one of several files.
+    pub diagnostic: &'a Diagnostic<usize>,
 }
 
-/// What is rendered, in a configuration, and the call that renders it.
+/// What is rendered, and the call that renders it.
 #[derive(Clone, Copy)]
 pub struct RenderCall<'a, 'text> {
     /// The call.
     pub call: Call,
-    /// The configuration.
-    pub config: &'a Config<'text>,
-    /// The file database and the diagnostic.
+    /// What is rendered.
     pub input: Input<'a, 'text>,
 }
 
 impl<'a, 'text> Render for RenderCall<'a, 'text> {
     fn render<W: WriteStyle>(&self, writer: &mut W) -> Result<(), Error> {
-        let (call, config) = (self.call, self.config);
-        match self.input {
-            Input::Several(files, diagnostic) => call_over(call, config, files, diagnostic, writer),
-            Input::Mapped(file, diagnostic) => call_over(call, config, file, diagnostic, writer),
-            Input::FromZero(file, diagnostic) => call_over(call, config, file, diagnostic, writer),
+        let (call, config) = (self.call, self.input.config);
+        match self.input.database {
+            Database::One(file, diagnostic) => call_over(call, config, file, diagnostic, writer),
+            Database::Several(files) => {
+                call_over(call, config, files, self.input.diagnostic, writer)
+            }
+            Database::Mapped(file, diagnostic) => call_over(call, config, file, diagnostic, writer),
         }
     }
 
     fn render_plain<W: Write>(&self, writer: &mut W) -> Result<(), Error> {
-        let (call, config) = (self.call, self.config);
-        match self.input {
-            Input::Several(files, diagnostic) => call_plain_over(
-                call, config, files, diagnostic, writer,
-            ),
-            Input::Mapped(file, diagnostic) => call_plain_over(
-                call, config, file, diagnostic, writer,
-            ),
-            Input::FromZero(file, diagnostic) => call_plain_over(
-                call, config, file, diagnostic, writer,
-            ),
+        let (call, config) = (self.call, self.input.config);
+        match self.input.database {
+            Database::One(file, diagnostic) => {
+                call_plain_over(call, config, file, diagnostic, writer)
+            }
+            Database::Several(files) => {
+                call_plain_over(call, config, files, self.input.diagnostic, writer)
+            }
+            Database::Mapped(file, diagnostic) => {
+                call_plain_over(call, config, file, diagnostic, writer)
+            }
         }
     }
 
@@ -134,9 +134,14 @@ fn call_plain_over<'files, F: Files<'files>, W: Write>(
     writer: &mut W,
 ) -> Result<(), Error> {
     match call {
-        Call::Render => render_over(config, files, diagnostic, &mut PlainWriter::new(writer)),
-        Call::EmitToWriteStyle => {
-            emit_to_write_style(&mut PlainWriter::new(writer), config, files, diagnostic)
+        Call::Render | Call::EmitToWriteStyle => {
+            call_over(
+                call,
+                config,
+                files,
+                diagnostic,
+                &mut PlainWriter::new(writer),
+            )
         }
         Call::EmitToIoWrite => emit_to_io_write(writer, config, files, diagnostic),
         Call::Emit => emit(writer, config, files, diagnostic),
@@ -152,8 +157,28 @@ fn render_over<'files, F: Files<'files>, W: WriteStyle>(
 ) -> Result<(), Error> {
     let mut renderer = Renderer::new(writer, config);
     match config.display_style {
-        DisplayStyle::Rich => RichDiagnostic::new(diagnostic, config).render(files, &mut renderer),
-        DisplayStyle::Medium => ShortDiagnostic::new(diagnostic, true).render(files, &mut renderer),
-        DisplayStyle::Short => ShortDiagnostic::new(diagnostic, false).render(files, &mut renderer),
+        DisplayStyle::Rich => render_rich(config, files, diagnostic, &mut renderer),
+        DisplayStyle::Medium => render_short(true, files, diagnostic, &mut renderer),
+        DisplayStyle::Short => render_short(false, files, diagnostic, &mut renderer),
     }
+}
+
+/// Renders by the view of the rich style.
+fn render_rich<'files, F: Files<'files>, W: WriteStyle>(
+    config: &Config<'_>,
+    files: &'files F,
+    diagnostic: &Diagnostic<F::FileId>,
+    renderer: &mut Renderer<'_, '_, W>,
+) -> Result<(), Error> {
+    RichDiagnostic::new(diagnostic, config).render(files, renderer)
+}
+
+/// Renders by the view of the short style, with notes or without.
+fn render_short<'files, F: Files<'files>, W: WriteStyle>(
+    has_notes: bool,
+    files: &'files F,
+    diagnostic: &Diagnostic<F::FileId>,
+    renderer: &mut Renderer<'_, '_, W>,
+) -> Result<(), Error> {
+    ShortDiagnostic::new(diagnostic, has_notes).render(files, renderer)
 }

@@ -2,44 +2,61 @@
 
 ghost use Rattle.std.specs.Prelude.{◌≤◌};
 
-use crate::case::Case;
-use crate::cases::{
-    chosen_lines, direct, files, several_lines, single_lines, small_colored, small_lanes,
-    small_outputs,
-};
-use crate::failure::FailureAt;
-use crate::judging::{STYLES, judge_case, judge_direct};
+use crate::direct::rows::ROWS;
+use crate::failure::{FailureAt, RunError};
+use crate::judging::{STYLES, judge_direct, judge_row};
 use crate::rendering::CALLS;
+use crate::row::Row;
+use crate::rows::parse_rows;
 use crate::stops::WRITERS;
+use program_io::input::read_text;
 use std::alloc::Global;
 use std::io;
-use std::io::Write;
+use std::io::{Read, Write};
 
-/// Makes the runs of each case, writes a line for each, and returns the program's status. The
-/// number of runs is written to `counts`, whose error is ignored.
-pub fn run<W: Write, E: Write>(alloc: Global, output: &mut W, counts: &mut E) -> u8
+/// Makes the runs of each row, writes a line for each, and returns the program's status. The number
+/// of runs is written to `error_output`, after the error that ends the run, if there is one; an
+/// error of `error_output` is ignored.
+pub fn run<R: Read, W: Write, E: Write>(
+    alloc: Global,
+    input: &mut R,
+    output: &mut W,
+    error_output: &mut E,
+) -> u8
     ensures { result ≤ 1 }
 {
     let mut sum = Sum::default();
-    let outcome = judge_all(alloc, output, &mut sum);
-    let (cases, runs) = (sum.cases, sum.runs);
-    let _ = writeln!(counts, "writer_runs: {cases} rows, {runs} runs");
+    let outcome = judge_all(alloc, input, output, &mut sum);
+    let _ = write_counts(error_output, sum, &outcome);
     match outcome {
         Ok(()) if !sum.is_wrong => 0,
         Ok(()) | Err(_) => 1,
     }
 }
 
-/// The cases so far.
+/// Writes the error that ended a run, and the number of runs.
+fn write_counts<E: Write>(
+    error_output: &mut E,
+    sum: Sum,
+    outcome: &Result<(), RunError>,
+) -> io::Result<()> {
+    if let Err(error) = outcome {
+        writeln!(error_output, "writer_runs: {error}")?;
+    }
+    let (rows, runs) = (sum.rows, sum.runs);
+    writeln!(error_output, "writer_runs: {rows} rows, {runs} runs")
+}
+
+/// The rows so far.
 #[derive(Clone, Copy, Default)]
 struct Sum {
-    cases: usize,
+    rows: usize,
     runs: usize,
     is_wrong: bool,
 }
 
 impl Sum {
-    /// Counts a case and its runs, and returns whether all are right; otherwise it writes the error
+    /// Counts a row and its runs, and returns whether all are right; otherwise it writes the error
     /// as one line.
     fn counts<W: Write>(
         &mut self,
@@ -47,7 +64,7 @@ impl Sum {
         name: &str,
         judged: Result<usize, FailureAt>,
     ) -> io::Result<bool> {
-        self.cases = self.cases.saturating_add(1);
+        self.rows = self.rows.saturating_add(1);
         match judged {
             Ok(runs) => {
                 self.runs = self.runs.saturating_add(runs);
@@ -62,34 +79,36 @@ impl Sum {
     }
 }
 
-/// Makes the runs of the cases of each table.
-fn judge_all<W: Write>(alloc: Global, output: &mut W, sum: &mut Sum) -> io::Result<()> {
-    judge_cases(alloc, &single_lines::CASES, output, sum)?;
-    judge_cases(alloc, &several_lines::CASES, output, sum)?;
-    judge_cases(alloc, &chosen_lines::CASES, output, sum)?;
-    judge_cases(alloc, &small_outputs::CASES, output, sum)?;
-    judge_cases(alloc, &small_lanes::CASES, output, sum)?;
-    judge_cases(alloc, &small_colored::CASES, output, sum)?;
-    judge_cases(alloc, &files::CASES, output, sum)?;
-    judge_direct_rows(alloc, output, sum)
+/// Makes the runs of the rows of the input, and of the direct calls.
+fn judge_all<R: Read, W: Write>(
+    alloc: Global,
+    input: &mut R,
+    output: &mut W,
+    sum: &mut Sum,
+) -> Result<(), RunError> {
+    let text = read_text(alloc, input)?;
+    let rows = parse_rows(alloc, text.as_str())?;
+    judge_rows(alloc, rows.as_slice(), output, sum)?;
+    judge_direct_rows(alloc, output, sum)?;
+    Ok(())
 }
 
-/// Makes the runs of the cases of a table.
-fn judge_cases<W: Write>(
+/// Makes the runs of rows.
+fn judge_rows<W: Write>(
     alloc: Global,
-    cases: &[Case<'_>],
+    rows: &[Row<'_>],
     output: &mut W,
     sum: &mut Sum,
 ) -> io::Result<()> {
-    for case in cases {
-        report_case(alloc, case, output, sum)?;
+    for row in rows {
+        report_row(alloc, row, output, sum)?;
     }
     Ok(())
 }
 
 /// Makes the runs of the direct calls.
 fn judge_direct_rows<W: Write>(alloc: Global, output: &mut W, sum: &mut Sum) -> io::Result<()> {
-    for (name, call, text) in &direct::CASES {
+    for (name, call, text) in &ROWS {
         let judged = judge_direct(alloc, *call, text);
         if sum.counts(output, name, judged)? {
             writeln!(output, "row {name}: {call}, {WRITERS} writers")?;
@@ -98,15 +117,15 @@ fn judge_direct_rows<W: Write>(alloc: Global, output: &mut W, sum: &mut Sum) -> 
     Ok(())
 }
 
-/// Makes the runs of a case and writes their line.
-fn report_case<W: Write>(
+/// Makes the runs of a row and writes its line.
+fn report_row<W: Write>(
     alloc: Global,
-    case: &Case<'_>,
+    row: &Row<'_>,
     output: &mut W,
     sum: &mut Sum,
 ) -> io::Result<()> {
-    let (name, styles, calls) = (case.name, STYLES.len(), CALLS.len());
-    if sum.counts(output, name, judge_case(alloc, case))? {
+    let (name, styles, calls) = (row.case.name, STYLES.len(), CALLS.len());
+    if sum.counts(output, name, judge_row(alloc, row))? {
         writeln!(
             output,
             "row {name}: {calls} calls in {styles} styles, {WRITERS} writers"

@@ -6,7 +6,7 @@ use codespan_base::diagnostic::Severity;
 use codespan_renderer::term::renderer::MultiLabel;
 
 /// The names of the rows, the calls, and their texts.
-pub static CASES: [(&'static str, RowCall<'static>, &'static str); 16] = [
+pub static ROWS: [(&'static str, RowCall<'static>, &'static str); 16] = [
     (
         "report_short_and_medium",
         RowCall::Header(None, "bad"),

@@ -1,0 +1,136 @@
+//! A row: a case, and the texts that are expected of it.
+
+use codespan_base::files::Error;
+use codespan_base::term::{Config, DisplayStyle};
+use gallery_script::case::Case;
+use gallery_script::errors::LineError;
+use std::alloc::Global;
+
+/// Which output of a case a text is.
+#[derive(Clone, Copy, PartialEq, Eq)]
+pub enum TextKind {
+    /// The text in rich style.
+    Rich,
+    /// The text in medium style.
+    Medium,
+    /// The text in short style.
+    Short,
+    /// The text in escape sequences, in each style whose text is stated.
+    Colors,
+    /// The end of the text in escape sequences, in each style whose text is stated.
+    ColorsEnd,
+}
+
+impl TextKind {
+    /// Returns the kind that a word names, or `None`.
+    pub fn named(word: &str) -> Option<TextKind> {
+        match word {
+            "rich" => Some(TextKind::Rich),
+            "medium" => Some(TextKind::Medium),
+            "short" => Some(TextKind::Short),
+            "ansi" => Some(TextKind::Colors),
+            "ansi-end" => Some(TextKind::ColorsEnd),
+            _ => None,
+        }
+    }
+
+    /// Returns the kind of the plain text in a style.
+    fn plain(style: DisplayStyle) -> TextKind {
+        match style {
+            DisplayStyle::Rich => TextKind::Rich,
+            DisplayStyle::Medium => TextKind::Medium,
+            DisplayStyle::Short => TextKind::Short,
+        }
+    }
+}
+
+/// What a row states of its text in escape sequences.
+#[derive(Clone, Copy)]
+pub enum Colors<'text> {
+    /// The end of the text.
+    End(&'text str),
+    /// The whole text.
+    Whole(&'text str),
+}
+
+impl Colors<'_> {
+    /// Returns whether a text is as stated.
+    pub fn are_those(self, text: &[u8]) -> bool {
+        match self {
+            Colors::End(end) => text.ends_with(end.as_bytes()),
+            Colors::Whole(whole) => text == whole.as_bytes(),
+        }
+    }
+}
+
+/// An expected text.
+#[derive(Drop)]
+struct Text {
+    kind: TextKind,
+    text: String,
+}
+
+/// A case, and its expected texts.
+#[derive(Drop)]
+pub struct Row<'input> {
+    /// The case. Its style and how it writes colors are not used: a row is rendered in each.
+    pub case: Case<'input>,
+    texts: Vec<Text>,
+}
+
+impl<'input> Row<'input> {
+    /// Returns a row of this name, with an empty case and no text.
+    pub fn new(alloc: Global, name: &'input str) -> Row<'input> {
+        Row {
+            case: Case::new(alloc, name),
+            texts: Vec::new(alloc),
+        }
+    }
+
+    /// Adds a text, or continues the last one if that is of the same kind. Fails with
+    /// `OutOfMemory`.
+    pub fn add_text(&mut self, kind: TextKind, text: String) -> Result<(), LineError> {
+        if let Some(last) = self.texts.last_mut() {
+            if last.kind == kind {
+                last.text.push_str(text.as_str())?;
+                return Ok(());
+            }
+        }
+        self.texts.push(Text { kind, text })?;
+        Ok(())
+    }
+
+    /// Returns the text of a kind, if stated.
+    fn text(&self, kind: TextKind) -> Option<&str> {
+        for stated in self.texts.as_slice() {
+            if stated.kind == kind {
+                return Some(stated.text.as_str());
+            }
+        }
+        None
+    }
+
+    /// Returns the plain text in a style, if stated.
+    pub fn plain_text(&self, style: DisplayStyle) -> Option<&str> {
+        self.text(TextKind::plain(style))
+    }
+
+    /// Returns what is stated of the text in escape sequences in a style: nothing if the plain text
+    /// of the style is not stated.
+    pub fn colors(&self, style: DisplayStyle) -> Colors<'_> {
+        if self.plain_text(style).is_none() {
+            return Colors::End("");
+        }
+        match self.text(TextKind::Colors) {
+            Some(whole) => Colors::Whole(whole),
+            None => Colors::End(self.text(TextKind::ColorsEnd).unwrap_or("")),
+        }
+    }
+
+    /// Returns the configuration of the case in a style. Fails with `OutOfMemory`.
+    pub fn config(&self, style: DisplayStyle) -> Result<Config<'input>, Error> {
+        let mut config = self.case.config.clone()?;
+        config.display_style = style;
+        Ok(config)
+    }
+}

@@ -1,0 +1,101 @@
+//! The parser of the rows.
+//!
+//! The input is that of [`gallery_script::cases`], with these lines more, of which each belongs to
+//! the last case; texts are escaped as there:
+//!
+//! | line | meaning |
+//! |---|---|
+//! | `rich TEXT`, `medium TEXT`, `short TEXT` | the expected text in this style |
+//! | `ansi TEXT` | the expected text in escape sequences, in each style whose text is stated |
+//! | `ansi-end TEXT` | the expected end of that text |
+//! | `character FIELD C` | this field of [`Chars`] is this character |
+//!
+//! Such a line right after one with the same word continues its text.
+
+use crate::failure::RunError;
+use crate::row::{Row, TextKind};
+use codespan_base::term::Chars;
+use gallery_script::errors::LineError;
+use gallery_script::escape::unescape;
+use gallery_script::fields::cut;
+use gallery_script::statement::{Line, parse_line};
+use std::alloc::Global;
+
+/// Returns the rows of an input.
+///
+/// # Errors
+///
+/// `Line` with the error of the first line that has one.
+pub fn parse_rows(alloc: Global, input: &str) -> Result<Vec<Row<'_>>, RunError> {
+    let mut rows = Vec::new(alloc);
+    let mut number = 0usize;
+    for line in input.lines() {
+        number = number.saturating_add(1);
+        if let Err(line_error) = apply_line(alloc, &mut rows, line) {
+            return Err(RunError::Line(number, line_error));
+        }
+    }
+    Ok(rows)
+}
+
+/// Applies a line: it begins a row, describes the last one, or is ignored.
+fn apply_line<'input>(
+    alloc: Global,
+    rows: &mut Vec<Row<'input>>,
+    line: &'input str,
+) -> Result<(), LineError> {
+    let (word, rest) = cut(line);
+    if let Some(kind) = TextKind::named(word) {
+        return last(rows)?.add_text(kind, unescape(alloc, rest)?);
+    }
+    if word == "character" {
+        return set_character(&mut last(rows)?.case.config.chars, rest);
+    }
+    apply_case_line(rows, alloc, parse_line(alloc, line)?)
+}
+
+/// Applies a line of a case.
+fn apply_case_line<'input>(
+    rows: &mut Vec<Row<'input>>,
+    alloc: Global,
+    line: Line<'input>,
+) -> Result<(), LineError> {
+    match line {
+        Line::Ignored => {}
+        Line::Title(name) => rows.push(Row::new(alloc, name))?,
+        Line::Description(statement) => last(rows)?.case.apply(statement)?,
+    }
+    Ok(())
+}
+
+/// Returns the last row.
+fn last<'rows, 'input>(
+    rows: &'rows mut Vec<Row<'input>>,
+) -> Result<&'rows mut Row<'input>, LineError> {
+    rows.last_mut().ok_or(LineError::NoCase)
+}
+
+/// Sets a character by the rest of a `character` line.
+fn set_character(chars: &mut Chars<'_>, rest: &str) -> Result<(), LineError> {
+    let (field, text) = cut(rest);
+    let character = only_character(text).ok_or(LineError::UnknownName)?;
+    match field {
+        "multi_top" => chars.multi_top = character,
+        "multi_bottom" => chars.multi_bottom = character,
+        "multi_primary_caret_end" => chars.multi_primary_caret_end = character,
+        "multi_secondary_caret_end" => chars.multi_secondary_caret_end = character,
+        _ => return Err(LineError::UnknownName),
+    }
+    Ok(())
+}
+
+/// Returns the character of a text, if it has exactly one.
+fn only_character(text: &str) -> Option<char> {
+    let mut characters = text.chars();
+    let character = characters.next()?;
+    if characters.as_str().is_empty() {
+        Some(character)
+    } else {
+        None
+    }
+}
