@@ -78,10 +78,10 @@ impl From<io::Error> for RunError {
 impl fmt::Display for RunError {
     fn fmt<W: Write>(&self, f: &mut fmt::Formatter<W>) -> fmt::Result {
         match self {
-            RunError::NoText(InputError::Unreadable) => write!(f, "cannot read input"),
-            RunError::NoText(InputError::NotUtf8) => write!(f, "input is not UTF-8"),
+            RunError::NoText(InputError::Unreadable) => f.write_str("cannot read input"),
+            RunError::NoText(InputError::NotUtf8) => f.write_str("input is not UTF-8"),
             RunError::Line(number, line_error) => write!(f, "line {number}: {line_error}"),
-            RunError::CannotWriteOutput => write!(f, "cannot write output"),
+            RunError::CannotWriteOutput => f.write_str("cannot write output"),
         }
     }
 }
@@ -111,10 +111,10 @@ impl fmt::Display for Failure {
     fn fmt<W: Write>(&self, f: &mut fmt::Formatter<W>) -> fmt::Result {
         match self {
             Failure::Failed(error) => write!(f, "error: {error}"),
-            Failure::OtherRowText => write!(f, "another text than stated"),
-            Failure::OtherString => write!(f, "another string"),
+            Failure::OtherRowText => f.write_str("another text than stated"),
+            Failure::OtherString => f.write_str("another string"),
             Failure::OtherText(path) => write!(f, "by {path}: another text"),
-            Failure::OtherColors => write!(f, "other colors than stated"),
+            Failure::OtherColors => f.write_str("other colors than stated"),
             Failure::Stopped(path, ending, after) => {
                 write!(f, "by {path}: wrong where a writer {ending}, after {after}")
             }

@@ -23,9 +23,14 @@ pub const STYLES: [DisplayStyle; 3] = [
 /// Makes all runs of a row, and returns their number.
 pub fn judge_row(alloc: Global, row: &Row<'_>) -> Result<usize, FailureAt> {
     let database = prepared(database_of(alloc, &row.case))?;
+    judge_styles(alloc, row, &database)
+}
+
+/// Makes all runs of a row over its file database.
+fn judge_styles(alloc: Global, row: &Row<'_>, database: &Database<'_>) -> Result<usize, FailureAt> {
     let mut runs = 0usize;
     for style in STYLES {
-        let more = judge_style(alloc, row, &database, style)?;
+        let more = judge_style(alloc, row, database, style)?;
         runs = runs.saturating_add(more);
     }
     Ok(runs)
@@ -52,6 +57,12 @@ fn judge_style(
         database,
         diagnostic: &row.case.diagnostic,
     };
+    judge_input(alloc, row, input)
+}
+
+/// Makes all runs of a row in the style of a configuration.
+fn judge_input(alloc: Global, row: &Row<'_>, input: Input<'_, '_>) -> Result<usize, FailureAt> {
+    let style = input.config.display_style;
     let text = at(Some(style), None, text_of(alloc, row, input))?;
     judge_calls(alloc, input, text.as_str(), row.colors(style))
 }
@@ -109,15 +120,20 @@ const OLD_TEXT: &str = "kept";
 /// Returns the plain text in the style of a configuration. It is compared with the one that the row
 /// states, if any, and with what is appended to a string.
 fn text_of(alloc: Global, row: &Row<'_>, input: Input<'_, '_>) -> Result<String, Failure> {
-    let config = input.config;
-    let text = match input.database {
-        Database::One(file, diagnostic) => text_over(alloc, config, file, diagnostic)?,
-        Database::Several(files) => text_over(alloc, config, files, input.diagnostic)?,
-        Database::Mapped(file, diagnostic) => text_over(alloc, config, file, diagnostic)?,
-    };
-    match row.plain_text(config.display_style) {
+    let text = rendered_text(alloc, input)?;
+    match row.plain_text(input.config.display_style) {
         Some(want) if text.as_str() != want => Err(Failure::OtherRowText),
         _ => Ok(text),
+    }
+}
+
+/// Returns the plain text. It is compared with what is appended to a string.
+fn rendered_text(alloc: Global, input: Input<'_, '_>) -> Result<String, Failure> {
+    let config = input.config;
+    match input.database {
+        Database::One(file, diagnostic) => text_over(alloc, config, file, diagnostic),
+        Database::Several(files) => text_over(alloc, config, files, input.diagnostic),
+        Database::Mapped(file, diagnostic) => text_over(alloc, config, file, diagnostic),
     }
 }
 
@@ -176,10 +192,11 @@ fn judge_colors<D: Render>(output: &D, bytes: &[u8], colors: Colors<'_>) -> Resu
 
 /// Makes all runs of a direct call with this expected text.
 pub fn judge_direct(alloc: Global, call: RowCall<'_>, text: &str) -> Result<usize, FailureAt> {
-    let direct = prepared(Direct::new(alloc, call))?;
-    at(
-        None,
-        None,
-        judge_call(alloc, &direct, text, Colors::End("")),
-    )
+    at(None, None, judge_direct_call(alloc, call, text))
+}
+
+/// Makes all runs of a direct call, and returns their number.
+fn judge_direct_call(alloc: Global, call: RowCall<'_>, text: &str) -> Result<usize, Failure> {
+    let direct = Direct::new(alloc, call)?;
+    judge_call(alloc, &direct, text, Colors::End(""))
 }

@@ -46,25 +46,36 @@ fn apply_line<'input>(
 ) -> Result<(), LineError> {
     let (word, rest) = cut(line);
     if let Some(kind) = TextKind::named(word) {
-        return last(rows)?.add_text(kind, unescape(alloc, rest)?);
+        return add_text(alloc, rows, kind, rest);
     }
     if word == "character" {
         return set_character(&mut last(rows)?.case.config.chars, rest);
     }
-    apply_case_line(rows, alloc, parse_line(alloc, line)?)
+    match parse_line(alloc, line)? {
+        Line::Ignored => Ok(()),
+        Line::Title(name) => add_row(alloc, rows, name),
+        Line::Description(statement) => last(rows)?.case.apply(statement),
+    }
 }
 
-/// Applies a line of a case.
-fn apply_case_line<'input>(
-    rows: &mut Vec<Row<'input>>,
+/// Adds an escaped text to the last row.
+fn add_text(
     alloc: Global,
-    line: Line<'input>,
+    rows: &mut Vec<Row<'_>>,
+    kind: TextKind,
+    escaped: &str,
 ) -> Result<(), LineError> {
-    match line {
-        Line::Ignored => {}
-        Line::Title(name) => rows.push(Row::new(alloc, name))?,
-        Line::Description(statement) => last(rows)?.case.apply(statement)?,
-    }
+    let text = unescape(alloc, escaped)?;
+    last(rows)?.add_text(kind, text)
+}
+
+/// Adds a row of this name.
+fn add_row<'input>(
+    alloc: Global,
+    rows: &mut Vec<Row<'input>>,
+    name: &'input str,
+) -> Result<(), LineError> {
+    rows.push(Row::new(alloc, name))?;
     Ok(())
 }
 

@@ -2,7 +2,7 @@
 
 ghost use Rattle.std.specs.Prelude.{◌≤◌};
 
-use crate::direct::rows::ROWS;
+use crate::direct::rows::{DirectRow, ROWS};
 use crate::failure::{FailureAt, RunError};
 use crate::judging::{STYLES, judge_direct, judge_row};
 use crate::rendering::CALLS;
@@ -87,9 +87,20 @@ fn judge_all<R: Read, W: Write>(
     sum: &mut Sum,
 ) -> Result<(), RunError> {
     let text = read_text(alloc, input)?;
-    let rows = parse_rows(alloc, text.as_str())?;
-    judge_rows(alloc, rows.as_slice(), output, sum)?;
+    judge_text(alloc, text.as_str(), output, sum)?;
     judge_direct_rows(alloc, output, sum)?;
+    Ok(())
+}
+
+/// Makes the runs of the rows of an input.
+fn judge_text<W: Write>(
+    alloc: Global,
+    text: &str,
+    output: &mut W,
+    sum: &mut Sum,
+) -> Result<(), RunError> {
+    let rows = parse_rows(alloc, text)?;
+    judge_rows(alloc, rows.as_slice(), output, sum)?;
     Ok(())
 }
 
@@ -108,11 +119,23 @@ fn judge_rows<W: Write>(
 
 /// Makes the runs of the direct calls.
 fn judge_direct_rows<W: Write>(alloc: Global, output: &mut W, sum: &mut Sum) -> io::Result<()> {
-    for (name, call, text) in &ROWS {
-        let judged = judge_direct(alloc, *call, text);
-        if sum.counts(output, name, judged)? {
-            writeln!(output, "row {name}: {call}, {WRITERS} writers")?;
-        }
+    for row in &ROWS {
+        report_direct_row(alloc, row, output, sum)?;
+    }
+    Ok(())
+}
+
+/// Makes the runs of a direct call and writes its line.
+fn report_direct_row<W: Write>(
+    alloc: Global,
+    row: &DirectRow<'_>,
+    output: &mut W,
+    sum: &mut Sum,
+) -> io::Result<()> {
+    let (name, call, text) = row;
+    let judged = judge_direct(alloc, *call, text);
+    if sum.counts(output, name, judged)? {
+        writeln!(output, "row {name}: {call}, {WRITERS} writers")?;
     }
     Ok(())
 }

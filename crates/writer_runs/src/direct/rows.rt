@@ -5,8 +5,11 @@ use codespan_base::diagnostic::LabelStyle::{Primary, Secondary};
 use codespan_base::diagnostic::Severity;
 use codespan_renderer::term::renderer::MultiLabel;
 
-/// The names of the rows, the calls, and their texts.
-pub static ROWS: [(&'static str, RowCall<'static>, &'static str); 16] = [
+/// The name of a row, the call, and its text.
+pub type DirectRow<'text> = (&'text str, RowCall<'text>, &'text str);
+
+/// The rows.
+pub static ROWS: [DirectRow<'static>; 16] = [
     (
         "report_short_and_medium",
         RowCall::Header(None, "bad"),
