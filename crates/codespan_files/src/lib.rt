@@ -1,7 +1,7 @@
 //! The file databases that rendering looks up, and the error of every call.
 //!
-//! This crate is a layer of `codespan_base`. Users name its items as `codespan_reporting::files` and
-//! `codespan_base::laws`.
+//! This crate is a layer of `codespan_base`. Users name its items as `codespan_reporting::files`
+//! and `codespan_base::laws`.
 #![tactic(auto)]
 
 pub mod files;

@@ -61,7 +61,8 @@ impl Problem {
     }
 }
 
-/// Returns the words of a text: runs of letters and digits, and single newlines and other bytes.
+/// Returns the words of a text: runs of ASCII letters and digits, and each newline and each other
+/// byte that is not ASCII whitespace.
 ///
 /// # Errors
 ///
@@ -83,6 +84,10 @@ pub fn lex(alloc: Global, text: &str) -> Result<Vec<Word>, AllocError>
             let end = index + 1;
             words.push(Word { start: index, end })?;
         }
+    }
+    if let Some(start) = start {
+        let end = text.len();
+        words.push(Word { start, end })?;
     }
     Ok(words)
 }

@@ -1,5 +1,5 @@
-//! `writer_runs < ROWS` renders each worked output by each call that writes to a writer, plain and in
-//! colors, into writers that stop.
+//! `writer_runs < ROWS` renders each worked output by each call that writes to a writer, plain and
+//! in colors, into writers that stop.
 //!
 //! It makes the product of tables, so that no run needs a proof of its own: the rows of the input
 //! ([`rows`]) in each style ([`judging`]); the calls ([`rendering`]), and those of `Renderer`
