@@ -1,7 +1,4 @@
-//! Tests of diagnostics, files and writers: what no contract says. And the code of `docs/FILES.md`
-//! and `docs/WRITERS.md`.
-//!
-//! Its writers are public, for the tests of the layers above.
+//! Tests of diagnostics, files and writers: what no contract says. And the code of `docs/FILES.md`.
 #![tactic(auto)]
 
 #[cfg(test)]
@@ -10,4 +7,5 @@ mod asserts;
 mod diagnostics;
 #[cfg(test)]
 mod files;
-pub mod writers;
+#[cfg(test)]
+mod writers;

@@ -2,8 +2,8 @@
 //! keeps an output as styled text.
 //!
 //! Users name these by the paths of `codespan_styled`, which renders a diagnostic to a
-//! [`StyledText`]. [`to_html`] and [`to_svg`] make a document of it, and [`to_terminal`] a text that
-//! is safe to print.
+//! [`StyledText`]. [`to_html`] and [`to_svg`] make a document of it, and [`to_terminal`] a text
+//! that is safe to print.
 #![tactic(auto)]
 
 pub mod html;

@@ -41,9 +41,9 @@ const BACKGROUND: &str =
 /// Returns an SVG document of styled text: an element `text` for characters that follow one another
 /// in a row in one ink, on a dark background.
 ///
-/// The ink of a run is the color of its style in `styles`, on the dark background, and whether it is
-/// bold; a background is not rendered. A cell is nine pixels wide and a row eighteen high, and each
-/// `text` is at the cell where it begins and as long as its cells, so carets are under their
+/// The ink of a run is the color of its style in `styles`, on the dark background, and whether it
+/// is bold; a background is not rendered. A cell is nine pixels wide and a row eighteen high, and
+/// each `text` is at the cell where it begins and as long as its cells, so carets are under their
 /// characters in any font. A character that takes two cells or more is a `text` alone.
 ///
 /// A text can neither start nor end a tag or an entity: each of the characters `&`, `<` and `>`

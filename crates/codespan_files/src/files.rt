@@ -71,7 +71,8 @@ pub struct Location {
 /// ```rust
 /// impl<'a, 'text: 'a> Files<'a> for Checked<'text> {
 ///     ghost use Rattle.codespan_base.specs.SimpleModel.{simple_file, simple_failure};
-///     ghost use Rattle.codespan_base.specs.Lemmas.Simple.{simple_lawful, simple_past_end, text_fits, text_is_utf8};
+///     ghost use Rattle.codespan_base.specs.Lemmas.Simple.{simple_lawful, simple_past_end};
+///     ghost use Rattle.codespan_base.specs.Lemmas.Simple.{text_fits, text_is_utf8};
 ///     ghost use Rattle.examples.specs.Parts.{one_part};
 ///
 ///     type FileId = Part;
@@ -118,7 +119,8 @@ pub struct Location {
 ///     // The file of a text is lawful.
 ///     ghost lawful = { λ s id.
 ///         let file = of_part s.schema s.document id in
-///         simple_lawful (part_name id) (source_of file).now (text_is_utf8 file) (text_fits file) };
+///         simple_lawful (part_name id) (source_of file).now
+///             (text_is_utf8 file) (text_fits file) };
 ///
 ///     // Equal ids are one part.
 ///     ghost same_file = { λ s i j e.

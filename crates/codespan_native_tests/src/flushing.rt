@@ -2,11 +2,11 @@
 
 use codespan_base::diagnostic::{LabelStyle, Severity};
 use codespan_base::term::WriteStyle;
-use codespan_base_tests::writers::counting::Counting;
 use codespan_native::style_mark_writer::StyleMarkWriter;
 use std::io;
 use std::io::Write;
 use std::test::Fail;
+use test_writers::counting::Counting;
 
 /// Writes every style mark, and some text.
 fn set_styles<W: WriteStyle>(w: &mut W) -> io::Result<()> {

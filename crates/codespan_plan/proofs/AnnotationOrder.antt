@@ -130,7 +130,8 @@ lane_rises m n h = rw (le-ltb m n h) (by_test (m == n))
     by_test true = refl
     by_test false = refl
 
--- of two multi-line label marks of one line the one in the greater lane is not below, nor is one of two in the same lane
+-- of two multi-line label marks of one line the one in the greater lane is not below, nor is one of
+-- two in the same lane
 pub mark_rises : (f l n m : ℕ) (x y : Annotation) → IsLaneMarkOn f l n x → IsLaneMarkOn f l m y → n ≤ m → is_before y x ≡ false
 mark_rises f l n m x y a b h =
     then_same y.file x.file _ (b.0 ∙ sym a.0) ∙ then_same y.line x.line _ (b.1 ∙ sym a.1) ∙ then_same (rank_of y.kind) (rank_of x.kind) _ (b.2 ∙ sym a.2)

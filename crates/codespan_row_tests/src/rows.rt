@@ -11,11 +11,11 @@ use codespan_base::files::Error;
 use codespan_base::term::{
     Ansi, Config, NoColor, PlainWriter, Styles, StylesWriter, WriteColor, WriteStyle,
 };
-use codespan_base_tests::writers::sequences::without_sequences;
 use codespan_renderer::term::renderer::{MultiLabel, Renderer, SingleLabel, lanes_in_order};
 use std::alloc::Global;
 use std::process::Abort;
 use std::test::Fail;
+use test_writers::sequences::without_sequences;
 
 /// The arguments of a line.
 #[derive(Drop)]

@@ -17,8 +17,8 @@ use codespan_base::term::config::put_style::PutStyle;
 /// A line whose rows are to be rendered: the source of its characters, their widths and its
 /// pointers.
 ///
-/// `codespan_renderer` has two: one scans the text again for each row, the other keeps the characters
-/// in a cache.
+/// `codespan_renderer` has two: one scans the text again for each row, the other keeps the
+/// characters in a cache.
 pub trait LineSource {
     /// A cursor over its characters.
     type Cursor: CharCursor;

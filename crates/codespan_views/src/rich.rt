@@ -49,8 +49,8 @@ pub struct RichDiagnostic<'diagnostic, 'config, FileId> {
 impl<'diagnostic, 'config, FileId: Copy + Eq> RichDiagnostic<'diagnostic, 'config, FileId> {
     ghost use Rattle.codespan_views.specs.Views.{diagnostic_of, view_config_of};
 
-    /// Returns a view of the diagnostic. The configuration decides which lines are shown and, by its
-    /// layout, the padding width. Its other fields are not used.
+    /// Returns a view of the diagnostic. The configuration decides which lines are shown and, by
+    /// its layout, the padding width. Its other fields are not used.
     pub fn new(
         diagnostic: &'diagnostic Diagnostic<FileId>,
         config: &'config Config<'config>,

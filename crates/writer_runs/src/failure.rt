@@ -4,11 +4,11 @@ use crate::path::Path;
 use crate::rendering::Call;
 use codespan_base::files::Error;
 use codespan_base::term::DisplayStyle;
-use codespan_base_tests::writers::stopping::Stop;
 use gallery_script::errors::LineError;
 use program_io::input::InputError;
 use std::fmt::Write;
 use std::{fmt, io};
+use test_writers::stopping::Stop;
 
 /// How a writer stops.
 #[derive(Clone, Copy)]

@@ -6,10 +6,10 @@ use crate::record::Record;
 use crate::rendering::Render;
 use codespan_base::files::Error;
 use codespan_base::term::{Ansi, NoColor, Styles, StylesWriter, WriteColor};
-use codespan_base_tests::writers::sequences::without_sequences;
 use std::alloc::Global;
 use std::fmt;
 use std::io::Write;
+use test_writers::sequences::without_sequences;
 
 /// A writer of styles.
 #[derive(Clone, Copy)]

@@ -5,8 +5,8 @@ use crate::failure::{Ending, Failure};
 use crate::path::Path;
 use crate::record::Record;
 use crate::rendering::Render;
-use codespan_base_tests::writers::stopping::{Stop, Stopping, is_failed};
 use std::alloc::Global;
+use test_writers::stopping::{Stop, Stopping, is_failed};
 
 /// How a writer stops at a write.
 pub const STOPS: [Stop; 4] = [

@@ -1,12 +1,12 @@
 //! Which calls flush.
 
 use crate::asserts::assert_same;
-use crate::writers::counting::Counting;
 use crate::writers::written::{Part, styled, write_and_flush};
 use codespan_base::term::config::plain_ref::PlainWriterRef;
 use codespan_base::term::{Ansi, NoColor, PlainWriter};
 use std::io;
 use std::test::Fail;
+use test_writers::counting::Counting;
 
 /// How often a writer of plain text flushes.
 fn flushes_of_plain() -> io::Result<usize> {

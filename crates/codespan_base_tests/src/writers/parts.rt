@@ -1,8 +1,6 @@
 //! Parts of rows, written to writers that take little at a time, or stop.
 
 use crate::asserts::assert_same;
-use crate::writers::example::TagWriter;
-use crate::writers::stopping::{Stop, Stopping};
 use codespan_base::diagnostic::{LabelStyle, Severity};
 use codespan_base::term::config::writing::{
     put_all, put_char, put_number, put_repeated, put_spaces,
@@ -12,6 +10,8 @@ use std::alloc::Global;
 use std::io;
 use std::process::Abort;
 use std::test::Fail;
+use test_writers::example::TagWriter;
+use test_writers::stopping::{Stop, Stopping};
 
 /// A row with a part of each kind.
 fn write_row<W: WriteStyle>(w: &mut W) -> io::Result<()> {

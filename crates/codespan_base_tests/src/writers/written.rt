@@ -1,7 +1,6 @@
 //! What tests write: style marks and parts of rows, over writers of each kind.
 
 use crate::asserts::assert_text;
-use crate::writers::example::{TagColor, TagWriter};
 use codespan_base::diagnostic::{LabelStyle, Severity};
 use codespan_base::term::config::writing::{
     put_all, put_char, put_number, put_repeated, put_spaces,
@@ -12,6 +11,7 @@ use codespan_base::term::{
 use std::alloc::Global;
 use std::io;
 use std::process::Abort;
+use test_writers::example::{TagColor, TagWriter};
 
 /// Ends the line of a style mark, once it is set.
 fn end_mark<W: WriteStyle>(w: &mut W, set: io::Result<()>) -> io::Result<()> {

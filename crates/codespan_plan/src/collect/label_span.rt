@@ -77,8 +77,8 @@ impl LabelSpan {
         lines.saturating_add(near_ends.min(lines))
     }
 
-    /// Returns the lines inside the label that are far from its ends: after the context lines of the
-    /// first line, and before those of the last one.
+    /// Returns the lines inside the label that are far from its ends: after the context lines of
+    /// the first line, and before those of the last one.
     #[inline(always)]
     pub fn far_lines(self, config: &Config<'_>) -> Range<usize>
         ensures { (k : ℕ) → result.start ≤ k → k < result.end

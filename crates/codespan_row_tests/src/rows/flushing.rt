@@ -5,10 +5,10 @@ use crate::rows::lanes::render_crossing;
 use codespan_base::diagnostic::Severity;
 use codespan_base::files::Error;
 use codespan_base::term::{Config, PlainWriter, WriteStyle};
-use codespan_base_tests::writers::counting::Counting;
 use codespan_renderer::term::renderer::{Locus, Renderer};
 use std::process::Abort;
 use std::test::Fail;
+use test_writers::counting::Counting;
 
 /// Renders rows by each call, writes every style mark and some text, and then flushes once.
 fn render_rows<W: WriteStyle>(

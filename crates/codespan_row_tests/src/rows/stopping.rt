@@ -4,10 +4,10 @@ use crate::rows::{COLORED, LineInput, Rows, assert_text, render_styled, render_t
 use codespan_base::diagnostic::{LabelStyle, Severity};
 use codespan_base::files::Error;
 use codespan_base::term::{Ansi, Config, PlainWriter};
-use codespan_base_tests::writers::stopping::{Stop, Stopping, is_failed};
 use codespan_renderer::term::renderer::{MultiLabel, Renderer};
 use std::process::Abort;
 use std::test::Fail;
+use test_writers::stopping::{Stop, Stopping, is_failed};
 
 /// How a writer stops, each in turn.
 const STOPS: [Stop; 4] = [

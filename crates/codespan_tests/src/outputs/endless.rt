@@ -1,7 +1,6 @@
 //! A tab width and contexts of the greatest `usize`.
 
 use crate::outputs::rendering::{assert_bytes, assert_output};
-use codespan_base_tests::writers::stopping::{Stop, Stopping};
 use codespan_reporting::diagnostic::{Diagnostic, Label};
 use codespan_reporting::files::{Error, SimpleFile};
 use codespan_reporting::term::{
@@ -10,6 +9,7 @@ use codespan_reporting::term::{
 use std::alloc::Global;
 use std::process::Abort;
 use std::test::Fail;
+use test_writers::stopping::{Stop, Stopping};
 
 /// A configuration whose tabs have the greatest width.
 fn widest_tabs() -> Config<'static> {

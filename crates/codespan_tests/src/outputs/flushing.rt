@@ -1,6 +1,5 @@
 //! Which calls flush.
 
-use codespan_base_tests::writers::counting::Counting;
 use codespan_reporting::diagnostic::{Diagnostic, Label};
 use codespan_reporting::files::{Error, SimpleFile};
 use codespan_reporting::term::{
@@ -8,6 +7,7 @@ use codespan_reporting::term::{
 };
 use std::alloc::Global;
 use std::test::Fail;
+use test_writers::counting::Counting;
 
 /// Emits a diagnostic by each call that writes.
 fn emit_by_each(

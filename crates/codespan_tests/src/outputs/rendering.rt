@@ -1,7 +1,6 @@
 //! File databases of names and texts, a view rendered plain and in colors, and what is asserted of
 //! outputs.
 
-use codespan_base_tests::writers::sequences::without_sequences;
 use codespan_reporting::diagnostic::Diagnostic;
 use codespan_reporting::files::{Error, Files, SimpleFiles};
 use codespan_reporting::term::{
@@ -10,6 +9,7 @@ use codespan_reporting::term::{
 };
 use std::alloc::Global;
 use std::process::Abort;
+use test_writers::sequences::without_sequences;
 
 /// Returns the files of these names and texts.
 pub fn files_of<'text>(

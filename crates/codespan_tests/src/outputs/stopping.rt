@@ -1,12 +1,12 @@
 //! A view over a writer that stops.
 
-use codespan_base_tests::writers::stopping::{Stop, Stopping, is_failed};
 use codespan_reporting::diagnostic::{Diagnostic, Label};
 use codespan_reporting::files::{Error, SimpleFile};
 use codespan_reporting::term::{Config, PlainWriter, Renderer, RichDiagnostic};
 use std::alloc::Global;
 use std::process::Abort;
 use std::test::Fail;
+use test_writers::stopping::{Stop, Stopping, is_failed};
 
 /// Renders to a writer, and returns whether it failed with `Io`; `None` if it failed otherwise.
 fn is_failed_over(

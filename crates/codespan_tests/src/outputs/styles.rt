@@ -1,8 +1,6 @@
 //! Tests of short and medium style, and of the calls that emit.
 
 use crate::outputs::rendering::{assert_bytes, assert_text, files_of};
-use codespan_base_tests::writers::example::TagWriter;
-use codespan_base_tests::writers::sequences::without_sequences;
 use codespan_reporting::diagnostic::{Diagnostic, Label};
 use codespan_reporting::files::{Error, SimpleFiles};
 use codespan_reporting::term::{
@@ -12,6 +10,8 @@ use codespan_reporting::term::{
 use std::alloc::Global;
 use std::process::Abort;
 use std::test::Fail;
+use test_writers::example::TagWriter;
+use test_writers::sequences::without_sequences;
 
 /// Returns the default configuration in a style.
 fn in_style<'chars>(display_style: DisplayStyle) -> Config<'chars> {

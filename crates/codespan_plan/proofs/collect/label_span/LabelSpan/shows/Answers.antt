@@ -2,7 +2,8 @@ use Rattle.std.proofs.Common.{◌<◌, ◌∙◌, sym, arith}
 use Rattle.std.proofs.lemmas.Bool.{and_parts, le-ltb, ltb-true, ne_eqb}
 use Rattle.codespan_plan.proofs.collect.label_span.LabelSpan.shows.Goals as goal
 
--- a line inside is neither an end nor around the label, so that only the last test of `shows` counts
+-- a line inside is neither an end nor around the label, so that only the last test of `shows`
+-- counts
 pub returns-then-is_inside : goal.returns-then-is_inside
 returns-then-is_inside c =
     let first = c.args.self.first in

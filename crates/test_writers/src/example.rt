@@ -2,7 +2,7 @@
 
 ghost use Rattle.std.specs.Prelude.{◌≡◌, false, codes, refl};
 ghost use Rattle.codespan_base.specs.Streams.{bytes};
-ghost use Rattle.codespan_base_tests.specs.Tags.{tag_sink, color_tag};
+ghost use Rattle.test_writers.specs.Tags.{tag_sink, color_tag};
 ghost use Rattle.codespan_base.specs.WriterLaw.{Writes};
 
 use codespan_base::diagnostic::{LabelStyle, Severity};
