@@ -11,7 +11,7 @@ use Rattle.codespan_picture.specs.Lanes.{is_unbroken}
 use Rattle.codespan_picture.specs.Rows.{Line, Row, SourceRow}
 use Rattle.codespan_picture.specs.Snippets.{LabeledFileModel, line_at}
 use Rattle.codespan_laws.specs.LaneLaws.{shape_in, shape_at, line_of_row, MayLeaveOut, IsOneLine}
-use Rattle.codespan_laws.proofs.SortedLists.{all-append, all-weaker}
+use Rattle.codespan_laws.proofs.ListElements.{all-append, all-weaker}
 
 -- ---- lists
 

@@ -15,7 +15,7 @@ use Rattle.codespan_laws.specs.LaneLaws.{shape_in}
 use Rattle.codespan_picture.specs.Rows.{Line, Row, SourceRow, CaretRow, PointerRow, HangingRow, UnderlineRow, caret_rows, hanging_rows, hanging, underline_rows, rows_of, has_underline}
 use Rattle.codespan_picture.specs.RowParts.{leading_of}
 use Rattle.codespan_laws.proofs.LaneLineLemmas.{each_all, each_map, split_at, split_off, Shows, GoesOn, Begins, Finishes}
-use Rattle.codespan_laws.proofs.SortedLists.{all-append, all-filter, all-weaker}
+use Rattle.codespan_laws.proofs.ListElements.{all-append, all-filter, all-weaker}
 
 -- ---- the rows of a line
 

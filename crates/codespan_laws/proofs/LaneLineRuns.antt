@@ -20,7 +20,7 @@ use Rattle.codespan_laws.proofs.BarLemmas.{marks_from, lane_mark_in-from}
 use Rattle.codespan_laws.proofs.RangeLemmas.{kept, has_lane-ordered, line_of-below, shown-by, shows-first, shows-last}
 use Rattle.codespan_laws.proofs.LaneLineLemmas.{Shows, Begins, Finishes, Whole, finishes_later, finishes_before, whole_before, whole_later, whole_joined, one_line}
 use Rattle.codespan_laws.proofs.LaneLineRows.{lane_mark_with, Split, no_lane_mark, left_lane_mark, bottom_lane_mark, top_lane_mark}
-use Rattle.codespan_laws.proofs.SortedLists.{all-append, all-weaker}
+use Rattle.codespan_laws.proofs.ListElements.{all-append, all-weaker}
 
 -- ---- the multi-line label marks of a line in their order
 

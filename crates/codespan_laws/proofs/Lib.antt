@@ -20,11 +20,15 @@ pub mod RefillPicture
 pub mod RefillRows
 pub mod ResetLemmas
 pub mod RowBoundLemmas
+pub mod StreamTexts
 pub mod RowTexts
 pub mod Loci
 pub mod StatedNames
+pub mod DrawnTexts
 pub mod PictureTexts
 pub mod SlotLemmas
+pub mod LineSlots
+pub mod FileSlots
 pub mod SlotSums
 pub mod CharacterLemmas
 pub mod RichLemmas
@@ -32,5 +36,6 @@ pub mod OrderMembers
 pub mod OrderPictures
 pub mod OrderSorts
 pub mod Texts
+pub mod ListElements
 pub mod SortedLists
 pub mod Greatest

@@ -15,7 +15,7 @@ use Rattle.codespan_picture.specs.StatedPicture.{stated_loci, stated_locus}
 use Rattle.codespan_picture.specs.Rows.{Locus}
 use Rattle.codespan_picture.specs.Snippets.{InFile, LabeledFileModel, file_ids, labeled_file_model, labeled_file_models, primary_of}
 use Rattle.codespan_laws.proofs.LaneLineLemmas.{each_map}
-use Rattle.codespan_laws.proofs.SortedLists.{all-filter}
+use Rattle.codespan_laws.proofs.ListElements.{all-filter}
 
 -- ---- one locus
 

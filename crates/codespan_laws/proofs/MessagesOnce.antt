@@ -26,7 +26,9 @@ use Rattle.codespan_laws.specs.MessageLaws.{slotted, all_slotted, message_text, 
 use Rattle.codespan_laws.proofs.Loci.{zip_length}
 use Rattle.codespan_laws.proofs.Texts.{text_of-bytes}
 use Rattle.codespan_laws.proofs.SlotLemmas.{slots, slots-rows}
-use Rattle.codespan_laws.proofs.SlotSums.{sum-zero, sum-map, sum-filter, file_slots, lines_sum, rich_sum, label_slots, on_line, slotted_slots, slotted_from, slotted_sum, one_here, each_once}
+use Rattle.codespan_laws.proofs.LineSlots.{sum-zero, sum-map, sum-filter, label_slots, on_line}
+use Rattle.codespan_laws.proofs.FileSlots.{file_slots, lines_sum, rich_sum}
+use Rattle.codespan_laws.proofs.SlotSums.{slotted_slots, slotted_from, slotted_sum, one_here, each_once}
 use Rattle.codespan_laws.proofs.RefillRows.{fill, fill-is, fill_same, keeps, fill-rows}
 use Rattle.codespan_laws.proofs.RefillPicture.{re_file, re_in, rich-re, padding-re, files-re}
 

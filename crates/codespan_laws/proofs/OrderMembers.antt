@@ -11,7 +11,8 @@ use Rattle.codespan_picture.specs.Snippets.{least, if_any, locus_start}
 use Rattle.codespan_laws.proofs.OrderSorts.{has_range, sorted-same}
 use Rattle.codespan_picture.proofs.HangingStarts.{any-filter}
 use Rattle.codespan_laws.proofs.RefillLemmas.{any-map, filter-map}
-use Rattle.codespan_laws.proofs.SortedLists.{any-filtered, filter-filter, filter-reverse}
+use Rattle.codespan_laws.proofs.ListElements.{any-filtered, filter-filter}
+use Rattle.codespan_laws.proofs.SortedLists.{filter-reverse}
 
 -- ---- the orders of one file
 

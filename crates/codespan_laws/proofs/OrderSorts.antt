@@ -11,7 +11,8 @@ use Rattle.std.specs.List.Sorted.{IsPermutation, IsStableBy, ties}
 use Rattle.codespan_base.specs.declared.diagnostic.LabelStyle.TheVariants.{Primary}
 use Rattle.codespan_base.specs.Labels.{LabelModel, range_precedes, insert_sorted, sorted}
 use Rattle.codespan_laws.specs.SortLaws.{SortsLabels}
-use Rattle.codespan_laws.proofs.SortedLists.{Rises, all-weaker, filter-nothing, rises-from_sorted, sorted_from_rises}
+use Rattle.codespan_laws.proofs.ListElements.{all-weaker, filter-nothing}
+use Rattle.codespan_laws.proofs.SortedLists.{Rises, rises-from_sorted, sorted_from_rises}
 
 -- ---- the order
 

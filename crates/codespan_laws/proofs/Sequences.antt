@@ -5,7 +5,7 @@ use Rattle.std.proofs.lemmas.Bool.{cond_both}
 use Rattle.std.proofs.lemmas.List.Concat.{flat_map-append}
 use Rattle.codespan_picture.specs.Lines.{is_broken}
 use Rattle.codespan_picture.specs.Sequences.{before_line, break_between, gap_between, in_sequence}
-use Rattle.codespan_laws.proofs.SortedLists.{all-append}
+use Rattle.codespan_laws.proofs.ListElements.{all-append}
 
 module _ {A : Type 0} (P : A → Type 0) where
   -- what holds of all elements of breaks

@@ -7,7 +7,7 @@ use Rattle.codespan_picture.specs.Snippets.{has_any}
 use Rattle.codespan_plan.specs.Annotations.{Annotation, is_on_line, shows_line}
 use Rattle.codespan_picture.specs.Sequences.{before_line, break_between, gap_between, in_sequence}
 use Rattle.codespan_plan.specs.SnippetLines.{SnippetLine, Labeled, Filled, Break, Group, are_shown, group_of, join_group, groups, lines_between, lines_to, lines_from, lines_of}
-use Rattle.codespan_laws.proofs.SortedLists.{all-weaker, all-filter, filter-whole, filter-nothing}
+use Rattle.codespan_laws.proofs.ListElements.{all-weaker, all-filter, filter-whole, filter-nothing}
 
 -- ---- groups
 

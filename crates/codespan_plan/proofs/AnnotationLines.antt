@@ -16,36 +16,16 @@ use Rattle.codespan_picture.specs.Lines.{shows}
 use Rattle.codespan_plan.specs.IndexedLabels.{index_of_file, indices_after, annotations_after}
 use Rattle.codespan_picture.specs.Snippets.{InFile}
 use Rattle.codespan_plan.specs.LabeledFiles.{lanes_in}
-use Rattle.codespan_plan.specs.SnippetLines.{single_label_of, single_labels_in}
+use Rattle.codespan_plan.specs.SnippetLines.{single_labels_in}
 use Rattle.codespan_plan.proofs.AnnotationOrder.{lane_mark_annotation, index_below}
 use Rattle.codespan_plan.proofs.LabelAnnotations.{is_kind, all-of_file, all-below, annotations-line_lookups, marks-line_lookups, single_labels-line_lookups, any-line_lookups}
 use Rattle.codespan_plan.proofs.LabelIndexing.{lanes_in-more, label_lanes}
 use Rattle.codespan_plan.proofs.LaneMarks.{marks_from}
 use Rattle.codespan_laws.proofs.OrderSorts.{has_range}
 use Rattle.codespan_laws.proofs.RangeLemmas.{line_of-below}
-use Rattle.codespan_laws.proofs.SortedLists.{Falls, all-append, all-weaker, filter-whole, filter-nothing}
-
--- ---- ranges
-
--- the label of the annotation has this range
-abbrev pub has_label_range : ℕ → ℕ → Option LabelModel → Bool
-has_label_range start end None = false
-has_label_range start end (Some x) = has_range start end x
-
--- the annotation is of a label with this range
-abbrev pub is_of_range : ℕ → ℕ → Annotation → Bool
-is_of_range start end e = has_label_range start end (single_label_of e.kind)
-
--- ---- the labels of a file among those of a diagnostic
-
--- a file has its index among those of a diagnostic: its id is equal to those that have the index,
--- they name it with its lanes, and it has
--- a line
-pub record HasFileIndex {Id : Type 0} (same : Id → Id → Bool) (file : Id → FileModel) (ids : List Id) (f : ℕ) (id : Id) : Type 0 where
-  pub index : (i : Id) → (index_of_file same ids i == f) ≡ same id i
-  pub one_file : (i : Id) → same id i ≡ true → file i ≡ file id
-  pub lanes : (before : List (InFile Id)) (i : Id) → same id i ≡ true → lanes_in same file before i ≡ lanes_in same file before id
-  pub some_line : 0 < line_count (file id)
+use Rattle.codespan_laws.proofs.ListElements.{all-append, all-weaker, filter-whole, filter-nothing}
+use Rattle.codespan_laws.proofs.SortedLists.{Falls}
+use Rattle.codespan_plan.proofs.FileLabels.{is_of_range, HasFileIndex}
 
 module _ {Id : Type 0} {same : Id → Id → Bool} {file : Id → FileModel} {ids : List Id} {f : ℕ} {id : Id} (here : HasFileIndex same file ids f id) (config : Config) where
   -- the file

@@ -21,7 +21,7 @@ use Rattle.codespan_plan.specs.declared.collect.label_annotations.LabelIndices.{
 use Rattle.codespan_picture.specs.Types.{Config, Label}
 use Rattle.codespan_picture.specs.Picture.{label_of}
 use Rattle.std.proofs.lemmas.Bool.Decides.{nat_tests}
-use Rattle.codespan_laws.proofs.SortedLists.{all-append, all-weaker}
+use Rattle.codespan_laws.proofs.ListElements.{all-append, all-weaker}
 
 module _ {Id : Type 0} {P : RustAnnotation Id → Type 0} where
   -- nothing was added

@@ -1,10 +1,10 @@
 -- The lines that are looked up for a label, one after another.
 use Rattle.std.proofs.Common.{◌≡◌, ℕ, zero, suc, ◌+◌, ◌-◌, ◌^◌, ◌<◌, ◌≤◌, Bool, true, false, not, ◌&&◌, ◌||◌, List, [], ◌∷◌, ◌++◌, length, Option, Some, None, refl, sym, ap, ◌∙◌, arith, ⊎_elim, true≢false}
-use Rattle.std.specs.Prelude.{nat_lt, nat_le, if◌then◌else◌, filter, flat_map, fold, max, min}
+use Rattle.std.specs.Prelude.{nat_lt, nat_le, if◌then◌else◌, flat_map, fold, max, min}
 use Rattle.std.specs.List.{range_with_len}
 use Rattle.std.proofs.lemmas.Bool.{le-leb, lt-leb, lt-ltb, cases_Bool, cases_lt}
 use borrow.Author.Tests.{le-ltb}
-use Rattle.std.proofs.lemmas.Grind.{common_steps, flat_map-append}
+use Rattle.std.proofs.lemmas.Grind.{flat_map-append}
 use Rattle.std.proofs.lemmas.List.{append-nil, map-append}
 use Rattle.codespan_base.specs.declared.files.Error.{Error}
 use Rattle.codespan_base.specs.declared.files.Error.TheVariants.{FileMissing, IndexTooLarge, LineTooLarge, ColumnTooLarge, InvalidCharBoundary, Io, FormatError, OutOfMemory}
@@ -22,11 +22,11 @@ use Rattle.codespan_plan.specs.AnnotationViews.{AddsOf, annotations_on, lookups_
 use Rattle.codespan_plan.specs.SpannedDigits.{digits_on, label_digits}
 use Rattle.codespan_picture.specs.Lookups.{looked_up_lines, lookups_of_file, ends_context, first_error, is_around, is_looked_up, line_lookups, lookup_past_end}
 use Rattle.codespan_picture.specs.Padding.{digit_count, spans}
-use Rattle.codespan_plan.specs.LabelSpans.{spans_line}
 use Rattle.codespan_laws.proofs.CaretLemmas.{range_with_len-append}
 use Rattle.codespan_laws.proofs.Greatest.{greatest-append}
 use Rattle.codespan_plan.proofs.Collecting.{Adds-as, Adds-both, Adds-none}
 use Rattle.codespan_plan.proofs.FirstErrors.{first_error-none, first_error-some}
+use Rattle.codespan_plan.proofs.NearLines.{flat_map_filtered, after_both, above_both, below_both, near_after}
 
 module _ {X : Type 0} (g : ℕ → List X) where
   -- where each of some numbers has no elements, all have none
@@ -59,34 +59,6 @@ module _ {X : Type 0} (g : ℕ → List X) where
       ∙ ap (flat_map g) (range_with_len-append 0 n (m - n))
       ∙ flat_map-append g (range_with_len 0 n) (range_with_len (0 + n) (m - n))
       ∙ ap (λ k. flat_map g (range_with_len 0 n) ++ flat_map g (range_with_len k (m - n))) (omega arith)
-
--- the images of the elements that pass a test
-flat_map_filtered : {X : Type 0} (h : ℕ → List X) (p : ℕ → Bool) (ls : List ℕ) → flat_map h (filter p ls) ≡ flat_map (λ l. if p l then h l else []) ls
-flat_map_filtered h p [] = refl
-flat_map_filtered {X} h p (l ∷ ls) = by (p l) (flat_map_filtered h p ls)
-  where
-    by : (b : Bool) → flat_map h (filter p ls) ≡ flat_map (λ l. if p l then h l else []) ls
-        → flat_map h (if b then l ∷ filter p ls else filter p ls) ≡ (if b then h l else []) ++ flat_map (λ l. if p l then h l else []) ls
-    by true rest = ap (λ (xs : List X). h l ++ xs) rest
-    by false rest = rest
-
--- ---- the lines around two others, as far as `b` lines before them and `a` after them
-
--- a line is one of those
-abbrev is_near : ℕ → ℕ → ℕ → ℕ → ℕ → Bool
-is_near s e b a l = spans_line s e l || ((nat_lt l s && nat_le s (l + b)) || (nat_lt e l && nat_le l (e + a)))
-
-after_both : (s e b a l : ℕ) → s < l → e < l → l ≤ e + a → is_near s e b a l ≡ true
-after_both s e b a l low high reach = grind (arith, common_steps)
-
-above_both : (s e b a l : ℕ) → s < l → e + a < l → is_near s e b a l ≡ false
-above_both s e b a l low high = grind (arith, common_steps)
-
-below_both : (s e b a l : ℕ) → l < e → l + b < s → is_near s e b a l ≡ false
-below_both s e b a l low high = grind (arith, common_steps)
-
-near_after : (s e b a l : ℕ) → s < l → e < l → is_near s e b a l ≡ true → l ≤ e + a
-near_after s e b a l low high near = grind (arith, common_steps)
 
 module _ {Id : Type 0} (x : CollectedLabel Id) where
   -- what some lookups of the file fail with

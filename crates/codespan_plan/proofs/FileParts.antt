@@ -14,7 +14,8 @@ use Rattle.codespan_plan.specs.Annotations.{Annotation, is_before, is_of_file}
 use Rattle.codespan_plan.specs.AnnotationViews.{annotation_view}
 use Rattle.codespan_plan.proofs.AnnotationGroups.{IsRising, rising-filter, split_at}
 use Rattle.codespan_plan.proofs.AnnotationOrder.{below_order, file_rises}
-use Rattle.codespan_laws.proofs.SortedLists.{Rises, rises-from_sorted, all-weaker, all-pass, filter-whole, filter-filter}
+use Rattle.codespan_laws.proofs.ListElements.{all-weaker, all-pass, filter-whole, filter-filter}
+use Rattle.codespan_laws.proofs.SortedLists.{Rises, rises-from_sorted}
 
 -- ---- annotations
 

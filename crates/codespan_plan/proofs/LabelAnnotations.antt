@@ -16,7 +16,7 @@ use Rattle.codespan_plan.specs.declared.collect.label_annotations.LabelIndices.{
 use Rattle.codespan_plan.specs.Annotations.{Annotation, AnnotationKind, Shown, Single, Multi, rank_of, is_on_line, line_annotations, annotations_of, annotation_if_any, shows_line}
 use Rattle.codespan_picture.specs.Lines.{shows}
 use Rattle.codespan_picture.specs.Lookups.{is_around, is_looked_up}
-use Rattle.codespan_laws.proofs.SortedLists.{all-append, filter-whole, filter-nothing, all-weaker}
+use Rattle.codespan_laws.proofs.ListElements.{all-append, filter-whole, filter-nothing, all-weaker}
 
 -- the annotation is of this kind
 abbrev pub is_kind : ℕ → Annotation → Bool

@@ -18,7 +18,7 @@ use Rattle.codespan_plan.proofs.FileOrder.{file_ids-has, file_ids-more, has, non
 use Rattle.codespan_plan.proofs.FileIndices.{at-stays, no-index, index-here, index-past, index-stays}
 use Rattle.codespan_plan.proofs.LabelAnnotations.{all-of_file}
 use Rattle.codespan_plan.proofs.LabelIndexing.{IsElementAt, drop-one, has-index, take-at}
-use Rattle.codespan_laws.proofs.SortedLists.{all-append, all-both, all-mapped, all-weaker}
+use Rattle.codespan_laws.proofs.ListElements.{all-append, all-both, all-mapped, all-weaker}
 
 -- ---- one more label's file
 

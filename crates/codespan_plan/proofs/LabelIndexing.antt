@@ -18,7 +18,7 @@ use Rattle.codespan_plan.specs.Annotations.{Annotation, annotations_of}
 use Rattle.codespan_plan.specs.LabeledFiles.{lanes_by, lanes_in}
 use Rattle.codespan_plan.specs.IndexedLabels.{index_of_file, indices_after, annotations_after}
 use Rattle.codespan_picture.specs.Snippets.{InFile, lane_count}
-use Rattle.codespan_laws.proofs.SortedLists.{filter-nothing}
+use Rattle.codespan_laws.proofs.ListElements.{filter-nothing}
 use Rattle.codespan_plan.proofs.FileOrder.{has}
 use Rattle.codespan_plan.proofs.FileIndices.{Differ, index-here, index-later}
 

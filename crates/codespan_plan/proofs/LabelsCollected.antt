@@ -26,7 +26,7 @@ use Rattle.codespan_plan.specs.IndexedLabels.{IsIdAt, annotations_after, index_o
 use Rattle.codespan_plan.specs.SpannedDigits.{all_digits, label_digits}
 use Rattle.codespan_picture.specs.Snippets.{InFile, file_ids}
 use Rattle.codespan_laws.proofs.Greatest.{greatest-append}
-use Rattle.codespan_laws.proofs.SortedLists.{all-both, all-mapped, all-weaker}
+use Rattle.codespan_laws.proofs.ListElements.{all-both, all-mapped, all-weaker}
 use Rattle.codespan_plan.proofs.FileOrder.{file_ids-more}
 use Rattle.codespan_plan.proofs.FileIndices.{index_of_file-at}
 use Rattle.codespan_plan.proofs.Collecting.{Adds-as, Adds-both}

@@ -4,7 +4,7 @@ use Rattle.std.specs.List.{AllByRecursion}
 use Rattle.std.proofs.lemmas.Bool.Decides.{nat_tests}
 use Rattle.codespan_base.specs.Labels.{LabelModel, range_precedes}
 use Rattle.codespan_laws.proofs.OrderSorts.{Ascends}
-use Rattle.codespan_laws.proofs.SortedLists.{all-weaker}
+use Rattle.codespan_laws.proofs.ListElements.{all-weaker}
 use Rattle.codespan_picture.specs.Arguments.{starts_from, starts_in_order}
 
 -- ---- labels by their ranges

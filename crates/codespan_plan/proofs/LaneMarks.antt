@@ -10,7 +10,8 @@ use Rattle.codespan_picture.specs.Snippets.{LabeledFileModel, lane_count}
 use Rattle.codespan_plan.specs.Annotations.{Annotation, is_before}
 use Rattle.codespan_plan.specs.SnippetLines.{do_lane_marks_fit, lane_marks_in}
 use Rattle.codespan_plan.proofs.AnnotationOrder.{lane_below, lane_mark_annotation}
-use Rattle.codespan_laws.proofs.SortedLists.{Climbs, all-weaker}
+use Rattle.codespan_laws.proofs.ListElements.{all-weaker}
+use Rattle.codespan_laws.proofs.SortedLists.{Climbs}
 
 -- ---- the multi-line label marks of a file's labels
 

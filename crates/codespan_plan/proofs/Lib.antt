@@ -4,12 +4,15 @@ pub mod AnnotationOrder
 pub mod LabelAnnotations
 pub mod FewDigits
 pub mod FileIndices
+pub mod FileLabels
 pub mod AnnotationLines
+pub mod GroupAnnotations
 pub mod AnnotationOutput
 pub mod FileLengths
 pub mod FileParts
 pub mod CollectedLines
 pub mod Collecting
+pub mod NearLines
 pub mod Contexts
 pub mod FileOrder
 pub mod LabelFiles

@@ -13,7 +13,7 @@ use Rattle.codespan_plan.specs.declared.plan.snippet_lines.SnippetLine.{SnippetL
 use Rattle.codespan_plan.specs.SnippetLineViews.{AddsLines, IsSnippetLineIn, numbers_looked_up, line_view}
 use Rattle.codespan_plan.specs.SnippetLines.{SnippetLine, fill_of, fills_of}
 use Rattle.codespan_plan.proofs.FirstErrors.{first_error-lookups, or_failure-succeeded, or_failure-some}
-use Rattle.codespan_laws.proofs.SortedLists.{all-append}
+use Rattle.codespan_laws.proofs.ListElements.{all-append}
 
 module _ {Id : Type 0} {layout : Layout} {f : FileModel} where
   -- no snippet line was added

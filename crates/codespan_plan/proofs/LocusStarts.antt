@@ -19,7 +19,7 @@ use Rattle.codespan_plan.specs.declared.file_start.FileStart.{FileStart}
 use Rattle.codespan_plan.specs.LabeledFiles.{starts_with_label}
 use Rattle.codespan_plan.specs.Loci.{file_start, is_locus_label, least_if_any, least_with, no_start, start_byte, start_with, label_starts}
 use Rattle.codespan_plan.specs.IndexedLabels.{index_of_file}
-use Rattle.codespan_laws.proofs.SortedLists.{all-weaker, filter-nothing}
+use Rattle.codespan_laws.proofs.ListElements.{all-weaker, filter-nothing}
 use Rattle.codespan_plan.proofs.LabelIndexing.{IsElementAt, IsChanged, unchanged-at, set-at}
 use Rattle.codespan_plan.proofs.LabelsBefore.{before, before-more, has-file, ids-differ}
 

@@ -31,7 +31,7 @@ use Rattle.codespan_plan.proofs.FirstErrors.{first_error-append, or_failure-succ
 use Rattle.codespan_plan.proofs.FileParts.{IsFilePart, from_file, next-file, next_part}
 use Rattle.codespan_plan.proofs.FileIndices.{at-get}
 use Rattle.codespan_plan.proofs.LabelIndexing.{IsElementAt, take-at}
-use Rattle.codespan_laws.proofs.SortedLists.{all-both, all-mapped, all-part, all-pass, all-weaker}
+use Rattle.codespan_laws.proofs.ListElements.{all-both, all-mapped, all-part, all-pass, all-weaker}
 
 -- ---- ids at their indices
 

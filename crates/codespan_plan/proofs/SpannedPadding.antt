@@ -18,7 +18,7 @@ use Rattle.codespan_plan.specs.SpannedDigits.{all_digits, digits_on, label_digit
 use Rattle.codespan_laws.proofs.Greatest.{greatest-any, greatest-append, greatest-same}
 use Rattle.codespan_laws.proofs.PaddingLemmas.{contains-filter, contains-range, numbered-fits}
 use Rattle.codespan_laws.proofs.RefillLemmas.{any-map}
-use Rattle.codespan_laws.proofs.SortedLists.{all-append, any-filtered}
+use Rattle.codespan_laws.proofs.ListElements.{all-append, any-filtered}
 use Rattle.codespan_plan.proofs.FileOrder.{file_ids-has}
 use Rattle.codespan_plan.proofs.FileIndices.{at-get, index_of_file-at}
 use Rattle.codespan_plan.proofs.LabelIndexing.{has-index}

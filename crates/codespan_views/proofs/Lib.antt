@@ -6,8 +6,10 @@ pub mod EmittedOutputs
 pub mod LookupRuns
 pub mod StyleCalls
 pub mod SnippetParts
+pub mod PlannedFiles
 pub mod OutputPlanRendering
 pub mod LinesRendered
 pub mod NoteRows
 pub mod RichParts
+pub mod LabelHeaders
 pub mod HeaderRuns

@@ -2,4 +2,6 @@ pub mod Numbers
 pub mod Words
 pub mod ScriptCuts
 pub mod FaultRanges
+pub mod WrittenScripts
+pub mod ReadLines
 pub mod ReadBack

@@ -1,7 +1,8 @@
 use Rattle.std.proofs.Common.{Err, refl, ap, ◌∙◌, arith}
 use Rattle.std.proofs.lemmas.Result.{err_from_is_err_and}
 use Rattle.codespan_plan.proofs.LabelIndexing.{element-equal}
-use Rattle.codespan_views.proofs.OutputPlanRendering.{cut-after_snippet, cut-in_snippet, later-files, left-end, left-start, next-file, own-snippet_lines}
+use Rattle.codespan_views.proofs.PlannedFiles.{later-files, own-snippet_lines}
+use Rattle.codespan_views.proofs.OutputPlanRendering.{cut-after_snippet, cut-in_snippet, left-end, left-start, next-file}
 use Rattle.codespan_views.proofs.RendererRuns.{same_renderer, same_twice}
 use Rattle.codespan_views.proofs.rich.RichDiagnostic.render_snippets.Goals as goal
 

@@ -1,7 +1,8 @@
 use Rattle.codespan_renderer.specs.Renderers.{SameRenderer, config_of, writer_of}
 use Rattle.codespan_picture.specs.Picture.{labels_of}
 use Rattle.codespan_views.specs.Views.{diagnostic_of, view_config_of}
-use Rattle.codespan_views.proofs.OutputPlanRendering.{AreFilesFrom, SnippetsLeft}
+use Rattle.codespan_views.proofs.PlannedFiles.{AreFilesFrom}
+use Rattle.codespan_views.proofs.OutputPlanRendering.{SnippetsLeft}
 use Rattle.codespan_views.proofs.rich.RichDiagnostic.render_snippets.Given as goal
 
 -- the files before this one have been rendered, and these snippet lines are those of it and of

@@ -1,7 +1,7 @@
 use Rattle.std.proofs.Common.{◌≡◌, ◌+◌, ◌≤◌, true, length, Err, refl, sym, ap, ◌∙◌, subst, arith}
 use Rattle.std.proofs.lemmas.List.Elements.{All-from_recursion}
 use Rattle.std.proofs.lemmas.Result.{err_from_is_err_and}
-use Rattle.codespan_laws.proofs.SortedLists.{all-mapped}
+use Rattle.codespan_laws.proofs.ListElements.{all-mapped}
 use Rattle.codespan_plan.specs.SnippetLineViews.{IsSnippetLineOf, line_view}
 use Rattle.codespan_plan.specs.SnippetLines.{does_line_fit}
 use Rattle.codespan_plan.specs.SourceFiles.{model_of}

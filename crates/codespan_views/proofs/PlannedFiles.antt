@@ -1,0 +1,113 @@
+-- The files of an output plan, by their indices.
+use Rattle.std.proofs.Common.{◌≡◌, ℕ, zero, suc, ◌+◌, ◌-◌, ◌<◌, ◌≤◌, Bool, true, false, ◌||◌, List, [], ◌∷◌, ◌++◌, length, take, drop, get_or, map, refl, sym, subst, subst₂, ap, ◌∙◌, arith, lt-ltb}
+use Rattle.std.specs.Prelude.{nat_lt, if◌then◌else◌}
+use Rattle.std.proofs.Math.Nat.{add-sub_cancel_left}
+use Rattle.std.proofs.lemmas.Grind.{common_steps}
+use Rattle.std.proofs.lemmas.List.{drop-drop, get_or-map, length-drop, length-map, length-take}
+use Rattle.codespan_base.specs.declared.term.config.Config.{Config}
+use Rattle.codespan_base.specs.FileModel.{FileDatabase}
+use Rattle.codespan_picture.specs.Snippets.{row_after, snippet}
+use Rattle.codespan_picture.specs.Rows.{EmptyRow, Row, SnippetStartRow}
+use Rattle.codespan_picture.specs.Snippets.{InFile, LabeledFileModel, empty_lanes, has_any, labeled_file_model}
+use Rattle.codespan_picture.specs.Arguments.{locus_view}
+use Rattle.codespan_plan.specs.OutputPlans.{AreSnippetPlans, IsSnippetPlan, ids_of, loci_of}
+use Rattle.codespan_views.specs.Private.SnippetRows.{trailing_border_rows, rows_in}
+use Rattle.codespan_plan.specs.SnippetLineViews.{line_view}
+use Rattle.codespan_plan.specs.SnippetLines.{rows_of_lines}
+use Rattle.codespan_plan.specs.declared.plan.snippet_plans.SnippetPlan.{SnippetPlan}
+use Rattle.codespan_plan.specs.declared.plan.snippet_lines.SnippetLine.{SnippetLine as RustLine}
+use Rattle.codespan_plan.proofs.FileParts.{next_part}
+use Rattle.codespan_plan.proofs.LabelIndexing.{IsElementAt, drop-one}
+
+-- no element from the end on
+pub drop-end : {X : Type 0} (xs : List X) (k : ℕ) → length xs ≤ k → drop k xs ≡ []
+drop-end [] zero past = refl
+drop-end [] (suc k) past = refl
+drop-end (x ∷ xs) zero past = absurd (omega arith)
+drop-end (x ∷ xs) (suc k) past = drop-end xs k (omega arith)
+
+-- ---- what follows a snippet
+
+-- a snippet is followed by another one, or by notes
+followed-is : {X : Type 0} (has_notes : Bool) (ys : List X) → (has_any ys || has_notes) ≡ (has_notes || nat_lt 0 (length ys))
+followed-is true [] = refl
+followed-is false [] = refl
+followed-is true (y ∷ ys) = refl
+followed-is false (y ∷ ys) = sym (lt-ltb 0 (length (y ∷ ys)) (omega arith))
+
+-- something is left of a difference
+left-over : (a b : ℕ) → nat_lt 0 (b - a) ≡ nat_lt a b
+left-over a b = grind (arith, common_steps)
+
+-- something follows where there are notes or another file
+pub followed-at : {X : Type 0} (b : Bool) (xs : List X) (k : ℕ) → (has_any (drop (k + 1) xs) || b) ≡ (b || nat_lt (k + 1) (length xs))
+followed-at has_notes xs k =
+    followed-is has_notes (drop (k + 1) xs)
+    ∙ ap (λ n. has_notes || nat_lt 0 n) (length-drop (k + 1) xs)
+    ∙ ap (λ (b : Bool). has_notes || b) (left-over (k + 1) (length xs))
+
+-- ---- the file at an index
+
+-- each file has one name
+pub ids-count : {Id : Type 0} (files : List (SnippetPlan Id)) → length (ids_of files) ≡ length files
+ids-count {Id} files = length-map files (λ (g : SnippetPlan Id). g.file.now.id)
+
+module _ {Id : Type 0} {files : List (SnippetPlan Id)} {k : ℕ} {f : SnippetPlan Id} (at : IsElementAt files k f) where
+  -- its id and its locus are at the same index
+  pub id-inside : k < length (ids_of files)
+  id-inside = omega (arith, at.inside, ids-count files)
+
+  pub id-at : f.file.now.id ≡ get_or (ids_of files) k f.file.now.id
+  id-at = ap (λ (g : SnippetPlan Id). g.file.now.id) at.is ∙ sym (get_or-map (λ (g : SnippetPlan Id). g.file.now.id) files k f f.file.now.id at.inside)
+
+  pub index-inside : k < length (loci_of files)
+  index-inside = omega (arith, at.inside, length-map files (λ (g : SnippetPlan Id). locus_view g.locus))
+
+  pub index-at : locus_view f.locus ≡ get_or (loci_of files) k (locus_view f.locus)
+  index-at = ap (λ (g : SnippetPlan Id). locus_view g.locus) at.is ∙ sym (get_or-map (λ (g : SnippetPlan Id). locus_view g.locus) files k f (locus_view f.locus) at.inside)
+
+module _ {Id : Type 0} (database : FileDatabase Id) (config : Config) (xs : List (InFile Id)) where
+  -- the file is that of its labels, with the snippet lines that it counts in front, and the rest is
+  -- of the files after it
+  abbrev pub IsFirstFile : List (SnippetPlan Id) → SnippetPlan Id → List (RustLine Id) → Type 0
+  IsFirstFile later f snippet_lines =
+      IsSnippetPlan config (labeled_file_model database.same database.file xs f.file.now.id) f (take f.line_total snippet_lines) × AreSnippetPlans database config xs later (drop f.line_total snippet_lines)
+
+  -- the files from an index on are those of their labels, with the snippet lines from an index on
+  pub record AreFilesFrom (files : List (SnippetPlan Id)) (k : ℕ) (snippet_lines : List (RustLine Id)) (start : ℕ) : Type 0 where
+    pub inside : start ≤ length snippet_lines
+    pub are : AreSnippetPlans database config xs (drop k files) (drop start snippet_lines)
+
+module _ {Id : Type 0} {database : FileDatabase Id} {config : Config} {xs : List (InFile Id)} {files : List (SnippetPlan Id)} {k : ℕ} {f : SnippetPlan Id} {snippet_lines : List (RustLine Id)} {start : ℕ}
+    (at : IsElementAt files k f) (from : AreFilesFrom database config xs files k snippet_lines start) where
+  -- from the file at an index on they are that file, and those after it
+  files-at : IsFirstFile database config xs (drop (k + 1) files) f (drop start snippet_lines)
+  files-at = subst (λ (fs : List (SnippetPlan Id)). AreSnippetPlans database config xs fs (drop start snippet_lines)) (drop-one files k f at.inside at.is) from.are
+
+  -- there are as many snippet lines as it counts
+  pub own-inside : start + f.line_total ≤ length snippet_lines
+  own-inside =
+      let count = files-at.0.count_is in
+      let inside = from.inside in
+      omega (arith, count, inside, length-take f.line_total (drop start snippet_lines), length-drop start snippet_lines)
+
+  -- it is the file of its labels, with these snippet lines
+  pub own-snippet_lines : {zs : List (RustLine Id)} → zs ≡ snippet_lines → IsSnippetPlan config (labeled_file_model database.same database.file xs f.file.now.id) f (next_part zs start f.line_total)
+  own-snippet_lines same =
+      subst₂ (λ n (ss : List (RustLine Id)). IsSnippetPlan config (labeled_file_model database.same database.file xs f.file.now.id) f (take n (drop start ss)))
+      (sym (add-sub_cancel_left start f.line_total)) (sym same) files-at.0
+
+  -- the later files are those of their labels, with the snippet lines after these
+  pub later-files : AreFilesFrom database config xs files (k + 1) snippet_lines (start + f.line_total)
+  later-files = record {
+    inside = own-inside;
+    are = subst (AreSnippetPlans database config xs (drop (k + 1) files)) (drop-drop f.line_total start snippet_lines) files-at.1;
+  }
+
+module _ {Id : Type 0} {config : Config} {own : LabeledFileModel} {f : SnippetPlan Id} {snippet_lines : List (RustLine Id)} (is : IsSnippetPlan config own f snippet_lines) where
+  -- its rows
+  pub rows-are : (followed : Bool) → rows_in f own.file snippet_lines ++ trailing_border_rows f followed ≡ snippet config (locus_view f.locus) own ++ row_after followed own
+  rows-are followed =
+      (λ i. (SnippetStartRow (locus_view f.locus) ∷ EmptyRow (record { count = is.lanes_are i; marks = [] }) ∷ []) ++ rows_of_lines own.file (is.lanes_are i) (map line_view snippet_lines)
+      ++ (if followed then EmptyRow (record { count = is.lanes_are i; marks = [] }) ∷ [] else []))
+      ∙ ap (λ (r : List Row). (SnippetStartRow (locus_view f.locus) ∷ EmptyRow (empty_lanes own) ∷ []) ++ r ++ (if followed then EmptyRow (empty_lanes own) ∷ [] else [])) is.rows
