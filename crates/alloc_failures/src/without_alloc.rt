@@ -108,7 +108,7 @@ fn are_right(alloc: Global, needed: Prepared<'_>) -> Result<bool, Error> {
             && looks_up(&files, 0, 2)
             && looks_up(&mapped, (), 40)
             && matches!(files.get(1), Err(Error::FileMissing))
-            && is_got(&files)
+            && is_found(&files)
             && are_defaults(&files)
             && are_styles(&Styles::default())
             && are_starts()
@@ -145,7 +145,7 @@ fn looks_up<'files, F: Files<'files>>(files: &'files F, id: F::FileId, number: u
 }
 
 /// Returns whether an existing file is found.
-fn is_got(files: &SimpleFiles<&str, &str>) -> bool {
+fn is_found(files: &SimpleFiles<&str, &str>) -> bool {
     match files.get(0) {
         Ok(file) => file.source().as_str() == TEXT,
         Err(_) => false,

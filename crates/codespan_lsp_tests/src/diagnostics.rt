@@ -76,8 +76,8 @@ fn severities(rt: HostRuntime) {
     }
 }
 
-/// Returns what is sent for that error: the caller is file 0, and the callee is file 1.
-fn sent(alloc: Global) -> Result<Vec<LspDiagnostic<usize>>, Error> {
+/// Returns the LSP diagnostics of that error: the caller is file 0, and the callee is file 1.
+fn lsp_diagnostics(alloc: Global) -> Result<Vec<LspDiagnostic<usize>>, Error> {
     let mut files = SimpleFiles::new(alloc);
     let caller = files.add("main", "ab\n\nf()\n f()")?;
     let callee = files.add("lib", "/*𐐀*/fn f(x)")?;
@@ -88,8 +88,8 @@ fn sent(alloc: Global) -> Result<Vec<LspDiagnostic<usize>>, Error> {
 /// One diagnostic for each primary label.
 #[test]
 fn two_primary_labels(rt: HostRuntime) -> Result<(), Fail> {
-    let sent = sent(rt.alloc())?;
-    assert_same(&rt, &sent.len(), &2);
+    let diagnostics = lsp_diagnostics(rt.alloc())?;
+    assert_same(&rt, &diagnostics.len(), &2);
     let labels = [
         (
             on_line(2, 0, 3),
@@ -100,7 +100,7 @@ fn two_primary_labels(rt: HostRuntime) -> Result<(), Fail> {
             "too few arguments\nnote: `f` takes one argument",
         ),
     ];
-    for (one, (range, message)) in sent.iter().zip(labels.iter()) {
+    for (one, (range, message)) in diagnostics.iter().zip(labels.iter()) {
         assert_same(&rt, &one.range, range);
         assert_same(&rt, &one.message.as_str(), message);
     }
@@ -110,7 +110,7 @@ fn two_primary_labels(rt: HostRuntime) -> Result<(), Fail> {
 /// Each has the file of its label, and what the diagnostic has.
 #[test]
 fn same_of_each_primary_label(rt: HostRuntime) -> Result<(), Fail> {
-    for one in &sent(rt.alloc())? {
+    for one in &lsp_diagnostics(rt.alloc())? {
         assert_same(&rt, &one.file_id, &0);
         assert_same(&rt, &one.severity, &DiagnosticSeverity::Error);
         assert!(rt; matches!(&one.code, Some(code) if code.as_str() == "E0061"));
@@ -121,7 +121,7 @@ fn same_of_each_primary_label(rt: HostRuntime) -> Result<(), Fail> {
 /// Each has the secondary label.
 #[test]
 fn related_information(rt: HostRuntime) -> Result<(), Fail> {
-    for one in &sent(rt.alloc())? {
+    for one in &lsp_diagnostics(rt.alloc())? {
         assert_same(&rt, &one.related_information.len(), &1);
         for related in &one.related_information {
             assert_same(&rt, &related.file_id, &1);
@@ -132,7 +132,7 @@ fn related_information(rt: HostRuntime) -> Result<(), Fail> {
     Ok(())
 }
 
-/// Nothing is sent where no label is primary.
+/// There is none where no label is primary.
 #[test]
 fn no_primary_label(rt: HostRuntime) -> Result<(), Fail> {
     let file = SimpleFile::new(rt.alloc(), "f", "abc")?;

@@ -107,11 +107,11 @@ fn assert_emits(
 
 /// Asserts that a call without files returns this status, names this argument by its number and its
 /// index, and writes nothing.
-fn assert_refused(
+fn assert_fails(
     rt: &impl Abort,
     alloc: Global,
     diagnostic: &RawDiagnostic<'_>,
-    refusal: (u32, u32, usize),
+    expected: (u32, u32, usize),
 ) {
     let mut out = [7u8; 4];
     let mut written = 9;
@@ -128,7 +128,7 @@ fn assert_refused(
         &mut written,
         &mut detail,
     );
-    assert_eq!(rt; (status, detail.argument, detail.index), refusal);
+    assert_eq!(rt; (status, detail.argument, detail.index), expected);
     assert_eq!(rt; written, 0);
     assert_eq!(rt; out, [7, 7, 7, 7]);
 }
@@ -222,7 +222,7 @@ fn an_invalid_argument_before_others(rt: HostRuntime) {
         notes: &[RawText { bytes: b"\xff" }],
     };
     // INVALID, for the message of the label 1: the file of a label and a note come after it
-    assert_refused(&rt, rt.alloc(), &diagnostic, (4, 17, 1));
+    assert_fails(&rt, rt.alloc(), &diagnostic, (4, 17, 1));
 }
 
 #[test]
@@ -235,7 +235,7 @@ fn a_missing_file_before_a_note(rt: HostRuntime) {
         notes: &[RawText { bytes: b"\xff" }],
     };
     // FILE_MISSING, for the label 0: the note comes after it
-    assert_refused(&rt, rt.alloc(), &diagnostic, (3, 18, 0));
+    assert_fails(&rt, rt.alloc(), &diagnostic, (3, 18, 0));
 }
 
 /// Asserts that the text of a status, whose argument has this number, is this.

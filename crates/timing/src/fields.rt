@@ -6,7 +6,7 @@
 //! line. A text is a line with its length in bytes, and then that many bytes and a newline. An
 //! empty code is none.
 
-use crate::fault::Fault;
+use crate::error::RunError;
 use std::str;
 
 /// The remaining fields.
@@ -22,39 +22,39 @@ impl<'a> Fields<'a> {
     }
 
     /// Reads a line.
-    pub fn line(&mut self) -> Result<&'a str, Fault> {
+    pub fn line(&mut self) -> Result<&'a str, RunError> {
         match self.left.iter().position(|byte| *byte == b'\n') {
             Some(length) => self.ended(length),
-            None => Err(Fault::Input),
+            None => Err(RunError::Input),
         }
     }
 
     /// Reads a number.
-    pub fn number(&mut self) -> Result<usize, Fault> {
+    pub fn number(&mut self) -> Result<usize, RunError> {
         match self.line()?.parse() {
             Ok(number) => Ok(number),
-            Err(_) => Err(Fault::Input),
+            Err(_) => Err(RunError::Input),
         }
     }
 
     /// Reads a text.
-    pub fn text(&mut self) -> Result<&'a str, Fault> {
+    pub fn text(&mut self) -> Result<&'a str, RunError> {
         let length = self.number()?;
         self.ended(length)
     }
 
     /// Reads this many bytes and the newline after them.
-    fn ended(&mut self, length: usize) -> Result<&'a str, Fault> {
+    fn ended(&mut self, length: usize) -> Result<&'a str, RunError> {
         let Some((taken, rest)) = self.left.split_at_checked(length) else {
-            return Err(Fault::Input);
+            return Err(RunError::Input);
         };
         let Some((b'\n', left)) = rest.split_first() else {
-            return Err(Fault::Input);
+            return Err(RunError::Input);
         };
         self.left = left;
         match str::from_utf8(taken) {
             Ok(text) => Ok(text),
-            Err(_) => Err(Fault::Input),
+            Err(_) => Err(RunError::Input),
         }
     }
 }

@@ -7,19 +7,19 @@
 //! 1.
 #![tactic(auto)]
 
-mod fault;
+mod error;
 mod fields;
 mod request;
 
 use codespan_base::term::Config;
 use codespan_views::emitting::emit_into_string;
-use fault::Fault;
+use error::RunError;
 use fields::Fields;
 use request::{read_diagnostic, read_files};
 use std::io::{Read, Write};
 use std::time::Instant;
 
-fn main(rt: HostRuntime) -> Result<(), Fault> {
+fn main(rt: HostRuntime) -> Result<(), RunError> {
     let alloc = rt.alloc();
     let mut input = Vec::new(alloc);
     rt.stdin().read_to_end(&mut input)?;

@@ -1,6 +1,6 @@
 //! The files and the diagnostic to be rendered.
 
-use crate::fault::Fault;
+use crate::error::RunError;
 use crate::fields::Fields;
 use codespan_base::diagnostic::{Diagnostic, Label, LabelStyle};
 use codespan_base::files::SimpleFiles;
@@ -10,7 +10,7 @@ use std::alloc::Global;
 pub fn read_files<'a>(
     alloc: Global,
     fields: &mut Fields<'a>,
-) -> Result<SimpleFiles<&'a str, &'a str>, Fault> {
+) -> Result<SimpleFiles<&'a str, &'a str>, RunError> {
     let mut files = SimpleFiles::new(alloc);
     for _ in 0..fields.number()? {
         let name = fields.text()?;
@@ -20,7 +20,10 @@ pub fn read_files<'a>(
 }
 
 /// Reads the diagnostic, whose severity is error.
-pub fn read_diagnostic(alloc: Global, fields: &mut Fields<'_>) -> Result<Diagnostic<usize>, Fault> {
+pub fn read_diagnostic(
+    alloc: Global,
+    fields: &mut Fields<'_>,
+) -> Result<Diagnostic<usize>, RunError> {
     let mut diagnostic = Diagnostic::error(alloc);
     let code = fields.text()?;
     if !code.is_empty() {
@@ -37,11 +40,11 @@ pub fn read_diagnostic(alloc: Global, fields: &mut Fields<'_>) -> Result<Diagnos
 }
 
 /// Reads a label.
-fn read_label(alloc: Global, fields: &mut Fields<'_>) -> Result<Label<usize>, Fault> {
+fn read_label(alloc: Global, fields: &mut Fields<'_>) -> Result<Label<usize>, RunError> {
     let style = match fields.line()? {
         "primary" => LabelStyle::Primary,
         "secondary" => LabelStyle::Secondary,
-        _ => return Err(Fault::Input),
+        _ => return Err(RunError::Input),
     };
     let file = fields.number()?;
     let start = fields.number()?;

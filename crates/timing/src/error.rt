@@ -6,7 +6,7 @@ use std::io;
 
 /// The errors of the program.
 #[derive(Debug, Drop)]
-pub enum Fault {
+pub enum RunError {
     /// The input is malformed.
     Input,
     /// Reading the input or writing the output failed.
@@ -15,20 +15,20 @@ pub enum Fault {
     CannotRender(Error),
 }
 
-impl From<AllocError> for Fault {
-    fn from(cause: AllocError) -> Fault {
-        Fault::CannotRender(Error::from(cause))
+impl From<AllocError> for RunError {
+    fn from(cause: AllocError) -> RunError {
+        RunError::CannotRender(Error::from(cause))
     }
 }
 
-impl From<io::Error> for Fault {
-    fn from(cause: io::Error) -> Fault {
-        Fault::Io(cause)
+impl From<io::Error> for RunError {
+    fn from(cause: io::Error) -> RunError {
+        RunError::Io(cause)
     }
 }
 
-impl From<Error> for Fault {
-    fn from(cause: Error) -> Fault {
-        Fault::CannotRender(cause)
+impl From<Error> for RunError {
+    fn from(cause: Error) -> RunError {
+        RunError::CannotRender(cause)
     }
 }
