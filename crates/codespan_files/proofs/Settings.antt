@@ -120,3 +120,7 @@ module _ (l : List (ℕ × ℕ)) (k at : ℕ) (gap : IsGapFor l k at) where
   pub sorted_either : (v : ℕ) → IsStrictlySorted l → (b : Bool) (xs : List (ℕ × ℕ)) → xs ≡ (if b then insert l at (k, v) else l) → IsStrictlySorted xs
   sorted_either v sorted true xs e = rw e (sorted_insert v sorted)
   sorted_either v sorted false xs e = rw e sorted
+
+-- no settings are in order
+pub sorted_none : (l : List (ℕ × ℕ)) → l ≡ [] → IsStrictlySorted l
+sorted_none l none i j lt in_range = absurd (omega (arith, rw none at in_range))

@@ -1,4 +1,4 @@
-use Rattle.std.proofs.Common.{refl}
+use Rattle.std.proofs.Common.{◌++◌, refl, ap, ◌∙◌}
 use Rattle.std.proofs.lemmas.Result.{err_from_is_err_and, IfOk-weaker}
 use Rattle.codespan_diagnostics.proofs.diagnostic.Diagnostic.with_labels_iter.Goals as goal
 
@@ -9,7 +9,7 @@ returns-clause-labels g c =
     IfOk-weaker c.with_labels.result _ _ (λ d items. (
       c.into_iter.result,
       c.into_iter.ensures.into_iter_gives,
-      (run.0, run.1, run.2, cc (items, run.3.0)),
+      (run.0, run.1, run.2, items ∙ ap (◌++◌ c.args.self.labels.items) run.3.0),
     )) c.with_labels.ensures.labels
 
 -- the iterator is one that `into_iter` returned

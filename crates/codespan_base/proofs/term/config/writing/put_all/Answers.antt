@@ -1,4 +1,4 @@
-use Rattle.std.proofs.Common.{arith, refl, sym, ◌≡◌, ◌-◌, ◌<◌, length, take, drop, [], append-nil}
+use Rattle.std.proofs.Common.{arith, refl, sym, ◌≡◌, ◌-◌, ◌<◌, length, take, drop, [], append-nil, length-drop, take_all}
 use Rattle.std.proofs.lemmas.Result.{err_from_is_err_and}
 use Rattle.std.proofs.lemmas.Grind.{common_steps}
 use Rattle.std.proofs.lemmas.Bool.Decides.{nat_tests}
@@ -21,7 +21,7 @@ returns-then-n-eq0 g c =
 
 pub loop-rest-preserved : goal.loop-rest-preserved
 loop-rest-preserved g c =
-    let e : take (length c.loop-rest.rest.now - c.in_ok-n.n) (drop c.in_ok-n.n c.loop-rest.rest.now) ≡ drop c.in_ok-n.n c.loop-rest.rest.now = grind (arith, common_steps) in
+    let e : take (length c.loop-rest.rest.now - c.in_ok-n.n) (drop c.in_ok-n.n c.loop-rest.rest.now) ≡ drop c.in_ok-n.n c.loop-rest.rest.now = take_all (length c.loop-rest.rest.now - c.in_ok-n.n) (drop c.in_ok-n.n c.loop-rest.rest.now) (omega (arith, length-drop c.in_ok-n.n c.loop-rest.rest.now)) in
     rw e (StillToWrite-more _ _ _ _ _ _ _ c.loop-rest.invariant (put-with_written _ _ _ _ c.if-n-eq0.false c.in_ok-n.ensures.took) (bytes-take c.in_ok-n.n c.loop-rest.rest.now))
 
 pub returns : goal.returns

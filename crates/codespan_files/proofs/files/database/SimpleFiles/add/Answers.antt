@@ -1,11 +1,11 @@
-use Rattle.std.proofs.Common.{refl, arith}
+use Rattle.std.proofs.Common.{refl, sym, ◌∙◌}
 use Rattle.std.proofs.lemmas.List.{length-map}
 use Rattle.std.proofs.lemmas.Result.{err_from_is_err_and}
 use Rattle.codespan_files.proofs.files.database.SimpleFiles.add.Goals as goal
 
 -- the id is the number of the files before
 pub returns-clause-id : goal.returns-clause-id
-returns-clause-id g c = simp length-map (omega (arith, c.args.self.now.files.ok.0))
+returns-clause-id g c = c.len-id.ensures ∙ c.args.self.now.files.ok.0 ∙ sym (length-map _ _)
 
 -- the error is that of a failed allocation
 pub returns-in_err-push-clause-failed : goal.returns-in_err-push-clause-failed

@@ -25,3 +25,13 @@ returns-in-Ok-clause-failed g c = past_end_early (mapped_text_of c.args.self.now
 
 pub returns-in_ok-insert-in-Err-clause-failed : goal.returns-in_ok-insert-in-Err-clause-failed
 returns-in_ok-insert-in-Err-clause-failed g c = past_end_early (mapped_text_of c.args.self.now) _ c.args.line_index refl (omega (arith, c.line_count-lines.ensures.value))
+
+-- the file is the same
+pub returns-in-Ok-clause-name : goal.returns-in-Ok-clause-name
+returns-in-Ok-clause-name g c = refl
+
+pub returns-in-Ok-clause-source : goal.returns-in-Ok-clause-source
+returns-in-Ok-clause-source g c = refl
+
+pub returns-in-Ok-clause-err : goal.returns-in-Ok-clause-err
+returns-in-Ok-clause-err g c = tt

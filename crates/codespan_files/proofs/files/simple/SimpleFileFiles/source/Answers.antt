@@ -2,4 +2,4 @@ use Rattle.codespan_files.proofs.files.simple.SimpleFileFiles.source.Goals as go
 
 -- the text is that of the source
 pub returns-clause-borrowed : goal.returns-clause-borrowed
-returns-clause-borrowed g c = search
+returns-clause-borrowed g c = c.as_str.ensures

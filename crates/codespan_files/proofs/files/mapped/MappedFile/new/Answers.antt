@@ -1,0 +1,17 @@
+use Rattle.std.proofs.Common.{rules}
+use Rattle.codespan_files.proofs.Settings.{sorted_none}
+use Rattle.codespan_files.proofs.files.mapped.MappedFile.new.Goals as goal
+
+-- the file is that of the name and the source
+pub returns-clause-name : goal.returns-clause-name
+returns-clause-name g c = c.in_ok-new.ensures.name
+
+pub returns-clause-source : goal.returns-clause-source
+returns-clause-source g c = c.in_ok-new.ensures.source
+
+pub returns-clause-numbers : goal.returns-clause-numbers
+returns-clause-numbers g c = c.new-2.ensures.items
+
+-- no number is set
+pub invariant_of-result : goal.invariant_of-result
+invariant_of-result g c = search (rules, sorted_none) depth 2 fits 100
