@@ -32,10 +32,15 @@ cached-from tab text cached rest fork to_end n are same end =
     ∙ cached-after tab text cached rest fork to_end are same end
 
 -- one more character is cached
-pub cached-more : (tab : ℕ) (text : List ℕ) (cached : List Metrics) (c : Metrics) (old new : CharMetrics) → GoesOver c old new → AreCached tab text cached old
+cached-more : (tab : ℕ) (text : List ℕ) (cached : List Metrics) (c : Metrics) (old new : CharMetrics) → GoesOver c old new → AreCached tab text cached old
     → AreCached tab text (cached ++ c ∷ []) new
 cached-more tab text cached c old new over are = λ (after : Afters).
     append_assoc cached (c ∷ []) (metrics_from after new) ∙ ap (λ (cs : List Metrics). cached ++ cs) (sym (over.yields after)) ∙ are after
+
+-- the same of characters to which this one was pushed
+pub cached-pushed : (tab : ℕ) (text : List ℕ) (cached : List Metrics) (c : Metrics) (pushed : List Metrics) (old new : CharMetrics) → pushed ≡ cached ++ c ∷ [] → GoesOver c old new
+    → AreCached tab text cached old → AreCached tab text pushed new
+cached-pushed tab text cached c pushed old new is over are = rw is (cached-more tab text cached c old new over are)
 
 -- after a character past a byte index all begin past it
 pub past-scan : (byte_index : ℕ) (c : Metrics) (old new : CharMetrics) → GoesOver c old new → byte_index < c.byte_index → metrics_up_to byte_index (metrics_from no_more new) ≡ []

@@ -1,6 +1,6 @@
 -- What the binary searches of lines and loci find, for `LinedText::line_index` and
 -- `SourceFile::stated_location`, and the loci of which `ascend` looks at one.
-use Rattle.std.proofs.Common.{◌≡◌, ◌≢◌, ℕ, zero, suc, ◌+◌, ◌-◌, ◌<◌, ◌≤◌, Bool, true, false, List, [], ◌∷◌, length, Some, None, Result, Ok, Err, drop, get_or, refl, sym, ap, ◌∙◌, arith, inl, inr}
+use Rattle.std.proofs.Common.{◌≡◌, ◌≢◌, ℕ, zero, suc, ◌+◌, ◌-◌, ◌<◌, ◌≤◌, Bool, true, false, List, [], ◌∷◌, length, Some, None, Result, Ok, Err, drop, get_or, refl, sym, ap, ◌∙◌, arith, inl, inr, lt-ltb, le-leb}
 use Rattle.std.specs.Prelude.{◌&&◌, ◌==◌, nat_lt, nat_le, slice_index, MatchResult}
 use Rattle.std.specs.Ordering.{nat_cmp, ordering_index}
 use Rattle.std.proofs.lemmas.Cmp.{ranked}
@@ -17,7 +17,8 @@ use Rattle.codespan_base.specs.FileModel.{line_of}
 use Rattle.codespan_base.specs.Lemmas.Lines.{count_split}
 use Rattle.codespan_structs.specs.declared.raw.RawLine.{RawLine}
 use Rattle.codespan_structs.specs.declared.raw.RawLocus.{RawLocus}
-use Rattle.codespan_structs.specs.StatedLines.{ascend_from, ascends, locus_at, starts_of}
+use Rattle.codespan_base.specs.Lines.{is_char_boundary}
+use Rattle.codespan_structs.specs.StatedLines.{ascend_from, ascends, follow, locus_at, starts_of}
 
 -- ---- lines
 
@@ -176,3 +177,23 @@ ascend-more first loci i d byte next whole inside is later before =
     let test : nat_lt byte next ≡ true = grind (arith, nat_tests) in
     let more = λ (n : ℕ). nat_lt byte n && ascend_from first n (drop (i + 1) loci) in
     ap (λ (t : Bool). t && ascend_from first next (drop (i + 1) loci)) (sym test) ∙ ap more is ∙ ap (ascend_from first byte) (sym (drop_more loci i d inside)) ∙ before
+
+-- a line that follows the last one, so that the others decide
+pub follow-more : (text : List ℕ) (first : ℕ) (lines : List RawLine) (i : ℕ) (d : RawLine)
+    (start end next_start next_end : ℕ) (whole : Bool) → i < length lines
+    → next_start ≡ (get_or lines i d).start - first → next_end ≡ (get_or lines i d).end - first
+    → start < next_start → end ≤ next_start → next_start ≤ next_end
+    → true ≡ is_char_boundary text next_start → true ≡ is_char_boundary text next_end
+    → follow text first start end (drop i lines) ≡ whole
+    → follow text first next_start next_end (drop (i + 1) lines) ≡ whole
+follow-more text first lines i d start end next_start next_end whole inside starts ends after apart in_order starts_char ends_char before =
+    rw (
+      drop_more lines i d inside,
+      ← starts,
+      ← ends,
+      lt-ltb start next_start after,
+      le-leb end next_start apart,
+      le-leb next_start next_end in_order,
+      ← starts_char,
+      ← ends_char,
+    ) at before

@@ -1,4 +1,5 @@
-use Rattle.std.proofs.Common.{rules, List, ◌≡◌, ◌+◌, ◌<◌, ◌≤◌, ◌∷◌, ◌++◌, None, length, refl, ap, subst, ◌∙◌, arith}
+use mir.Syntax.{w128}
+use Rattle.std.proofs.Common.{rules, Fits, List, ◌≡◌, ◌+◌, ◌<◌, ◌≤◌, ◌∷◌, ◌++◌, None, length, refl, ap, subst, ◌∙◌, arith}
 use Rattle.codespan_picture.specs.Carets.{max_label_end, style_under}
 use Rattle.codespan_picture.specs.RowParts.{change}
 use Rattle.std.proofs.lemmas.Result.{err_from_is_err_and}
@@ -42,7 +43,8 @@ pub overflow_add-run : goal.overflow_add-run
 overflow_add-run g c =
     let l : ScanState (length c.args.line.text.now + 1) c.loop-metrics.run (c.in-Some.metrics ∷ g.S.Cursor.CharCursor.left c.next_metrics.new.self) = rw c.in-Some.ensures.next at c.loop-metrics.invariant.scan_state in
     let fits = scan_state-fits _ _ c.in-Some.metrics _ (omega arith) (omega arith) l in
-    omega (arith, few g c)
+    let sum : Fits w128 (c.if-ne.run + c.in-Some.metrics.width) = omega (arith, few g c) in
+    sum
 
 pub returns-in_err-end_caret_run : goal.returns-in_err-end_caret_run
 returns-in_err-end_caret_run g c = let p = err_from_is_err_and c.from_residual.result c.from_residual.ensures.1 in
@@ -55,6 +57,7 @@ loop-metrics-preserved g c =
     let context = context_view c.args.context in
     let labels = single_label_views c.args.line.labels.now in
     let count = counted g c in
+    let sum = overflow_add-run g c in
     let style = c.style_under-style.ensures.style ∙ ap (λ (xs : List SingleLabelTuple). style_under (single_label_views xs) c.in-Some.metrics) (c.in-Some.ensures.labels ∙ c.loop-metrics.invariant.same) in
     rw c.style_under-style.ensures.left record {
       written_so_far = elim c.if-ne.branch [

@@ -1,5 +1,4 @@
-use Rattle.std.proofs.Common.{◌≡◌, arith}
-use Rattle.std.proofs.lemmas.Bool.Decides.{nat_tests}
+use Rattle.std.proofs.Common.{◌≡◌, eq-eqb, eqb-true}
 use Rattle.codespan_structs.proofs.FirstInvalid.{by_index, by_test}
 use Rattle.codespan_structs.specs.Validity.{HasLabelStyle, HasTextMessage, HasTextName, HasTextSource, HasValidLines, HasValidLoci, IsOfAFile, IsValidText}
 use Rattle.codespan_structs.proofs.validate.invalid_index.Goals as goal
@@ -37,4 +36,4 @@ returns-in-Note c = rw c.in-Note.is (by_index IsValidText _ _ c.note_index.ensur
 -- the layouts are those of the library, or not
 pub returns-in-Abi : goal.returns-in-Abi
 returns-in-Abi c =
-    rw c.in-Abi.is (by_test _ (c.args.config.now.abi ≡ 1) _ (λ test. grind (arith, nat_tests, test)) (λ same. grind (arith, nat_tests, same)) c.index_unless.ensures)
+    rw c.in-Abi.is (by_test _ (c.args.config.now.abi ≡ 1) _ (eqb-true _ 1) (eq-eqb _ 1) c.index_unless.ensures)

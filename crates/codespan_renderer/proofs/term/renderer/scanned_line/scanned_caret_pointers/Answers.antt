@@ -1,4 +1,4 @@
-use Rattle.std.proofs.Common.{arith, ap, subst, sym, ◌∙◌, ◌++◌}
+use Rattle.std.proofs.Common.{◌≡◌, ◌-◌, arith, ap, subst, sym, ◌∙◌, ◌++◌}
 use Rattle.std.specs.Str.{IsUtf8}
 use Rattle.std.proofs.lemmas.Str.{IsUtf8-had}
 use Rattle.std.proofs.lemmas.Result.{err_from_is_err_and}
@@ -26,7 +26,7 @@ loop-metrics-preserved-then-metrics-reach g c =
     let i = c.loop-metrics.invariant in
     let step = c.in-Some.ensures.steps in
     elim c.match-pointer_in.branch [
-      | in-Some-pointer_in+in_ok-caret_pointer w ↦ rw (w.w-is, w.pending-is, w.width-is, w.saturating_sub-width.ensures) record {
+      | in-Some-pointer_in+in_ok-caret_pointer w ↦ let narrower : w.saturating_sub-width.result ≡ c.in-Some.metrics.width - 1 = w.saturating_sub-width.ensures in rw (w.w-is, w.pending-is, w.width-is, narrower) record {
         scan_state = scan_state-more _ _ _ _ _ (omega arith) (omega arith) (rw step at i.scan_state);
         with_written = StillToWrite-same _ _ _ _ _ (sym (spaces_none _) ∙ spaces_due _ _ 0 _ _ c.if-metrics-reach.true)
             (StillToWrite-more _ _ _ _ _ _ _ i.with_written w.in_ok-caret_pointer.ensures

@@ -1,15 +1,15 @@
-use Rattle.codespan_renderer.proofs.CachedScans.{cached-more, past-scan}
+use Rattle.codespan_renderer.proofs.CachedScans.{cached-pushed, past-scan}
 use Rattle.codespan_renderer.proofs.term.renderer.cached.line_metrics.cache_metrics.Goals as goal
 
 pub loop-metrics-preserved : goal.loop-metrics-preserved
 loop-metrics-preserved c =
-    rw c.in_ok-push.ensures.items (cached-more c.args.tab_width c.args.text.now c.loop-metrics.cached.items c.in-Some-next_character.metrics c.loop-metrics.rest c.next_character.new.self
-    c.in-Some-next_character.ensures.yields c.loop-metrics.invariant)
+    cached-pushed c.args.tab_width c.args.text.now c.loop-metrics.cached.items c.in-Some-next_character.metrics _ c.loop-metrics.rest c.next_character.new.self
+    c.in_ok-push.ensures.items c.in-Some-next_character.ensures.yields c.loop-metrics.invariant
 
 pub returns-then-metrics-reach-clause-cached : goal.returns-then-metrics-reach-clause-cached
 returns-then-metrics-reach-clause-cached c =
-    rw c.in_ok-push.ensures.items (cached-more c.args.tab_width c.args.text.now c.loop-metrics.cached.items c.in-Some-next_character.metrics c.loop-metrics.rest c.next_character.new.self
-    c.in-Some-next_character.ensures.yields c.loop-metrics.invariant)
+    cached-pushed c.args.tab_width c.args.text.now c.loop-metrics.cached.items c.in-Some-next_character.metrics _ c.loop-metrics.rest c.next_character.new.self
+    c.in_ok-push.ensures.items c.in-Some-next_character.ensures.yields c.loop-metrics.invariant
 
 pub returns-then-metrics-reach-clause-past : goal.returns-then-metrics-reach-clause-past
 returns-then-metrics-reach-clause-past c =

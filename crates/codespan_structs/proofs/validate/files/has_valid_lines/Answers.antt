@@ -1,0 +1,20 @@
+use Rattle.std.proofs.Common.{◌≡◌, ◌∙◌, ℕ, Bool, false, IsTrue, List, [], ◌∷◌, length, sym}
+use borrow.Author.Tests.{clash}
+use Rattle.std.specs.Prelude.{◌==◌, ◌↔◌}
+use Rattle.codespan_structs.specs.declared.raw.RawLine.{RawLine}
+use Rattle.codespan_structs.specs.StatedLines.{are_lines}
+use Rattle.codespan_structs.specs.Validity.{AreValidLines}
+use Rattle.codespan_structs.proofs.validate.files.has_valid_lines.Goals as goal
+
+-- there are lines, and a test decides whether the text is cut into them
+tested : (text : List ℕ) (first : ℕ) (lines : List RawLine) (test : Bool)
+    → false ≡ (length lines == 0) → test ≡ are_lines text first lines
+    → IsTrue test ↔ AreValidLines text first lines
+tested text first [] test some is = absurd (clash some)
+tested text first (l ∷ ls) test some is = (λ e. sym is ∙ e, λ e. is ∙ e)
+
+-- the lines that are stated are tested
+pub returns-else-is_empty : goal.returns-else-is_empty
+returns-else-is_empty c =
+    tested c.args.file.now.source.now c.args.file.now.first_byte c.args.file.now.lines.now
+    c.are_lines.result c.if-is_empty.ensures c.are_lines.ensures
