@@ -19,16 +19,19 @@ then_different Greater rest different = refl
 
 module _ (i j : ℕ) (x y : LabelModel) (o : Ordering) where
   -- two single-line labels that start at different bytes
-  by_starts : o ≡ nat_cmp x.start y.start → (o ≡ Equal → ⊥) → o ≡ kind_cmp (Single i x) (Single j y)
-  by_starts starts different =
+  by_starts : {s t : ℕ} → s ≡ x.start → t ≡ y.start → o ≡ nat_cmp s t → (o ≡ Equal → ⊥)
+      → o ≡ kind_cmp (Single i x) (Single j y)
+  by_starts s_is t_is starts different =
       let rest = ordering_then (nat_cmp x.end y.end) (nat_cmp j i) in
-      then_different o rest different ∙ ap (λ p. ordering_then p rest) starts
+      then_different o rest different ∙ ap (λ p. ordering_then p rest) (starts ∙ ap₂ nat_cmp s_is t_is)
 
   -- two single-line labels that start at one byte
-  by_ends : (ends indices : Ordering) → Equal ≡ nat_cmp x.start y.start → ends ≡ nat_cmp x.end y.end → indices ≡ nat_cmp j i
-      → o ≡ ordering_then ends indices → o ≡ kind_cmp (Single i x) (Single j y)
-  by_ends ends indices equal ends_are indices_are is =
-      is ∙ ap₂ ordering_then ends_are indices_are ∙ ap (λ p. ordering_then p (ordering_then (nat_cmp x.end y.end) (nat_cmp j i))) equal
+  by_ends : (ends indices : Ordering) {s t u v : ℕ} → s ≡ x.start → t ≡ y.start → u ≡ x.end → v ≡ y.end
+      → Equal ≡ nat_cmp s t → ends ≡ nat_cmp u v → indices ≡ nat_cmp j i → o ≡ ordering_then ends indices
+      → o ≡ kind_cmp (Single i x) (Single j y)
+  by_ends ends indices s_is t_is u_is v_is equal ends_are indices_are is =
+      is ∙ ap₂ ordering_then (ends_are ∙ ap₂ nat_cmp u_is v_is) indices_are
+      ∙ ap (λ p. ordering_then p (ordering_then (nat_cmp x.end y.end) (nat_cmp j i))) (equal ∙ ap₂ nat_cmp s_is t_is)
 
 -- ranges of one start are compared by their ends, and then their labels by their indices
 pub returns-in-Equal : goal.returns-in-Equal
@@ -40,8 +43,8 @@ returns-in-Equal g c =
     let other = c.range_in_line-other.ensures in
     rw (singles.is-0, singles.is-1)
     (by_ends singles.index singles.other_index x y c.then.result c.cmp.result c.cmp-in-Equal.result
-    (sym c.in-Equal.is ∙ c.cmp-starts.ensures ∙ ap₂ nat_cmp range.start other.start)
-    (c.cmp.ensures ∙ ap₂ nat_cmp range.end other.end) c.cmp-in-Equal.ensures c.then.ensures)
+    range.start other.start range.end other.end (sym c.in-Equal.is ∙ c.cmp-starts.ensures)
+    c.cmp.ensures c.cmp-in-Equal.ensures c.then.ensures)
 
 -- ranges of different starts are compared by these
 pub returns-in_default-starts : goal.returns-in_default-starts
@@ -51,7 +54,7 @@ returns-in_default-starts g c =
     let y = from_line_start c.args.right.now.line.start (label_of singles.other_label.now).label in
     rw (singles.is-0, singles.is-1)
     (by_starts singles.index singles.other_index x y c.cmp-starts.result
-    (c.cmp-starts.ensures ∙ ap₂ nat_cmp c.range_in_line-range.ensures.start c.range_in_line-other.ensures.start) c.in_default-starts.not-Equal)
+    c.range_in_line-range.ensures.start c.range_in_line-other.ensures.start c.cmp-starts.ensures c.in_default-starts.not-Equal)
 
 -- parts of multi-line labels are compared by their lanes alone
 pub returns-in-Multi-Multi : goal.returns-in-Multi-Multi

@@ -12,4 +12,4 @@ returns-then-is_inside c =
     let inside = and_parts _ _ (sym c.is_inside.ensures ∙ c.if-is_inside.true) in
     let after : first < index = ltb-true _ _ inside.0 in
     let before : index < last = ltb-true _ _ inside.1 in
-    rw (ne_eqb index first (λ e. omega arith), ne_eqb index last (λ e. omega arith), le-ltb index first (omega arith), le-ltb last index (omega arith)) cc
+    rw (ne_eqb index first (λ e. omega arith), ne_eqb index last (λ e. omega arith), le-ltb index first (omega arith), le-ltb last index (omega arith)) c.is_near_end.ensures
