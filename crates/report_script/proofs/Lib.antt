@@ -3,3 +3,4 @@ pub mod Words
 pub mod ScriptCuts
 pub mod FaultRanges
 pub mod ReadBack
+pub mod RequestDiagnostics
