@@ -5,3 +5,4 @@ pub mod FaultRanges
 pub mod WrittenScripts
 pub mod ReadLines
 pub mod ReadBack
+pub mod RequestDiagnostics
