@@ -16,8 +16,8 @@ use std::ops::Range;
 /// The least number of annotations that are worth moving: fewer are sorted by insertion.
 const MIN_LEN: usize = 32;
 
-/// What is in place of the index of the next annotation where one was gathered: no index.
-const GATHERED: usize = usize::MAX;
+/// What is in place of the index of the next annotation where one was moved: no index.
+const MOVED: usize = usize::MAX;
 
 /// Moves annotations to the order of their lines, and on a line to that of the ranks of their
 /// kinds. Those of one line and one rank keep their order.
@@ -44,11 +44,11 @@ pub fn group_by_line<FileId: Copy>(
     }
     let alloc = *annotations.allocator();
     let mut chains = chain_groups(alloc, annotations, lines)?;
-    let gathered = gather(alloc, annotations, &chains.first, &mut chains.next)?;
-    if gathered.len() != annotations.len() {
+    let moved = follow_chains(alloc, annotations, &chains.first, &mut chains.next)?;
+    if moved.len() != annotations.len() {
         return Ok(false);
     }
-    *annotations = gathered;
+    *annotations = moved;
     Ok(true)
 }
 
@@ -104,31 +104,31 @@ fn chain_groups<FileId>(
 /// # Requires
 ///
 /// There is one index in `next` for each annotation.
-fn gather<'d, FileId: Copy>(
+fn follow_chains<'d, FileId: Copy>(
     alloc: Global,
     annotations: &[Annotation<'d, FileId>],
     first: &[usize],
     next: &mut [usize],
 ) -> Result<Vec<Annotation<'d, FileId>>, Error>
     requires { length next.old ≡ length annotations.now }
-    ensures permutation { IfOk result (λ gathered. length gathered.items ≡ length annotations.now
-        → IsPermutation annotations.now gathered.items) }
+    ensures permutation { IfOk result (λ moved. length moved.items ≡ length annotations.now
+        → IsPermutation annotations.now moved.items) }
     ensures failed { OnErr result (IsErrOf result Error.OutOfMemory) }
 {
-    let mut gathered = Vec::with_capacity(alloc, annotations.len())?;
+    let mut moved = Vec::with_capacity(alloc, annotations.len())?;
     for start in first {
         let mut source = *start;
         while source < annotations.len() {
             let following = next[source];
-            if following == GATHERED {
+            if following == MOVED {
                 break;
             }
-            gathered.push_reserved(annotations[source]);
-            next[source] = GATHERED;
+            moved.push_reserved(annotations[source]);
+            next[source] = MOVED;
             source = following;
         }
     }
-    Ok(gathered)
+    Ok(moved)
 }
 
 /// Returns the number of groups before that of the annotation: each line from the first one on has
