@@ -10,4 +10,4 @@ equal_fields severity code message labels notes = rw (severity, code, message, l
 
 -- each field is copied
 pub returns-clause-same : goal.returns-clause-same
-returns-clause-same g c = equal_fields refl (search rules depth 2 fits 100) c.in_ok-clone.ensures.cases c.in_ok-clone_labels.ensures.same c.in_ok-clone_notes.ensures.same
+returns-clause-same g c = equal_fields refl (search rules depth 2 fits 100) c.in_ok-clone.ensures.cases (search rules depth 2 fits 100) c.in_ok-clone_notes.ensures.same
