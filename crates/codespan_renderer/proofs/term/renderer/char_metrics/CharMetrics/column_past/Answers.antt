@@ -1,4 +1,4 @@
-use Rattle.std.proofs.Common.{◌≡◌, ◌+◌, ap, arith}
+use Rattle.std.proofs.Common.{ap, arith}
 use Rattle.codespan_picture.specs.CharMetrics.{width_of}
 use Rattle.codespan_picture.specs.RowParts.{metrics_up_to}
 use Rattle.codespan_renderer.specs.Private.MetricsLeft.{metrics_from, no_more}
@@ -12,6 +12,4 @@ returns-then-metrics-byte_index c =
     let rest = metrics_from no_more c.next_character.new.self in
     let step = ap (λ cs. width_of (metrics_up_to c.args.byte_index cs)) (over.yields no_more) in
     let none = ap width_of (past-scan c.args.byte_index c.in-Some.metrics c.loop-metrics.scan c.next_character.new.self over c.if-metrics-byte_index.true) in
-    let here : c.in-Some.metrics.column ≡ c.args.self.now.column + width_of (metrics_up_to c.args.byte_index (metrics_from no_more c.args.self.now)) =
-    omega (arith, c.loop-metrics.invariant, over.at, step, width-out c.args.byte_index c.in-Some.metrics rest c.if-metrics-byte_index.true, none) in
-    here
+    omega (arith, c.loop-metrics.invariant, over.at, step, width-out c.args.byte_index c.in-Some.metrics rest c.if-metrics-byte_index.true, none)
