@@ -38,7 +38,7 @@ returns-after-is_control c =
     ] in
     elim c.if-is_control.branch [
       | then-is_control w ↦ others_safe c.args.c _ _ spacing c.if-c-eq10.false
-        (first_holds _ (is_control c.args.c) _ (w.result-is ∙ c.is_control.ensures) (sym c.is_control.ensures ∙ w.if-is_control.true))
+          (first_holds _ (is_control c.args.c) _ (w.result-is ∙ c.is_control.ensures) (sym c.is_control.ensures ∙ w.if-is_control.true))
       | else-is_control w ↦ others_safe c.args.c _ _ spacing c.if-c-eq10.false
-        (first_fails _ (is_control c.args.c) _ (w.result-is ∙ w.is_bidi_control.ensures) (sym c.is_control.ensures ∙ w.if-is_control.false))
+          (first_fails _ (is_control c.args.c) _ (w.result-is ∙ w.is_bidi_control.ensures) (sym c.is_control.ensures ∙ w.if-is_control.false))
     ]
