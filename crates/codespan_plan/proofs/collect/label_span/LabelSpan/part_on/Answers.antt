@@ -5,11 +5,19 @@ use Rattle.codespan_plan.proofs.collect.label_span.LabelSpan.part_on.Goals as go
 -- the line is neither end of a multi-line label, and between them
 pub returns-then-is_inside : goal.returns-then-is_inside
 returns-then-is_inside c =
-    rw (sym c.is_single.ensures ∙ c.if-is_single.false, ne_eqb _ _ c.if-self-index.false, ne_eqb _ _ c.if-self-index-2.false,
-    sym c.is_inside.ensures ∙ c.if-is_inside.true) refl
+    rw (
+      sym c.is_single.ensures ∙ c.if-is_single.false,
+      ne_eqb _ _ c.if-self-index.false,
+      ne_eqb _ _ c.if-self-index-2.false,
+      sym c.is_inside.ensures ∙ c.if-is_inside.true,
+    ) refl
 
 -- it is not between them either
 pub returns-else-is_inside : goal.returns-else-is_inside
 returns-else-is_inside c =
-    rw (sym c.is_single.ensures ∙ c.if-is_single.false, ne_eqb _ _ c.if-self-index.false, ne_eqb _ _ c.if-self-index-2.false,
-    sym c.is_inside.ensures ∙ c.if-is_inside.false) refl
+    rw (
+      sym c.is_single.ensures ∙ c.if-is_single.false,
+      ne_eqb _ _ c.if-self-index.false,
+      ne_eqb _ _ c.if-self-index-2.false,
+      sym c.is_inside.ensures ∙ c.if-is_inside.false,
+    ) refl
