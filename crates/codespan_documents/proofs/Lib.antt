@@ -4,11 +4,6 @@ pub mod Decoding
 pub mod Recording
 pub mod HtmlWriting
 pub mod HtmlReading
-mod UnsafeCells
-mod SafeTexts
-mod Sequences
-mod Readings
-mod AnsiStreams
 pub mod StyleSheets
 pub mod Glyphs
 pub mod SvgPieces

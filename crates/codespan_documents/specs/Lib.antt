@@ -7,4 +7,3 @@ pub mod Glyphs
 pub mod Svg
 pub mod SvgReading
 pub mod Recorded
-pub mod Terminal

@@ -1,9 +1,7 @@
-//! Styled text as an HTML or an SVG document, and as safe text for a terminal; and the writer that
-//! keeps an output as styled text.
+//! Styled text as an HTML or an SVG document, and the writer that keeps an output as styled text.
 //!
 //! Users name these by the paths of `codespan_styled`, which renders a diagnostic to a
-//! [`StyledText`]. [`to_html`] and [`to_svg`] make a document of it, and [`to_terminal`] a text
-//! that is safe to print.
+//! [`StyledText`]. [`to_html`] and [`to_svg`] make a document of it.
 #![tactic(auto)]
 
 pub mod html;
@@ -11,12 +9,10 @@ pub mod recorder;
 pub mod style;
 pub mod style_sheet;
 pub mod svg;
-pub mod terminal;
 pub mod text;
 
 pub use html::to_html;
 pub use style::Style;
 pub use style_sheet::html_styles;
 pub use svg::to_svg;
-pub use terminal::to_terminal;
 pub use text::{Run, StyledText};

@@ -8,7 +8,8 @@
 pub mod render;
 
 pub use codespan_documents::{
-    Run, Style, StyledText, html, html_styles, style, style_sheet, svg, terminal, text, to_html,
-    to_svg, to_terminal,
+    Run, Style, StyledText, html, html_styles, style, style_sheet, svg, text, to_html, to_svg,
 };
+pub use codespan_terminal::terminal;
+pub use codespan_terminal::terminal::to_terminal;
 pub use render::styled_text;

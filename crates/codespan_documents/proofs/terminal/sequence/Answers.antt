@@ -1,8 +1,0 @@
-use Rattle.std.proofs.Common.{rules}
-use Rattle.codespan_documents.specs.Terminal.{ansi_spelling, style_mark_of}
-use Rattle.codespan_documents.proofs.Sequences.{written_sequence}
-use Rattle.codespan_documents.proofs.terminal.sequence.Goals as goal
-
-pub returns-in-Ok : goal.returns-in-Ok
-returns-in-Ok c =
-    written_sequence (ansi_spelling c.args.styles.now) (style_mark_of c.args.style) _ _ _ _ c.new-writer.ensures.begins (search rules) c.in-Ok.ensures.1 (search rules)

@@ -1,0 +1,5 @@
+mod UnsafeCells
+mod SafeTexts
+mod Sequences
+mod Readings
+mod AnsiStreams

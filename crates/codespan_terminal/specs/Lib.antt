@@ -1,0 +1,2 @@
+-- text for a terminal
+pub mod Terminal

@@ -1,0 +1,161 @@
+//! Text that is safe to print on a terminal.
+
+ghost use Rattle.std.specs.Prelude.{◌≡◌, ◌++◌, IfOk, OnOk, map, string_bytes};
+ghost use Rattle.codespan_base.specs.Streams.{style_mark};
+ghost use Rattle.codespan_base.specs.WriterLaw.{Writes};
+ghost use Rattle.codespan_documents.specs.Runs.{run_view, styled_runs};
+ghost use Rattle.codespan_terminal.specs.Terminal.{ShowsSafe, ansi_spelling, is_safe, style_mark_of, runs_bytes, safe_text, terminal_text};
+
+pub mod laws;
+
+use codespan_base::term::{Ansi, Styles, StylesWriter, WriteStyle};
+use codespan_documents::style::Style;
+use codespan_documents::text::{Run, StyledText};
+use std::alloc::{AllocError, Global};
+use std::io;
+use ucd_props::is_bidi_control;
+
+/// Returns a styled text for a terminal: each run after the escape sequences of its style.
+///
+/// The sequences are those that `Ansi` writes for these styles, and the reset for plain text; a
+/// plain first run has none. Of the texts each character that is not safe to print is left out:
+/// see [`is_safe`]. So no source text, name or message can move the cursor, set a title or reorder
+/// text. Those characters take no cells, so each caret stays under its character.
+///
+/// # Errors
+///
+/// Returns [`AllocError`] where an allocation fails.
+///
+/// # Example
+///
+/// ```rust
+/// let text = styled_text(alloc, &Config::default(), &files, &diagnostic)?;
+/// let bytes = to_terminal(alloc, &text, &Styles::default())?;
+/// ```
+pub fn to_terminal(alloc: Global, text: &StyledText, styles: &Styles) -> Result<String, AllocError>
+    ensures runs { IfOk result (λ terminal. string_bytes terminal
+        ≡ terminal_text styles.now (styled_runs text.now)) }
+    ensures safe { IfOk result (λ terminal.
+        ShowsSafe (string_bytes terminal) (styled_runs text.now)) }
+{
+    let mut terminal = String::new(alloc);
+    push_text(alloc, &mut terminal, styles, text.runs.as_slice())?;
+    Ok(terminal)
+}
+
+/// Returns a text without the characters that are not safe to print: see [`is_safe`].
+///
+/// # Errors
+///
+/// Returns [`AllocError`] where an allocation fails.
+pub fn safe_text(alloc: Global, text: &str) -> Result<String, AllocError>
+    ensures { IfOk result (λ safe. string_bytes safe ≡ safe_text text.now) }
+{
+    let mut safe = String::new(alloc);
+    push_safe(&mut safe, text)?;
+    Ok(safe)
+}
+
+/// Returns whether a character is safe to print on a terminal.
+///
+/// It is unless it is a control character (C0, U+007F or C1) other than tab and newline, or a
+/// directional control, those of Unicode's property `Bidi_Control`.
+pub fn is_safe(c: char) -> bool
+    ensures { result ≡ is_safe c }
+{
+    c == '\t' || c == '\n' || !(c.is_control() || is_bidi_control(c))
+}
+
+/// Appends the text for a terminal of runs.
+fn push_text(
+    alloc: Global,
+    terminal: &mut String,
+    styles: &Styles,
+    runs: &[Run],
+) -> Result<(), AllocError>
+    ensures { OnOk result (string_bytes terminal.new
+        ≡ string_bytes terminal.old ++ terminal_text styles.now (map run_view runs.now)) }
+{
+    let [first, rest @ ..] = runs else {
+        return Ok(());
+    };
+    if first.style != Style::Plain {
+        push_sequence(alloc, terminal, styles, first.style)?;
+    }
+    push_safe(terminal, first.text.as_str())?;
+    push_runs(alloc, terminal, styles, rest)
+}
+
+/// Appends runs, each after the sequences of its style.
+fn push_runs(
+    alloc: Global,
+    terminal: &mut String,
+    styles: &Styles,
+    runs: &[Run],
+) -> Result<(), AllocError>
+    ensures { OnOk result (string_bytes terminal.new
+        ≡ string_bytes terminal.old ++ runs_bytes styles.now (map run_view runs.now)) }
+{
+    for run in runs {
+        push_sequence(alloc, terminal, styles, run.style)?;
+        push_safe(terminal, run.text.as_str())?;
+    }
+    Ok(())
+}
+
+/// Appends the characters of a text that are safe to print.
+fn push_safe(terminal: &mut String, text: &str) -> Result<(), AllocError>
+    ensures { OnOk result (string_bytes terminal.new
+        ≡ string_bytes terminal.old ++ safe_text text.now) }
+{
+    for c in text.chars() {
+        if is_safe(c) {
+            terminal.push(c)?;
+        }
+    }
+    Ok(())
+}
+
+/// Appends the sequences of a style.
+fn push_sequence(
+    alloc: Global,
+    terminal: &mut String,
+    styles: &Styles,
+    style: Style,
+) -> Result<(), AllocError>
+    ensures { OnOk result (string_bytes terminal.new
+        ≡ string_bytes terminal.old ++ ansi_spelling styles.now (style_mark_of style)) }
+{
+    let bytes = sequence(alloc, styles, style)?;
+    let Ok(text) = String::from_utf8(bytes) else {
+        unreachable!()
+    };
+    terminal.push_str(text.as_str())
+}
+
+/// Returns the bytes of the sequences of a style.
+fn sequence(alloc: Global, styles: &Styles, style: Style) -> Result<Vec<u8>, AllocError>
+    ensures { IfOk result (λ bytes. bytes.items ≡ ansi_spelling styles.now (style_mark_of style)) }
+{
+    let mut writer = StylesWriter::new(Ansi::new(Vec::new(alloc)), styles);
+    match set_style(&mut writer, style) {
+        Ok(()) => Ok(writer.into_inner().into_inner()),
+        Err(_) => Err(AllocError),
+    }
+}
+
+/// Writes the style mark that starts a run of a style.
+fn set_style<W: WriteStyle>(writer: &mut W, style: Style) -> io::Result<()>
+    ensures { Writes (W.sink writer.old) (style_mark (style_mark_of style)) result
+        (W.sink writer.new) }
+{
+    match style {
+        Style::Plain => writer.reset(),
+        Style::Header(severity) => writer.set_header(severity),
+        Style::HeaderMessage => writer.set_header_message(),
+        Style::LineNumber => writer.set_line_number(),
+        Style::NoteBullet => writer.set_note_bullet(),
+        Style::SourceBorder => writer.set_source_border(),
+        Style::Label(severity, label_style) => writer.set_label(severity, label_style),
+    }
+}
