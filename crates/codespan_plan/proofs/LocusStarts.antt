@@ -1,5 +1,5 @@
 -- The least start of a file's labels, and the loci at which snippets start.
-use Rattle.std.proofs.Common.{◌≡◌, ℕ, ◌+◌, Bool, true, false, cond, not, ◌&&◌, ◌||◌, List, [], ◌∷◌, ◌++◌, get_or, set, map, filter, Option, Some, None, refl, sym, ap, ◌∙◌, append-nil}
+use Rattle.std.proofs.Common.{◌≡◌, ℕ, zero, suc, ◌+◌, ◌<◌, Bool, true, false, cond, not, ◌&&◌, ◌||◌, List, [], ◌∷◌, ◌++◌, length, get_or, set, map, filter, Option, Some, None, refl, sym, ap, ◌∙◌, arith, append-nil}
 use Rattle.std.specs.Prelude.{IfSome, string_bytes, min, unwrap_or, if◌then◌else◌}
 use Rattle.std.specs.Cmp.{IsEquivalence}
 use Rattle.std.specs.List.{AllByRecursion}
@@ -15,9 +15,10 @@ use Rattle.codespan_picture.specs.Arguments.{locus_view}
 use Rattle.codespan_picture.specs.Picture.{label_of}
 use Rattle.codespan_plan.specs.TextLoci.{IsTextLocus}
 use Rattle.codespan_picture.specs.Snippets.{InFile, file_ids, if_any, labeled_file_model, least, locus_start}
+use Rattle.codespan_plan.specs.declared.collect.labeled_files.LabeledFile.{LabeledFile as RustFile}
 use Rattle.codespan_plan.specs.declared.file_start.FileStart.{FileStart}
 use Rattle.codespan_plan.specs.LabeledFiles.{starts_with_label}
-use Rattle.codespan_plan.specs.Loci.{file_start, is_locus_label, least_if_any, least_with, no_start, start_byte, start_with, label_starts}
+use Rattle.codespan_plan.specs.Loci.{file_start, is_locus_label, least_if_any, least_with, locus_lookups_at, locus_lookups_of, no_start, start_byte, start_with, label_starts}
 use Rattle.codespan_plan.specs.IndexedLabels.{index_of_file}
 use Rattle.codespan_laws.proofs.ListElements.{all-weaker, filter-nothing}
 use Rattle.codespan_plan.proofs.LabelIndexing.{IsElementAt, IsChanged, unchanged-at, set-at}
@@ -195,3 +196,11 @@ module _ {Id : Type 0} {labels : List (Label Id)} {index : ℕ} {label : Label I
 pub locus_located : (f : FileModel) (byte : ℕ) (locus : rust_locus.Locus) → IfSome f.name (λ bytes. string_bytes locus.name ≡ bytes) → locus.location ≡ f.location byte
     → IsTextLocus (f, byte) (locus_view locus)
 locus_located f byte locus text at = record { is_locus = record { location = at; name = text }; is_text = IsUtf8-string_bytes locus.name }
+
+-- ---- the file at an index
+
+-- the lookups of the locus at an index are those of the file there
+pub locus_lookups-at : {Id : Type 0} (files : List (RustFile Id)) (k : ℕ) (f : RustFile Id) → k < length files → f ≡ get_or files k f → locus_lookups_at files k ≡ locus_lookups_of f
+locus_lookups-at [] k f inside is = absurd (omega (arith, inside))
+locus_lookups-at (g ∷ fs) zero f inside is = ap locus_lookups_of (sym is)
+locus_lookups-at (g ∷ fs) (suc k) f inside is = locus_lookups-at fs k f (omega (arith, inside)) is

@@ -1,9 +1,10 @@
 -- Where the snippet of each file starts.
-use Rattle.std.specs.Prelude.{ℕ, Bool, true, false, not, ◌&&◌, ◌||◌, min, List, [], ◌∷◌, map, flat_map, filter, fold, if◌then◌else◌, Option, Some, None, unwrap_or}
-use Rattle.codespan_base.specs.FileModel.{Lookup}
+use Rattle.std.specs.Prelude.{ℕ, zero, suc, Bool, true, false, not, ◌&&◌, ◌||◌, min, List, [], ◌∷◌, map, flat_map, filter, fold, if◌then◌else◌, Option, Some, None, unwrap_or}
+use Rattle.codespan_base.specs.FileModel.{FileModel, Lookup}
 use Rattle.codespan_base.specs.FileModel.Lookup.{LocationAt, Name}
+use Rattle.codespan_picture.specs.Types.{Error}
 use Rattle.codespan_base.specs.Labels.{LabelModel, is_primary}
-use Rattle.codespan_picture.specs.Lookups.{lookups_of_file}
+use Rattle.codespan_picture.specs.Lookups.{Failures, lookups_of_file, first_error}
 use Rattle.codespan_picture.specs.Snippets.{InFile}
 use Rattle.codespan_plan.specs.declared.collect.labeled_files.LabeledFile.{LabeledFile as RustFile}
 use Rattle.codespan_plan.specs.declared.file_start.FileStart.{FileStart}
@@ -49,6 +50,10 @@ start_with s x = record {
 abbrev pub start_byte : FileStart → ℕ
 start_byte s = unwrap_or s.primary (unwrap_or s.any 0)
 
+-- a file, and the byte index at which its snippet starts
+abbrev pub snippet_start_of : {Id : Type 0} → (Id → FileModel) → RustFile Id → FileModel × ℕ
+snippet_start_of file f = (file f.id, start_byte f.start)
+
 -- the lookups of the locus at which a file's snippet starts
 abbrev pub locus_lookups_of : {Id : Type 0} → RustFile Id → List (Id × Lookup)
 locus_lookups_of f = lookups_of_file f.id (Name ∷ LocationAt (start_byte f.start) ∷ [])
@@ -56,3 +61,13 @@ locus_lookups_of f = lookups_of_file f.id (Name ∷ LocationAt (start_byte f.sta
 -- those of all files
 abbrev pub loci_lookups : {Id : Type 0} → List (RustFile Id) → List (Id × Lookup)
 loci_lookups files = flat_map locus_lookups_of files
+
+-- those of the file at an index
+abbrev pub locus_lookups_at : {Id : Type 0} → List (RustFile Id) → ℕ → List (Id × Lookup)
+locus_lookups_at [] k = []
+locus_lookups_at (f ∷ fs) zero = locus_lookups_of f
+locus_lookups_at (f ∷ fs) (suc k) = locus_lookups_at fs k
+
+-- what these fail with
+abbrev pub locus_failure : {Id : Type 0} → Failures Id → List (RustFile Id) → ℕ → Option Error
+locus_failure failure files k = first_error failure (locus_lookups_at files k)

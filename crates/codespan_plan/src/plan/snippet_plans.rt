@@ -1,14 +1,22 @@
 //! The plan of each file's snippet: its locus and its lines.
 
-ghost use Rattle.std.specs.Prelude.{◌≡◌, [], IfOk, map};
+ghost use Rattle.std.specs.Prelude.{◌≡◌, ◌<◌, ◌-◌, [], All, Err, IfOk, OnOk, length, map, slice_index_or};
 ghost use Rattle.std.specs.List.{AllByRecursion};
 ghost use Rattle.std.specs.List.Sorted.{IsSortedBy};
-ghost use Rattle.codespan_plan.specs.FileLookups.{FailsByOrFormat};
+ghost use Rattle.std.specs.Result.{result_and};
+ghost use Rattle.codespan_base.specs.LawfulFiles.{FailsBy};
+ghost use Rattle.codespan_picture.specs.Arguments.{locus_view};
+ghost use Rattle.codespan_plan.specs.FileLookups.{FailsByOrFormat, failure_in};
 ghost use Rattle.codespan_plan.specs.Annotations.{is_before};
-ghost use Rattle.codespan_plan.specs.AnnotationViews.{IsOfFiles, annotation_view};
+ghost use Rattle.codespan_plan.specs.AnnotationViews.{IsLineOf, IsOfFiles, annotation_view};
 ghost use Rattle.codespan_plan.specs.LabeledFiles.{ids_view};
+ghost use Rattle.codespan_plan.specs.Loci.{locus_failure, snippet_start_of};
 ghost use Rattle.codespan_plan.specs.SnippetPlans.{ArePlansOf, plans_failure};
+ghost use Rattle.codespan_plan.specs.SnippetLines.{fills_of, lines_of};
+ghost use Rattle.codespan_plan.specs.SnippetLineViews.{AddsLines, numbers_looked_up};
+ghost use Rattle.codespan_plan.specs.TextLoci.{IsTextLocus};
 
+use crate::annotation::Annotation;
 use crate::annotation::groups::file_len;
 use crate::collect::Collected;
 use crate::collect::labeled_files::LabeledFile;
@@ -28,6 +36,79 @@ pub struct SnippetPlan<'e, FileId> {
     pub locus: Locus,
     /// The number of the snippet's lines.
     pub line_total: usize,
+}
+
+/// Appends the lines of the snippet of a file, which has these annotations, and returns how many
+/// there are.
+///
+/// # Errors
+///
+/// As [`LinePlanner::push_lines`].
+#[inline(always)]
+fn push_snippet<'files, 'e, 'd, F: Files<'files>>(
+    files: &'files F,
+    id: F::FileId,
+    layout: Layout,
+    annotations: &'e [Annotation<'d, F::FileId>],
+    snippet_lines: &mut Vec<SnippetLine<'e, 'd, F::FileId>>,
+) -> Result<usize, Error>
+    requires { All (λ e. IsLineOf ((F.database files.now).file id) e.line) annotations.now }
+    ensures added { OnOk result (AddsLines layout ((F.database files.now).file id)
+        snippet_lines.old.items snippet_lines.new.items
+        (lines_of (map annotation_view annotations.now))) }
+    ensures count { IfOk result (λ count. count
+        ≡ length snippet_lines.new.items - length snippet_lines.old.items) }
+    ensures failed { FailsBy (failure_in (F.database files.now).failure id
+        (numbers_looked_up layout (fills_of (lines_of (map annotation_view annotations.now)))))
+        result }
+{
+    let planner = LinePlanner {
+        file: SourceFile { files, id },
+        layout,
+    };
+    let before = snippet_lines.len();
+    planner.push_lines(annotations, snippet_lines)?;
+    Ok(snippet_lines.len() - before)
+}
+
+/// Returns the plan of the snippet of the file at an index, which has this many lines: looks up the
+/// name of the file, and the location at which the snippet starts.
+///
+/// # Errors
+///
+/// As [`SourceFile::locus`].
+#[inline(always)]
+fn plan_snippet<'files, 'e, 'd, F: Files<'files>>(
+    alloc: Global,
+    files: &'files F,
+    collected: &'e Collected<'d, F::FileId>,
+    index: usize,
+    line_total: usize,
+) -> Result<SnippetPlan<'e, F::FileId>, Error>
+    requires { index < length collected.now.files.items }
+    ensures file { IfOk result (λ plan. plan.file.now
+        ≡ slice_index_or collected.now.files.items index plan.file.now) }
+    ensures locus { IfOk result (λ plan. IsTextLocus
+        (snippet_start_of (F.database files.now).file plan.file.now) (locus_view plan.locus)) }
+    ensures line_total { IfOk result (λ plan. plan.line_total ≡ line_total) }
+    ensures failed { FailsByOrFormat (locus_failure (F.database files.now).failure
+        collected.now.files.items index) result }
+{
+    let file = &collected.files[index];
+    let source = SourceFile { files, id: file.id };
+    let locus = source.locus(alloc, file.start.byte())?;
+    Ok(SnippetPlan {
+        file,
+        locus,
+        line_total,
+    })
+}
+
+/// Returns the first error: that of `located` if it has one, or this one.
+fn first_failed(located: Result<(), Error>, failed: Error) -> Result<(), Error>
+    ensures { result ≡ result_and located (Err failed) }
+{
+    located.and(Err(failed))
 }
 
 /// Plans the snippets of the files, in the order of their first labels. Their lines are appended to
@@ -70,21 +151,12 @@ pub fn plan_snippets<'files, 'e, 'd, F: Files<'files>>(
     let mut start = 0;
     for (index, file) in collected.files.iter().enumerate() {
         let len = file_len(&collected.annotations[start..], index);
-        let planner = LinePlanner {
-            file: SourceFile { files, id: file.id },
-            layout,
-        };
-        let before = snippet_lines.len();
-        planner.push_lines(&collected.annotations[start..start + len], snippet_lines)?;
+        let own = &collected.annotations[start..start + len];
+        let line_total = push_snippet(files, file.id, layout, own, snippet_lines)?;
         start += len;
-        let line_total = snippet_lines.len() - before;
-        match planner.file.locus(alloc, file.start.byte()) {
-            Ok(locus) => plans.push(SnippetPlan {
-                file,
-                locus,
-                line_total,
-            })?,
-            Err(failed) => located = located.and(Err(failed)),
+        match plan_snippet(alloc, files, collected, index, line_total) {
+            Ok(plan) => plans.push(plan)?,
+            Err(failed) => located = first_failed(located, failed),
         }
     }
     located?;
