@@ -1,6 +1,6 @@
 -- Steps that a walk over annotations finds, one after another, and the lookups of numbers with
 -- them.
-use Rattle.std.proofs.Common.{◌≡◌, ℕ, List, [], ◌++◌, Option, None, Some, refl, sym, ap, subst, ◌∙◌, append-nil, append_assoc}
+use Rattle.std.proofs.Common.{◌≡◌, ℕ, List, [], ◌∷◌, ◌++◌, Option, None, Some, refl, sym, ap, subst, ◌∙◌, append-nil, append_assoc}
 use Rattle.std.proofs.lemmas.List.{map-append}
 use Rattle.std.proofs.lemmas.Grind.{flat_map-append}
 use Rattle.codespan_base.specs.declared.files.Error.{Error}
@@ -11,7 +11,8 @@ use Rattle.codespan_base.specs.FileModel.Lookup.{LineNumber}
 use Rattle.codespan_picture.specs.Lookups.{Failures, lookups_of_file, first_error}
 use Rattle.codespan_plan.specs.declared.plan.snippet_lines.SnippetLine.{SnippetLine as RustLine}
 use Rattle.codespan_plan.specs.SnippetLineViews.{AddsLines, IsSnippetLineIn, numbers_looked_up, line_view}
-use Rattle.codespan_plan.specs.SnippetLines.{SnippetLine, fill_of, fills_of}
+use Rattle.codespan_plan.specs.Annotations.{Annotation}
+use Rattle.codespan_plan.specs.SnippetLines.{SnippetLine, Labeled, fill_of, fills_of}
 use Rattle.codespan_plan.proofs.FirstErrors.{first_error-lookups, or_failure-succeeded, or_failure-some}
 use Rattle.codespan_laws.proofs.ListElements.{all-append}
 
@@ -28,6 +29,10 @@ module _ {Id : Type 0} {layout : Layout} {f : FileModel} where
     are = map-append line_view first.more second.more ∙ (λ i. first.are i ++ second.are i);
     each = all-append (IsSnippetLineIn layout f) first.more second.more first.each second.each;
   }
+
+-- a shown line at the end is not filled in
+pub fills_of-shown : (xs : List SnippetLine) (line : ℕ) (annotations : List Annotation) → fills_of (xs ++ Labeled line annotations ∷ []) ≡ fills_of xs
+fills_of-shown xs line annotations = flat_map-append fill_of xs (Labeled line annotations ∷ []) ∙ append-nil (fills_of xs)
 
 -- the numbers of some lines are looked up, and then those of others
 numbers_looked_up-append : (layout : Layout) (ls ms : List ℕ) → numbers_looked_up layout (ls ++ ms) ≡ numbers_looked_up layout ls ++ numbers_looked_up layout ms
