@@ -1,6 +1,6 @@
 //! Annotations: what a label does on a line of its file.
 
-ghost use Rattle.std.specs.Prelude.{◌≡◌, OnOk, OnErr, IsErrOf};
+ghost use Rattle.std.specs.Prelude.{◌≡◌, ⊤, OnOk, OnErr, IsErrOf};
 ghost use Rattle.std.specs.Option.{option_map};
 ghost use Rattle.codespan_base.specs.Labels.{from_line_start};
 ghost use Rattle.codespan_picture.specs.Arguments.{multi_label_view};
@@ -11,6 +11,7 @@ ghost use Rattle.codespan_plan.specs.Annotations.{annotation_if_any};
 use codespan_base::diagnostic::Label;
 use codespan_base::files::Error;
 use codespan_picture::arguments::MultiLabel;
+use std::alloc::AllocError;
 use std::ops::Range;
 
 pub mod by_line;
@@ -42,7 +43,6 @@ pub enum MultiPart {
 }
 
 /// What a label does on a line.
-#[derive(Clone, Copy)]
 pub enum AnnotationKind<'d, FileId> {
     /// The label makes the line shown.
     Shown,
@@ -65,8 +65,20 @@ pub enum AnnotationKind<'d, FileId> {
     },
 }
 
+// A derive would require `FileId: Copy`, though a label is borrowed.
+impl<FileId> Clone for AnnotationKind<'_, FileId> {
+    ghost is_clone = { λ x y. y ≡ x };
+
+    ghost is_infallible = { λ _. ⊤ };
+
+    fn clone(&self) -> Result<Self, AllocError> {
+        Ok(*self)
+    }
+}
+
+impl<FileId> Copy for AnnotationKind<'_, FileId> {}
+
 /// An annotation of a line.
-#[derive(Clone, Copy)]
 pub struct Annotation<'d, FileId> {
     /// The file's index among those of the output, 0-based.
     pub file: usize,
@@ -75,6 +87,18 @@ pub struct Annotation<'d, FileId> {
     /// What a label does on it.
     pub kind: AnnotationKind<'d, FileId>,
 }
+
+impl<FileId> Clone for Annotation<'_, FileId> {
+    ghost is_clone = { λ x y. y ≡ x };
+
+    ghost is_infallible = { λ _. ⊤ };
+
+    fn clone(&self) -> Result<Self, AllocError> {
+        Ok(*self)
+    }
+}
+
+impl<FileId> Copy for Annotation<'_, FileId> {}
 
 /// Appends an annotation of a line, if there is one.
 ///

@@ -29,7 +29,7 @@ const MOVED: usize = usize::MAX;
 /// # Errors
 ///
 /// `OutOfMemory`: an allocation fails.
-pub fn group_by_line<FileId: Copy>(
+pub fn group_by_line<FileId>(
     annotations: &mut Vec<Annotation<'_, FileId>>,
     lines: Option<Range<usize>>,
 ) -> Result<bool, Error>
@@ -104,7 +104,7 @@ fn chain_groups<FileId>(
 /// # Requires
 ///
 /// There is one index in `next` for each annotation.
-fn follow_chains<'d, FileId: Copy>(
+fn follow_chains<'d, FileId>(
     alloc: Global,
     annotations: &[Annotation<'d, FileId>],
     first: &[usize],

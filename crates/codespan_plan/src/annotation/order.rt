@@ -157,7 +157,7 @@ fn sort<FileId>(annotations: &mut Vec<Annotation<'_, FileId>>)
 /// # Errors
 ///
 /// `OutOfMemory`: an allocation fails.
-pub fn put_in_order<FileId: Copy>(
+pub fn put_in_order<FileId>(
     annotations: &mut Vec<Annotation<'_, FileId>>,
     lines: Option<Range<usize>>,
 ) -> Result<(), Error>
