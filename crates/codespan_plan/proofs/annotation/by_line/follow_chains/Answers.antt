@@ -1,4 +1,5 @@
-use Rattle.std.proofs.Common.{◌≡◌, ℕ, List, ◌<◌, ◌+◌, ◌==◌, ◌∙◌, ap, Bool, false, refl, arith, rules, get_or, length}
+use Rattle.std.proofs.Common.{◌≡◌, ℕ, List, ◌<◌, ◌+◌, ◌==◌, ◌∙◌, ap, Bool, false, refl, sym, subst, arith, get_or, set, length}
+use Rattle.std.proofs.lemmas.Bool.{ne_eqb}
 use Rattle.std.proofs.lemmas.List.{length-append}
 use Rattle.codespan_plan.specs.declared.annotation.by_line.TheConstants.{MOVED}
 use Rattle.codespan_plan.proofs.KeptElements.{AreKept, AreKept-all, AreKept-more, AreKept-room}
@@ -19,20 +20,20 @@ push_reserved-requires g c =
       arith,
       c.loop-source.moved.ok.0,
       c.loop-source.invariant.room,
-      room c.args.next.now c.loop-source.next c.args.annotations.now c.loop-source.moved.items c.loop-source.source c.index-annotations-source.result c.loop-source.invariant.moved (omega (arith, c.requires)) (omega (arith, c.loop-source-test.true)) (search rules) c.index-annotations-source.is,
+      room c.args.next.now c.loop-source.next c.args.annotations.now c.loop-source.moved.items c.loop-source.source c.index-annotations-source.result c.loop-source.invariant.moved (c.loop-source.auto.next ∙ c.loop-start.auto.next ∙ c.requires) c.loop-source-test.true (ne_eqb _ MOVED c.if-following.false) c.index-annotations-source.is,
     )
 
 pub loop-source-smaller : goal.loop-source-smaller
 loop-source-smaller g c =
-    let below = room c.args.next.now c.loop-source.next c.args.annotations.now c.loop-source.moved.items c.loop-source.source c.index-annotations-source.result c.loop-source.invariant.moved (omega (arith, c.requires)) (omega (arith, c.loop-source-test.true)) (search rules) c.index-annotations-source.is in
+    let below = room c.args.next.now c.loop-source.next c.args.annotations.now c.loop-source.moved.items c.loop-source.source c.index-annotations-source.result c.loop-source.invariant.moved (c.loop-source.auto.next ∙ c.loop-start.auto.next ∙ c.requires) c.loop-source-test.true (ne_eqb _ MOVED c.if-following.false) c.index-annotations-source.is in
     let more : length c.push_reserved.new.self.items ≡ length c.loop-source.moved.items + 1 =
     ap length c.push_reserved.ensures.items ∙ length-append c.loop-source.moved.items _ in
     omega (arith, below, more)
 
 pub loop-source-preserved : goal.loop-source-preserved
 loop-source-preserved g c = record {
-  moved = rw c.push_reserved.ensures.items
-      (AreKept-more is_moved c.args.next.now c.loop-source.next c.args.annotations.now c.loop-source.moved.items c.loop-source.source MOVED c.index-annotations-source.result c.loop-source.invariant.moved (omega (arith, c.requires)) (omega (arith, c.loop-source-test.true)) (search rules) refl c.index-annotations-source.is);
+  moved = subst (λ ys. AreKept is_moved c.args.next.now (set c.loop-source.next c.loop-source.source MOVED) c.args.annotations.now ys) (sym c.push_reserved.ensures.items)
+      (AreKept-more is_moved c.args.next.now c.loop-source.next c.args.annotations.now c.loop-source.moved.items c.loop-source.source MOVED c.index-annotations-source.result c.loop-source.invariant.moved (c.loop-source.auto.next ∙ c.loop-start.auto.next ∙ c.requires) c.loop-source-test.true (ne_eqb _ MOVED c.if-following.false) refl c.index-annotations-source.is);
   room = omega (arith, c.push_reserved.ensures.capacity, c.loop-source.invariant.room);
 }
 
