@@ -30,7 +30,7 @@ use Rattle.codespan_plan.specs.declared.plan.OutputPlan.{OutputPlan}
 use Rattle.codespan_plan.specs.SnippetLineViews.{IsSnippetLineIn, IsSnippetLineOf, lookups_of_line, lookups_of_lines, lookups_of_filled, numbers_looked_up, line_view}
 use Rattle.codespan_plan.specs.Loci.{loci_lookups, start_byte}
 use Rattle.codespan_plan.specs.IndexedLabels.{IsIdAt}
-use Rattle.codespan_plan.specs.SnippetPlans.{ArePlans, ArePlansOf, IsPlan, number_lookups, plans_failure, line_digits, lines_at}
+use Rattle.codespan_plan.specs.SnippetPlans.{ArePlans, ArePlansOf, IsPlan, number_lookups, plans_failure, line_digits, lines_at, width_in}
 use Rattle.codespan_plan.specs.SnippetLines.{SnippetLine, fill_of, fills_of, rows_of_lines, DoFit}
 use Rattle.codespan_plan.proofs.PlansFound.{by_index-same}
 use Rattle.codespan_plan.proofs.SpannedPadding.{spanned-padding_width}
@@ -231,15 +231,23 @@ module _ {Id : Type 0} {database : FileDatabase Id} (lawful : AreFiles database)
     file_plans = plans-from 0 collected.files.items plans snippet_lines ids_at all.files.labels_are found
 
     -- in the classic layout the labels determine the padding width
-    pub spanned-padding : config.layout ≡ Classic → {padding : ℕ} → padding ≡ collected.padding → padding ≡ padding_of config (labeled_file_models same file xs)
+    spanned-padding : config.layout ≡ Classic → {padding : ℕ} → padding ≡ collected.padding → padding ≡ padding_of config (labeled_file_models same file xs)
     spanned-padding classic is = is ∙ all.files.padding_is ∙ spanned-padding_width same file lawful.equivalence lawful.one_file config xs classic
 
     -- in the unbroken layout the snippet lines do
-    pub rendered-padding : config.layout ≡ Unbroken → {padding : ℕ} → padding ≡ fold max 0 (flat_map line_digits snippet_lines) → padding ≡ padding_of config (labeled_file_models same file xs)
+    rendered-padding : config.layout ≡ Unbroken → {padding : ℕ} → padding ≡ fold max 0 (flat_map line_digits snippet_lines) → padding ≡ padding_of config (labeled_file_models same file xs)
     rendered-padding unbroken is =
         is ∙ ap (fold max 0) (digits-from unbroken 0 collected.files.items plans snippet_lines ids_at all.files.labels_are found
         ∙ ap (flat_map (λ id. digits_of (labeled id) (numbered_lines config (labeled id)))) all.files.ids_are
         ∙ sym (flat_map-map (λ (s : LabeledFileModel). digits_of s (numbered_lines config s)) labeled (file_ids same xs)))
+
+    -- so the width that is chosen by the layout fits
+    pub chosen-padding : {padding : ℕ} → padding ≡ width_in config.layout collected.padding snippet_lines → padding ≡ padding_of config (labeled_file_models same file xs)
+    chosen-padding {padding} = by_layout config.layout refl
+      where
+        by_layout : (layout : Layout) → config.layout ≡ layout → padding ≡ width_in layout collected.padding snippet_lines → padding ≡ padding_of config (labeled_file_models same file xs)
+        by_layout Classic classic is = spanned-padding classic is
+        by_layout Unbroken unbroken is = rendered-padding unbroken is
 
 -- ---- what was collected, with its plans
 

@@ -1,7 +1,7 @@
 -- The plan of each snippet, as annotations in order make it: its lines, and where it starts.
-use Rattle.std.specs.Prelude.{◌≡◌, ℕ, ◌+◌, List, [], ◌∷◌, ◌++◌, length, take, drop, filter, map, Option, Some, None}
+use Rattle.std.specs.Prelude.{◌≡◌, ℕ, ◌+◌, List, [], ◌∷◌, ◌++◌, length, take, drop, filter, map, flat_map, fold, max, Option, Some, None}
 use Rattle.std.specs.List.{AllByRecursion}
-use Rattle.codespan_picture.specs.Types.{Error, Layout}
+use Rattle.codespan_picture.specs.Types.{Error, Layout, Classic, Unbroken}
 use Rattle.codespan_base.specs.FileModel.{FileModel, Lookup}
 use Rattle.codespan_picture.specs.Arguments.{locus_view}
 use Rattle.codespan_picture.specs.Lookups.{Failures, lookups_of_file, first_error}
@@ -79,3 +79,9 @@ line_digits (rust.Labeled line annotations) = digit_count line.number ∷ []
 line_digits (rust.Filled index (Some number) annotations) = digit_count number ∷ []
 line_digits (rust.Filled index None annotations) = []
 line_digits (rust.Break next) = []
+
+-- the padding width: this one of the lines that labels span in the classic layout, and that of
+-- these lines in the unbroken one
+abbrev pub width_in : {Id : Type 0} → Layout → ℕ → List (RustLine Id) → ℕ
+width_in Classic spanned snippet_lines = spanned
+width_in Unbroken spanned snippet_lines = fold max 0 (flat_map line_digits snippet_lines)

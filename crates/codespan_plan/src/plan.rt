@@ -6,11 +6,11 @@ ghost use Rattle.codespan_picture.specs.Picture.{label_of};
 ghost use Rattle.codespan_plan.specs.OutputPlans.{IsCollected, IsOutputPlan, output_plan_failure};
 
 use crate::collect::Collected;
-use crate::plan::padding::padding_of_lines;
+use crate::plan::padding::padding_width;
 use crate::plan::snippet_lines::SnippetLine;
 use crate::plan::snippet_plans::{SnippetPlan, plan_snippets};
 use codespan_base::files::{Error, Files};
-use codespan_base::term::{Config, Layout};
+use codespan_base::term::Config;
 use std::alloc::Global;
 
 pub mod padding;
@@ -64,10 +64,7 @@ pub fn plan_output<'files, 'e, 'd, F: Files<'files>>(
 {
     let mut snippet_lines = Vec::with_capacity(alloc, line_capacity(collected))?;
     let files = plan_snippets(alloc, files, config.layout, collected, &mut snippet_lines)?;
-    let padding = match config.layout {
-        Layout::Classic => collected.padding,
-        Layout::Unbroken => padding_of_lines(&snippet_lines),
-    };
+    let padding = padding_width(config.layout, collected.padding, &snippet_lines);
     Ok(OutputPlan {
         files,
         snippet_lines,

@@ -1,14 +1,31 @@
-//! The padding width of the unbroken layout.
+//! The padding width of an output.
 
 ghost use Rattle.std.specs.Prelude.{◌≡◌, flat_map, fold, max};
-ghost use Rattle.codespan_plan.specs.SnippetPlans.{line_digits};
+ghost use Rattle.codespan_plan.specs.SnippetPlans.{line_digits, width_in};
 
 use crate::plan::snippet_lines::SnippetLine;
+use codespan_base::term::Layout;
 use codespan_picture::padding::count_digits;
+
+/// Returns the padding width: `spanned`, that for the lines that labels span, in the classic
+/// layout, and that for these lines in the unbroken one.
+#[inline(always)]
+pub fn padding_width<FileId>(
+    layout: Layout,
+    spanned: usize,
+    snippet_lines: &[SnippetLine<'_, '_, FileId>],
+) -> usize
+    ensures { result ≡ width_in layout spanned snippet_lines.now }
+{
+    match layout {
+        Layout::Classic => spanned,
+        Layout::Unbroken => padding_of_lines(snippet_lines),
+    }
+}
 
 /// Returns the number of digits of the longest known number of these lines; 0 if no number is
 /// known.
-pub fn padding_of_lines<FileId>(snippet_lines: &[SnippetLine<'_, '_, FileId>]) -> usize
+fn padding_of_lines<FileId>(snippet_lines: &[SnippetLine<'_, '_, FileId>]) -> usize
     ensures { result ≡ fold max 0 (flat_map line_digits snippet_lines.now) }
 {
     let mut padding = 0;

@@ -1,15 +1,10 @@
 use contract.Lifetimes.{Lfts}
-use Rattle.std.proofs.Common.{rules, ◌≡◌, Err, map, max, refl, sym, ap, ◌∙◌}
-use Rattle.std.specs.Prelude.{flat_map, fold}
+use Rattle.std.proofs.Common.{rules, Err, refl, sym, ap, ◌∙◌}
 use Rattle.std.proofs.lemmas.Result.{err_from_is_err_and}
-use Rattle.codespan_picture.specs.Picture.{label_of}
-use Rattle.codespan_picture.specs.Padding.{padding_of}
-use Rattle.codespan_picture.specs.Snippets.{labeled_file_models}
-use Rattle.codespan_plan.specs.SnippetPlans.{line_digits}
+use Rattle.codespan_plan.specs.SnippetPlans.{width_in}
 use Rattle.codespan_plan.proofs.LabelIndexing.{AreFiles, are-files}
-use Rattle.codespan_plan.proofs.PlanFiles.{rendered-padding, failure-is, output_plan-planned, spanned-padding}
+use Rattle.codespan_plan.proofs.PlanFiles.{chosen-padding, failure-is, output_plan-planned}
 use Rattle.codespan_plan.proofs.plan.plan_output.Given.{Over}
-use Rattle.codespan_plan.proofs.plan.plan_output.Goals.{in-Classic, in-Unbroken}
 use Rattle.codespan_plan.proofs.plan.plan_output.Goals as goal
 
 -- the files are lawful, and equal ids name one file
@@ -33,12 +28,8 @@ returns-clause-planned g c =
     let plans = c.in_ok-files.files.items in
     let snippet_lines = c.plan_snippets.new.snippet_lines.items in
     let found = c.in_ok-files.ensures.plans in
-    let labeled = labeled_file_models (g.F.Files.database c.args.files.now).same (((g.F.Files.database c.args.files.now).file)) (map label_of c.args.collected.now.labels.now) in
-    let padding_width : c.match-config.padding ≡ padding_of c.args.config.now labeled = elim c.match-config.branch [
-      | in-Classic w ↦ spanned-padding lawful c.requires plans snippet_lines found w.in-Classic.is w.padding-is
-      | in-Unbroken w ↦ rendered-padding lawful c.requires plans snippet_lines found w.in-Unbroken.is (w.padding-is ∙ w.padding_of_lines-padding.ensures ∙ ap (λ ss. fold max 0 (flat_map line_digits ss)) w.deref.ensures.value)
-    ] in
-    output_plan-planned lawful c.requires found padding_width
+    let padding = chosen-padding lawful c.requires plans snippet_lines found (c.padding_width-padding.ensures ∙ ap (width_in c.args.config.now.layout c.args.collected.now.padding) c.deref.ensures.value) in
+    output_plan-planned lawful c.requires found padding
 
 pub returns-clause-failed : goal.returns-clause-failed
 returns-clause-failed g c =
