@@ -126,8 +126,8 @@ module _ {Id : Type 0} {database : FileDatabase Id} {view : RichDiagnostic Id} {
       no-rows [] = refl
       no-rows (p ∷ ps) = refl
 
-  module _ {f : SnippetPlan Id} {snippet_lines : List (RustLine Id)} {notes : Bool} {count : ℕ} {now : Config} (at : IsElementAt output_plan.files.items k f)
-      (is : IsSnippetPlan (view_config_of view) (labeled database view f.file.now.id) f snippet_lines) (notes_are : notes ≡ has_notes) (count_is : count ≡ length output_plan.files.items) (equal : now ≡ renderer) where
+  module _ {f : SnippetPlan Id} {snippet_lines : List (RustLine Id)} {notes next : Bool} {now : Config} (at : IsElementAt output_plan.files.items k f)
+      (is : IsSnippetPlan (view_config_of view) (labeled database view f.file.now.id) f snippet_lines) (notes_are : notes ≡ has_notes) (next_is : next ≡ nat_lt (k + 1) (length output_plan.files.items)) (equal : now ≡ renderer) where
     -- the file with its labels
     abbrev own : LabeledFileModel
     own = labeled database view f.file.now.id
@@ -156,7 +156,7 @@ module _ {Id : Type 0} {database : FileDatabase Id} {view : RichDiagnostic Id} {
 
     -- something follows the file
     abbrev follows : Bool
-    follows = notes || nat_lt (k + 1) count
+    follows = notes || next
 
     -- the rows of its snippet, and the row after it
     abbrev snippet_stream : Stream
@@ -179,7 +179,7 @@ module _ {Id : Type 0} {database : FileDatabase Id} {view : RichDiagnostic Id} {
         → IsLookupRun (first_error database.failure lookups_here) mid (stream_of_rows context rows_here) r new
     rendered-here both =
         let followed : follows ≡ (has_any (drop (k + 1) ids) || has_notes) =
-        (λ i. notes_are i || nat_lt (k + 1) ((count_is ∙ sym (ids-count output_plan.files.items)) i)) ∙ sym (followed-at has_notes ids k) in
+        (λ i. notes_are i || (next_is ∙ ap (nat_lt (k + 1)) (sym (ids-count output_plan.files.items))) i) ∙ sym (followed-at has_notes ids k) in
         run_as (or_failure-none snippet_lines_failure ∙ ap (λ (ls : List Lookup). first_error database.failure (lookups_of_file f.file.now.id (Source ∷ ls))) is.lookups)
         (sym (rows-two context (rows_in f (database.file f.file.now.id) snippet_lines) (trailing_border_rows f follows))
         ∙ ap (stream_of_rows context) (rows-are is follows)

@@ -1,7 +1,6 @@
 -- The files of an output plan, by their indices.
-use Rattle.std.proofs.Common.{◌≡◌, ℕ, zero, suc, ◌+◌, ◌-◌, ◌<◌, ◌≤◌, Bool, true, false, ◌||◌, List, [], ◌∷◌, ◌++◌, length, take, drop, get_or, map, refl, sym, subst, subst₂, ap, ◌∙◌, arith, lt-ltb}
+use Rattle.std.proofs.Common.{◌≡◌, ℕ, zero, suc, ◌+◌, ◌-◌, ◌<◌, ◌≤◌, Bool, true, false, ◌||◌, List, [], ◌∷◌, ◌++◌, length, take, drop, get_or, map, refl, sym, subst, ap, ◌∙◌, arith, lt-ltb}
 use Rattle.std.specs.Prelude.{nat_lt, if◌then◌else◌}
-use Rattle.std.proofs.Math.Nat.{add-sub_cancel_left}
 use Rattle.std.proofs.lemmas.Grind.{common_steps}
 use Rattle.std.proofs.lemmas.List.{drop-drop, get_or-map, length-drop, length-map, length-take}
 use Rattle.codespan_base.specs.declared.term.config.Config.{Config}
@@ -16,7 +15,6 @@ use Rattle.codespan_plan.specs.SnippetLineViews.{line_view}
 use Rattle.codespan_plan.specs.SnippetLines.{rows_of_lines}
 use Rattle.codespan_plan.specs.declared.plan.snippet_plans.SnippetPlan.{SnippetPlan}
 use Rattle.codespan_plan.specs.declared.plan.snippet_lines.SnippetLine.{SnippetLine as RustLine}
-use Rattle.codespan_plan.proofs.FileParts.{next_part}
 use Rattle.codespan_plan.proofs.LabelIndexing.{IsElementAt, drop-one}
 
 -- no element from the end on
@@ -92,10 +90,9 @@ module _ {Id : Type 0} {database : FileDatabase Id} {config : Config} {xs : List
       omega (arith, count, inside, length-take f.line_total (drop start snippet_lines), length-drop start snippet_lines)
 
   -- it is the file of its labels, with these snippet lines
-  pub own-snippet_lines : {zs : List (RustLine Id)} → zs ≡ snippet_lines → IsSnippetPlan config (labeled_file_model database.same database.file xs f.file.now.id) f (next_part zs start f.line_total)
-  own-snippet_lines same =
-      subst₂ (λ n (ss : List (RustLine Id)). IsSnippetPlan config (labeled_file_model database.same database.file xs f.file.now.id) f (take n (drop start ss)))
-      (sym (add-sub_cancel_left start f.line_total)) (sym same) files-at.0
+  pub own-snippet_lines : {own : List (RustLine Id)} → own ≡ take f.line_total (drop start snippet_lines)
+      → IsSnippetPlan config (labeled_file_model database.same database.file xs f.file.now.id) f own
+  own-snippet_lines is = subst (IsSnippetPlan config (labeled_file_model database.same database.file xs f.file.now.id) f) (sym is) files-at.0
 
   -- the later files are those of their labels, with the snippet lines after these
   pub later-files : AreFilesFrom database config xs files (k + 1) snippet_lines (start + f.line_total)

@@ -1,6 +1,6 @@
 //! Rich style: a diagnostic over the lines that its labels show.
 
-ghost use Rattle.std.specs.Prelude.{◌≡◌, ◌<◌, length};
+ghost use Rattle.std.specs.Prelude.{◌≡◌, ◌+◌, ◌<◌, ◌≤◌, drop, length, nat_lt, take};
 ghost use Rattle.codespan_base.specs.declared.term.config.DisplayStyle.TheVariants.{Rich};
 ghost use Rattle.codespan_picture.specs.Picture.{labels_of, notes_of};
 ghost use Rattle.codespan_picture.specs.Snippets.{has_any};
@@ -18,6 +18,8 @@ use codespan_base::diagnostic::Diagnostic;
 use codespan_base::files::{Error, Files};
 use codespan_base::term::{Config, WriteStyle};
 use codespan_plan::collect::collect;
+use codespan_plan::plan::snippet_lines::SnippetLine;
+use codespan_plan::plan::snippet_plans::SnippetPlan;
 use codespan_plan::plan::{OutputPlan, plan_output};
 use codespan_renderer::term::renderer::Renderer;
 
@@ -156,14 +158,37 @@ impl<'diagnostic, 'config, FileId: Copy + Eq> RichDiagnostic<'diagnostic, 'confi
         let notes_follow = has_notes(diagnostic);
         let mut start = 0;
         for (index, file) in output_plan.files.iter().enumerate() {
-            let snippet_lines = &output_plan.snippet_lines[start..start + file.line_total];
+            let snippet_lines = lines_of_file(output_plan, file, start);
             start += file.line_total;
-            let is_followed = notes_follow | (index + 1 < output_plan.files.len());
+            let is_followed = notes_follow | is_file_next(output_plan, index);
             render_snippet(&context, renderer, &mut labels, file, snippet_lines)?;
             render_trailing_border(&context, renderer, file, is_followed)?;
         }
         Ok(())
     }
+}
+
+/// Returns the lines of a file's snippet, which start at this index.
+#[inline(always)]
+fn lines_of_file<'p, 'e, 'd, FileId>(
+    output_plan: &'p OutputPlan<'e, 'd, FileId>,
+    file: &SnippetPlan<'_, FileId>,
+    start: usize,
+) -> &'p [SnippetLine<'e, 'd, FileId>]
+    requires { start + file.now.line_total ≤ length output_plan.now.snippet_lines.items }
+    ensures { result.now
+        ≡ take file.now.line_total (drop start output_plan.now.snippet_lines.items) }
+{
+    &output_plan.snippet_lines[start..start + file.line_total]
+}
+
+/// Returns whether another file follows the one at this index.
+#[inline(always)]
+fn is_file_next<FileId>(output_plan: &OutputPlan<'_, '_, FileId>, index: usize) -> bool
+    requires { index < length output_plan.now.files.items }
+    ensures { result ≡ nat_lt (index + 1) (length output_plan.now.files.items) }
+{
+    index + 1 < output_plan.files.len()
 }
 
 /// Returns whether the diagnostic has a note.

@@ -1,7 +1,7 @@
 use Rattle.std.proofs.Common.{Err, refl, ap, ◌∙◌, arith}
 use Rattle.std.proofs.lemmas.Result.{err_from_is_err_and}
 use Rattle.codespan_plan.proofs.LabelIndexing.{element-equal}
-use Rattle.codespan_views.proofs.PlannedFiles.{later-files, own-snippet_lines}
+use Rattle.codespan_views.proofs.PlannedFiles.{later-files, own-inside, own-snippet_lines}
 use Rattle.codespan_views.proofs.OutputPlanRendering.{cut-after_snippet, cut-in_snippet, left-end, left-start, next-file}
 use Rattle.codespan_views.proofs.RendererRuns.{same_renderer, same_twice}
 use Rattle.codespan_views.proofs.rich.RichDiagnostic.render_snippets.Goals as goal
@@ -9,49 +9,54 @@ use Rattle.codespan_views.proofs.rich.RichDiagnostic.render_snippets.Goals as go
 pub loop-index-init : goal.loop-index-init
 loop-index-init g c = record { same = same_renderer; files = record { inside = omega arith; are = c.requires.files_are }; left = left-start }
 
+pub lines_of_file-snippet_lines-requires : goal.lines_of_file-snippet_lines-requires
+lines_of_file-snippet_lines-requires g c =
+    let at = element-equal c.deref-file-items.ensures.value c.loop-index-test.true c.file-item.is in
+    own-inside at c.loop-index.invariant.files
+
+pub is_file_next-requires : goal.is_file_next-requires
+is_file_next-requires g c = (element-equal c.deref-file-items.ensures.value c.loop-index-test.true c.file-item.is).inside
+
 pub render_snippet-requires : goal.render_snippet-requires
 render_snippet-requires g c κs =
     let at = element-equal c.deref-file-items.ensures.value c.loop-index-test.true c.file-item.is in
-    let own = own-snippet_lines at c.loop-index.invariant.files c.deref.ensures.value in
+    let own = own-snippet_lines at c.loop-index.invariant.files c.lines_of_file-snippet_lines.ensures in
     ((refl, tt), (own.each, rw own.lanes_are own.fits))
 
 pub returns-in_err-render_snippet : goal.returns-in_err-render_snippet
 returns-in_err-render_snippet g c =
     let at = element-equal c.deref-file-items.ensures.value c.loop-index-test.true c.file-item.is in
-    let own = own-snippet_lines at c.loop-index.invariant.files c.deref.ensures.value in
-    let count = c.len.ensures ∙ c.args.output_plan.now.files.ok.0 in
+    let own = own-snippet_lines at c.loop-index.invariant.files c.lines_of_file-snippet_lines.ensures in
     let p = err_from_is_err_and c.from_residual.result c.from_residual.ensures.1 in
     rw (p.1 ∙ ap Err p.2) (record {
       same = same_twice c.loop-index.invariant.same c.in_err-render_snippet.ensures.same;
-      renders = cut-in_snippet c.requires c.loop-index.invariant.left at own c.has_notes-notes_follow.ensures count c.loop-index.invariant.same.config c.in_err-render_snippet.ensures.renders;
+      renders = cut-in_snippet c.requires c.loop-index.invariant.left at own c.has_notes-notes_follow.ensures c.is_file_next.ensures c.loop-index.invariant.same.config c.in_err-render_snippet.ensures.renders;
     })
 
 pub returns-in_err-render_trailing_border : goal.returns-in_err-render_trailing_border
 returns-in_err-render_trailing_border g c =
     let at = element-equal c.deref-file-items.ensures.value c.loop-index-test.true c.file-item.is in
-    let own = own-snippet_lines at c.loop-index.invariant.files c.deref.ensures.value in
-    let count = c.len.ensures ∙ c.args.output_plan.now.files.ok.0 in
+    let own = own-snippet_lines at c.loop-index.invariant.files c.lines_of_file-snippet_lines.ensures in
     let p = err_from_is_err_and c.from_residual-in_err-render_trailing_border.result c.from_residual-in_err-render_trailing_border.ensures.1 in
     let was = c.loop-index.invariant.same in
     let first = c.in_ok-render_snippet.ensures in
     let second = c.in_err-render_trailing_border.ensures in
     rw (p.1 ∙ ap Err p.2) (record {
       same = same_twice was (same_twice first.same second.same);
-      renders = cut-after_snippet c.requires c.loop-index.invariant.left at own c.has_notes-notes_follow.ensures count was.config first.renders first.same.config second.writes second.io;
+      renders = cut-after_snippet c.requires c.loop-index.invariant.left at own c.has_notes-notes_follow.ensures c.is_file_next.ensures was.config first.renders first.same.config second.writes second.io;
     })
 
 pub loop-index-preserved : goal.loop-index-preserved
 loop-index-preserved g c =
     let at = element-equal c.deref-file-items.ensures.value c.loop-index-test.true c.file-item.is in
-    let own = own-snippet_lines at c.loop-index.invariant.files c.deref.ensures.value in
-    let count = c.len.ensures ∙ c.args.output_plan.now.files.ok.0 in
+    let own = own-snippet_lines at c.loop-index.invariant.files c.lines_of_file-snippet_lines.ensures in
     let first = c.in_ok-render_snippet.ensures.same in
     let second = c.in_ok-render_trailing_border.ensures.same in
     let was = c.loop-index.invariant.same in
     record {
       same = same_twice was (same_twice first second);
       files = later-files at c.loop-index.invariant.files;
-      left = next-file c.requires c.loop-index.invariant.left at own c.has_notes-notes_follow.ensures count was.config c.in_ok-render_snippet.ensures.renders
+      left = next-file c.requires c.loop-index.invariant.left at own c.has_notes-notes_follow.ensures c.is_file_next.ensures was.config c.in_ok-render_snippet.ensures.renders
           first.config c.in_ok-render_trailing_border.ensures.writes;
     }
 
