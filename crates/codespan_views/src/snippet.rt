@@ -1,11 +1,8 @@
 //! The snippets of an output, one for each file.
 
-ghost use Rattle.std.specs.Prelude.{map};
-ghost use Rattle.std.specs.List.{AllByRecursion};
 ghost use Rattle.codespan_views.specs.Private.SnippetRows.{RendersSnippet, trailing_border_rows, start_rows};
-ghost use Rattle.codespan_plan.specs.SnippetLineViews.{IsSnippetLineOf, line_view};
 ghost use Rattle.codespan_views.specs.Private.Rendering.{RendersRows};
-ghost use Rattle.codespan_plan.specs.SnippetLines.{DoFit};
+ghost use Rattle.codespan_views.specs.Private.LineRendering.{AreLinesOf};
 
 use crate::snippet::line_labels::LineLabels;
 use crate::snippet::lines::{Snippet, SnippetContext};
@@ -62,9 +59,8 @@ pub fn render_snippet<'files, 'd, F: Files<'files>, W: WriteStyle>(
     snippet: &SnippetPlan<'_, F::FileId>,
     snippet_lines: &[SnippetLine<'_, 'd, F::FileId>],
 ) -> Result<(), Error>
-    requires snippet_lines { AllByRecursion (IsSnippetLineOf
-        ((F.database context.now.files.now).file snippet.now.file.now.id)) snippet_lines.now }
-    requires fits { DoFit snippet.now.file.now.lane_count (map line_view snippet_lines.now) }
+    requires { AreLinesOf ((F.database context.now.files.now).file snippet.now.file.now.id)
+        snippet.now.file.now.lane_count snippet_lines.now }
     ensures { RendersSnippet W.sink F.database context.now snippet.now snippet_lines.now
         renderer.old
         result renderer.new }

@@ -1,5 +1,6 @@
 -- The lines of one snippet, rendered: the rows that are written, and the lookups.
-use Rattle.std.specs.Prelude.{List, map, Result}
+use Rattle.std.specs.Prelude.{◌≡◌, ℕ, List, map, Result}
+use Rattle.std.specs.List.{AllByRecursion}
 use Rattle.codespan_picture.specs.Types.{Error}
 use Rattle.codespan_base.specs.FileModel.{FileDatabase, FileModel, Lookup}
 use Rattle.codespan_base.specs.WriterLaw.{Sink}
@@ -8,9 +9,21 @@ use Rattle.codespan_renderer.specs.declared.term.renderer.Renderer.{Renderer}
 use Rattle.codespan_views.specs.declared.snippet.lines.Snippet.{Snippet}
 use Rattle.codespan_plan.specs.declared.plan.snippet_lines.SnippetLine.{SnippetLine as RustLine}
 use Rattle.codespan_plan.specs.SourceFiles.{failure_of, model_of}
-use Rattle.codespan_plan.specs.SnippetLineViews.{lookups_of_lines, line_view}
+use Rattle.codespan_plan.specs.SnippetLineViews.{IsSnippetLineOf, lookups_of_lines, line_view}
 use Rattle.codespan_views.specs.Private.Rendering.{RendersRowsWithLookups}
-use Rattle.codespan_plan.specs.SnippetLines.{SnippetLine, rows_of_line, rows_of_lines}
+use Rattle.codespan_plan.specs.SnippetLines.{SnippetLine, rows_of_line, rows_of_lines, DoFit}
+
+-- these are lines of the file, and they fit in so many lanes
+pub record AreLinesOf {Id : Type 0} (f : FileModel) (lane_count : ℕ)
+    (snippet_lines : List (RustLine Id)) : Type 0 where
+  pub each : AllByRecursion (IsSnippetLineOf f) snippet_lines
+  pub fit : DoFit lane_count (map line_view snippet_lines)
+
+-- the snippet has the text of its file, and these are lines of it
+pub record HasLines {F Id Name Source : Type 0} (database : F → FileDatabase Id)
+    (lines : Snippet F Id Name Source) (snippet_lines : List (RustLine Id)) : Type 0 where
+  pub text : lines.text.now ≡ (model_of database lines.file).text
+  pub are : AreLinesOf (model_of database lines.file) lines.lane_count snippet_lines
 
 module _ {W F Id Name Source : Type 0} (sink : W → Sink) (database : F → FileDatabase Id)
     (lines : Snippet F Id Name Source) where

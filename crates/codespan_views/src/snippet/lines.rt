@@ -1,12 +1,11 @@
 //! The lines of a file's snippet.
 
 ghost use Rattle.std.specs.Prelude.{◌≡◌, [], IsTrue, map};
-ghost use Rattle.std.specs.List.{AllByRecursion};
 ghost use Rattle.codespan_plan.specs.AnnotationViews.{IsLineOf, annotation_view};
 ghost use Rattle.codespan_plan.specs.SnippetLineViews.{IsSnippetLineOf, lookups_of_line, line_view};
-ghost use Rattle.codespan_views.specs.Private.LineRendering.{RendersLine, RendersLines};
+ghost use Rattle.codespan_views.specs.Private.LineRendering.{HasLines, RendersLine, RendersLines};
 ghost use Rattle.codespan_plan.specs.SourceFiles.{model_of};
-ghost use Rattle.codespan_plan.specs.SnippetLines.{Labeled, Break, do_annotations_fit, do_lane_marks_fit, does_line_fit, DoFit};
+ghost use Rattle.codespan_plan.specs.SnippetLines.{Labeled, Break, do_annotations_fit, do_lane_marks_fit, does_line_fit};
 
 use crate::snippet::line_labels::{LineLabels, fill_multi_labels};
 use codespan_base::diagnostic::Severity;
@@ -58,11 +57,7 @@ impl<'context, 'files, F: Files<'files>> Snippet<'context, 'files, F> {
         labels: &mut LineLabels<'d>,
         snippet_lines: &[SnippetLine<'_, 'd, F::FileId>],
     ) -> Result<(), Error>
-        requires text { self.now.text.now
-            ≡ (model_of F.database self.now.file).text }
-        requires snippet_lines { AllByRecursion
-            (IsSnippetLineOf (model_of F.database self.now.file)) snippet_lines.now }
-        requires fits { DoFit self.now.lane_count (map line_view snippet_lines.now) }
+        requires { HasLines F.database self.now snippet_lines.now }
         ensures { RendersLines W.sink F.database self.now snippet_lines.now renderer.old
             result
             renderer.new }

@@ -9,7 +9,7 @@ use Rattle.codespan_views.proofs.snippet.render_snippet.Goals.{In_ok-source}
 use Rattle.codespan_views.proofs.snippet.render_snippet.Goals as goal
 
 pub render_lines-requires : goal.render_lines-requires
-render_lines-requires g c κs = ((refl, (refl, tt)), (search rules, (c.requires.snippet_lines, c.requires.fits)))
+render_lines-requires g c κs = ((refl, (refl, tt)), record { text = search rules; are = c.requires })
 
 pub returns-in_err-source : goal.returns-in_err-source
 returns-in_err-source g c =

@@ -21,7 +21,7 @@ pub render_snippet-requires : goal.render_snippet-requires
 render_snippet-requires g c κs =
     let at = element-equal c.deref-file-items.ensures.value c.loop-index-test.true c.file-item.is in
     let own = own-snippet_lines at c.loop-index.invariant.files c.lines_of_file-snippet_lines.ensures in
-    ((refl, tt), (own.each, rw own.lanes_are own.fits))
+    ((refl, tt), record { each = own.each; fit = rw own.lanes_are own.fits })
 
 pub returns-in_err-render_snippet : goal.returns-in_err-render_snippet
 returns-in_err-render_snippet g c =

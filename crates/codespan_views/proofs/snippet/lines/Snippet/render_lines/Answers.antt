@@ -32,10 +32,10 @@ render_snippet_line-requires g c κs =
       (
         c.requires.text,
         (
-          subst (IsSnippetLineOf f) (sym c.snippet_line-item.is) (All-from_recursion (IsSnippetLineOf f) snippet_lines c.requires.snippet_lines i _ c.loop-snippet_line-test.true),
+          subst (IsSnippetLineOf f) (sym c.snippet_line-item.is) (All-from_recursion (IsSnippetLineOf f) snippet_lines c.requires.are.each i _ c.loop-snippet_line-test.true),
           ap (λ snippet_line. does_line_fit lines.lane_count (line_view snippet_line)) c.snippet_line-item.is
               ∙ All-from_recursion (λ snippet_line. does_line_fit lines.lane_count (line_view snippet_line) ≡ true) snippet_lines
-              (all-mapped line_view (λ snippet_line. does_line_fit lines.lane_count snippet_line ≡ true) snippet_lines c.requires.fits) i _ c.loop-snippet_line-test.true,
+              (all-mapped line_view (λ snippet_line. does_line_fit lines.lane_count snippet_line ≡ true) snippet_lines c.requires.are.fit) i _ c.loop-snippet_line-test.true,
         ),
       ),
     )
