@@ -1,5 +1,5 @@
 -- The lines of one snippet, rendered: the rows that are written, and the lookups.
-use Rattle.std.specs.Prelude.{◌≡◌, ℕ, List, map, Result}
+use Rattle.std.specs.Prelude.{◌≡◌, IsTrue, ℕ, List, map, Result}
 use Rattle.std.specs.List.{AllByRecursion}
 use Rattle.codespan_picture.specs.Types.{Error}
 use Rattle.codespan_base.specs.FileModel.{FileDatabase, FileModel, Lookup}
@@ -11,7 +11,7 @@ use Rattle.codespan_plan.specs.declared.plan.snippet_lines.SnippetLine.{SnippetL
 use Rattle.codespan_plan.specs.SourceFiles.{failure_of, model_of}
 use Rattle.codespan_plan.specs.SnippetLineViews.{IsSnippetLineOf, lookups_of_lines, line_view}
 use Rattle.codespan_views.specs.Private.Rendering.{RendersRowsWithLookups}
-use Rattle.codespan_plan.specs.SnippetLines.{SnippetLine, rows_of_line, rows_of_lines, DoFit}
+use Rattle.codespan_plan.specs.SnippetLines.{SnippetLine, does_line_fit, rows_of_line, rows_of_lines, DoFit}
 
 -- these are lines of the file, and they fit in so many lanes
 pub record AreLinesOf {Id : Type 0} (f : FileModel) (lane_count : ℕ)
@@ -24,6 +24,13 @@ pub record HasLines {F Id Name Source : Type 0} (database : F → FileDatabase I
     (lines : Snippet F Id Name Source) (snippet_lines : List (RustLine Id)) : Type 0 where
   pub text : lines.text.now ≡ (model_of database lines.file).text
   pub are : AreLinesOf (model_of database lines.file) lines.lane_count snippet_lines
+
+-- the snippet has the text of its file, and this is a line of it
+pub record HasLine {F Id Name Source : Type 0} (database : F → FileDatabase Id)
+    (lines : Snippet F Id Name Source) (snippet_line : RustLine Id) : Type 0 where
+  pub text : lines.text.now ≡ (model_of database lines.file).text
+  pub is : IsSnippetLineOf (model_of database lines.file) snippet_line
+  pub fits : IsTrue (does_line_fit lines.lane_count (line_view snippet_line))
 
 module _ {W F Id Name Source : Type 0} (sink : W → Sink) (database : F → FileDatabase Id)
     (lines : Snippet F Id Name Source) where

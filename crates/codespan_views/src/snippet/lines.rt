@@ -2,10 +2,10 @@
 
 ghost use Rattle.std.specs.Prelude.{◌≡◌, [], IsTrue, map};
 ghost use Rattle.codespan_plan.specs.AnnotationViews.{IsLineOf, annotation_view};
-ghost use Rattle.codespan_plan.specs.SnippetLineViews.{IsSnippetLineOf, lookups_of_line, line_view};
-ghost use Rattle.codespan_views.specs.Private.LineRendering.{HasLines, RendersLine, RendersLines};
+ghost use Rattle.codespan_plan.specs.SnippetLineViews.{lookups_of_line, line_view};
+ghost use Rattle.codespan_views.specs.Private.LineRendering.{HasLine, HasLines, RendersLine, RendersLines};
 ghost use Rattle.codespan_plan.specs.SourceFiles.{model_of};
-ghost use Rattle.codespan_plan.specs.SnippetLines.{Labeled, Break, do_annotations_fit, do_lane_marks_fit, does_line_fit};
+ghost use Rattle.codespan_plan.specs.SnippetLines.{Labeled, Break, do_annotations_fit, do_lane_marks_fit};
 
 use crate::snippet::line_labels::{LineLabels, fill_multi_labels};
 use codespan_base::diagnostic::Severity;
@@ -79,11 +79,7 @@ impl<'context, 'files, F: Files<'files>> Snippet<'context, 'files, F> {
         labels: &mut LineLabels<'d>,
         snippet_line: &SnippetLine<'_, 'd, F::FileId>,
     ) -> Result<(), Error>
-        requires text { self.now.text.now
-            ≡ (model_of F.database self.now.file).text }
-        requires snippet_line { IsSnippetLineOf (model_of F.database self.now.file)
-            snippet_line.now }
-        requires fits { IsTrue (does_line_fit self.now.lane_count (line_view snippet_line.now)) }
+        requires { HasLine F.database self.now snippet_line.now }
         ensures { RendersLine W.sink F.database self.now (lookups_of_line snippet_line.now)
             (line_view snippet_line.now)
             renderer.old result renderer.new }

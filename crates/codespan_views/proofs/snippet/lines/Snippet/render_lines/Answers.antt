@@ -29,15 +29,13 @@ render_snippet_line-requires g c κs =
     let f = model_of g.F.Files.database lines.file in
     let i = c.loop-snippet_line.snippet_line-index in (
       (refl, (refl, tt)),
-      (
-        c.requires.text,
-        (
-          subst (IsSnippetLineOf f) (sym c.snippet_line-item.is) (All-from_recursion (IsSnippetLineOf f) snippet_lines c.requires.are.each i _ c.loop-snippet_line-test.true),
-          ap (λ snippet_line. does_line_fit lines.lane_count (line_view snippet_line)) c.snippet_line-item.is
-              ∙ All-from_recursion (λ snippet_line. does_line_fit lines.lane_count (line_view snippet_line) ≡ true) snippet_lines
-              (all-mapped line_view (λ snippet_line. does_line_fit lines.lane_count snippet_line ≡ true) snippet_lines c.requires.are.fit) i _ c.loop-snippet_line-test.true,
-        ),
-      ),
+      record {
+        text = c.requires.text;
+        is = subst (IsSnippetLineOf f) (sym c.snippet_line-item.is) (All-from_recursion (IsSnippetLineOf f) snippet_lines c.requires.are.each i _ c.loop-snippet_line-test.true);
+        fits = ap (λ snippet_line. does_line_fit lines.lane_count (line_view snippet_line)) c.snippet_line-item.is
+            ∙ All-from_recursion (λ snippet_line. does_line_fit lines.lane_count (line_view snippet_line) ≡ true) snippet_lines
+            (all-mapped line_view (λ snippet_line. does_line_fit lines.lane_count snippet_line ≡ true) snippet_lines c.requires.are.fit) i _ c.loop-snippet_line-test.true;
+      },
     )
 
 pub returns-in_err-render_snippet_line : goal.returns-in_err-render_snippet_line
