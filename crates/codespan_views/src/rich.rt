@@ -160,7 +160,7 @@ impl<'diagnostic, 'config, FileId: Copy + Eq> RichDiagnostic<'diagnostic, 'confi
         for (index, file) in output_plan.files.iter().enumerate() {
             let snippet_lines = lines_of_file(output_plan, file, start);
             start += file.line_total;
-            let is_followed = notes_follow | is_file_next(output_plan, index);
+            let is_followed = notes_follow | has_next_file(output_plan, index);
             render_snippet(&context, renderer, &mut labels, file, snippet_lines)?;
             render_trailing_border(&context, renderer, file, is_followed)?;
         }
@@ -184,7 +184,7 @@ fn lines_of_file<'p, 'e, 'd, FileId>(
 
 /// Returns whether another file follows the one at this index.
 #[inline(always)]
-fn is_file_next<FileId>(output_plan: &OutputPlan<'_, '_, FileId>, index: usize) -> bool
+fn has_next_file<FileId>(output_plan: &OutputPlan<'_, '_, FileId>, index: usize) -> bool
     requires { index < length output_plan.now.files.items }
     ensures { result ≡ nat_lt (index + 1) (length output_plan.now.files.items) }
 {

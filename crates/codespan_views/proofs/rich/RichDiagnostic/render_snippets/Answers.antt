@@ -14,8 +14,8 @@ lines_of_file-snippet_lines-requires g c =
     let at = element-equal c.deref-file-items.ensures.value c.loop-index-test.true c.file-item.is in
     own-inside at c.loop-index.invariant.files
 
-pub is_file_next-requires : goal.is_file_next-requires
-is_file_next-requires g c = (element-equal c.deref-file-items.ensures.value c.loop-index-test.true c.file-item.is).inside
+pub has_next_file-requires : goal.has_next_file-requires
+has_next_file-requires g c = (element-equal c.deref-file-items.ensures.value c.loop-index-test.true c.file-item.is).inside
 
 pub render_snippet-requires : goal.render_snippet-requires
 render_snippet-requires g c κs =
@@ -30,7 +30,7 @@ returns-in_err-render_snippet g c =
     let p = err_from_is_err_and c.from_residual.result c.from_residual.ensures.1 in
     rw (p.1 ∙ ap Err p.2) (record {
       same = same_twice c.loop-index.invariant.same c.in_err-render_snippet.ensures.same;
-      renders = cut-in_snippet c.requires c.loop-index.invariant.left at own c.has_notes-notes_follow.ensures c.is_file_next.ensures c.loop-index.invariant.same.config c.in_err-render_snippet.ensures.renders;
+      renders = cut-in_snippet c.requires c.loop-index.invariant.left at own c.has_notes-notes_follow.ensures c.has_next_file.ensures c.loop-index.invariant.same.config c.in_err-render_snippet.ensures.renders;
     })
 
 pub returns-in_err-render_trailing_border : goal.returns-in_err-render_trailing_border
@@ -43,7 +43,7 @@ returns-in_err-render_trailing_border g c =
     let second = c.in_err-render_trailing_border.ensures in
     rw (p.1 ∙ ap Err p.2) (record {
       same = same_twice was (same_twice first.same second.same);
-      renders = cut-after_snippet c.requires c.loop-index.invariant.left at own c.has_notes-notes_follow.ensures c.is_file_next.ensures was.config first.renders first.same.config second.writes second.io;
+      renders = cut-after_snippet c.requires c.loop-index.invariant.left at own c.has_notes-notes_follow.ensures c.has_next_file.ensures was.config first.renders first.same.config second.writes second.io;
     })
 
 pub loop-index-preserved : goal.loop-index-preserved
@@ -56,7 +56,7 @@ loop-index-preserved g c =
     record {
       same = same_twice was (same_twice first second);
       files = later-files at c.loop-index.invariant.files;
-      left = next-file c.requires c.loop-index.invariant.left at own c.has_notes-notes_follow.ensures c.is_file_next.ensures was.config c.in_ok-render_snippet.ensures.renders
+      left = next-file c.requires c.loop-index.invariant.left at own c.has_notes-notes_follow.ensures c.has_next_file.ensures was.config c.in_ok-render_snippet.ensures.renders
           first.config c.in_ok-render_trailing_border.ensures.writes;
     }
 
