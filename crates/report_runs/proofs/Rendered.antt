@@ -1,5 +1,5 @@
 -- The output of a diagnostic.
-use Rattle.std.proofs.Common.{◌≡◌, ℕ, true, List, [], ◌∷◌, map, Result, Ok, Err, IfOk, refl, ap, ◌∙◌}
+use Rattle.std.proofs.Common.{◌≡◌, ℕ, true, List, [], ◌∷◌, map, Result, Ok, Err, IfOk, refl, sym, subst, ap, ◌∙◌}
 use Rattle.codespan_base.specs.declared.diagnostic.Diagnostic.{Diagnostic}
 use Rattle.codespan_base.specs.declared.diagnostic.Label.{Label}
 use Rattle.codespan_base.specs.declared.files.Error.{Error}
@@ -19,16 +19,16 @@ use Rattle.codespan_picture.specs.Snippets.{InFile, labeled_file_models}
 use Rattle.codespan_picture.proofs.EqualConfigs.{rendered_equal}
 use Rattle.report_runs.specs.RenderedTexts.{config_of, view_label, only_file, output_text}
 
--- the same configurations, in another style
-restyled : (table config : Config) (style : DisplayStyle) → IsConfig table config → IsConfig (record table { display_style = style }) (record config { display_style = style })
-restyled table config style equal = record { chars = equal.chars; others = ap (λ (c : Config). record c { display_style = style }) equal.others }
+-- a configuration equal to the default one, in a style
+pub restyled : (config : Config) (style : DisplayStyle) → IsConfig default_config config → IsConfig (config_of style) (record config { display_style = style })
+restyled config style equal = record { chars = equal.chars; others = ap (λ (c : Config). record c { display_style = style }) equal.others }
 
 -- labels as the definition of the output takes them are those of the diagnostic
 labels_equal : (xs : List (Label (Unit {0}))) → map label_of xs ≡ map view_label (map label_view xs)
 labels_equal [] = refl
 labels_equal (x ∷ xs) = ap (λ rest. label_of x ∷ rest) (labels_equal xs)
 
-module _ (style : DisplayStyle) (d : Diagnostic (Unit {0})) where
+module _ (d : Diagnostic (Unit {0})) where
   -- a file database of that file alone
   abbrev table_at : List ℕ → List ℕ → Failures (Unit {0}) → FileDatabase (Unit {0})
   table_at name source failure = record { same = λ i j. true; file = only_file name source; failure = failure }
@@ -36,26 +36,31 @@ module _ (style : DisplayStyle) (d : Diagnostic (Unit {0})) where
   -- the output of the diagnostic with these labels
   abbrev rendered_by : Config → List ℕ → List ℕ → List (InFile (Unit {0})) → Stream
   rendered_by config name source xs =
-      rendered style config config d.severity (heading_of d) (map stated_locus (starts (λ i j. true) (only_file name source) xs style)) (labeled_file_models (λ i j. true) (only_file name source) xs) (notes_of d)
+      rendered config.display_style config config d.severity (heading_of d) (map stated_locus (starts (λ i j. true) (only_file name source) xs config.display_style)) (labeled_file_models (λ i j. true) (only_file name source) xs) (notes_of d)
 
   -- the text rendered of the diagnostic over a name and a source, by a configuration equal to the
-  -- default one, is that of its output
-  pub rendered_text : (name source : List ℕ) (config : Config) (failure : Failures (Unit {0})) (text : List ℕ)
-      → IsConfig default_config config → IsRendered (record config { display_style = style }) (table_at name source failure) d text
-      → (named contents : List ℕ) → name ≡ named → source ≡ contents → text ≡ output_text style named contents (diagnostic_view d)
+  -- default one in its style, is that of its output
+  rendered_text : (name source : List ℕ) (config : Config) (failure : Failures (Unit {0})) (text : List ℕ)
+      → IsConfig (config_of config.display_style) config → IsRendered config (table_at name source failure) d text
+      → (named contents : List ℕ) → name ≡ named → source ≡ contents → text ≡ output_text config.display_style named contents (diagnostic_view d)
   unfolding output_text
   rendered_text name source config failure text equal is_rendered named contents n s =
+      let plain = config_of config.display_style in
       is_rendered.text_is
-      ∙ ap text_of (output_stated (table_at name source failure) d (λ x has. refl) style (record config { display_style = style }) (record config { display_style = style }) is_rendered.loci is_rendered.are_loci)
-      ∙ ap text_of (rendered_equal (config_of style) (record config { display_style = style }) (restyled default_config config style equal) d.severity (heading_of d)
-      (map stated_locus (starts (λ i j. true) (only_file name source) (labels_of d) style)) (labeled_file_models (λ i j. true) (only_file name source) (labels_of d)) (notes_of d) style)
-      ∙ ap (λ m. text_of (rendered_by (config_of style) m source (labels_of d))) n
-      ∙ ap (λ m. text_of (rendered_by (config_of style) named m (labels_of d))) s
-      ∙ ap (λ xs. text_of (rendered_by (config_of style) named contents xs)) (labels_equal d.labels.items)
+      ∙ ap text_of (output_stated (table_at name source failure) d (λ x has. refl) config.display_style config config is_rendered.loci is_rendered.are_loci)
+      ∙ ap text_of (rendered_equal plain config equal d.severity (heading_of d)
+      (map stated_locus (starts (λ i j. true) (only_file name source) (labels_of d) config.display_style)) (labeled_file_models (λ i j. true) (only_file name source) (labels_of d)) (notes_of d) config.display_style)
+      ∙ ap (λ m. text_of (rendered_by plain m source (labels_of d))) n
+      ∙ ap (λ m. text_of (rendered_by plain named m (labels_of d))) s
+      ∙ ap (λ xs. text_of (rendered_by plain named contents xs)) (labels_equal d.labels.items)
 
-  -- the same of a call that returns a text
-  pub rendered_result : {T : Type 0} (text : T → List ℕ) (name source : List ℕ) (config : Config) (failure : Failures (Unit {0})) (r : Result T Error)
-      → IsConfig default_config config → Emits (record config { display_style = style }) (table_at name source failure) d text r
+  -- the same of a call that returns a text, by a configuration equal to the default one in a style
+  pub rendered_result : {T : Type 0} (style : DisplayStyle) (text : T → List ℕ) (name source : List ℕ) (config : Config) (failure : Failures (Unit {0})) (r : Result T Error)
+      → IsConfig (config_of style) config → Emits config (table_at name source failure) d text r
       → (named contents : List ℕ) → name ≡ named → source ≡ contents → IfOk r (λ t. text t ≡ output_text style named contents (diagnostic_view d))
-  rendered_result text name source config failure (Ok t) equal is_rendered named contents n s = rendered_text name source config failure (text t) equal is_rendered named contents n s
-  rendered_result text name source config failure (Err e) equal is_rendered named contents n s = tt
+  rendered_result style text name source config failure (Ok t) equal is_rendered named contents n s =
+      let styled : config.display_style ≡ style = ap (λ (c : Config). c.display_style) equal.others in
+      let same = subst (λ other. IsConfig (config_of other) config) (sym styled) equal in
+      subst (λ other. text t ≡ output_text other named contents (diagnostic_view d)) styled
+      (rendered_text name source config failure (text t) same is_rendered named contents n s)
+  rendered_result style text name source config failure (Err e) equal is_rendered named contents n s = tt

@@ -1,8 +1,9 @@
 //! Renders the diagnostic that the arguments request.
 
 ghost use Rattle.std.specs.Prelude.{◌≡◌, IfOk, IfErr, Ok, string_bytes};
+ghost use Rattle.codespan_base.specs.ConfigEquality.{IsConfig};
 ghost use Rattle.codespan_base.specs.Diagnostics.{diagnostic_view};
-ghost use Rattle.report_runs.specs.RenderedTexts.{rendering_of, rendering_of_script, output_text, IsRenderFailure};
+ghost use Rattle.report_runs.specs.RenderedTexts.{config_of, rendering_of, rendering_of_script, output_text, IsRenderFailure};
 ghost use Rattle.report_script.specs.Requests.{command_view};
 ghost use Rattle.report_script.specs.Scripts.{read_script};
 
@@ -86,9 +87,15 @@ fn render_over(
         ≡ output_text style name.now source.now (diagnostic_view diagnostic.now)) }
 {
     let file = SimpleFile::new(alloc, name, source)?;
-    let config = Config {
+    emit_into_string(&config_in(style), &file, diagnostic)
+}
+
+/// Returns the default configuration, in a display style.
+fn config_in(style: DisplayStyle) -> Config<'static>
+    ensures { IsConfig (config_of style) result }
+{
+    Config {
         display_style: style,
         ..Config::default()
-    };
-    emit_into_string(&config, &file, diagnostic)
+    }
 }

@@ -59,7 +59,8 @@ pub fn run<R: Read, W: Write, E: Write>(
         ⊎ ((text : List ℕ) × (rendering_of command source ≡ Ok text)
         × AppendsPrefix (W.contents output.old) (W.contents output.new) text)) }
 {
-    conclude(report(alloc, args, input, output), error_output)
+    let outcome = report(alloc, args, input, output);
+    conclude(outcome, error_output)
 }
 
 /// Writes the error, if there is one, and returns the program's status: the error of a script as a
