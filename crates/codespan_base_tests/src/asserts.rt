@@ -30,3 +30,32 @@ pub fn assert_ok<T: Copy + PartialEq + Debug>(
         Err(error) => panic!(rt; "error: {error:?}"),
     }
 }
+
+/// Returns whether a call failed with `FileMissing`.
+pub fn is_file_missing<T>(returned: &Result<T, Error>) -> bool {
+    matches!(returned, Err(Error::FileMissing))
+}
+
+/// Returns whether a call failed with these limits of a line.
+pub fn is_line_too_large<T>(returned: &Result<T, Error>, limits: (usize, usize)) -> bool {
+    match returned {
+        Err(Error::LineTooLarge { given, max }) => (*given, *max) == limits,
+        _ => false,
+    }
+}
+
+/// Returns whether a call failed with these limits of a column.
+pub fn is_column_too_large<T>(returned: &Result<T, Error>, limits: (usize, usize)) -> bool {
+    match returned {
+        Err(Error::ColumnTooLarge { given, max }) => (*given, *max) == limits,
+        _ => false,
+    }
+}
+
+/// Returns the number that a call was given, where it failed since that is inside a character.
+pub fn inside_character<T>(returned: &Result<T, Error>) -> Option<usize> {
+    match returned {
+        Err(Error::InvalidCharBoundary { given }) => Some(*given),
+        _ => None,
+    }
+}

@@ -4,7 +4,7 @@ mod example;
 mod generic;
 mod keys;
 
-use crate::asserts::{assert_ok, assert_same, assert_same_at};
+use crate::asserts::{assert_ok, assert_same, assert_same_at, is_file_missing, is_line_too_large};
 use codespan_base::files::{
     Error, Files, MappedFile, SimpleFile, SimpleFiles, column_index, default_line_number,
     line_starts,
@@ -61,11 +61,6 @@ fn missing_file(rt: HostRuntime) -> Result<(), Fail> {
     let file = SimpleFile::new(rt.alloc(), "f", "a\nb")?;
     assert!(rt; is_line_too_large(&file.line_range((), 2), (2, 1)));
     Ok(())
-}
-
-/// Returns whether a lookup failed with `FileMissing`.
-fn is_file_missing<T>(returned: &Result<T, Error>) -> bool {
-    matches!(returned, Err(Error::FileMissing))
 }
 
 /// Counts the lookups of a file that fail with `FileMissing`, of the six that need the file.
@@ -140,14 +135,6 @@ fn mapped_overflow(rt: HostRuntime) -> Result<(), Fail> {
     assert_ok(&rt, file.line_number((), 0), 1);
     assert_ok(&rt, file.line_number((), 1), usize::MAX);
     Ok(())
-}
-
-/// Returns whether a lookup failed with these limits of a line.
-fn is_line_too_large<T>(returned: &Result<T, Error>, limits: (usize, usize)) -> bool {
-    match returned {
-        Err(Error::LineTooLarge { given, max }) => (*given, *max) == limits,
-        _ => false,
-    }
 }
 
 #[test]

@@ -1,4 +1,5 @@
-//! Tests of diagnostics, files and writers: what no contract says. And the code of `docs/FILES.md`.
+//! Tests of what uses `codespan_base` alone: of diagnostics, files and writers, and, in `lsp`, of
+//! `codespan_lsp`: what no contract says. And the code of `docs/FILES.md` and of `docs/LSP.md`.
 #![tactic(auto)]
 
 #[cfg(test)]
@@ -7,5 +8,7 @@ mod asserts;
 mod diagnostics;
 #[cfg(test)]
 mod files;
+#[cfg(test)]
+mod lsp;
 #[cfg(test)]
 mod writers;

@@ -1,8 +1,18 @@
-//! Tests of the calls that emit and of the views: what no contract says. And the quick start of
-//! `README.md`.
+//! Tests of the calls that emit, of the views and the rows, of styled text, of the call for C and of
+//! the runs of `report`: what no contract says. And the quick start of `README.md`.
 #![tactic(auto)]
 
+#[cfg(test)]
+mod asserts;
+#[cfg(test)]
+mod native;
 #[cfg(test)]
 mod outputs;
 #[cfg(test)]
 mod quick_start;
+#[cfg(test)]
+mod report;
+#[cfg(test)]
+mod rows;
+#[cfg(test)]
+mod styled;

@@ -1,6 +1,6 @@
 //! The quick start of README.md.
 
-use crate::outputs::rendering::{assert_bytes, assert_text};
+use crate::asserts::{assert_bytes, assert_text};
 use codespan_reporting::diagnostic::{Diagnostic, Label, LabelStyle, Severity};
 use codespan_reporting::files::{Error, SimpleFiles};
 use codespan_reporting::term::{Config, PlainWriter, Renderer, emit_into_string};

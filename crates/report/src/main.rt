@@ -17,11 +17,6 @@
 //! not UTF-8 are wrong; where memory for them runs out, the status is 1.
 #![tactic(auto)]
 
-#[cfg(test)]
-mod script_tests;
-#[cfg(test)]
-mod tests;
-
 use program_io::arguments::arguments;
 use report_runs::run::{conclude, run};
 use std::process::ExitCode;

@@ -1,8 +1,7 @@
 //! Each lookup, called through the trait alone, over each file database.
 
-use crate::asserts::assert_ok;
+use crate::asserts::{assert_ok, is_file_missing};
 use crate::files::example::Listing;
-use crate::files::is_file_missing;
 use codespan_base::files::{
     Error, Files, Location, MappedFile, SimpleFile, SimpleFiles, default_column_number,
     default_location,

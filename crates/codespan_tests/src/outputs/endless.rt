@@ -1,6 +1,7 @@
 //! A tab width and contexts of the greatest `usize`.
 
-use crate::outputs::rendering::{assert_bytes, assert_output};
+use crate::asserts::assert_bytes;
+use crate::outputs::rendering::assert_output;
 use codespan_reporting::diagnostic::{Diagnostic, Label};
 use codespan_reporting::files::{Error, SimpleFile};
 use codespan_reporting::term::{

@@ -1,6 +1,7 @@
 //! File databases of names and texts, a view rendered plain and in colors, and what is asserted of
 //! outputs.
 
+use crate::asserts::{assert_bytes, assert_text};
 use codespan_reporting::diagnostic::Diagnostic;
 use codespan_reporting::files::{Error, Files, SimpleFiles};
 use codespan_reporting::term::{
@@ -21,16 +22,6 @@ pub fn files_of<'text>(
         files.add(*name, *source)?;
     }
     Ok(files)
-}
-
-/// Asserts that a text is this one.
-pub fn assert_text(rt: &impl Abort, text: &str, expected: &str) {
-    assert_eq!(rt; text, expected);
-}
-
-/// Asserts that bytes are those of this text.
-pub fn assert_bytes(rt: &impl Abort, bytes: &[u8], expected: &str) {
-    assert_eq!(rt; bytes, expected.as_bytes());
 }
 
 /// What a rendering returned, and what it wrote.

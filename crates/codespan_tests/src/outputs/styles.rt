@@ -1,6 +1,7 @@
 //! Tests of short and medium style, and of the calls that emit.
 
-use crate::outputs::rendering::{assert_bytes, assert_text, files_of};
+use crate::asserts::{assert_bytes, assert_text};
+use crate::outputs::rendering::files_of;
 use codespan_reporting::diagnostic::{Diagnostic, Label};
 use codespan_reporting::files::{Error, SimpleFiles};
 use codespan_reporting::term::{

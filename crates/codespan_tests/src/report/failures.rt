@@ -1,6 +1,6 @@
 //! Runs over readers and writers that fail.
 
-use crate::tests::{Failing, NO_FAILURES, OUTPUT, REQUEST, ran};
+use crate::report::{Failing, NO_FAILURES, OUTPUT, REQUEST, ran};
 use std::test::Fail;
 
 #[test]

@@ -5,6 +5,7 @@ mod headers;
 mod lanes;
 mod stopping;
 
+use crate::asserts::assert_bytes;
 use crate::rows::stopping::assert_rows_stop;
 use codespan_base::diagnostic::{LabelStyle, Severity};
 use codespan_base::files::Error;
@@ -140,11 +141,6 @@ fn rows_in_color<R: Rows>(
     Ok(colored.into_inner())
 }
 
-/// Asserts that these bytes are this text.
-fn assert_text(rt: &impl Abort, text: &[u8], expected: &str) {
-    assert_eq!(rt; text, expected.as_bytes());
-}
-
 /// Asserts that the rows are this text: plain, over [`NoColor`], and over [`Ansi`] once the escape
 /// sequences are taken out; and a prefix of it where a writer stops.
 fn assert_rows<R: Rows>(
@@ -155,12 +151,12 @@ fn assert_rows<R: Rows>(
     expected: &str,
 ) -> Result<(), Error> {
     let plain = plain_rows(rt, alloc, config, rows)?;
-    assert_text(rt, plain.as_slice(), expected);
+    assert_bytes(rt, plain.as_slice(), expected);
     let without_color = rows_without_color(rt, alloc, config, rows)?;
-    assert_text(rt, without_color.as_slice(), expected);
+    assert_bytes(rt, without_color.as_slice(), expected);
     let colored = rows_in_color(rt, alloc, config, rows)?;
     let text = without_sequences(alloc, colored.as_slice())?;
-    assert_text(rt, text.as_slice(), expected);
+    assert_bytes(rt, text.as_slice(), expected);
     assert_rows_stop(rt, config, rows, &plain, &colored)
 }
 
@@ -269,7 +265,7 @@ fn tab_stops(rt: HostRuntime) -> Result<(), Fail> {
 fn coloured_label(rt: HostRuntime) -> Result<(), Fail> {
     let line = LineInput::labeled("abc", &[(LabelStyle::Primary, 1..2, "m")]);
     let text = rows_in_color(&rt, rt.alloc(), &Config::default(), &line)?;
-    assert_text(&rt, text.as_slice(), COLORED);
+    assert_bytes(&rt, text.as_slice(), COLORED);
     Ok(())
 }
 

@@ -1,6 +1,6 @@
 //! Scripts with an error, each with its diagnostic.
 
-use crate::script_tests::check;
+use crate::report::scripts::check;
 use std::test::Fail;
 
 #[test]

@@ -2,7 +2,7 @@
 
 mod errors;
 
-use crate::tests::{Failing, NO_FAILURES, ran};
+use crate::report::{Failing, NO_FAILURES, ran};
 use std::process::Abort;
 use std::test::Fail;
 

@@ -1,6 +1,7 @@
 //! What is left out of hostile texts, and which sequences a terminal receives.
 
-use crate::texts::{assert_terminal, assert_text};
+use crate::asserts::assert_text;
+use crate::styled::texts::assert_terminal;
 use codespan_base::diagnostic::{Diagnostic, Label, LabelStyle, Severity};
 use codespan_base::files::{Error, SimpleFiles};
 use codespan_base::term::{Ansi, Config, Styles, StylesWriter};

@@ -1,6 +1,7 @@
 //! Runs over readers and writers in memory, and over some that fail.
 
 mod failures;
+mod scripts;
 
 use report_runs::run::run;
 use std::alloc::{AllocError, Global};

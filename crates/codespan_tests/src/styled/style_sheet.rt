@@ -1,7 +1,7 @@
 //! Style sheets against the colors of xterm, as its manual and `rgb.txt` have them: `red3` for red,
 //! `red` for bright red, and the like, but for its two blues.
 
-use crate::texts::assert_text;
+use crate::asserts::assert_text;
 use codespan_base::files::Error;
 use codespan_base::term::{Color, ColorSpec, Styles};
 use codespan_styled::html_styles;

@@ -1,6 +1,7 @@
 //! Tests of what no contract says: whole documents, against HTML's own entities.
 
-use crate::texts::{assert_html, assert_text};
+use crate::asserts::assert_text;
+use crate::styled::texts::assert_html;
 use codespan_base::diagnostic::{Diagnostic, Label, LabelStyle, Severity};
 use codespan_base::files::{Error, SimpleFile};
 use codespan_base::term::{Config, DisplayStyle};

@@ -1,6 +1,7 @@
 //! Writers that take little at a time, or stop.
 
-use crate::rows::{COLORED, LineInput, Rows, assert_text, render_styled, render_to};
+use crate::asserts::assert_bytes;
+use crate::rows::{COLORED, LineInput, Rows, render_styled, render_to};
 use codespan_base::diagnostic::{LabelStyle, Severity};
 use codespan_base::files::Error;
 use codespan_base::term::{Ansi, Config, PlainWriter};
@@ -105,7 +106,7 @@ fn endless_padding(rt: HostRuntime) -> Result<(), Fail> {
         let mut renderer = Renderer::new(&mut plain, &config);
         let result = renderer.render_snippet_empty(padding, Severity::Error, lanes, &marks);
         assert!(rt; matches!(result, Err(Error::Io(_))));
-        assert_text(&rt, plain.into_inner().text.as_slice(), expected);
+        assert_bytes(&rt, plain.into_inner().text.as_slice(), expected);
     }
     Ok(())
 }

@@ -1,5 +1,6 @@
 //! Styled texts, and the documents of them.
 
+use crate::asserts::assert_text;
 use codespan_base::files::Error;
 use codespan_base::term::Styles;
 use codespan_styled::{Run, Style, StyledText, to_html, to_terminal};
@@ -16,11 +17,6 @@ pub fn text_of(alloc: Global, parts: &[(Style, &str)]) -> Result<StyledText, All
         })?;
     }
     Ok(StyledText { runs })
-}
-
-/// Asserts that two texts are equal.
-pub fn assert_text(rt: &impl Abort, text: &str, want: &str) {
-    assert_eq!(rt; text, want);
 }
 
 /// Asserts that a text in one style is this document of HTML.

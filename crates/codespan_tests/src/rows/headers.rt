@@ -1,6 +1,7 @@
 //! Tests of headers and notes.
 
-use crate::rows::{Rows, assert_default_rows, assert_text, rows_in_color};
+use crate::asserts::assert_bytes;
+use crate::rows::{Rows, assert_default_rows, rows_in_color};
 use codespan_base::diagnostic::{LabelStyle, Severity};
 use codespan_base::files::{Error, Location};
 use codespan_base::term::{Config, WriteStyle};
@@ -49,7 +50,7 @@ fn coloured_header(rt: HostRuntime) -> Result<(), Fail> {
     let expected = "\x1b[0m\x1b[1m\x1b[38;5;9merror\x1b[0m\x1b[1m: m\x1b[0m\n\
                 \x1b[0m\x1b[1m\x1b[38;5;9merror\x1b[0m\x1b[1m: m\x1b[0m\n\
                 \x1b[0m\x1b[36m\x1b[0m\x1b[36m\x1b[0m\x1b[36m\x1b[0m\x1b[31m";
-    assert_text(&rt, text.as_slice(), expected);
+    assert_bytes(&rt, text.as_slice(), expected);
     Ok(())
 }
 

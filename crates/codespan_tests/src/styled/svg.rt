@@ -1,7 +1,8 @@
 //! A document against one that another program made by the rules of the format, in Python:
 //! `document` of `tools/gallery/inks.py`.
 
-use crate::texts::{assert_text, text_of};
+use crate::asserts::assert_text;
+use crate::styled::texts::text_of;
 use codespan_base::diagnostic::{LabelStyle, Severity};
 use codespan_base::term::Styles;
 use codespan_styled::{Style, to_svg};

@@ -1,0 +1,7 @@
+//! Tests of styled text and of the documents made of it.
+
+mod html;
+mod style_sheet;
+mod svg;
+mod terminal;
+mod texts;
