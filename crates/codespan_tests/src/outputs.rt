@@ -8,5 +8,4 @@ mod listing;
 mod longest_file;
 mod other_files;
 pub mod rendering;
-mod stopping;
 mod styles;

@@ -1,274 +1,146 @@
-//! Tests of worked rows by direct calls.
-
-mod flushing;
-mod headers;
-mod lanes;
-mod stopping;
+//! Direct calls of `Renderer`, beside those of the table of `writer_runs`.
 
 use crate::asserts::assert_bytes;
-use crate::rows::stopping::assert_rows_stop;
 use codespan_base::diagnostic::{LabelStyle, Severity};
-use codespan_base::files::Error;
-use codespan_base::term::{
-    Ansi, Config, NoColor, PlainWriter, Styles, StylesWriter, WriteColor, WriteStyle,
-};
-use codespan_renderer::term::renderer::{MultiLabel, Renderer, SingleLabel, lanes_in_order};
+use codespan_base::files::{Error, Location};
+use codespan_base::term::{Ansi, Config, PlainWriter, Styles, StylesWriter, WriteStyle};
+use codespan_renderer::term::renderer::{Locus, MultiLabel, Renderer, lanes_in_order};
 use std::alloc::Global;
+use std::io;
+use std::io::Write;
 use std::process::Abort;
 use std::test::Fail;
-use test_writers::sequences::without_sequences;
+use test_writers::counting::Counting;
+use test_writers::stopping::{Stop, Stopping};
 
-/// The arguments of a line.
-#[derive(Drop)]
-struct LineInput<'a> {
-    number: usize,
-    text: &'a str,
-    labels: &'a [SingleLabel<'a>],
-    count: usize,
-    marks: &'a [(usize, LabelStyle, MultiLabel<'a>)],
-}
+/// A lane of a multi-line label that goes on.
+type Lane = (usize, LabelStyle, MultiLabel<'static>);
 
-impl<'a> LineInput<'a> {
-    /// Returns the first line of a text, with single-line labels alone.
-    fn labeled(text: &'a str, labels: &'a [SingleLabel<'a>]) -> LineInput<'a> {
-        LineInput {
-            number: 1,
-            text,
-            labels,
-            count: 0,
-            marks: &[],
-        }
+/// The first lane.
+const FIRST: Lane = (0, LabelStyle::Primary, MultiLabel::Left);
+
+/// The second lane.
+const SECOND: Lane = (1, LabelStyle::Primary, MultiLabel::Left);
+
+/// The third lane.
+const THIRD: Lane = (2, LabelStyle::Primary, MultiLabel::Left);
+
+/// The number of lanes of a file, some of them, and whether these are in order.
+static LANES: [(usize, &[Lane], bool); 5] = [
+    (0, &[], true),
+    (2, &[FIRST, SECOND], true),
+    (2, &[SECOND, FIRST], false),
+    (2, &[FIRST, FIRST], false),
+    (2, &[THIRD], false),
+];
+
+/// Lanes are in order where each is one of the file's, and greater than the one before.
+#[test]
+fn lanes_in_order_test(rt: HostRuntime) {
+    for (count, lanes, are_in_order) in &LANES {
+        assert!(rt; lanes_in_order(*count, lanes) == *are_in_order);
     }
 }
 
-/// Renders a line. Its lanes are in order, as the call requires.
+/// A padding and lanes of the greatest `usize` are written until the writer fails.
+#[test]
+fn endless_padding(rt: HostRuntime) -> Result<(), Fail> {
+    let config = Config::default();
+    for (padding, lanes, expected) in [(usize::MAX, 0, "          "), (0, usize::MAX, " │      ")] {
+        let mut plain = PlainWriter::new(Stopping::new(rt.alloc(), 1, 10, Stop::Fails));
+        let mut renderer = Renderer::new(&mut plain, &config);
+        let result = renderer.render_snippet_empty(padding, Severity::Error, lanes, &[]);
+        assert!(rt; matches!(result, Err(Error::Io(_))));
+        assert_bytes(&rt, plain.into_inner().text.as_slice(), expected);
+    }
+    Ok(())
+}
+
+/// Writes a header and each other style mark, and then flushes once.
+fn write_marks<W: WriteStyle>(w: &mut W) -> io::Result<()> {
+    w.set_header(Severity::Error)?;
+    w.write_all(b"error")?;
+    w.set_header_message()?;
+    w.put(b": m")?;
+    w.reset()?;
+    w.put(b"\n")?;
+    w.set_line_number()?;
+    w.set_note_bullet()?;
+    w.set_source_border()?;
+    w.set_label(Severity::Error, LabelStyle::Primary)?;
+    w.flush()
+}
+
+/// Renders a header, and writes the same header and the style marks through the renderer as a
+/// writer.
+fn render_header_and_marks<W: WriteStyle>(w: &mut W) -> Result<(), Error> {
+    let config = Config::default();
+    let mut renderer = Renderer::new(w, &config);
+    renderer.render_header(None, Severity::Error, None, "m")?;
+    write_marks(&mut renderer)?;
+    Ok(())
+}
+
+/// A renderer passes on the style marks and the text that are written to it.
+#[test]
+fn coloured_header(rt: HostRuntime) -> Result<(), Fail> {
+    let styles = Styles::default();
+    let mut colored = StylesWriter::new(Ansi::new(Vec::new(rt.alloc())), &styles);
+    render_header_and_marks(&mut colored)?;
+    let expected = "\x1b[0m\x1b[1m\x1b[38;5;9merror\x1b[0m\x1b[1m: m\x1b[0m\n\
+                \x1b[0m\x1b[1m\x1b[38;5;9merror\x1b[0m\x1b[1m: m\x1b[0m\n\
+                \x1b[0m\x1b[36m\x1b[0m\x1b[36m\x1b[0m\x1b[36m\x1b[0m\x1b[31m";
+    assert_bytes(&rt, colored.into_inner().into_inner().as_slice(), expected);
+    Ok(())
+}
+
+/// Returns the first locus of a file.
+fn first_locus(alloc: Global) -> Result<Locus, Error> {
+    Ok(Locus {
+        name: String::from_str(alloc, "f")?,
+        location: Location {
+            line_number: 1,
+            column_number: 1,
+        },
+    })
+}
+
+/// Renders a line with a lane. Its lanes are in order, as the call requires.
 fn render_line<W: WriteStyle>(
     rt: &impl Abort,
     renderer: &mut Renderer<'_, '_, W>,
-    line: &LineInput<'_>,
 ) -> Result<(), Error> {
-    assert!(rt; lanes_in_order(line.count, line.marks));
-    renderer.render_snippet_source(
-        1,
-        line.number,
-        line.text,
-        Severity::Error,
-        line.labels,
-        line.count,
-        line.marks,
-    )
+    let marks = [(0, LabelStyle::Primary, MultiLabel::Left)];
+    assert!(rt; lanes_in_order(1, &marks));
+    renderer.render_snippet_source(1, 1, "ab", Severity::Error, &[], 1, &marks)
 }
 
-/// Rows that direct calls render.
-trait Rows {
-    /// Renders them.
-    fn render<W: WriteStyle>(
-        &self,
-        rt: &impl Abort,
-        renderer: &mut Renderer<'_, '_, W>,
-    ) -> Result<(), Error>;
-}
-
-impl<'a> Rows for LineInput<'a> {
-    /// Renders the line.
-    fn render<W: WriteStyle>(
-        &self,
-        rt: &impl Abort,
-        renderer: &mut Renderer<'_, '_, W>,
-    ) -> Result<(), Error> {
-        render_line(rt, renderer, self)
-    }
-}
-
-/// Renders rows to a writer.
-fn render_to<R: Rows, W: WriteStyle>(
+/// Renders rows by each call, writes every style mark and some text, and then flushes once.
+fn render_rows<W: WriteStyle>(
     rt: &impl Abort,
-    w: &mut W,
-    config: &Config<'_>,
-    rows: &R,
+    renderer: &mut Renderer<'_, '_, W>,
+    locus: &Locus,
 ) -> Result<(), Error> {
-    rows.render(rt, &mut Renderer::new(w, config))
-}
-
-/// Returns the rows, plain.
-fn plain_rows<R: Rows>(
-    rt: &impl Abort,
-    alloc: Global,
-    config: &Config<'_>,
-    rows: &R,
-) -> Result<Vec<u8>, Error> {
-    let mut plain = PlainWriter::new(Vec::new(alloc));
-    render_to(rt, &mut plain, config, rows)?;
-    Ok(plain.into_inner())
-}
-
-/// Renders rows over a writer of colors, by the default styles. Returns that writer, and what the
-/// call returned.
-fn render_styled<R: Rows, C: WriteColor + Drop>(
-    rt: &impl Abort,
-    config: &Config<'_>,
-    rows: &R,
-    colors: C,
-) -> (C, Result<(), Error>) {
-    let styles = Styles::default();
-    let mut styled = StylesWriter::new(colors, &styles);
-    let returned = render_to(rt, &mut styled, config, rows);
-    (styled.into_inner(), returned)
-}
-
-/// Returns the rows over [`NoColor`].
-fn rows_without_color<R: Rows>(
-    rt: &impl Abort,
-    alloc: Global,
-    config: &Config<'_>,
-    rows: &R,
-) -> Result<Vec<u8>, Error> {
-    let mut bytes = Vec::new(alloc);
-    let (_, returned) = render_styled(rt, config, rows, NoColor::new(&mut bytes));
-    returned?;
-    Ok(bytes)
-}
-
-/// Returns the rows over [`Ansi`], in escape sequences.
-fn rows_in_color<R: Rows>(
-    rt: &impl Abort,
-    alloc: Global,
-    config: &Config<'_>,
-    rows: &R,
-) -> Result<Vec<u8>, Error> {
-    let (colored, returned) = render_styled(rt, config, rows, Ansi::new(Vec::new(alloc)));
-    returned?;
-    Ok(colored.into_inner())
-}
-
-/// Asserts that the rows are this text: plain, over [`NoColor`], and over [`Ansi`] once the escape
-/// sequences are taken out; and a prefix of it where a writer stops.
-fn assert_rows<R: Rows>(
-    rt: &impl Abort,
-    alloc: Global,
-    config: &Config<'_>,
-    rows: &R,
-    expected: &str,
-) -> Result<(), Error> {
-    let plain = plain_rows(rt, alloc, config, rows)?;
-    assert_bytes(rt, plain.as_slice(), expected);
-    let without_color = rows_without_color(rt, alloc, config, rows)?;
-    assert_bytes(rt, without_color.as_slice(), expected);
-    let colored = rows_in_color(rt, alloc, config, rows)?;
-    let text = without_sequences(alloc, colored.as_slice())?;
-    assert_bytes(rt, text.as_slice(), expected);
-    assert_rows_stop(rt, config, rows, &plain, &colored)
-}
-
-/// Asserts so of rows by the default configuration.
-fn assert_default_rows<R: Rows>(
-    rt: &impl Abort,
-    alloc: Global,
-    rows: &R,
-    expected: &str,
-) -> Result<(), Error> {
-    assert_rows(rt, alloc, &Config::default(), rows, expected)
-}
-
-#[test]
-fn reversed_handed_in(rt: HostRuntime) -> Result<(), Fail> {
-    let line = LineInput::labeled("abc", &[(LabelStyle::Secondary, 2..1, "r")]);
-    assert_default_rows(&rt, rt.alloc(), &line, "1 │ abc\n  │   r\n")?;
+    renderer.render_header(Some(locus), Severity::Error, Some("E0001"), "m")?;
+    renderer.render_snippet_start(1, locus)?;
+    renderer.render_snippet_empty(1, Severity::Error, 1, &[])?;
+    render_line(rt, renderer)?;
+    renderer.render_snippet_break(1, Severity::Error, 1, &[])?;
+    renderer.render_snippet_note(1, "a\nb")?;
+    renderer.render_empty()?;
+    write_marks(renderer)?;
     Ok(())
 }
 
+/// A renderer passes on a flush, and no other call flushes.
 #[test]
-fn overlapping_labels(rt: HostRuntime) -> Result<(), Fail> {
-    let labels = [
-        (LabelStyle::Secondary, 0..6, "s"),
-        (LabelStyle::Primary, 2..4, "p"),
-    ];
-    let line = LineInput::labeled("abcdef", &labels);
-    let expected = "1 │ abcdef\n  │ --^^--\n  │ │ │\n  │ │ p\n  │ s\n";
-    assert_default_rows(&rt, rt.alloc(), &line, expected)?;
+fn only_flush_flushes(rt: HostRuntime) -> Result<(), Fail> {
+    let config = Config::default();
+    let locus = first_locus(rt.alloc())?;
+    let mut inner = Counting::default();
+    let mut plain = PlainWriter::new(&mut inner);
+    let mut renderer = Renderer::new(&mut plain, &config);
+    render_rows(&rt, &mut renderer, &locus)?;
+    assert_eq!(rt; inner.flushes, 1);
     Ok(())
 }
-
-#[test]
-fn wide_pointers(rt: HostRuntime) -> Result<(), Fail> {
-    let labels = [
-        (LabelStyle::Primary, 0..3, "w"),
-        (LabelStyle::Secondary, 3..4, "s"),
-        (LabelStyle::Secondary, 4..5, "t"),
-    ];
-    let line = LineInput::labeled("路ab", &labels);
-    let expected = "1 │ 路ab\n  │ ^^-- t\n  │ │ │ \n  │ │ s\n  │ w\n";
-    assert_default_rows(&rt, rt.alloc(), &line, expected)?;
-    Ok(())
-}
-
-/// A combining character has no caret, and a wide one has two.
-#[test]
-fn wide_and_combining(rt: HostRuntime) -> Result<(), Fail> {
-    let labels = [
-        (LabelStyle::Primary, 1..4, "w"),
-        (LabelStyle::Secondary, 5..7, "m"),
-    ];
-    let line = LineInput::labeled("a路b\u{301}c", &labels);
-    let expected = "1 │ a路b\u{301}c\n  │  ^^  m\n  │  │  \n  │  w\n";
-    assert_default_rows(&rt, rt.alloc(), &line, expected)?;
-    Ok(())
-}
-
-/// Carets are under all cells of a character that a range cuts.
-#[test]
-fn moon_jump(rt: HostRuntime) -> Result<(), Fail> {
-    let message = "Cow does not start or end at boundary.";
-    let labels = [(LabelStyle::Secondary, 1..11, message)];
-    let line = LineInput::labeled("🐄🌑🐄🌒🐄🌓🐄🌔🐄🌕🐄🌖🐄🌗🐄🌘🐄", &labels);
-    let expected = "1 │ 🐄🌑🐄🌒🐄🌓🐄🌔🐄🌕🐄🌖🐄🌗🐄🌘🐄\n\
-                \x20 │ ------ Cow does not start or end at boundary.\n";
-    assert_default_rows(&rt, rt.alloc(), &line, expected)?;
-    Ok(())
-}
-
-#[test]
-fn tab_stops(rt: HostRuntime) -> Result<(), Fail> {
-    let table = [
-        (
-            4,
-            "4 │         ReloadingCondition: attack-cooldown\n\
-             \x20 │                             ^^^^^^^^^^^^^^^ the condition\n",
-        ),
-        (
-            3,
-            "4 │       ReloadingCondition:  attack-cooldown\n\
-             \x20 │                            ^^^^^^^^^^^^^^^ the condition\n",
-        ),
-        (
-            0,
-            "4 │ ReloadingCondition:attack-cooldown\n\
-             \x20 │                    ^^^^^^^^^^^^^^^ the condition\n",
-        ),
-    ];
-    for (tab_width, expected) in table {
-        let config = Config {
-            tab_width,
-            ..Config::default()
-        };
-        let labels = [(LabelStyle::Primary, 22..37, "the condition")];
-        let line = LineInput {
-            number: 4,
-            ..LineInput::labeled("\t\tReloadingCondition:\tattack-cooldown\n", &labels)
-        };
-        assert_rows(&rt, rt.alloc(), &config, &line, expected)?;
-    }
-    Ok(())
-}
-
-#[test]
-fn coloured_label(rt: HostRuntime) -> Result<(), Fail> {
-    let line = LineInput::labeled("abc", &[(LabelStyle::Primary, 1..2, "m")]);
-    let text = rows_in_color(&rt, rt.alloc(), &Config::default(), &line)?;
-    assert_bytes(&rt, text.as_slice(), COLORED);
-    Ok(())
-}
-
-/// The rows of `coloured_label`.
-const COLORED: &str = "\x1b[0m\x1b[36m1\x1b[0m \x1b[0m\x1b[36m│\x1b[0m a\x1b[0m\x1b[31mb\x1b[0mc\n\
-    \x20 \x1b[0m\x1b[36m│\x1b[0m  \x1b[0m\x1b[31m^\x1b[0m \x1b[0m\x1b[31mm\x1b[0m\n";

@@ -18,6 +18,8 @@ pub struct Line<'text> {
     pub number: usize,
     /// Its text.
     pub text: &'text str,
+    /// The cells between tab stops.
+    pub tab_width: usize,
     /// The severity, whose color its primary labels have.
     pub severity: Severity,
     /// Its labels.
@@ -32,6 +34,8 @@ pub struct Line<'text> {
 #[derive(Clone, Copy)]
 pub enum RowCall<'text> {
     /// `render_header` of an error with a locus: its code and its message.
+    LocatedHeader(Option<&'text str>, &'text str),
+    /// `render_header` of an error without a locus: its code and its message.
     Header(Option<&'text str>, &'text str),
     /// `render_empty`
     Empty,
@@ -52,7 +56,7 @@ pub enum RowCall<'text> {
 impl fmt::Display for RowCall<'_> {
     fn fmt<W: fmt::Write>(&self, f: &mut fmt::Formatter<W>) -> fmt::Result {
         f.write_str(match self {
-            RowCall::Header(_, _) => "render_header",
+            RowCall::LocatedHeader(_, _) | RowCall::Header(_, _) => "render_header",
             RowCall::Empty => "render_empty",
             RowCall::Start => "render_snippet_start",
             RowCall::Source(_) => "render_snippet_source",
@@ -125,8 +129,11 @@ fn render_call<W: WriteStyle>(
     renderer: &mut Renderer<'_, '_, W>,
 ) -> Result<(), Error> {
     match call {
-        RowCall::Header(code, message) => {
+        RowCall::LocatedHeader(code, message) => {
             renderer.render_header(Some(locus), Severity::Error, code, message)
+        }
+        RowCall::Header(code, message) => {
+            renderer.render_header(None, Severity::Error, code, message)
         }
         RowCall::Empty => renderer.render_empty(),
         RowCall::Start => renderer.render_snippet_start(1, locus),
@@ -139,9 +146,22 @@ fn render_call<W: WriteStyle>(
     }
 }
 
+impl RowCall<'_> {
+    /// Returns the cells between tab stops.
+    fn tab_width(&self) -> usize {
+        match self {
+            RowCall::Source(line) => line.tab_width,
+            _ => 4,
+        }
+    }
+}
+
 impl<'text> Render for Direct<'text> {
     fn render<W: WriteStyle>(&self, writer: &mut W) -> Result<(), Error> {
-        let config = Config::default();
+        let config = Config {
+            tab_width: self.call.tab_width(),
+            ..Config::default()
+        };
         let mut renderer = Renderer::new(writer, &config);
         render_call(self.call, &self.locus, &mut renderer)
     }

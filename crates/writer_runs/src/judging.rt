@@ -1,6 +1,7 @@
 //! All runs of a row.
 
-use crate::direct::{Direct, RowCall};
+use crate::direct::Direct;
+use crate::direct::rows::DirectRow;
 use crate::failure::{Failure, FailureAt};
 use crate::path::{PATHS, Path};
 use crate::rendering::{CALLS, Call, Input, Render, RenderCall};
@@ -190,13 +191,13 @@ fn judge_colors<D: Render>(output: &D, bytes: &[u8], colors: Colors<'_>) -> Resu
     }
 }
 
-/// Makes all runs of a direct call with this expected text.
-pub fn judge_direct(alloc: Global, call: RowCall<'_>, text: &str) -> Result<usize, FailureAt> {
-    at(None, None, judge_direct_call(alloc, call, text))
+/// Makes all runs of a direct call, and returns their number.
+pub fn judge_direct(alloc: Global, row: &DirectRow<'_>) -> Result<usize, FailureAt> {
+    at(None, None, judge_direct_call(alloc, row))
 }
 
 /// Makes all runs of a direct call, and returns their number.
-fn judge_direct_call(alloc: Global, call: RowCall<'_>, text: &str) -> Result<usize, Failure> {
-    let direct = Direct::new(alloc, call)?;
-    judge_call(alloc, &direct, text, Colors::End(""))
+fn judge_direct_call(alloc: Global, row: &DirectRow<'_>) -> Result<usize, Failure> {
+    let direct = Direct::new(alloc, row.call)?;
+    judge_call(alloc, &direct, row.text, row.colors)
 }

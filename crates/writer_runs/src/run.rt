@@ -132,9 +132,8 @@ fn report_direct_row<W: Write>(
     output: &mut W,
     sum: &mut Sum,
 ) -> io::Result<()> {
-    let (name, call, text) = row;
-    let judged = judge_direct(alloc, *call, text);
-    if sum.counts(output, name, judged)? {
+    let (name, call) = (row.name, row.call);
+    if sum.counts(output, name, judge_direct(alloc, row))? {
         writeln!(output, "row {name}: {call}, {WRITERS} writers")?;
     }
     Ok(())
