@@ -2,4 +2,5 @@
 //! the Rust crate give, and databases of each kind. And the code of `docs/LSP.md`.
 
 mod diagnostics;
+mod failures;
 mod positions;

@@ -1,5 +1,5 @@
-//! Tests of the calls that emit, of the views and the rows, of styled text, of the call for C and of
-//! the runs of `report`: what no contract says. And the quick start of `README.md`.
+//! Tests of the calls that emit, of the views and the rows, of styled text, of the call for C and
+//! of the runs of `report`: what no contract says. And the quick start of `README.md`.
 #![tactic(auto)]
 
 #[cfg(test)]

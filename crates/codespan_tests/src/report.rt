@@ -22,6 +22,9 @@ const TWO_LINES: &str = "error: bad\n  ┌─ f.txt:1:1\n  │  \n1 │ ╭ abc\
 /// The line of wrong arguments.
 const USAGE: &str = "usage: report STYLE NAME START END MESSAGE\n";
 
+/// The line of an input that is not UTF-8.
+const NOT_UTF8: &str = "report: input is not UTF-8\n";
+
 /// An input that counts its reads, and fails one of them.
 #[derive(Drop)]
 struct Input<'a> {
@@ -113,6 +116,14 @@ impl Outcome {
     pub fn seen(&self) -> (&str, &str, u8) {
         (self.output.text(), self.error_output.text(), self.status)
     }
+
+    /// Returns whether a run ended with this status and an empty output, when `error_output` had
+    /// taken this many bytes.
+    pub fn ended_after(&self, error_bytes: usize, status: u8) -> bool {
+        self.output.accepted.is_empty()
+            && self.error_output.accepted.len() == error_bytes
+            && self.status == status
+    }
 }
 
 /// Returns the words as the program has them.
@@ -157,101 +168,133 @@ pub fn ran(
     })
 }
 
-/// The arguments of a run, its input, and what is seen of it where nothing fails.
-type Run<'run> = (&'run [&'run str], &'run [u8], (&'run str, &'run str, u8));
+/// The arguments of a run, its input, and what is seen of it where nothing fails: the output, what
+/// is written to `error_output`, and the status.
+pub type Run<'run> = (&'run [&'run str], &'run [u8], (&'run str, &'run str, u8));
+
+/// Asserts what is seen of a run.
+pub fn assert_seen(rt: &impl Abort, outcome: &Outcome, run: &Run<'_>) {
+    let (words, text, expected) = run;
+    assert_eq!(rt; outcome.seen(), *expected, "{words:?} {text:?}");
+}
+
+/// Makes a run.
+pub fn check_run<R: Abort + AllocGlobal>(rt: &R, run: &Run<'_>) -> Result<(), Fail> {
+    let (words, text, _) = run;
+    let outcome = ran(rt.alloc(), words, text, NO_FAILURES)?;
+    assert_seen(rt, &outcome, run);
+    Ok(())
+}
 
 /// Makes the runs.
 fn check<R: Abort + AllocGlobal>(rt: &R, runs: &[Run<'_>]) -> Result<(), Fail> {
-    for (words, text, expected) in runs {
-        let outcome = ran(rt.alloc(), words, text, NO_FAILURES)?;
-        assert_eq!(rt; outcome.seen(), *expected, "{words:?} {text:?}");
+    for run in runs {
+        check_run(rt, run)?;
     }
     Ok(())
 }
+
+/// The runs of `report_run`.
+static REPORT_RUN: [Run<'static>; 2] = [
+    (&REQUEST, b"abc\n", (OUTPUT, "", 0)),
+    (
+        &["rich", "f.txt", "0", "x", "bad"],
+        b"abc\n",
+        ("", USAGE, 2),
+    ),
+];
 
 #[test]
 fn report_run(rt: HostRuntime) -> Result<(), Fail> {
-    let runs: [Run<'_>; 2] = [
-        (&REQUEST, b"abc\n", (OUTPUT, "", 0)),
-        (
-            &["rich", "f.txt", "0", "x", "bad"],
-            b"abc\n",
-            ("", USAGE, 2),
-        ),
-    ];
-    check(&rt, &runs)
+    check(&rt, &REPORT_RUN)
 }
+
+/// The runs of `report_short_and_medium`.
+static REPORT_SHORT_AND_MEDIUM: [Run<'static>; 2] = [
+    (
+        &["short", "f.txt", "0", "3", "bad"],
+        b"abc\n",
+        ("f.txt:1:1: error: bad\n", "", 0),
+    ),
+    (
+        &["medium", "f.txt", "0", "3", "bad"],
+        b"abc\n",
+        ("f.txt:1:1: error: bad\n", "", 0),
+    ),
+];
 
 #[test]
 fn report_short_and_medium(rt: HostRuntime) -> Result<(), Fail> {
-    let line = "f.txt:1:1: error: bad\n";
-    let runs: [Run<'_>; 2] = [
-        (
-            &["short", "f.txt", "0", "3", "bad"],
-            b"abc\n",
-            (line, "", 0),
-        ),
-        (
-            &["medium", "f.txt", "0", "3", "bad"],
-            b"abc\n",
-            (line, "", 0),
-        ),
-    ];
-    check(&rt, &runs)
+    check(&rt, &REPORT_SHORT_AND_MEDIUM)
 }
+
+/// The run of `report_two_lines`.
+static REPORT_TWO_LINES: [Run<'static>; 1] = [(
+    &["rich", "f.txt", "0", "4", "bad"],
+    b"abc\nd",
+    (TWO_LINES, "", 0),
+)];
 
 #[test]
 fn report_two_lines(rt: HostRuntime) -> Result<(), Fail> {
-    let words = ["rich", "f.txt", "0", "4", "bad"];
-    check(&rt, &[(&words, b"abc\nd", (TWO_LINES, "", 0))])
+    check(&rt, &REPORT_TWO_LINES)
 }
+
+/// Arguments that are wrong.
+static WRONG_ARGUMENTS: [&[&str]; 15] = [
+    &[],
+    &["rich"],
+    &["rich", "f.txt", "0", "3"],
+    &["rich", "f.txt", "0", "3", "bad", "worse"],
+    &["", "f.txt", "0", "3", "bad"],
+    &["shorter", "f.txt", "0", "3", "bad"],
+    &["Rich", "f.txt", "0", "3", "bad"],
+    &["rich", "f.txt", "+0", "3", "bad"],
+    &["rich", "f.txt", "0", "+3", "bad"],
+    &["rich", "f.txt", "-0", "3", "bad"],
+    &["rich", "f.txt", "", "3", "bad"],
+    &["rich", "f.txt", "0", "", "bad"],
+    &["rich", "f.txt", "0", "3 ", "bad"],
+    &["rich", "f.txt", "0", "٣", "bad"],
+    &["rich", "f.txt", "0", "18446744073709551616", "bad"],
+];
 
 #[test]
 fn wrong_arguments(rt: HostRuntime) -> Result<(), Fail> {
-    let wrong: [&[&str]; 15] = [
-        &[],
-        &["rich"],
-        &["rich", "f.txt", "0", "3"],
-        &["rich", "f.txt", "0", "3", "bad", "worse"],
-        &["", "f.txt", "0", "3", "bad"],
-        &["shorter", "f.txt", "0", "3", "bad"],
-        &["Rich", "f.txt", "0", "3", "bad"],
-        &["rich", "f.txt", "+0", "3", "bad"],
-        &["rich", "f.txt", "0", "+3", "bad"],
-        &["rich", "f.txt", "-0", "3", "bad"],
-        &["rich", "f.txt", "", "3", "bad"],
-        &["rich", "f.txt", "0", "", "bad"],
-        &["rich", "f.txt", "0", "3 ", "bad"],
-        &["rich", "f.txt", "0", "٣", "bad"],
-        &["rich", "f.txt", "0", "18446744073709551616", "bad"],
-    ];
-    for words in wrong {
+    for words in &WRONG_ARGUMENTS {
         let outcome = ran(rt.alloc(), words, b"abc\n", NO_FAILURES)?;
-        assert_eq!(rt;
-            (outcome.seen(), outcome.reads),
-            (("", USAGE, 2), 0),
-            "{words:?}"
-        );
+        assert_seen(&rt, &outcome, &(words, b"abc\n", ("", USAGE, 2)));
+        assert!(rt; outcome.reads == 0, "{words:?}");
     }
     Ok(())
 }
 
+/// The arguments of a run whose label ends at the greatest index.
+static GREATEST_END: [&str; 5] = ["rich", "f.txt", "0", "18446744073709551615", "bad"];
+
+/// The runs of numbers with leading zeros.
+static LEADING_ZEROS: [Run<'static>; 1] = [(
+    &["rich", "f.txt", "000", "03", "bad"],
+    b"abc\n",
+    (OUTPUT, "", 0),
+)];
+
 #[test]
 fn right_numbers(rt: HostRuntime) -> Result<(), Fail> {
-    let words = ["rich", "f.txt", "0", "18446744073709551615", "bad"];
-    let greatest = ran(rt.alloc(), &words, b"abc", NO_FAILURES)?;
-    assert_eq!(rt; (greatest.error_output.text(), greatest.status), ("", 0));
-    let leading_zeros = ["rich", "f.txt", "000", "03", "bad"];
-    check(&rt, &[(&leading_zeros, b"abc\n", (OUTPUT, "", 0))])
+    let greatest = ran(rt.alloc(), &GREATEST_END, b"abc", NO_FAILURES)?;
+    let (_, error_text, status) = greatest.seen();
+    assert!(rt; error_text == "" && status == 0);
+    check(&rt, &LEADING_ZEROS)
 }
+
+/// The runs of `input_not_utf8`.
+static INPUT_NOT_UTF8: [Run<'static>; 3] = [
+    (&REQUEST, b"\xff", ("", NOT_UTF8, 1)),
+    (&REQUEST, b"abc\xe2\x94", ("", NOT_UTF8, 1)),
+    (&REQUEST, b"\xc0\x80\n", ("", NOT_UTF8, 1)),
+];
 
 #[test]
 fn input_not_utf8(rt: HostRuntime) -> Result<(), Fail> {
-    let line = "report: input is not UTF-8\n";
-    let runs: [Run<'_>; 3] = [
-        (&REQUEST, b"\xff", ("", line, 1)),
-        (&REQUEST, b"abc\xe2\x94", ("", line, 1)),
-        (&REQUEST, b"\xc0\x80\n", ("", line, 1)),
-    ];
-    check(&rt, &runs)
+    check(&rt, &INPUT_NOT_UTF8)
 }

@@ -124,16 +124,11 @@ impl<'a, 'text: 'a> Files<'a> for Listing<'text> {
 #[test]
 fn listing_lookups(rt: HostRuntime) -> Result<(), Fail> {
     let listing = Listing::new(rt.alloc(), "l", "a\nbc\nd")?;
-    assert_eq!(rt; listing.name(())?, "l");
-    assert_eq!(rt; listing.source(())?, "a\nbc\nd");
-    assert_eq!(rt; listing.line_number((), 0)?, 0);
-    assert_eq!(rt;
-        listing.location((), 3)?,
-        Location {
-            line_number: 1,
-            column_number: 2
-        }
-    );
+    assert!(rt; listing.name(())? == "l");
+    assert!(rt; listing.source(())? == "a\nbc\nd");
+    assert!(rt; listing.line_number((), 0)? == 0);
+    let location = listing.location((), 3)?;
+    assert!(rt; (location.line_number, location.column_number) == (1, 2));
     assert!(rt;
         matches!(
             listing.line_range((), 3),

@@ -2,7 +2,7 @@
 
 use crate::asserts::{assert_same, is_column_too_large, is_file_missing};
 use codespan_base::diagnostic::{Diagnostic, Label, Severity};
-use codespan_base::files::{Error, SimpleFile, SimpleFiles};
+use codespan_base::files::{Error, Files, SimpleFile, SimpleFiles};
 use codespan_lsp::{
     DiagnosticSeverity, LspDiagnostic, Position, PositionEncoding, Range, byte_index_to_position,
     position_to_byte_index, to_lsp_diagnostics,
@@ -47,32 +47,28 @@ fn missing_argument(
 fn first_program(rt: HostRuntime) -> Result<(), Fail> {
     let file = SimpleFile::new(rt.alloc(), "greeting.txt", "hi\na𐐀b")?;
     let position = byte_index_to_position(&file, (), 8)?;
-    assert_eq!(rt;
-        position,
-        Position {
-            line: 1,
-            character: 3
-        }
-    );
-    assert_eq!(rt; position_to_byte_index(&file, (), &position)?, 8);
+    assert!(rt; (position.line, position.character) == (1, 3));
+    assert!(rt; position_to_byte_index(&file, (), &position)? == 8);
     let utf8 = PositionEncoding::Utf8.byte_index_to_position(&file, (), 8)?;
-    assert_eq!(rt; utf8.character, 5);
+    assert!(rt; utf8.character == 5);
     Ok(())
 }
+
+/// Severities, and their numbers.
+static SEVERITIES: [(Severity, u8); 5] = [
+    (Severity::Bug, 1),
+    (Severity::Error, 1),
+    (Severity::Warning, 2),
+    (Severity::Note, 3),
+    (Severity::Help, 4),
+];
 
 /// The protocol numbers severities 1 for an error, 2 for a warning, 3 for information and 4 for a
 /// hint.
 #[test]
 fn severities(rt: HostRuntime) {
-    let cases = [
-        (Severity::Bug, 1),
-        (Severity::Error, 1),
-        (Severity::Warning, 2),
-        (Severity::Note, 3),
-        (Severity::Help, 4),
-    ];
-    for (severity, number) in cases {
-        assert_same(&rt, &DiagnosticSeverity::from(severity).number(), &number);
+    for (severity, number) in &SEVERITIES {
+        assert_same(&rt, &DiagnosticSeverity::from(*severity).number(), number);
     }
 }
 
@@ -85,23 +81,24 @@ fn lsp_diagnostics(alloc: Global) -> Result<Vec<LspDiagnostic<usize>>, Error> {
     to_lsp_diagnostics(&files, &diagnostic)
 }
 
+/// The line, the characters and the message of each primary label.
+static LABELS: [(u32, u32, u32, &str); 2] = [
+    (
+        2,
+        0,
+        3,
+        "too few arguments\none argument is missing\nnote: `f` takes one argument",
+    ),
+    (3, 1, 4, "too few arguments\nnote: `f` takes one argument"),
+];
+
 /// One diagnostic for each primary label.
 #[test]
 fn two_primary_labels(rt: HostRuntime) -> Result<(), Fail> {
     let diagnostics = lsp_diagnostics(rt.alloc())?;
     assert_same(&rt, &diagnostics.len(), &2);
-    let labels = [
-        (
-            on_line(2, 0, 3),
-            "too few arguments\none argument is missing\nnote: `f` takes one argument",
-        ),
-        (
-            on_line(3, 1, 4),
-            "too few arguments\nnote: `f` takes one argument",
-        ),
-    ];
-    for (one, (range, message)) in diagnostics.iter().zip(labels.iter()) {
-        assert_same(&rt, &one.range, range);
+    for (one, (line, start, end, message)) in diagnostics.iter().zip(LABELS.iter()) {
+        assert_same(&rt, &one.range, &on_line(*line, *start, *end));
         assert_same(&rt, &one.message.as_str(), message);
     }
     Ok(())
@@ -132,13 +129,21 @@ fn related_information(rt: HostRuntime) -> Result<(), Fail> {
     Ok(())
 }
 
+/// Returns the LSP diagnostics of a warning with this label.
+fn of_warning<'a, F: Files<'a>>(
+    alloc: Global,
+    files: &'a F,
+    label: Label<F::FileId>,
+) -> Result<Vec<LspDiagnostic<F::FileId>>, Error> {
+    to_lsp_diagnostics(files, &Diagnostic::warning(alloc).with_label(label)?)
+}
+
 /// There is none where no label is primary.
 #[test]
 fn no_primary_label(rt: HostRuntime) -> Result<(), Fail> {
     let file = SimpleFile::new(rt.alloc(), "f", "abc")?;
     let label = Label::secondary(rt.alloc(), (), 0..9);
-    let diagnostic = Diagnostic::warning(rt.alloc()).with_label(label)?;
-    assert!(rt; to_lsp_diagnostics(&file, &diagnostic)?.is_empty());
+    assert!(rt; of_warning(rt.alloc(), &file, label)?.is_empty());
     Ok(())
 }
 
@@ -147,17 +152,14 @@ fn no_primary_label(rt: HostRuntime) -> Result<(), Fail> {
 fn label_past_end(rt: HostRuntime) -> Result<(), Fail> {
     let file = SimpleFile::new(rt.alloc(), "f", "abc")?;
     let label = Label::primary(rt.alloc(), (), 0..9);
-    let diagnostic = Diagnostic::warning(rt.alloc()).with_label(label)?;
-    assert!(rt; is_column_too_large(&to_lsp_diagnostics(&file, &diagnostic), (9, 3)));
+    assert!(rt; is_column_too_large(&of_warning(rt.alloc(), &file, label), (9, 3)));
     Ok(())
 }
 
 /// A missing file fails.
 #[test]
-fn missing_file(rt: HostRuntime) -> Result<(), Fail> {
+fn missing_file(rt: HostRuntime) {
     let files: SimpleFiles<&str, &str> = SimpleFiles::new(rt.alloc());
     let label = Label::primary(rt.alloc(), 0, 0..0);
-    let diagnostic = Diagnostic::warning(rt.alloc()).with_label(label)?;
-    assert!(rt; is_file_missing(&to_lsp_diagnostics(&files, &diagnostic)));
-    Ok(())
+    assert!(rt; is_file_missing(&of_warning(rt.alloc(), &files, label)));
 }

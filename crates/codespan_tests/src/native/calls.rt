@@ -1,5 +1,6 @@
 //! Calls as C makes them.
 
+use crate::asserts::assert_bytes;
 use codespan_native::emit::emit;
 use codespan_native::raw::{
     Detail, RawChars, RawColorSpec, RawConfig, RawDiagnostic, RawFile, RawLabel, RawLine, RawLocus,
@@ -9,82 +10,98 @@ use codespan_native::status::write_status;
 use std::alloc::Global;
 use std::process::Abort;
 
-fn color(fg: u32) -> RawColorSpec {
-    RawColorSpec {
-        fg,
-        bg: 0,
-        bold: 0,
-        intense: 0,
-    }
-}
+/// The default color.
+const NO_COLOR: RawColorSpec = RawColorSpec {
+    fg: 0,
+    bg: 0,
+    bold: 0,
+    intense: 0,
+};
 
-fn config<'a>() -> RawConfig<'a> {
-    RawConfig {
-        abi: 1,
-        display_style: 0,
-        layout: 0,
-        spelling: 0,
-        characters: 1,
-        tab_width: 4,
-        start_context_lines: 3,
-        end_context_lines: 1,
-        before_label_lines: 0,
-        after_label_lines: 0,
-        chars: RawChars {
-            snippet_start: b"@",
-            source_border_left: 0x21,
-            source_border_left_break: 0x22,
-            note_bullet: 0x23,
-            single_primary_caret: 0x24,
-            single_secondary_caret: 0x25,
-            multi_primary_caret_start: 0x26,
-            multi_primary_caret_end: 0x27,
-            multi_secondary_caret_start: 0x28,
-            multi_secondary_caret_end: 0x29,
-            multi_top_left: 0x2a,
-            multi_top: 0x2b,
-            multi_bottom_left: 0x2c,
-            multi_bottom: 0x2d,
-            multi_left: 0x2e,
-            pointer_left: 0x2f,
-        },
-        styles: RawStyles {
-            header_bug: color(1),
-            header_error: color(2),
-            header_warning: color(3),
-            header_note: color(4),
-            header_help: color(5),
-            header_message: color(6),
-            primary_label_bug: color(7),
-            primary_label_error: color(8),
-            primary_label_warning: color(1),
-            primary_label_note: color(2),
-            primary_label_help: color(3),
-            secondary_label: color(4),
-            line_number: color(5),
-            source_border: color(6),
-            note_bullet: color(7),
-        },
-    }
-}
+/// The configuration: characters of its own, no color.
+static CONFIG: RawConfig<'static> = RawConfig {
+    abi: 1,
+    display_style: 0,
+    layout: 0,
+    spelling: 0,
+    characters: 1,
+    tab_width: 4,
+    start_context_lines: 3,
+    end_context_lines: 1,
+    before_label_lines: 0,
+    after_label_lines: 0,
+    chars: RawChars {
+        snippet_start: b"@",
+        source_border_left: 0x21,
+        source_border_left_break: 0x22,
+        note_bullet: 0x23,
+        single_primary_caret: 0x24,
+        single_secondary_caret: 0x25,
+        multi_primary_caret_start: 0x26,
+        multi_primary_caret_end: 0x27,
+        multi_secondary_caret_start: 0x28,
+        multi_secondary_caret_end: 0x29,
+        multi_top_left: 0x2a,
+        multi_top: 0x2b,
+        multi_bottom_left: 0x2c,
+        multi_bottom: 0x2d,
+        multi_left: 0x2e,
+        pointer_left: 0x2f,
+    },
+    styles: RawStyles {
+        header_bug: RawColorSpec { fg: 1, ..NO_COLOR },
+        header_error: RawColorSpec { fg: 2, ..NO_COLOR },
+        header_warning: RawColorSpec { fg: 3, ..NO_COLOR },
+        header_note: RawColorSpec { fg: 4, ..NO_COLOR },
+        header_help: RawColorSpec { fg: 5, ..NO_COLOR },
+        header_message: RawColorSpec { fg: 6, ..NO_COLOR },
+        primary_label_bug: RawColorSpec { fg: 7, ..NO_COLOR },
+        primary_label_error: RawColorSpec { fg: 8, ..NO_COLOR },
+        primary_label_warning: RawColorSpec { fg: 1, ..NO_COLOR },
+        primary_label_note: RawColorSpec { fg: 2, ..NO_COLOR },
+        primary_label_help: RawColorSpec { fg: 3, ..NO_COLOR },
+        secondary_label: RawColorSpec { fg: 4, ..NO_COLOR },
+        line_number: RawColorSpec { fg: 5, ..NO_COLOR },
+        source_border: RawColorSpec { fg: 6, ..NO_COLOR },
+        note_bullet: RawColorSpec { fg: 7, ..NO_COLOR },
+    },
+};
 
-fn label<'a>(file: usize, start: usize, end: usize, message: &'a [u8]) -> RawLabel<'a> {
-    RawLabel {
-        style: 0,
-        file,
-        start,
-        end,
-        message,
-    }
-}
+/// A primary label of the first file, from its first byte to its second, without a message.
+const LABEL: RawLabel<'static> = RawLabel {
+    style: 0,
+    file: 0,
+    start: 0,
+    end: 1,
+    message: b"",
+};
 
-/// Asserts that a call over this file writes this output.
+/// A diagnostic with that label alone.
+const DIAGNOSTIC: RawDiagnostic<'static> = RawDiagnostic {
+    severity: 0,
+    code: b"",
+    message: b"bad",
+    labels: &[LABEL],
+    notes: &[],
+};
+
+/// A file without text.
+const FILE: RawFile<'static> = RawFile {
+    name: b"f.txt",
+    source: b"",
+    first_byte: 0,
+    first_line: 0,
+    lines: &[],
+    loci: &[],
+};
+
+/// Asserts that a call over these files writes this output.
 fn assert_emits(
     rt: &impl Abort,
     alloc: Global,
-    file: RawFile<'_>,
+    files: &[RawFile<'_>],
     diagnostic: &RawDiagnostic<'_>,
-    output: &[u8],
+    output: &str,
 ) {
     let mut out = [0u8; 1024];
     let mut written = 0;
@@ -94,15 +111,15 @@ fn assert_emits(
     };
     let status = emit(
         alloc,
-        &[file],
+        files,
         diagnostic,
-        &config(),
+        &CONFIG,
         &mut out,
         &mut written,
         &mut detail,
     );
-    assert_eq!(rt; status, 0);
-    assert_eq!(rt; &out[..written], output);
+    assert!(rt; status == 0);
+    assert_bytes(rt, &out[..written], output);
 }
 
 /// Asserts that a call without files returns this status, names this argument by its number and its
@@ -123,66 +140,72 @@ fn assert_fails(
         alloc,
         &[],
         diagnostic,
-        &config(),
+        &CONFIG,
         &mut out,
         &mut written,
         &mut detail,
     );
-    assert_eq!(rt; (status, detail.argument, detail.index), expected);
-    assert_eq!(rt; written, 0);
-    assert_eq!(rt; out, [7, 7, 7, 7]);
+    assert!(rt; (status, detail.argument, detail.index) == expected);
+    assert!(rt; written == 0 && out == [7, 7, 7, 7]);
 }
+
+/// The file and the diagnostic of `a_file_cut_at_newlines`.
+static CUT_AT_NEWLINES: (&[RawFile<'_>], RawDiagnostic<'_>) = (
+    &[RawFile {
+        source: b"abc\n",
+        ..FILE
+    }],
+    RawDiagnostic {
+        severity: 3,
+        code: b"E1",
+        labels: &[RawLabel {
+            end: 3,
+            message: b"here",
+            ..LABEL
+        }],
+        notes: &[RawText { bytes: b"a note" }],
+        ..DIAGNOSTIC
+    },
+);
 
 #[test]
 fn a_file_cut_at_newlines(rt: HostRuntime) {
-    let file = RawFile {
-        name: b"f.txt",
-        source: b"abc\n",
-        first_byte: 0,
-        first_line: 0,
-        lines: &[],
-        loci: &[],
-    };
-    let diagnostic = RawDiagnostic {
-        severity: 3,
-        code: b"E1",
-        message: b"bad",
-        labels: &[label(0, 0, 3, b"here")],
-        notes: &[RawText { bytes: b"a note" }],
-    };
-    let output =
-        b"error[E1]: bad\n  --> f.txt:1:1\n  |\n1 | abc\n  | ^^^ here\n  |\n  = a note\n\n";
-    assert_emits(&rt, rt.alloc(), file, &diagnostic, output);
+    let (files, diagnostic) = &CUT_AT_NEWLINES;
+    let output = "error[E1]: bad\n  --> f.txt:1:1\n  |\n1 | abc\n  | ^^^ here\n  |\n  = a note\n\n";
+    assert_emits(&rt, rt.alloc(), files, diagnostic, output);
 }
 
-#[test]
-fn a_window_from_line_100(rt: HostRuntime) {
-    let file = RawFile {
-        name: b"f.txt",
+/// The file and the diagnostic of `a_window_from_line_100`.
+static WINDOW: (&[RawFile<'_>], RawDiagnostic<'_>) = (
+    &[RawFile {
         source: b"one\ntwo\n",
         first_byte: 5000,
         first_line: 99,
-        lines: &[],
-        loci: &[],
-    };
-    let diagnostic = RawDiagnostic {
+        ..FILE
+    }],
+    RawDiagnostic {
         severity: 2,
-        code: b"",
-        message: b"bad",
-        labels: &[label(0, 5004, 5007, b"")],
-        notes: &[],
-    };
-    let output = b"warning: bad\n    --> f.txt:101:1\n    |\n101 | two\n    | ^^^\n\n";
-    assert_emits(&rt, rt.alloc(), file, &diagnostic, output);
-}
+        labels: &[RawLabel {
+            start: 5004,
+            end: 5007,
+            ..LABEL
+        }],
+        ..DIAGNOSTIC
+    },
+);
 
 #[test]
-fn given_lines_and_loci(rt: HostRuntime) {
-    let file = RawFile {
-        name: b"f.txt",
+fn a_window_from_line_100(rt: HostRuntime) {
+    let (files, diagnostic) = &WINDOW;
+    let output = "warning: bad\n    --> f.txt:101:1\n    |\n101 | two\n    | ^^^\n\n";
+    assert_emits(&rt, rt.alloc(), files, diagnostic, output);
+}
+
+/// The file and the diagnostic of `given_lines_and_loci`.
+static LINES_AND_LOCI: (&[RawFile<'_>], RawDiagnostic<'_>) = (
+    &[RawFile {
         source: b"one;two;",
         first_byte: 10,
-        first_line: 0,
         lines: &[
             RawLine {
                 start: 10,
@@ -200,57 +223,68 @@ fn given_lines_and_loci(rt: HostRuntime) {
             line_number: 70,
             column_number: 80,
         }],
-    };
-    let diagnostic = RawDiagnostic {
-        severity: 0,
-        code: b"",
-        message: b"bad",
-        labels: &[label(0, 14, 17, b"")],
-        notes: &[],
-    };
-    let output = b"help: bad\n  --> f.txt:70:80\n  |\n9 | two\n  | ^^^\n\n";
-    assert_emits(&rt, rt.alloc(), file, &diagnostic, output);
+        ..FILE
+    }],
+    RawDiagnostic {
+        labels: &[RawLabel {
+            start: 14,
+            end: 17,
+            ..LABEL
+        }],
+        ..DIAGNOSTIC
+    },
+);
+
+#[test]
+fn given_lines_and_loci(rt: HostRuntime) {
+    let (files, diagnostic) = &LINES_AND_LOCI;
+    let output = "help: bad\n  --> f.txt:70:80\n  |\n9 | two\n  | ^^^\n\n";
+    assert_emits(&rt, rt.alloc(), files, diagnostic, output);
 }
+
+/// The diagnostic of `an_invalid_argument_before_others`.
+static INVALID: RawDiagnostic<'static> = RawDiagnostic {
+    labels: &[
+        LABEL,
+        RawLabel {
+            message: b"\xff",
+            ..LABEL
+        },
+    ],
+    notes: &[RawText { bytes: b"\xff" }],
+    ..DIAGNOSTIC
+};
 
 #[test]
 fn an_invalid_argument_before_others(rt: HostRuntime) {
-    let diagnostic = RawDiagnostic {
-        severity: 0,
-        code: b"",
-        message: b"bad",
-        labels: &[label(0, 0, 1, b""), label(0, 0, 1, b"\xff")],
-        notes: &[RawText { bytes: b"\xff" }],
-    };
     // INVALID, for the message of the label 1: the file of a label and a note come after it
-    assert_fails(&rt, rt.alloc(), &diagnostic, (4, 17, 1));
+    assert_fails(&rt, rt.alloc(), &INVALID, (4, 17, 1));
 }
+
+/// The diagnostic of `a_missing_file_before_a_note`.
+static MISSING: RawDiagnostic<'static> = RawDiagnostic {
+    notes: &[RawText { bytes: b"\xff" }],
+    ..DIAGNOSTIC
+};
 
 #[test]
 fn a_missing_file_before_a_note(rt: HostRuntime) {
-    let diagnostic = RawDiagnostic {
-        severity: 0,
-        code: b"",
-        message: b"bad",
-        labels: &[label(0, 0, 1, b"")],
-        notes: &[RawText { bytes: b"\xff" }],
-    };
     // FILE_MISSING, for the label 0: the note comes after it
-    assert_fails(&rt, rt.alloc(), &diagnostic, (3, 18, 0));
+    assert_fails(&rt, rt.alloc(), &MISSING, (3, 18, 0));
 }
 
 /// Asserts that the text of a status, whose argument has this number, is this.
-fn assert_status_text(rt: &impl Abort, status: u32, argument: u32, text: &[u8]) {
+fn assert_status_text(rt: &impl Abort, status: u32, argument: u32, text: &str) {
     let mut out = [7u8; 100];
     let mut written = 9;
-    assert_eq!(rt; write_status(status, argument, &mut out, &mut written), 0);
-    assert_eq!(rt; &out[..written], text);
+    assert!(rt; write_status(status, argument, &mut out, &mut written) == 0);
+    assert_bytes(rt, &out[..written], text);
 }
 
 #[test]
 fn texts_of_statuses(rt: HostRuntime) {
-    assert_status_text(&rt, 2, 0, b"out of memory");
-    assert_status_text(&rt, 4, 14, b"the code must be UTF-8");
+    assert_status_text(&rt, 2, 0, "out of memory");
+    assert_status_text(&rt, 4, 14, "the code must be UTF-8");
     let mut written = 0;
-    assert_eq!(rt; write_status(2, 0, &mut [0; 12], &mut written), 1);
-    assert_eq!(rt; written, 13);
+    assert!(rt; write_status(2, 0, &mut [0; 12], &mut written) == 1 && written == 13);
 }

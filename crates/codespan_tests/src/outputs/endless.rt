@@ -1,12 +1,10 @@
 //! A tab width and contexts of the greatest `usize`.
 
 use crate::asserts::assert_bytes;
-use crate::outputs::rendering::assert_output;
+use crate::outputs::rendering::{assert_output, render_styled};
 use codespan_reporting::diagnostic::{Diagnostic, Label};
 use codespan_reporting::files::{Error, SimpleFile};
-use codespan_reporting::term::{
-    Config, NoColor, Styles, StylesWriter, emit_to_io_write, emit_to_write_style,
-};
+use codespan_reporting::term::{Config, NoColor, RichDiagnostic, emit_to_io_write};
 use std::alloc::Global;
 use std::process::Abort;
 use std::test::Fail;
@@ -46,25 +44,16 @@ fn endless_tab(rt: HostRuntime) -> Result<(), Fail> {
     Ok(())
 }
 
-/// Emits to a writer of styles over this one.
-fn emit_without_color(
-    inner: &mut Stopping,
-    file: &SimpleFile<&str, &str>,
-    diagnostic: &Diagnostic<()>,
-) -> Result<(), Error> {
-    let styles = Styles::default();
-    let mut without_color = StylesWriter::new(NoColor::new(inner), &styles);
-    emit_to_write_style(&mut without_color, &widest_tabs(), file, diagnostic)
-}
-
 /// So it is by a writer of styles.
 #[test]
 fn endless_tab_without_color(rt: HostRuntime) -> Result<(), Fail> {
     let file = SimpleFile::new(rt.alloc(), "f", "\tx")?;
     let diagnostic = after_tab(rt.alloc())?;
-    let mut inner = Stopping::new(rt.alloc(), 1, 40, Stop::Fails);
-    let failed = emit_without_color(&mut inner, &file, &diagnostic);
-    assert_stopped(&rt, &failed, inner.text.as_slice());
+    let config = widest_tabs();
+    let view = RichDiagnostic::new(&diagnostic, &config);
+    let inner = NoColor::new(Stopping::new(rt.alloc(), 1, 40, Stop::Fails));
+    let (without_color, failed) = render_styled(inner, &config, view, &file);
+    assert_stopped(&rt, &failed, without_color.into_inner().text.as_slice());
     Ok(())
 }
 

@@ -22,28 +22,29 @@ fn emit_by_each(
     emit_to_write_style(&mut plain, config, file, diagnostic)
 }
 
-/// Returns how often these calls flush.
-fn flushes_of(alloc: Global, config: &Config<'_>) -> Result<usize, Error> {
+/// Returns how often these calls flush in a style.
+fn flushes_in(alloc: Global, display_style: DisplayStyle) -> Result<usize, Error> {
+    let config = Config {
+        display_style,
+        ..Config::default()
+    };
     let file = SimpleFile::new(alloc, "f", "ab")?;
     let diagnostic = Diagnostic::error(alloc).with_label(Label::primary(alloc, (), 0..1))?;
     let mut inner = Counting::default();
-    emit_by_each(&mut inner, config, &file, &diagnostic)?;
+    emit_by_each(&mut inner, &config, &file, &diagnostic)?;
     Ok(inner.flushes)
 }
 
 /// No call that emits flushes, in any style.
 #[test]
 fn no_emit_flushes(rt: HostRuntime) -> Result<(), Fail> {
-    for display_style in [
+    for style in [
         DisplayStyle::Rich,
         DisplayStyle::Medium,
         DisplayStyle::Short,
     ] {
-        let config = Config {
-            display_style,
-            ..Config::default()
-        };
-        assert_eq!(rt; flushes_of(rt.alloc(), &config)?, 0);
+        let flushes = flushes_in(rt.alloc(), style)?;
+        assert!(rt; flushes == 0);
     }
     Ok(())
 }

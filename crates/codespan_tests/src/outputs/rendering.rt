@@ -5,8 +5,8 @@ use crate::asserts::{assert_bytes, assert_text};
 use codespan_reporting::diagnostic::Diagnostic;
 use codespan_reporting::files::{Error, Files, SimpleFiles};
 use codespan_reporting::term::{
-    Ansi, Config, NoColor, PlainWriter, Renderer, RichDiagnostic, Styles, StylesWriter, WriteStyle,
-    emit_into_string,
+    Ansi, Config, NoColor, PlainWriter, Renderer, RichDiagnostic, Styles, StylesWriter, WriteColor,
+    WriteStyle, emit_into_string,
 };
 use std::alloc::Global;
 use std::process::Abort;
@@ -57,6 +57,20 @@ fn rendered_plain<'files, F: Files<'files>>(
     Rendered { returned, text }
 }
 
+/// Renders a view over a writer of colors, by the default styles. Returns that writer, and what the
+/// call returned.
+pub fn render_styled<'files, F: Files<'files>, C: WriteColor + Drop>(
+    colors: C,
+    config: &Config<'_>,
+    view: RichDiagnostic<'_, '_, F::FileId>,
+    files: &'files F,
+) -> (C, Result<(), Error>) {
+    let styles = Styles::default();
+    let mut styled = StylesWriter::new(colors, &styles);
+    let returned = render_view(&mut styled, config, view, files);
+    (styled.into_inner(), returned)
+}
+
 /// Returns whether a view is rendered the same over [`NoColor`].
 fn is_same_without_color<'files, F: Files<'files>>(
     alloc: Global,
@@ -65,11 +79,9 @@ fn is_same_without_color<'files, F: Files<'files>>(
     files: &'files F,
     plain: &Rendered,
 ) -> bool {
-    let styles = Styles::default();
-    let mut text = Vec::new(alloc);
-    let mut without_color = StylesWriter::new(NoColor::new(&mut text), &styles);
-    let returned = render_view(&mut without_color, config, view, files);
-    plain.is_same(&returned, text.as_slice())
+    let without_color = NoColor::new(Vec::new(alloc));
+    let (without_color, returned) = render_styled(without_color, config, view, files);
+    plain.is_same(&returned, without_color.into_inner().as_slice())
 }
 
 /// Returns whether a view is rendered the same over [`Ansi`], once the escape sequences are taken
@@ -81,11 +93,8 @@ fn is_same_in_color<'files, F: Files<'files>>(
     files: &'files F,
     plain: &Rendered,
 ) -> Result<bool, Error> {
-    let styles = Styles::default();
-    let mut bytes = Vec::new(alloc);
-    let mut colored = StylesWriter::new(Ansi::new(&mut bytes), &styles);
-    let returned = render_view(&mut colored, config, view, files);
-    let text = without_sequences(alloc, bytes.as_slice())?;
+    let (colored, returned) = render_styled(Ansi::new(Vec::new(alloc)), config, view, files);
+    let text = without_sequences(alloc, colored.into_inner().as_slice())?;
     Ok(plain.is_same(&returned, text.as_slice()))
 }
 

@@ -1,12 +1,11 @@
 //! Tests of short and medium style, and of the calls that emit.
 
-use crate::asserts::{assert_bytes, assert_text};
+use crate::asserts::assert_bytes;
 use crate::outputs::rendering::files_of;
 use codespan_reporting::diagnostic::{Diagnostic, Label};
 use codespan_reporting::files::{Error, SimpleFiles};
 use codespan_reporting::term::{
-    Config, DisplayStyle, PlainWriter, Renderer, RichDiagnostic, ShortDiagnostic, emit,
-    emit_into_string, emit_to_io_write, emit_to_string, emit_to_write_style,
+    Config, DisplayStyle, PlainWriter, emit, emit_to_io_write, emit_to_string, emit_to_write_style,
 };
 use std::alloc::Global;
 use std::process::Abort;
@@ -22,120 +21,45 @@ fn in_style<'chars>(display_style: DisplayStyle) -> Config<'chars> {
     }
 }
 
-/// A style, what a string or a vector holds, the output of a bug, and both.
-#[derive(Drop)]
-struct Row {
-    style: DisplayStyle,
-    prefix: &'static str,
-    output: &'static str,
-    text: &'static str,
-}
+/// A style, what a vector holds, and what it holds once a bug is appended.
+type Row<'text> = (DisplayStyle, &'text str, &'text str);
 
-/// Asserts what is returned.
-fn assert_into_string(rt: &impl Abort, alloc: Global, row: &Row) -> Result<(), Error> {
-    let (config, bug) = (in_style(row.style), Diagnostic::bug(alloc));
-    let files: SimpleFiles<&str, &str> = SimpleFiles::new(alloc);
-    let string = emit_into_string(&config, &files, &bug)?;
-    assert_text(rt, string.as_str(), row.output);
-    Ok(())
-}
-
-/// Asserts what is appended to a string.
-fn assert_to_string(rt: &impl Abort, alloc: Global, row: &Row) -> Result<(), Error> {
-    let (config, bug) = (in_style(row.style), Diagnostic::bug(alloc));
-    let files: SimpleFiles<&str, &str> = SimpleFiles::new(alloc);
-    let prefix = row.prefix;
-    let mut string = prefix.to_string(alloc)?;
-    emit_to_string(&mut string, &config, &files, &bug)?;
-    assert_text(rt, string.as_str(), row.text);
-    Ok(())
-}
-
-/// Asserts what is written to a writer of plain text.
-fn assert_to_write_style(rt: &impl Abort, alloc: Global, row: &Row) -> Result<(), Error> {
-    let (config, bug) = (in_style(row.style), Diagnostic::bug(alloc));
-    let files: SimpleFiles<&str, &str> = SimpleFiles::new(alloc);
-    let mut plain = PlainWriter::new(Vec::new(alloc));
-    emit_to_write_style(&mut plain, &config, &files, &bug)?;
-    assert_bytes(rt, plain.into_inner().as_slice(), row.output);
-    Ok(())
-}
+/// The rows.
+static ROWS: [Row<'static>; 3] = [
+    (DisplayStyle::Rich, "kept", "keptbug: \n\n"),
+    (DisplayStyle::Medium, "", "bug: \n"),
+    (DisplayStyle::Short, "kept", "keptbug: \n"),
+];
 
 /// Asserts what is appended to a vector.
-fn assert_to_io_write(rt: &impl Abort, alloc: Global, row: &Row) -> Result<(), Error> {
-    let (config, bug) = (in_style(row.style), Diagnostic::bug(alloc));
+fn assert_to_io_write(rt: &impl Abort, alloc: Global, row: &Row<'_>) -> Result<(), Error> {
+    let (style, prefix, text) = row;
+    let (config, bug) = (in_style(*style), Diagnostic::bug(alloc));
     let files: SimpleFiles<&str, &str> = SimpleFiles::new(alloc);
-    let mut bytes = row.prefix.to_string(alloc)?.into_bytes();
+    let mut bytes = prefix.to_string(alloc)?.into_bytes();
     emit_to_io_write(&mut bytes, &config, &files, &bug)?;
-    assert_bytes(rt, bytes.as_slice(), row.text);
+    assert_bytes(rt, bytes.as_slice(), text);
     Ok(())
 }
 
 /// Asserts what [`emit`] appends to a vector.
-fn assert_emit(rt: &impl Abort, alloc: Global, row: &Row) -> Result<(), Error> {
-    let (config, bug) = (in_style(row.style), Diagnostic::bug(alloc));
+fn assert_emit(rt: &impl Abort, alloc: Global, row: &Row<'_>) -> Result<(), Error> {
+    let (style, prefix, text) = row;
+    let (config, bug) = (in_style(*style), Diagnostic::bug(alloc));
     let files: SimpleFiles<&str, &str> = SimpleFiles::new(alloc);
-    let mut bytes = row.prefix.to_string(alloc)?.into_bytes();
+    let mut bytes = prefix.to_string(alloc)?.into_bytes();
     emit(&mut bytes, &config, &files, &bug)?;
-    assert_bytes(rt, bytes.as_slice(), row.text);
+    assert_bytes(rt, bytes.as_slice(), text);
     Ok(())
 }
 
-/// The rows.
-fn rows() -> [Row; 3] {
-    [
-        Row {
-            style: DisplayStyle::Rich,
-            prefix: "kept",
-            output: "bug: \n\n",
-            text: "keptbug: \n\n",
-        },
-        Row {
-            style: DisplayStyle::Medium,
-            prefix: "",
-            output: "bug: \n",
-            text: "bug: \n",
-        },
-        Row {
-            style: DisplayStyle::Short,
-            prefix: "kept",
-            output: "bug: \n",
-            text: "keptbug: \n",
-        },
-    ]
-}
-
-/// Each call that emits renders, and appends to what a string or a vector holds.
+/// Each call that writes bytes appends to what a vector holds.
 #[test]
 fn bare_bug(rt: HostRuntime) -> Result<(), Fail> {
-    for row in &rows() {
-        assert_into_string(&rt, rt.alloc(), row)?;
-        assert_to_string(&rt, rt.alloc(), row)?;
-        assert_to_write_style(&rt, rt.alloc(), row)?;
+    for row in &ROWS {
         assert_to_io_write(&rt, rt.alloc(), row)?;
         assert_emit(&rt, rt.alloc(), row)?;
     }
-    Ok(())
-}
-
-/// Renders a bug by each view, in one text.
-fn by_views(alloc: Global) -> Result<Vec<u8>, Error> {
-    let files: SimpleFiles<&str, &str> = SimpleFiles::new(alloc);
-    let bug = Diagnostic::bug(alloc);
-    let config = Config::default();
-    let mut plain = PlainWriter::new(Vec::new(alloc));
-    let mut renderer = Renderer::new(&mut plain, &config);
-    RichDiagnostic::new(&bug, &config).render(&files, &mut renderer)?;
-    ShortDiagnostic::new(&bug, true).render(&files, &mut renderer)?;
-    ShortDiagnostic::new(&bug, false).render(&files, &mut renderer)?;
-    Ok(plain.into_inner())
-}
-
-/// The views render the same.
-#[test]
-fn bare_views(rt: HostRuntime) -> Result<(), Fail> {
-    let bytes = by_views(rt.alloc())?;
-    assert_bytes(&rt, bytes.as_slice(), "bug: \n\nbug: \nbug: \n");
     Ok(())
 }
 
@@ -156,23 +80,25 @@ fn with_note(alloc: Global) -> Result<Diagnostic<usize>, Error> {
         .with_note("n")
 }
 
+/// A style, and the output in tags.
+static TAGGED: [(DisplayStyle, &str); 2] = [
+    (DisplayStyle::Short, "f:1:2: [header]error[message]: m[/]\n"),
+    (
+        DisplayStyle::Medium,
+        "f:1:2: [header]error[message]: m[/]\n [bullet]=[/] n\n",
+    ),
+];
+
 /// A custom `WriteStyle`, in short and in medium style.
 #[test]
 fn tags_of_styles(rt: HostRuntime) -> Result<(), Fail> {
     let alloc = rt.alloc();
     let files = files_of(alloc, &[("f", "ab")])?;
     let diagnostic = with_note(alloc)?;
-    let rows = [
-        (DisplayStyle::Short, "f:1:2: [header]error[message]: m[/]\n"),
-        (
-            DisplayStyle::Medium,
-            "f:1:2: [header]error[message]: m[/]\n [bullet]=[/] n\n",
-        ),
-    ];
-    for (style, output) in rows {
+    for (style, output) in &TAGGED {
         let mut bytes = Vec::new(alloc);
         let mut tags = TagWriter::new(&mut bytes);
-        emit_to_write_style(&mut tags, &in_style(style), &files, &diagnostic)?;
+        emit_to_write_style(&mut tags, &in_style(*style), &files, &diagnostic)?;
         assert_bytes(&rt, bytes.as_slice(), output);
     }
     Ok(())
@@ -227,16 +153,18 @@ fn assert_half_missing(
     Ok(())
 }
 
+/// A style, and what a writer has where a file is missing.
+static HALF_MISSING: [(DisplayStyle, &str); 3] = [
+    (DisplayStyle::Rich, ""),
+    (DisplayStyle::Medium, "f:1:1: error: m\n"),
+    (DisplayStyle::Short, "f:1:1: error: m\n"),
+];
+
 /// The string is unchanged; a writer has the headers before the error, or in rich style nothing.
 #[test]
 fn missing_file(rt: HostRuntime) -> Result<(), Fail> {
-    let rows = [
-        (DisplayStyle::Rich, ""),
-        (DisplayStyle::Medium, "f:1:1: error: m\n"),
-        (DisplayStyle::Short, "f:1:1: error: m\n"),
-    ];
-    for (style, written) in rows {
-        assert_half_missing(&rt, rt.alloc(), &in_style(style), written)?;
+    for (style, written) in &HALF_MISSING {
+        assert_half_missing(&rt, rt.alloc(), &in_style(*style), written)?;
     }
     Ok(())
 }

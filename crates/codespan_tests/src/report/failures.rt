@@ -1,25 +1,29 @@
 //! Runs over readers and writers that fail.
 
-use crate::report::{Failing, NO_FAILURES, OUTPUT, REQUEST, ran};
+use crate::report::{Failing, NO_FAILURES, OUTPUT, REQUEST, Run, assert_seen, ran};
 use std::test::Fail;
+
+/// A run whose input fails.
+static FAILED_INPUT: Run<'static> = (&REQUEST, b"abc\n", ("", "report: cannot read input\n", 1));
 
 #[test]
 fn failed_input(rt: HostRuntime) -> Result<(), Fail> {
-    let line = "report: cannot read input\n";
     for read in 0..2 {
         let failing = Failing {
             read: Some(read),
             ..NO_FAILURES
         };
         let outcome = ran(rt.alloc(), &REQUEST, b"abc\n", failing)?;
-        assert_eq!(rt; outcome.seen(), ("", line, 1), "read {read}");
+        assert_seen(&rt, &outcome, &FAILED_INPUT);
     }
     Ok(())
 }
 
+/// The line of an output that fails.
+const CANNOT_WRITE: &str = "report: cannot write output\n";
+
 #[test]
 fn failed_output(rt: HostRuntime) -> Result<(), Fail> {
-    let line = "report: cannot write output\n";
     for write in 0..OUTPUT.len().div_ceil(4) {
         let failing = Failing {
             write: Some(write),
@@ -27,45 +31,44 @@ fn failed_output(rt: HostRuntime) -> Result<(), Fail> {
         };
         let outcome = ran(rt.alloc(), &REQUEST, b"abc\n", failing)?;
         let written = outcome.output.accepted.as_slice();
-        assert_eq!(rt; written, &OUTPUT.as_bytes()[..write * 4], "write {write}");
-        assert_eq!(rt;
-            (outcome.error_output.text(), outcome.status),
-            (line, 1),
-            "write {write}"
-        );
+        assert!(rt; written == &OUTPUT.as_bytes()[..write * 4], "write {write}");
+        let (_, error_text, status) = outcome.seen();
+        assert!(rt; error_text == CANNOT_WRITE && status == 1, "write {write}");
     }
+    Ok(())
+}
+
+/// A run in which flushing the output fails.
+static FAILED_FLUSH: Run<'static> = (&REQUEST, b"abc\n", (OUTPUT, CANNOT_WRITE, 1));
+
+#[test]
+fn failed_flush(rt: HostRuntime) -> Result<(), Fail> {
     let failing = Failing {
         flush: true,
         ..NO_FAILURES
     };
     let outcome = ran(rt.alloc(), &REQUEST, b"abc\n", failing)?;
-    assert_eq!(rt; outcome.seen(), (OUTPUT, line, 1));
+    assert_seen(&rt, &outcome, &FAILED_FLUSH);
     Ok(())
 }
 
+/// Runs with an error: the arguments, the input, the read that fails, and the status.
+static WITH_ERROR: [(&[&str], &[u8], Option<usize>, u8); 3] = [
+    (&[], b"abc\n", None, 2),
+    (&REQUEST, b"\xff", None, 1),
+    (&REQUEST, b"abc\n", Some(0), 1),
+];
+
 #[test]
 fn failed_faults(rt: HostRuntime) -> Result<(), Fail> {
-    let runs: [(&[&str], &[u8], Option<usize>, u8); 3] = [
-        (&[], b"abc\n", None, 2),
-        (&REQUEST, b"\xff", None, 1),
-        (&REQUEST, b"abc\n", Some(0), 1),
-    ];
-    for (words, text, read, expected) in runs {
+    for (words, text, read, status) in &WITH_ERROR {
         let failing = Failing {
-            read,
+            read: *read,
             error_write: Some(1),
             ..NO_FAILURES
         };
         let outcome = ran(rt.alloc(), words, text, failing)?;
-        assert_eq!(rt;
-            (
-                outcome.output.text(),
-                outcome.error_output.accepted.len(),
-                outcome.status
-            ),
-            ("", 4, expected),
-            "{words:?}"
-        );
+        assert!(rt; outcome.ended_after(4, *status), "{words:?}");
     }
     Ok(())
 }

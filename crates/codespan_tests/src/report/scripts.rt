@@ -2,179 +2,192 @@
 
 mod errors;
 
-use crate::report::{Failing, NO_FAILURES, ran};
+use crate::report::{Failing, NO_FAILURES, check_run, ran};
 use std::process::Abort;
 use std::test::Fail;
 
 /// The style of a run over the file `f.txt`, its script, and what is to be seen of it: the output,
 /// what is written to `error_output`, and the status.
-type Run<'run> = (&'run str, &'run str, (&'run str, &'run str, u8));
+pub type Run<'run> = (&'run str, &'run str, (&'run str, &'run str, u8));
 
 /// Runs the scripts.
 fn check<R: Abort + AllocGlobal>(rt: &R, runs: &[Run<'_>]) -> Result<(), Fail> {
     for (style, input, expected) in runs {
-        let outcome = ran(rt.alloc(), &[style, "f.txt"], input.as_bytes(), NO_FAILURES)?;
-        assert_eq!(rt; outcome.seen(), *expected, "{input:?}");
+        check_run(rt, &(&[*style, "f.txt"], input.as_bytes(), *expected))?;
     }
     Ok(())
 }
 
+/// The run of `script_run`.
+static SCRIPT_RUN: [Run<'static>; 1] = [(
+    "rich",
+    "message bad\nprimary 0 3 here\nnote why\n---\nabc\n",
+    (
+        "error: bad\n  ┌─ f.txt:1:1\n  │\n1 │ abc\n  │ ^^^ here\n  │\n  = why\n\n",
+        "",
+        0,
+    ),
+)];
+
 #[test]
 fn script_run(rt: HostRuntime) -> Result<(), Fail> {
-    let runs = [(
-        "rich",
-        "message bad\nprimary 0 3 here\nnote why\n---\nabc\n",
-        (
-            "error: bad\n  ┌─ f.txt:1:1\n  │\n1 │ abc\n  │ ^^^ here\n  │\n  = why\n\n",
-            "",
-            0,
-        ),
-    )];
-    check(&rt, &runs)
+    check(&rt, &SCRIPT_RUN)
 }
+
+/// The run of `script_unknown_word`.
+static SCRIPT_UNKNOWN_WORD: [Run<'static>; 1] = [(
+    "rich",
+    "message a\ncolour red\n---\n",
+    (
+        "",
+        "error[S1]: unknown word\n  ┌─ script:2:1\n  │\n2 │ colour red\n  │ ^^^^^^ expected severity, code, message, primary, secondary or note\n\n",
+        3,
+    ),
+)];
 
 #[test]
 fn script_unknown_word(rt: HostRuntime) -> Result<(), Fail> {
-    let runs = [(
-        "rich",
-        "message a\ncolour red\n---\n",
-        (
-            "",
-            "error[S1]: unknown word\n  ┌─ script:2:1\n  │\n2 │ colour red\n  │ ^^^^^^ expected severity, code, message, primary, secondary or note\n\n",
-            3,
-        ),
-    )];
-    check(&rt, &runs)
+    check(&rt, &SCRIPT_UNKNOWN_WORD)
 }
+
+/// The run of `script_repeated_word`.
+static SCRIPT_REPEATED_WORD: [Run<'static>; 1] = [(
+    "rich",
+    "code A\ncode B\n---\n",
+    (
+        "",
+        "error[S4]: repeated word\n  ┌─ script:2:1\n  │\n1 │ code A\n  │ ---- first given here\n2 │ code B\n  │ ^^^^ given again\n\n",
+        3,
+    ),
+)];
 
 #[test]
 fn script_repeated_word(rt: HostRuntime) -> Result<(), Fail> {
-    let runs = [(
+    check(&rt, &SCRIPT_REPEATED_WORD)
+}
+
+/// The runs of `script_bad_number_and_end`.
+static SCRIPT_BAD_NUMBER_AND_END: [Run<'static>; 3] = [
+    (
         "rich",
-        "code A\ncode B\n---\n",
+        "primary 0 x\n---\n",
         (
             "",
-            "error[S4]: repeated word\n  ┌─ script:2:1\n  │\n1 │ code A\n  │ ---- first given here\n2 │ code B\n  │ ^^^^ given again\n\n",
+            "error[S3]: bad number\n  ┌─ script:1:11\n  │\n1 │ primary 0 x\n  │           ^ expected a decimal number\n\n",
             3,
         ),
-    )];
-    check(&rt, &runs)
-}
+    ),
+    (
+        "rich",
+        "",
+        (
+            "",
+            "error[S5]: missing end of script\n  ┌─ script:1:1\n  │\n1 │ \n  │ ^ expected ---\n\n",
+            3,
+        ),
+    ),
+    (
+        "short",
+        "",
+        ("", "script:1:1: error[S5]: missing end of script\n", 3),
+    ),
+];
 
 #[test]
 fn script_bad_number_and_end(rt: HostRuntime) -> Result<(), Fail> {
-    let runs = [
-        (
-            "rich",
-            "primary 0 x\n---\n",
-            (
-                "",
-                "error[S3]: bad number\n  ┌─ script:1:11\n  │\n1 │ primary 0 x\n  │           ^ expected a decimal number\n\n",
-                3,
-            ),
-        ),
-        (
-            "rich",
-            "",
-            (
-                "",
-                "error[S5]: missing end of script\n  ┌─ script:1:1\n  │\n1 │ \n  │ ^ expected ---\n\n",
-                3,
-            ),
-        ),
-        (
-            "short",
-            "",
-            ("", "script:1:1: error[S5]: missing end of script\n", 3),
-        ),
-    ];
-    check(&rt, &runs)
+    check(&rt, &SCRIPT_BAD_NUMBER_AND_END)
 }
+
+/// The runs of `script_medium_and_short`.
+static SCRIPT_MEDIUM_AND_SHORT: [Run<'static>; 4] = [
+    (
+        "medium",
+        "secondary 5 2 back\n---\nab\ncdef\n",
+        ("error: \n", "", 0),
+    ),
+    (
+        "short",
+        "severity help\nmessage m\nsecondary 0 3 é路\nprimary 4 6\n---\né路 xyz\n",
+        ("f.txt:1:2: help: m\n", "", 0),
+    ),
+    (
+        "medium",
+        "code é路\nnote\ncode b\r\n---\n",
+        ("", "script:3:1: error[S4]: repeated word\n", 3),
+    ),
+    (
+        "short",
+        "severity  bug\n---\n",
+        ("", "script:1:10: error[S2]: unknown severity\n", 3),
+    ),
+];
 
 #[test]
 fn script_medium_and_short(rt: HostRuntime) -> Result<(), Fail> {
-    let runs = [
-        (
-            "medium",
-            "secondary 5 2 back\n---\nab\ncdef\n",
-            ("error: \n", "", 0),
-        ),
-        (
-            "short",
-            "severity help\nmessage m\nsecondary 0 3 é路\nprimary 4 6\n---\né路 xyz\n",
-            ("f.txt:1:2: help: m\n", "", 0),
-        ),
-        (
-            "medium",
-            "code é路\nnote\ncode b\r\n---\n",
-            ("", "script:3:1: error[S4]: repeated word\n", 3),
-        ),
-        (
-            "short",
-            "severity  bug\n---\n",
-            ("", "script:1:10: error[S2]: unknown severity\n", 3),
-        ),
-    ];
-    check(&rt, &runs)
+    check(&rt, &SCRIPT_MEDIUM_AND_SHORT)
 }
+
+/// The runs of `scripts_that_are_read`.
+static SCRIPTS_THAT_ARE_READ: [Run<'static>; 7] = [
+    ("rich", "---", ("error: \n\n", "", 0)),
+    ("rich", "---\r\nabc", ("error: \n\n", "", 0)),
+    ("rich", "---\n---\nx", ("error: \n\n", "", 0)),
+    ("rich", "#\n\n# code x\n---\n", ("error: \n\n", "", 0)),
+    ("rich", "code\n---\n", ("error: \n\n", "", 0)),
+    ("rich", "message a  b \n---\n", ("error: a  b \n\n", "", 0)),
+    (
+        "rich",
+        "primary 007 18446744073709551615 \n---\nabc",
+        ("error: \n  ┌─ f.txt:1:4\n  │\n1 │ abc\n  │     \n\n", "", 0),
+    ),
+];
 
 #[test]
 fn scripts_that_are_read(rt: HostRuntime) -> Result<(), Fail> {
-    let runs = [
-        ("rich", "---", ("error: \n\n", "", 0)),
-        ("rich", "---\r\nabc", ("error: \n\n", "", 0)),
-        ("rich", "---\n---\nx", ("error: \n\n", "", 0)),
-        ("rich", "#\n\n# code x\n---\n", ("error: \n\n", "", 0)),
-        ("rich", "code\n---\n", ("error: \n\n", "", 0)),
-        ("rich", "message a  b \n---\n", ("error: a  b \n\n", "", 0)),
-        (
-            "rich",
-            "primary 007 18446744073709551615 \n---\nabc",
-            ("error: \n  ┌─ f.txt:1:4\n  │\n1 │ abc\n  │     \n\n", "", 0),
-        ),
-    ];
-    check(&rt, &runs)
+    check(&rt, &SCRIPTS_THAT_ARE_READ)
 }
+
+/// The runs of `scripts_that_are_read_too`.
+static SCRIPTS_THAT_ARE_READ_TOO: [Run<'static>; 6] = [
+    (
+        "rich",
+        "primary 0 1  two\n---\nabc\n",
+        (
+            "error: \n  ┌─ f.txt:1:1\n  │\n1 │ abc\n  │ ^  two\n\n",
+            "",
+            0,
+        ),
+    ),
+    (
+        "rich",
+        "secondary 5 2 back\n---\nab\ncdef\n",
+        (
+            "error: \n  ┌─ f.txt:2:3\n  │  \n1 │ │ ab\n  │ ╰──' back\n2 │   cdef\n  │ ╭───'\n\n",
+            "",
+            0,
+        ),
+    ),
+    ("rich", "note\nnote a\n---\n", ("error: \n = a\n\n", "", 0)),
+    ("rich", "---\nbad\n", ("error: \n\n", "", 0)),
+    (
+        "rich",
+        "message a\r\nprimary 1 2 b\r\n---\r\nx\r\ny",
+        ("error: a\n  ┌─ f.txt:1:2\n  │\n1 │ x\n  │  ^ b\n\n", "", 0),
+    ),
+    (
+        "rich",
+        "severity help\nmessage m\nsecondary 0 3 é路\nprimary 4 6\n---\né路 xyz\n",
+        (
+            "help: m\n  ┌─ f.txt:1:2\n  │\n1 │ é路 xyz\n  │ -^^^\n  │ │  \n  │ é路\n\n",
+            "",
+            0,
+        ),
+    ),
+];
 
 #[test]
 fn scripts_that_are_read_too(rt: HostRuntime) -> Result<(), Fail> {
-    let runs = [
-        (
-            "rich",
-            "primary 0 1  two\n---\nabc\n",
-            (
-                "error: \n  ┌─ f.txt:1:1\n  │\n1 │ abc\n  │ ^  two\n\n",
-                "",
-                0,
-            ),
-        ),
-        (
-            "rich",
-            "secondary 5 2 back\n---\nab\ncdef\n",
-            (
-                "error: \n  ┌─ f.txt:2:3\n  │  \n1 │ │ ab\n  │ ╰──' back\n2 │   cdef\n  │ ╭───'\n\n",
-                "",
-                0,
-            ),
-        ),
-        ("rich", "note\nnote a\n---\n", ("error: \n = a\n\n", "", 0)),
-        ("rich", "---\nbad\n", ("error: \n\n", "", 0)),
-        (
-            "rich",
-            "message a\r\nprimary 1 2 b\r\n---\r\nx\r\ny",
-            ("error: a\n  ┌─ f.txt:1:2\n  │\n1 │ x\n  │  ^ b\n\n", "", 0),
-        ),
-        (
-            "rich",
-            "severity help\nmessage m\nsecondary 0 3 é路\nprimary 4 6\n---\né路 xyz\n",
-            (
-                "help: m\n  ┌─ f.txt:1:2\n  │\n1 │ é路 xyz\n  │ -^^^\n  │ │  \n  │ é路\n\n",
-                "",
-                0,
-            ),
-        ),
-    ];
-    check(&rt, &runs)
+    check(&rt, &SCRIPTS_THAT_ARE_READ_TOO)
 }
 
 /// If writing the diagnostic of a script's error fails, the status is 1 and nothing more is
@@ -187,14 +200,7 @@ fn script_fault_failed(rt: HostRuntime) -> Result<(), Fail> {
             ..NO_FAILURES
         };
         let outcome = ran(rt.alloc(), &["short", "f.txt"], b"", failing)?;
-        assert_eq!(rt;
-            (
-                outcome.output.text(),
-                outcome.error_output.accepted.len(),
-                outcome.status
-            ),
-            ("", write * 4, 1)
-        );
+        assert!(rt; outcome.ended_after(write * 4, 1), "write {write}");
     }
     Ok(())
 }

@@ -70,20 +70,22 @@ fn assert_colors(
     Ok(())
 }
 
+/// Each color, and how it and the bright one of it are named.
+static COLORS: [(Color, &str, &str); 8] = [
+    (Color::Black, "#000000", "#7f7f7f"),
+    (Color::Red, "#cd0000", "#ff0000"),
+    (Color::Green, "#00cd00", "#00ff00"),
+    (Color::Yellow, "#cdcd00", "#ffff00"),
+    (Color::Blue, "#0000ee", "#5c5cff"),
+    (Color::Magenta, "#cd00cd", "#ff00ff"),
+    (Color::Cyan, "#00cdcd", "#00ffff"),
+    (Color::White, "#e5e5e5", "#ffffff"),
+];
+
 #[test]
 fn each_color(rt: HostRuntime) -> Result<(), Fail> {
-    let table = [
-        (Color::Black, "#000000", "#7f7f7f"),
-        (Color::Red, "#cd0000", "#ff0000"),
-        (Color::Green, "#00cd00", "#00ff00"),
-        (Color::Yellow, "#cdcd00", "#ffff00"),
-        (Color::Blue, "#0000ee", "#5c5cff"),
-        (Color::Magenta, "#cd00cd", "#ff00ff"),
-        (Color::Cyan, "#00cdcd", "#00ffff"),
-        (Color::White, "#e5e5e5", "#ffffff"),
-    ];
-    for (color, normal, bright) in table {
-        assert_colors(&rt, rt.alloc(), color, normal, bright)?;
+    for (color, normal, bright) in &COLORS {
+        assert_colors(&rt, rt.alloc(), *color, normal, bright)?;
     }
     Ok(())
 }

@@ -8,18 +8,20 @@ use codespan_base::term::Styles;
 use codespan_styled::{Style, to_svg};
 use std::test::Fail;
 
+/// Parts of a text.
+static PARTS: [(Style, &str); 7] = [
+    (Style::Plain, ""),
+    (Style::Label(Severity::Error, LabelStyle::Primary), "a<"),
+    (Style::Label(Severity::Bug, LabelStyle::Primary), "b"),
+    (Style::Plain, "\n"),
+    (Style::Header(Severity::Error), "世e\u{301}"),
+    (Style::Plain, " & \"\x1b[\x07"),
+    (Style::SourceBorder, "│"),
+];
+
 #[test]
 fn inks_and_cells(rt: HostRuntime) -> Result<(), Fail> {
-    let parts = [
-        (Style::Plain, ""),
-        (Style::Label(Severity::Error, LabelStyle::Primary), "a<"),
-        (Style::Label(Severity::Bug, LabelStyle::Primary), "b"),
-        (Style::Plain, "\n"),
-        (Style::Header(Severity::Error), "世e\u{301}"),
-        (Style::Plain, " & \"\x1b[\x07"),
-        (Style::SourceBorder, "│"),
-    ];
-    let text = text_of(rt.alloc(), &parts)?;
+    let text = text_of(rt.alloc(), &PARTS)?;
     let want = "<svg xmlns=\"http://www.w3.org/2000/svg\" width=\"105\" height=\"42\" \
                 viewBox=\"0 0 105 42\" \
                 font-family=\"DejaVu Sans Mono, Menlo, Consolas, monospace\" font-size=\"15\" \

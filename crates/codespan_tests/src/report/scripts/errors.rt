@@ -1,194 +1,202 @@
 //! Scripts with an error, each with its diagnostic.
 
-use crate::report::scripts::check;
+use crate::report::scripts::{Run, check};
 use std::test::Fail;
+
+/// The runs of `scripts_with_unknown_words`.
+static SCRIPTS_WITH_UNKNOWN_WORDS: [Run<'static>; 5] = [
+    (
+        "rich",
+        "---\r",
+        (
+            "",
+            "error[S1]: unknown word\n  ┌─ script:1:1\n  │\n1 │ ---\n  │ ^^^^ expected severity, code, message, primary, secondary or note\n\n",
+            3,
+        ),
+    ),
+    (
+        "rich",
+        "--- \n",
+        (
+            "",
+            "error[S1]: unknown word\n  ┌─ script:1:1\n  │\n1 │ --- \n  │ ^^^ expected severity, code, message, primary, secondary or note\n\n",
+            3,
+        ),
+    ),
+    (
+        "rich",
+        " code a\n---\n",
+        (
+            "",
+            "error[S1]: unknown word\n  ┌─ script:1:1\n  │\n1 │  code a\n  │ ^ expected severity, code, message, primary, secondary or note\n\n",
+            3,
+        ),
+    ),
+    (
+        "rich",
+        "primary\t0 1\n---\n",
+        (
+            "",
+            "error[S1]: unknown word\n  ┌─ script:1:1\n  │\n1 │ primary 0 1\n  │ ^^^^^^^^^ expected severity, code, message, primary, secondary or note\n\n",
+            3,
+        ),
+    ),
+    (
+        "rich",
+        "bad",
+        (
+            "",
+            "error[S1]: unknown word\n  ┌─ script:1:1\n  │\n1 │ bad\n  │ ^^^ expected severity, code, message, primary, secondary or note\n\n",
+            3,
+        ),
+    ),
+];
 
 #[test]
 fn scripts_with_unknown_words(rt: HostRuntime) -> Result<(), Fail> {
-    let runs = [
-        (
-            "rich",
-            "---\r",
-            (
-                "",
-                "error[S1]: unknown word\n  ┌─ script:1:1\n  │\n1 │ ---\n  │ ^^^^ expected severity, code, message, primary, secondary or note\n\n",
-                3,
-            ),
-        ),
-        (
-            "rich",
-            "--- \n",
-            (
-                "",
-                "error[S1]: unknown word\n  ┌─ script:1:1\n  │\n1 │ --- \n  │ ^^^ expected severity, code, message, primary, secondary or note\n\n",
-                3,
-            ),
-        ),
-        (
-            "rich",
-            " code a\n---\n",
-            (
-                "",
-                "error[S1]: unknown word\n  ┌─ script:1:1\n  │\n1 │  code a\n  │ ^ expected severity, code, message, primary, secondary or note\n\n",
-                3,
-            ),
-        ),
-        (
-            "rich",
-            "primary\t0 1\n---\n",
-            (
-                "",
-                "error[S1]: unknown word\n  ┌─ script:1:1\n  │\n1 │ primary 0 1\n  │ ^^^^^^^^^ expected severity, code, message, primary, secondary or note\n\n",
-                3,
-            ),
-        ),
-        (
-            "rich",
-            "bad",
-            (
-                "",
-                "error[S1]: unknown word\n  ┌─ script:1:1\n  │\n1 │ bad\n  │ ^^^ expected severity, code, message, primary, secondary or note\n\n",
-                3,
-            ),
-        ),
-    ];
-    check(&rt, &runs)
+    check(&rt, &SCRIPTS_WITH_UNKNOWN_WORDS)
 }
+
+/// The runs of `scripts_with_unknown_severities`.
+static SCRIPTS_WITH_UNKNOWN_SEVERITIES: [Run<'static>; 5] = [
+    (
+        "rich",
+        "severity\n---\n",
+        (
+            "",
+            "error[S2]: unknown severity\n  ┌─ script:1:9\n  │\n1 │ severity\n  │         ^ expected bug, error, warning, note or help\n\n",
+            3,
+        ),
+    ),
+    (
+        "rich",
+        "severity  bug\n---\n",
+        (
+            "",
+            "error[S2]: unknown severity\n  ┌─ script:1:10\n  │\n1 │ severity  bug\n  │          ^^^^ expected bug, error, warning, note or help\n\n",
+            3,
+        ),
+    ),
+    (
+        "rich",
+        "severity Error\n---\n",
+        (
+            "",
+            "error[S2]: unknown severity\n  ┌─ script:1:10\n  │\n1 │ severity Error\n  │          ^^^^^ expected bug, error, warning, note or help\n\n",
+            3,
+        ),
+    ),
+    (
+        "rich",
+        "severity bug\nseverity x\n---\n",
+        (
+            "",
+            "error[S4]: repeated word\n  ┌─ script:2:1\n  │\n1 │ severity bug\n  │ -------- first given here\n2 │ severity x\n  │ ^^^^^^^^ given again\n\n",
+            3,
+        ),
+    ),
+    (
+        "rich",
+        "severity x\nseverity bug\n---\n",
+        (
+            "",
+            "error[S2]: unknown severity\n  ┌─ script:1:10\n  │\n1 │ severity x\n  │          ^ expected bug, error, warning, note or help\n\n",
+            3,
+        ),
+    ),
+];
 
 #[test]
 fn scripts_with_unknown_severities(rt: HostRuntime) -> Result<(), Fail> {
-    let runs = [
-        (
-            "rich",
-            "severity\n---\n",
-            (
-                "",
-                "error[S2]: unknown severity\n  ┌─ script:1:9\n  │\n1 │ severity\n  │         ^ expected bug, error, warning, note or help\n\n",
-                3,
-            ),
-        ),
-        (
-            "rich",
-            "severity  bug\n---\n",
-            (
-                "",
-                "error[S2]: unknown severity\n  ┌─ script:1:10\n  │\n1 │ severity  bug\n  │          ^^^^ expected bug, error, warning, note or help\n\n",
-                3,
-            ),
-        ),
-        (
-            "rich",
-            "severity Error\n---\n",
-            (
-                "",
-                "error[S2]: unknown severity\n  ┌─ script:1:10\n  │\n1 │ severity Error\n  │          ^^^^^ expected bug, error, warning, note or help\n\n",
-                3,
-            ),
-        ),
-        (
-            "rich",
-            "severity bug\nseverity x\n---\n",
-            (
-                "",
-                "error[S4]: repeated word\n  ┌─ script:2:1\n  │\n1 │ severity bug\n  │ -------- first given here\n2 │ severity x\n  │ ^^^^^^^^ given again\n\n",
-                3,
-            ),
-        ),
-        (
-            "rich",
-            "severity x\nseverity bug\n---\n",
-            (
-                "",
-                "error[S2]: unknown severity\n  ┌─ script:1:10\n  │\n1 │ severity x\n  │          ^ expected bug, error, warning, note or help\n\n",
-                3,
-            ),
-        ),
-    ];
-    check(&rt, &runs)
+    check(&rt, &SCRIPTS_WITH_UNKNOWN_SEVERITIES)
 }
+
+/// The runs of `scripts_with_bad_numbers`.
+static SCRIPTS_WITH_BAD_NUMBERS: [Run<'static>; 5] = [
+    (
+        "rich",
+        "primary\n---\n",
+        (
+            "",
+            "error[S3]: bad number\n  ┌─ script:1:8\n  │\n1 │ primary\n  │        ^ expected a decimal number\n\n",
+            3,
+        ),
+    ),
+    (
+        "rich",
+        "secondary 0\n---\n",
+        (
+            "",
+            "error[S3]: bad number\n  ┌─ script:1:12\n  │\n1 │ secondary 0\n  │            ^ expected a decimal number\n\n",
+            3,
+        ),
+    ),
+    (
+        "rich",
+        "primary x y\n---\n",
+        (
+            "",
+            "error[S3]: bad number\n  ┌─ script:1:9\n  │\n1 │ primary x y\n  │         ^ expected a decimal number\n\n",
+            3,
+        ),
+    ),
+    (
+        "rich",
+        "primary 0 18446744073709551616\n---\n",
+        (
+            "",
+            "error[S3]: bad number\n  ┌─ script:1:11\n  │\n1 │ primary 0 18446744073709551616\n  │           ^^^^^^^^^^^^^^^^^^^^ expected a decimal number\n\n",
+            3,
+        ),
+    ),
+    (
+        "rich",
+        "primary +1 2\n---\n",
+        (
+            "",
+            "error[S3]: bad number\n  ┌─ script:1:9\n  │\n1 │ primary +1 2\n  │         ^^ expected a decimal number\n\n",
+            3,
+        ),
+    ),
+];
 
 #[test]
 fn scripts_with_bad_numbers(rt: HostRuntime) -> Result<(), Fail> {
-    let runs = [
-        (
-            "rich",
-            "primary\n---\n",
-            (
-                "",
-                "error[S3]: bad number\n  ┌─ script:1:8\n  │\n1 │ primary\n  │        ^ expected a decimal number\n\n",
-                3,
-            ),
-        ),
-        (
-            "rich",
-            "secondary 0\n---\n",
-            (
-                "",
-                "error[S3]: bad number\n  ┌─ script:1:12\n  │\n1 │ secondary 0\n  │            ^ expected a decimal number\n\n",
-                3,
-            ),
-        ),
-        (
-            "rich",
-            "primary x y\n---\n",
-            (
-                "",
-                "error[S3]: bad number\n  ┌─ script:1:9\n  │\n1 │ primary x y\n  │         ^ expected a decimal number\n\n",
-                3,
-            ),
-        ),
-        (
-            "rich",
-            "primary 0 18446744073709551616\n---\n",
-            (
-                "",
-                "error[S3]: bad number\n  ┌─ script:1:11\n  │\n1 │ primary 0 18446744073709551616\n  │           ^^^^^^^^^^^^^^^^^^^^ expected a decimal number\n\n",
-                3,
-            ),
-        ),
-        (
-            "rich",
-            "primary +1 2\n---\n",
-            (
-                "",
-                "error[S3]: bad number\n  ┌─ script:1:9\n  │\n1 │ primary +1 2\n  │         ^^ expected a decimal number\n\n",
-                3,
-            ),
-        ),
-    ];
-    check(&rt, &runs)
+    check(&rt, &SCRIPTS_WITH_BAD_NUMBERS)
 }
+
+/// The runs of `scripts_without_end`.
+static SCRIPTS_WITHOUT_END: [Run<'static>; 3] = [
+    (
+        "rich",
+        "code é路\nnote\ncode b\r\n---\n",
+        (
+            "",
+            "error[S4]: repeated word\n  ┌─ script:3:1\n  │\n1 │ code é路\n  │ ---- first given here\n2 │ note\n3 │ code b\n  │ ^^^^ given again\n\n",
+            3,
+        ),
+    ),
+    (
+        "rich",
+        "message a\r",
+        (
+            "",
+            "error[S5]: missing end of script\n  ┌─ script:1:11\n  │\n1 │ message a\n  │            expected ---\n\n",
+            3,
+        ),
+    ),
+    (
+        "rich",
+        "note 路 \n\n",
+        (
+            "",
+            "error[S5]: missing end of script\n  ┌─ script:3:1\n  │\n3 │ \n  │ ^ expected ---\n\n",
+            3,
+        ),
+    ),
+];
 
 #[test]
 fn scripts_without_end(rt: HostRuntime) -> Result<(), Fail> {
-    let runs = [
-        (
-            "rich",
-            "code é路\nnote\ncode b\r\n---\n",
-            (
-                "",
-                "error[S4]: repeated word\n  ┌─ script:3:1\n  │\n1 │ code é路\n  │ ---- first given here\n2 │ note\n3 │ code b\n  │ ^^^^ given again\n\n",
-                3,
-            ),
-        ),
-        (
-            "rich",
-            "message a\r",
-            (
-                "",
-                "error[S5]: missing end of script\n  ┌─ script:1:11\n  │\n1 │ message a\n  │            expected ---\n\n",
-                3,
-            ),
-        ),
-        (
-            "rich",
-            "note 路 \n\n",
-            (
-                "",
-                "error[S5]: missing end of script\n  ┌─ script:3:1\n  │\n3 │ \n  │ ^ expected ---\n\n",
-                3,
-            ),
-        ),
-    ];
-    check(&rt, &runs)
+    check(&rt, &SCRIPTS_WITHOUT_END)
 }

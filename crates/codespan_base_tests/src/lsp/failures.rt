@@ -1,0 +1,93 @@
+//! Positions and bytes that have no counterpart.
+
+use crate::asserts::{inside_character, is_column_too_large, is_file_missing, is_line_too_large};
+use crate::lsp::positions::{at, unicode_files};
+use codespan_base::files::SimpleFile;
+use codespan_lsp::{Position, PositionEncoding, byte_index_to_position, position_to_byte_index};
+use std::process::Abort;
+use std::test::Fail;
+
+/// Encodings, and characters that are inside the one at byte 1 by them.
+static INSIDE: [(PositionEncoding, u32); 3] = [
+    (PositionEncoding::Utf8, 2),
+    (PositionEncoding::Utf8, 4),
+    (PositionEncoding::Utf16, 2),
+];
+
+/// A byte inside a character and a position between its code units have no counterpart.
+#[test]
+fn inside_characters(rt: HostRuntime) -> Result<(), Fail> {
+    let file = SimpleFile::new(rt.alloc(), "f", "a𐐀b")?;
+    for byte_index in 2..5 {
+        let result = byte_index_to_position(&file, (), byte_index);
+        assert!(rt; inside_character(&result) == Some(byte_index));
+    }
+    for (encoding, character) in &INSIDE {
+        let result = encoding.position_to_byte_index(&file, (), &at(0, *character));
+        assert!(rt; inside_character(&result) == Some(1), "{character}");
+    }
+    Ok(())
+}
+
+/// Asserts that a position is past the end of its line, with these limits.
+fn assert_past_line(
+    rt: &impl Abort,
+    file: &SimpleFile<&str, &str>,
+    position: Position,
+    limits: (usize, usize),
+) {
+    let past = position_to_byte_index(file, (), &position);
+    assert!(rt; is_column_too_large(&past, limits));
+}
+
+/// Asserts that a position is past the last line, with these limits.
+fn assert_past_lines(
+    rt: &impl Abort,
+    file: &SimpleFile<&str, &str>,
+    position: Position,
+    limits: (usize, usize),
+) {
+    let past = position_to_byte_index(file, (), &position);
+    assert!(rt; is_line_too_large(&past, limits));
+}
+
+/// Asserts that a byte is past the end of the text, with these limits.
+fn assert_past_text(
+    rt: &impl Abort,
+    file: &SimpleFile<&str, &str>,
+    byte_index: usize,
+    limits: (usize, usize),
+) {
+    let past = byte_index_to_position(file, (), byte_index);
+    assert!(rt; is_column_too_large(&past, limits));
+}
+
+/// Past the end of a line, of the lines and of the text.
+#[test]
+fn past_ends(rt: HostRuntime) -> Result<(), Fail> {
+    let file = SimpleFile::new(rt.alloc(), "f", "é𐐀\nb")?;
+    assert_past_line(&rt, &file, at(0, 5), (5, 4));
+    assert_past_line(&rt, &file, at(1, u32::MAX), (4294967295, 1));
+    assert_past_lines(&rt, &file, at(2, 0), (2, 1));
+    assert_past_text(&rt, &file, 9, (2, 1));
+    Ok(())
+}
+
+/// An empty file has one line and one position, and nothing past them.
+#[test]
+fn past_empty_file(rt: HostRuntime) -> Result<(), Fail> {
+    let file = SimpleFile::new(rt.alloc(), "f", "")?;
+    assert_past_text(&rt, &file, 1, (1, 0));
+    assert_past_line(&rt, &file, at(0, 1), (1, 0));
+    assert_past_lines(&rt, &file, at(1, 0), (1, 0));
+    Ok(())
+}
+
+/// A missing file fails.
+#[test]
+fn missing_file(rt: HostRuntime) -> Result<(), Fail> {
+    let files = unicode_files(rt.alloc())?;
+    assert!(rt; is_file_missing(&byte_index_to_position(&files, 2, 0)));
+    assert!(rt; is_file_missing(&position_to_byte_index(&files, 2, &at(0, 0))));
+    Ok(())
+}
