@@ -55,24 +55,27 @@ impl LookupCall {
     }
 }
 
+/// The lookups of a label of the first byte, and what is written before each.
+static LOOKUPS: [(LookupCall, &str); 7] = [
+    (LookupCall::LineIndex(0), ""),
+    (LookupCall::LineIndex(1), ""),
+    (LookupCall::LineRange(0), ""),
+    (LookupCall::LineNumber(0), ""),
+    (LookupCall::Name, ""),
+    (LookupCall::Location(0), ""),
+    (LookupCall::Source, "error: \n"),
+];
+
 /// The error of a failed lookup is returned before anything is written; that of the source, after
 /// the header.
 #[test]
 fn failed_lookups(rt: HostRuntime) -> Result<(), Fail> {
-    let alloc = rt.alloc();
-    let cases = [
-        (LookupCall::LineIndex(0), ""),
-        (LookupCall::LineIndex(1), ""),
-        (LookupCall::LineRange(0), ""),
-        (LookupCall::LineNumber(0), ""),
-        (LookupCall::Name, ""),
-        (LookupCall::Location(0), ""),
-        (LookupCall::Source, "error: \n"),
-    ];
-    for (lookup, prefix) in cases {
+    let diagnostic = with_label(rt.alloc())?;
+    for (lookup, prefix) in &LOOKUPS {
         let failed = lookup.failed_beside(Failed::default());
-        let files = Listing::new(alloc, "f", "ab", failed)?;
-        assert_failed_lookup(&rt, alloc, &lookup, &files, prefix)?;
+        let files = Listing::new(rt.alloc(), "f", "ab", failed)?;
+        let returned = returned_after(&rt, &files, &diagnostic, prefix)?;
+        assert!(rt; lookup.is_known(&returned.rendered) && lookup.is_known(&returned.emitted));
     }
     Ok(())
 }
@@ -82,21 +85,25 @@ fn with_label(alloc: Global) -> Result<Diagnostic<()>, Error> {
     Diagnostic::error(alloc).with_label(Label::primary(alloc, (), 0..1))
 }
 
-/// Asserts that the view and a call that emits return the error of this lookup of a file, and that
-/// the view writes this text before.
-fn assert_failed_lookup(
+/// What the view and a call that emits return.
+#[derive(Drop)]
+struct Returned {
+    rendered: Result<(), Error>,
+    emitted: Result<String, Error>,
+}
+
+/// Returns what is returned of a diagnostic, and asserts that the view writes this text before.
+fn returned_after<'files, F: Files<'files>>(
     rt: &impl Abort,
-    alloc: Global,
-    lookup: &LookupCall,
-    files: &Listing<'_>,
+    files: &'files F,
+    diagnostic: &Diagnostic<F::FileId>,
     prefix: &str,
-) -> Result<(), Error> {
+) -> Result<Returned, Error> {
     let config = Config::default();
-    let diagnostic = with_label(alloc)?;
-    let returned = assert_view_writes(rt, &config, files, &diagnostic, prefix)?;
-    let emitted = emit_into_string(&config, files, &diagnostic);
-    assert!(rt; lookup.is_known(&returned) && lookup.is_known(&emitted));
-    Ok(())
+    Ok(Returned {
+        rendered: assert_view_writes(rt, &config, files, diagnostic, prefix)?,
+        emitted: emit_into_string(&config, files, diagnostic),
+    })
 }
 
 /// Returns, in their order, the lookups of a label over the lines 1 to 3, of one inside line 7, and
@@ -181,18 +188,31 @@ fn around_labels<'chars>(layout: Layout) -> Config<'chars> {
 /// Asserts that the error of the first one of two lookups that fail is returned.
 fn assert_first_error(
     rt: &impl Abort,
-    alloc: Global,
+    diagnostic: &Diagnostic<()>,
     layout: Layout,
     first: &LookupCall,
     next: &LookupCall,
 ) -> Result<(), Error> {
-    let diagnostic = with_two_labels(alloc, 2..7, 14..15)?;
-    let config = around_labels(layout);
     let failed = first.failed_beside(next.failed_beside(Failed::default()));
-    let files = Listing::new(alloc, "f", "a\nb\nc\nd\ne\nf\ng\nh\ni", failed)?;
-    let prefix = written_before(first, layout);
-    let returned = assert_view_writes(rt, &config, &files, &diagnostic, prefix)?;
+    let source = "a\nb\nc\nd\ne\nf\ng\nh\ni";
+    let files = Listing::new(*diagnostic.labels.allocator(), "f", source, failed)?;
+    let (config, prefix) = (around_labels(layout), written_before(first, layout));
+    let returned = assert_view_writes(rt, &config, &files, diagnostic, prefix)?;
     assert!(rt; first.is_known(&returned));
+    Ok(())
+}
+
+/// Asserts so of each of these lookups, and the next one.
+fn assert_first_errors(
+    rt: &impl Abort,
+    diagnostic: &Diagnostic<()>,
+    layout: Layout,
+    order: &[LookupCall],
+) -> Result<(), Error> {
+    for (position, first) in order.iter().enumerate() {
+        let next = order.get(position + 1).unwrap_or(first);
+        assert_first_error(rt, diagnostic, layout, first, next)?;
+    }
     Ok(())
 }
 
@@ -200,13 +220,10 @@ fn assert_first_error(
 /// turn, together with the next one.
 #[test]
 fn first_error(rt: HostRuntime) -> Result<(), Fail> {
-    let alloc = rt.alloc();
+    let diagnostic = with_two_labels(rt.alloc(), 2..7, 14..15)?;
     for layout in [Layout::Classic, Layout::Unbroken] {
-        let order = lookups_in_order(alloc, layout)?;
-        for (position, first) in order.iter().enumerate() {
-            let next = order.get(position + 1).unwrap_or(first);
-            assert_first_error(&rt, alloc, layout, first, next)?;
-        }
+        let order = lookups_in_order(rt.alloc(), layout)?;
+        assert_first_errors(&rt, &diagnostic, layout, order.as_slice())?;
     }
     Ok(())
 }
@@ -215,9 +232,13 @@ fn first_error(rt: HostRuntime) -> Result<(), Fail> {
 fn assert_failed_number(
     rt: &impl Abort,
     alloc: Global,
-    config: Config<'_>,
+    layout: Layout,
     prefix: &str,
 ) -> Result<(), Error> {
+    let config = Config {
+        layout,
+        ..Config::default()
+    };
     let lookup = LookupCall::LineNumber(1);
     let failed = lookup.failed_beside(Failed::default());
     let files = Listing::new(alloc, "f", "a\nb\nc", failed)?;
@@ -227,20 +248,18 @@ fn assert_failed_number(
     Ok(())
 }
 
+/// What is written before the number of a filled line is looked up, by layout.
+static NUMBER_OF_FILLED_LINE: [(Layout, &str); 2] = [
+    (Layout::Classic, "error: \n  ┌─ f:0:1\n  │\n0 │ a\n  │ ^\n"),
+    (Layout::Unbroken, ""),
+];
+
 /// The number of a filled line is looked up with the line in the classic layout, and before the
 /// header in the unbroken one.
 #[test]
 fn failed_number_of_filled_line(rt: HostRuntime) -> Result<(), Fail> {
-    let cases = [
-        (Layout::Classic, "error: \n  ┌─ f:0:1\n  │\n0 │ a\n  │ ^\n"),
-        (Layout::Unbroken, ""),
-    ];
-    for (layout, prefix) in cases {
-        let config = Config {
-            layout,
-            ..Config::default()
-        };
-        assert_failed_number(&rt, rt.alloc(), config, prefix)?;
+    for (layout, prefix) in &NUMBER_OF_FILLED_LINE {
+        assert_failed_number(&rt, rt.alloc(), *layout, prefix)?;
     }
     Ok(())
 }
@@ -266,9 +285,7 @@ fn is_format_error<T>(returned: &Result<T, Error>) -> bool {
 fn unprintable_name(rt: HostRuntime) -> Result<(), Fail> {
     let files = SimpleFile::new(rt.alloc(), Unprintable, "ab")?;
     let diagnostic = with_label(rt.alloc())?;
-    let config = Config::default();
-    let returned = assert_view_writes(&rt, &config, &files, &diagnostic, "")?;
-    let emitted = emit_into_string(&config, &files, &diagnostic);
-    assert!(rt; is_format_error(&returned) && is_format_error(&emitted));
+    let returned = returned_after(&rt, &files, &diagnostic, "")?;
+    assert!(rt; is_format_error(&returned.rendered) && is_format_error(&returned.emitted));
     Ok(())
 }

@@ -5,6 +5,7 @@ use codespan_reporting::diagnostic::{Diagnostic, Label, LabelStyle};
 use codespan_reporting::files::{Error, SimpleFile};
 use codespan_reporting::term::Config;
 use std::alloc::Global;
+use std::process::Abort;
 use std::test::Fail;
 
 /// Returns the text: fifty equal lines.
@@ -67,15 +68,25 @@ fn with_labels_in(alloc: Global, order: usize) -> Result<Diagnostic<()>, Error> 
     Ok(diagnostic)
 }
 
+/// Asserts that the labels in this order have this output.
+fn assert_in_order(
+    rt: &impl Abort,
+    alloc: Global,
+    files: &SimpleFile<&str, &str>,
+    order: usize,
+    output: &str,
+) -> Result<(), Error> {
+    let diagnostic = with_labels_in(alloc, order)?;
+    assert_output(rt, &Config::default(), files, &diagnostic, output)
+}
+
 #[test]
 fn label_orders(rt: HostRuntime) -> Result<(), Fail> {
     let source = source_of(rt.alloc())?;
     let files = SimpleFile::new(rt.alloc(), "f", source.as_str())?;
     let output = output(rt.alloc())?;
-    let output = output.as_str();
     for order in 0..3 {
-        let diagnostic = with_labels_in(rt.alloc(), order)?;
-        assert_output(&rt, &Config::default(), &files, &diagnostic, output)?;
+        assert_in_order(&rt, rt.alloc(), &files, order, output.as_str())?;
     }
     Ok(())
 }

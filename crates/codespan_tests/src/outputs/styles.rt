@@ -32,23 +32,29 @@ static ROWS: [Row<'static>; 3] = [
 ];
 
 /// Asserts what is appended to a vector.
-fn assert_to_io_write(rt: &impl Abort, alloc: Global, row: &Row<'_>) -> Result<(), Error> {
+fn assert_to_io_write(
+    rt: &impl Abort,
+    files: &SimpleFiles<&str, &str>,
+    bug: &Diagnostic<usize>,
+    row: &Row<'_>,
+) -> Result<(), Error> {
     let (style, prefix, text) = row;
-    let (config, bug) = (in_style(*style), Diagnostic::bug(alloc));
-    let files: SimpleFiles<&str, &str> = SimpleFiles::new(alloc);
-    let mut bytes = prefix.to_string(alloc)?.into_bytes();
-    emit_to_io_write(&mut bytes, &config, &files, &bug)?;
+    let mut bytes = prefix.to_string(*bug.labels.allocator())?.into_bytes();
+    emit_to_io_write(&mut bytes, &in_style(*style), files, bug)?;
     assert_bytes(rt, bytes.as_slice(), text);
     Ok(())
 }
 
 /// Asserts what [`emit`] appends to a vector.
-fn assert_emit(rt: &impl Abort, alloc: Global, row: &Row<'_>) -> Result<(), Error> {
+fn assert_emit(
+    rt: &impl Abort,
+    files: &SimpleFiles<&str, &str>,
+    bug: &Diagnostic<usize>,
+    row: &Row<'_>,
+) -> Result<(), Error> {
     let (style, prefix, text) = row;
-    let (config, bug) = (in_style(*style), Diagnostic::bug(alloc));
-    let files: SimpleFiles<&str, &str> = SimpleFiles::new(alloc);
-    let mut bytes = prefix.to_string(alloc)?.into_bytes();
-    emit(&mut bytes, &config, &files, &bug)?;
+    let mut bytes = prefix.to_string(*bug.labels.allocator())?.into_bytes();
+    emit(&mut bytes, &in_style(*style), files, bug)?;
     assert_bytes(rt, bytes.as_slice(), text);
     Ok(())
 }
@@ -56,9 +62,11 @@ fn assert_emit(rt: &impl Abort, alloc: Global, row: &Row<'_>) -> Result<(), Erro
 /// Each call that writes bytes appends to what a vector holds.
 #[test]
 fn bare_bug(rt: HostRuntime) -> Result<(), Fail> {
+    let files = SimpleFiles::new(rt.alloc());
+    let bug = Diagnostic::bug(rt.alloc());
     for row in &ROWS {
-        assert_to_io_write(&rt, rt.alloc(), row)?;
-        assert_emit(&rt, rt.alloc(), row)?;
+        assert_to_io_write(&rt, &files, &bug, row)?;
+        assert_emit(&rt, &files, &bug, row)?;
     }
     Ok(())
 }
@@ -89,16 +97,21 @@ static TAGGED: [(DisplayStyle, &str); 2] = [
     ),
 ];
 
+/// Returns the output in tags.
+fn tagged(alloc: Global, style: DisplayStyle) -> Result<Vec<u8>, Error> {
+    let files = files_of(alloc, &[("f", "ab")])?;
+    let diagnostic = with_note(alloc)?;
+    let mut bytes = Vec::new(alloc);
+    let mut tags = TagWriter::new(&mut bytes);
+    emit_to_write_style(&mut tags, &in_style(style), &files, &diagnostic)?;
+    Ok(bytes)
+}
+
 /// A custom `WriteStyle`, in short and in medium style.
 #[test]
 fn tags_of_styles(rt: HostRuntime) -> Result<(), Fail> {
-    let alloc = rt.alloc();
-    let files = files_of(alloc, &[("f", "ab")])?;
-    let diagnostic = with_note(alloc)?;
     for (style, output) in &TAGGED {
-        let mut bytes = Vec::new(alloc);
-        let mut tags = TagWriter::new(&mut bytes);
-        emit_to_write_style(&mut tags, &in_style(*style), &files, &diagnostic)?;
+        let bytes = tagged(rt.alloc(), *style)?;
         assert_bytes(&rt, bytes.as_slice(), output);
     }
     Ok(())
