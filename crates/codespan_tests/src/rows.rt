@@ -11,6 +11,7 @@ use std::io::Write;
 use std::process::Abort;
 use std::test::Fail;
 use test_writers::counting::Counting;
+use test_writers::marks::set_styles;
 use test_writers::stopping::{Stop, Stopping};
 
 /// A lane of a multi-line label that goes on.
@@ -56,23 +57,15 @@ fn endless_padding(rt: HostRuntime) -> Result<(), Fail> {
     Ok(())
 }
 
-/// Writes a header and each other style mark, and then flushes once.
+/// Writes every style mark and some text, and then flushes once.
 fn write_marks<W: WriteStyle>(w: &mut W) -> io::Result<()> {
-    w.set_header(Severity::Error)?;
-    w.write_all(b"error")?;
-    w.set_header_message()?;
-    w.put(b": m")?;
-    w.reset()?;
+    set_styles(w)?;
+    w.write_all(b"text")?;
     w.put(b"\n")?;
-    w.set_line_number()?;
-    w.set_note_bullet()?;
-    w.set_source_border()?;
-    w.set_label(Severity::Error, LabelStyle::Primary)?;
     w.flush()
 }
 
-/// Renders a header, and writes the same header and the style marks through the renderer as a
-/// writer.
+/// Renders a header, and writes the style marks and the text through the renderer as a writer.
 fn render_header_and_marks<W: WriteStyle>(w: &mut W) -> Result<(), Error> {
     let config = Config::default();
     let mut renderer = Renderer::new(w, &config);
@@ -88,8 +81,8 @@ fn coloured_header(rt: HostRuntime) -> Result<(), Fail> {
     let mut colored = StylesWriter::new(Ansi::new(Vec::new(rt.alloc())), &styles);
     render_header_and_marks(&mut colored)?;
     let expected = "\x1b[0m\x1b[1m\x1b[38;5;9merror\x1b[0m\x1b[1m: m\x1b[0m\n\
-                \x1b[0m\x1b[1m\x1b[38;5;9merror\x1b[0m\x1b[1m: m\x1b[0m\n\
-                \x1b[0m\x1b[36m\x1b[0m\x1b[36m\x1b[0m\x1b[36m\x1b[0m\x1b[31m";
+                \x1b[0m\x1b[1m\x1b[38;5;9m\x1b[0m\x1b[1m\x1b[0m\x1b[36m\x1b[0m\x1b[36m\
+                \x1b[0m\x1b[36m\x1b[0m\x1b[31m\x1b[0mtext\n";
     assert_bytes(&rt, colored.into_inner().into_inner().as_slice(), expected);
     Ok(())
 }
@@ -141,6 +134,6 @@ fn only_flush_flushes(rt: HostRuntime) -> Result<(), Fail> {
     let mut plain = PlainWriter::new(&mut inner);
     let mut renderer = Renderer::new(&mut plain, &config);
     render_rows(&rt, &mut renderer, &locus)?;
-    assert_eq!(rt; inner.flushes, 1);
+    assert!(rt; inner.flushes == 1);
     Ok(())
 }

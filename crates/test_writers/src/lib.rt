@@ -1,7 +1,9 @@
-//! Custom writers that the tests share: those of `docs/WRITERS.md`, and writers that count or stop.
+//! What tests share: the custom writers of `docs/WRITERS.md`, writers that count or stop, and what is
+//! written to them.
 #![tactic(auto)]
 
 pub mod counting;
 pub mod example;
+pub mod marks;
 pub mod sequences;
 pub mod stopping;

@@ -1,24 +1,11 @@
 //! Which calls of the writer with style marks in band flush, and what its `write` takes.
 
-use codespan_base::diagnostic::{LabelStyle, Severity};
-use codespan_base::term::WriteStyle;
+use crate::asserts::assert_bytes;
 use codespan_native::style_mark_writer::StyleMarkWriter;
-use std::io;
 use std::io::Write;
 use std::test::Fail;
 use test_writers::counting::Counting;
-
-/// Writes every style mark, and some text.
-fn set_styles<W: WriteStyle>(w: &mut W) -> io::Result<()> {
-    w.set_header(Severity::Error)?;
-    w.set_header_message()?;
-    w.set_line_number()?;
-    w.set_note_bullet()?;
-    w.set_source_border()?;
-    w.set_label(Severity::Error, LabelStyle::Primary)?;
-    w.reset()?;
-    w.write_all(b"text")
-}
+use test_writers::marks::set_styles;
 
 /// The writer passes on a flush, and no other call flushes.
 #[test]
@@ -26,8 +13,9 @@ fn only_flush_flushes(rt: HostRuntime) -> Result<(), Fail> {
     let mut inner = Counting::default();
     let mut writer = StyleMarkWriter::new(&mut inner);
     set_styles(&mut writer)?;
+    writer.write_all(b"text")?;
     writer.flush()?;
-    assert_eq!(rt; inner.flushes, 1);
+    assert!(rt; inner.flushes == 1);
     Ok(())
 }
 
@@ -35,7 +23,7 @@ fn only_flush_flushes(rt: HostRuntime) -> Result<(), Fail> {
 #[test]
 fn write_is_passed_on(rt: HostRuntime) -> Result<(), Fail> {
     let mut writer = StyleMarkWriter::new(Vec::new(rt.alloc()));
-    assert_eq!(rt; writer.write(b"text")?, 4);
-    assert_eq!(rt; writer.into_inner().as_slice(), b"text".as_slice());
+    assert!(rt; writer.write(b"text")? == 4);
+    assert_bytes(&rt, writer.into_inner().as_slice(), "text");
     Ok(())
 }

@@ -1,0 +1,20 @@
+//! Every style mark.
+
+use codespan_base::diagnostic::{LabelStyle, Severity};
+use codespan_base::term::WriteStyle;
+use std::io;
+
+/// Sets each style, those of an error, and then resets it.
+///
+/// # Errors
+///
+/// That of the first style mark that fails.
+pub fn set_styles<W: WriteStyle>(w: &mut W) -> io::Result<()> {
+    w.set_header(Severity::Error)?;
+    w.set_header_message()?;
+    w.set_line_number()?;
+    w.set_note_bullet()?;
+    w.set_source_border()?;
+    w.set_label(Severity::Error, LabelStyle::Primary)?;
+    w.reset()
+}
