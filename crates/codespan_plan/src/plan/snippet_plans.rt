@@ -88,7 +88,8 @@ fn plan_snippet<'files, 'e, F: Files<'files>>(
     ensures locus { IfOk result (λ plan. IsTextLocus
         (snippet_start_of (F.database files.now).file file.now) (locus_view plan.locus)) }
     ensures line_total { IfOk result (λ plan. plan.line_total ≡ line_total) }
-    ensures failed { FailsByOrFormat (locus_failure (F.database files.now).failure file.now) result }
+    ensures failed { FailsByOrFormat (locus_failure (F.database files.now).failure file.now)
+        result }
 {
     let source = SourceFile { files, id: file.id };
     let locus = source.locus(alloc, file.start.byte())?;
