@@ -4,7 +4,7 @@ use Rattle.std.proofs.Common.{◌≡◌, ℕ, zero, suc, ◌+◌, ◌<◌, ◌�
 use Rattle.std.specs.List.{prefix_len, range_with_len, AllByRecursion}
 use Rattle.std.proofs.lemmas.Bool.{cases_Bool, eqb-true, eqb-false, eq-eqb, ltb-true, ltb-false, lt-ltb, le-ltb}
 use Rattle.codespan_picture.specs.Snippets.{has_any}
-use Rattle.codespan_plan.specs.Annotations.{Annotation, is_on_line, shows_line}
+use Rattle.codespan_annotations.specs.Annotations.{Annotation, is_on_line, shows_line}
 use Rattle.codespan_picture.specs.Sequences.{before_line, break_between, gap_between, in_sequence}
 use Rattle.codespan_plan.specs.SnippetLines.{SnippetLine, Labeled, Filled, Break, Group, are_shown, group_of, join_group, groups, lines_between, lines_to, lines_from, lines_of}
 use Rattle.codespan_laws.proofs.ListElements.{all-weaker, all-filter, filter-whole, filter-nothing}
@@ -114,7 +114,9 @@ groups-append k (x ∷ y ∷ g) ys h up =
     ap (join_group x) (groups-append k (y ∷ g) ys h.1 up) ∙ same ∙ (λ i. group_at (h.0 i) (x ∷ y ∷ g) ∷ groups ys)
 
 -- the groups of lines are the same where their annotations are
-groups_on-same : (annotations_at other : ℕ → List Annotation) (n a : ℕ) → ((l : ℕ) → a ≤ l → annotations_at l ≡ other l) → groups_on annotations_at (range_with_len a n) ≡ groups_on other (range_with_len a n)
+groups_on-same : (annotations_at other : ℕ → List Annotation) (n a : ℕ)
+    → ((l : ℕ) → a ≤ l → annotations_at l ≡ other l)
+    → groups_on annotations_at (range_with_len a n) ≡ groups_on other (range_with_len a n)
 groups_on-same annotations_at other zero a h = refl
 groups_on-same annotations_at other (suc n) a h =
     let r = groups_on-same annotations_at other n (a + 1) (λ l q. h l (omega arith)) in
@@ -199,7 +201,10 @@ module _ (m : ℕ → List Annotation) where
       ds : List ℕ
       ds = filter (λ l. are_shown (m l)) (range_with_len (a + 1) n)
 
-      by_entries : ((w : Option ℕ) (es : List Annotation) → IsHidden m w (a + 1) es → lines_from w es gs ≡ lines_after m w ds) → (es : List Annotation) → m a ≡ es → lines_from was hidden (some_group a es gs) ≡ lines_after m was (cond (are_shown es) (a ∷ ds) ds)
+      by_entries : ((w : Option ℕ) (es : List Annotation) → IsHidden m w (a + 1) es
+          → lines_from w es gs ≡ lines_after m w ds) → (es : List Annotation) → m a ≡ es
+          → lines_from was hidden (some_group a es gs)
+          ≡ lines_after m was (cond (are_shown es) (a ∷ ds) ds)
       by_entries rest [] e = rest was hidden (hidden-next m was a hidden hidden h (λ none. none ∙ sym e))
       by_entries rest (x ∷ xs) e = by_test (shows_line x)
         where

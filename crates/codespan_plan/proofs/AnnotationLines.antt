@@ -10,16 +10,18 @@ use Rattle.std.proofs.Math.Bool.{and-false}
 use Rattle.codespan_base.specs.declared.term.config.Config.{Config}
 use Rattle.codespan_base.specs.FileModel.{FileModel, line_count}
 use Rattle.codespan_base.specs.Labels.{LaneMark, LabelModel, first_line, last_line, is_single, drawn_label, lane_mark_of, multi_labels, part_on}
-use Rattle.codespan_plan.specs.declared.collect.label_annotations.LabelIndices.{LabelIndices}
-use Rattle.codespan_plan.specs.Annotations.{Annotation, Single, Multi, is_before, is_on_line, is_of_file, line_annotations, annotations_of, annotation_if_any, shows_line}
+use Rattle.codespan_collect.specs.declared.label_annotations.LabelIndices.{LabelIndices}
+use Rattle.codespan_annotations.specs.Annotations.{Annotation, Single, Multi, is_before, is_on_line, is_of_file, annotation_if_any, shows_line}
+use Rattle.codespan_collect.specs.LabelAnnotations.{line_annotations, annotations_of}
 use Rattle.codespan_picture.specs.Lines.{shows}
-use Rattle.codespan_plan.specs.IndexedLabels.{index_of_file, indices_after, annotations_after}
+use Rattle.codespan_annotations.specs.FileIndices.{index_of_file}
+use Rattle.codespan_collect.specs.IndexedLabels.{indices_after, annotations_after}
 use Rattle.codespan_picture.specs.Snippets.{InFile}
-use Rattle.codespan_plan.specs.LabeledFiles.{lanes_in}
+use Rattle.codespan_annotations.specs.LabeledFiles.{lanes_in}
 use Rattle.codespan_plan.specs.SnippetLines.{single_labels_in}
-use Rattle.codespan_plan.proofs.AnnotationOrder.{lane_mark_annotation, index_below}
-use Rattle.codespan_plan.proofs.LabelAnnotations.{is_kind, all-of_file, all-below, annotations-line_lookups, marks-line_lookups, single_labels-line_lookups, any-line_lookups}
-use Rattle.codespan_plan.proofs.LabelIndexing.{lanes_in-more, label_lanes}
+use Rattle.codespan_annotations.proofs.AnnotationOrder.{lane_mark_annotation, index_below}
+use Rattle.codespan_collect.proofs.LabelAnnotations.{is_kind, all-of_file, all-below, annotations-line_lookups, marks-line_lookups, single_labels-line_lookups, any-line_lookups}
+use Rattle.codespan_collect.proofs.LabelIndexing.{lanes_in-more, label_lanes}
 use Rattle.codespan_plan.proofs.LaneMarks.{marks_from}
 use Rattle.codespan_laws.proofs.OrderSorts.{has_range}
 use Rattle.codespan_laws.proofs.RangeLemmas.{line_of-below}

@@ -9,26 +9,28 @@ use Rattle.codespan_base.specs.declared.term.config.Config.{Config}
 use Rattle.codespan_base.specs.FileModel.{FileDatabase, FileModel, line_count}
 use Rattle.codespan_base.specs.Labels.{LaneMark, LabelModel, is_single, first_line, drawn_label, lane_marks_on, single_labels, sorted}
 use Rattle.codespan_picture.specs.Arguments.{ascend_from, starts_in_order}
-use Rattle.codespan_plan.specs.declared.collect.Collected.{Collected}
-use Rattle.codespan_plan.specs.Annotations.{Annotation, is_before, is_on_line, is_of_file, shows_line}
-use Rattle.codespan_plan.specs.AnnotationViews.{annotation_view}
-use Rattle.codespan_plan.specs.OutputPlans.{IsCollected}
+use Rattle.codespan_collect.specs.declared.collected.Collected.{Collected}
+use Rattle.codespan_annotations.specs.Annotations.{Annotation, is_before, is_on_line, is_of_file, shows_line}
+use Rattle.codespan_annotations.specs.AnnotationViews.{annotation_view}
+use Rattle.codespan_collect.specs.Collections.{IsCollected}
 use Rattle.codespan_picture.specs.Lines as lines
 use Rattle.codespan_picture.specs.Lines.{drawn_lines}
 use Rattle.codespan_picture.specs.Lookups.{filled_lines}
 use Rattle.codespan_picture.specs.Sequences.{break_between, in_sequence}
-use Rattle.codespan_plan.specs.IndexedLabels.{IsIdAt, all_annotations}
+use Rattle.codespan_annotations.specs.FileIndices.{IsIdAt}
+use Rattle.codespan_collect.specs.IndexedLabels.{all_annotations}
 use Rattle.codespan_picture.specs.Snippets.{InFile, LabeledFileModel, labeled_file_model, lane_count, line_at, line_rows, break_rows, rows_after, file_ids}
 use Rattle.codespan_plan.specs.SnippetLines.{are_shown, lane_marks_in, lines_of, single_labels_in, line_of_group, rows_of_lines, fills_of, do_lane_marks_fit, does_line_fit}
 use Rattle.codespan_plan.proofs.AnnotationGroups.{lines_after, snippet_lines-by_line, all-on_line}
 use Rattle.codespan_plan.proofs.AnnotationLines as annotation_lines
 use Rattle.codespan_plan.proofs.FileLabels.{HasFileIndex, is_of_range}
-use Rattle.codespan_plan.proofs.AnnotationOrder.{below_order, lane_mark_annotation, IsOn, single_labels-ascend}
-use Rattle.codespan_plan.proofs.FileIndices.{index_of_file-at}
+use Rattle.codespan_annotations.proofs.AnnotationOrder.{below_order, lane_mark_annotation}
+use Rattle.codespan_plan.proofs.SingleLabelOrder.{IsOn, single_labels-ascend}
+use Rattle.codespan_annotations.proofs.FileIndices.{index_of_file-at}
 use Rattle.codespan_plan.proofs.LaneMarks.{ascend-climbs, marks-ascend}
 use Rattle.codespan_laws.proofs.FillLemmas.{none_past}
-use Rattle.codespan_plan.proofs.LabelAnnotations.{is_kind}
-use Rattle.codespan_plan.proofs.LabelIndexing.{AreFiles, lanes_in-equal}
+use Rattle.codespan_collect.proofs.LabelAnnotations.{is_kind}
+use Rattle.codespan_collect.proofs.LabelIndexing.{AreFiles, lanes_in-equal}
 use Rattle.codespan_laws.proofs.OrderSorts.{has_range, ascending-same, sorted-ascends, sorted-keeps}
 use Rattle.codespan_laws.proofs.ListElements.{all-weaker, all-filter, all-both, all-pass, filter-filter, any-filtered}
 use Rattle.codespan_laws.proofs.SortedLists.{Rises, Climbs, Falls, filter-reverse, rises-filter, rises-from_sorted, filter-sorted_climbs, filter-sorted_falls}
@@ -90,7 +92,10 @@ module _ {Id : Type 0} {database : FileDatabase Id} (lawful : AreFiles database)
   part-below =
       let IsInside : (e : Annotation) → Type 0 = λ e. is_of_file f e ≡ true → e.line < line_count (file id) in
       let all_inside : AllByRecursion IsInside all = annotation_lines.annotations-below here config xs [] in
-      let whole : AllByRecursion IsInside annotations = recursion_from_All IsInside annotations (All-permutation IsInside all annotations known.permutation (All-from_recursion IsInside all all_inside)) in
+      let whole : AllByRecursion IsInside annotations =
+      recursion_from_All IsInside annotations
+      (All-permutation IsInside all annotations known.permutation
+      (All-from_recursion IsInside all all_inside)) in
       all-weaker (λ e. (is_of_file f e ≡ true) × IsInside e) (λ e. e.line < line_count (file id)) (λ e h. h.1 h.0) part
       (all-both (λ e. is_of_file f e ≡ true) IsInside part (all-pass (is_of_file f) annotations) (all-filter IsInside (is_of_file f) annotations whole))
 

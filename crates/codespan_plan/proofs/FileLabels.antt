@@ -3,10 +3,10 @@
 use Rattle.std.proofs.Common.{◌≡◌, ℕ, ◌<◌, Bool, true, false, ◌==◌, List, Option, Some, None}
 use Rattle.codespan_base.specs.FileModel.{FileModel, line_count}
 use Rattle.codespan_base.specs.Labels.{LabelModel}
-use Rattle.codespan_plan.specs.Annotations.{Annotation}
-use Rattle.codespan_plan.specs.IndexedLabels.{index_of_file}
+use Rattle.codespan_annotations.specs.Annotations.{Annotation}
+use Rattle.codespan_annotations.specs.FileIndices.{index_of_file}
 use Rattle.codespan_picture.specs.Snippets.{InFile}
-use Rattle.codespan_plan.specs.LabeledFiles.{lanes_in}
+use Rattle.codespan_annotations.specs.LabeledFiles.{lanes_in}
 use Rattle.codespan_plan.specs.SnippetLines.{single_label_of}
 use Rattle.codespan_laws.proofs.OrderSorts.{has_range}
 

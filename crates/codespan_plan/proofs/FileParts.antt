@@ -1,19 +1,18 @@
 -- A loop over the files takes each file's part of the annotations in order.
-use Rattle.std.proofs.Common.{◌≡◌, ℕ, ◌+◌, ◌-◌, ◌≤◌, Bool, true, false, ◌&&◌, cond, ◌==◌, nat_lt, nat_le, List, [], ◌∷◌, ◌++◌, length, take, drop, map, filter, refl, sym, ◌∙◌, ap, subst, arith, length-drop}
+use Rattle.std.proofs.Common.{◌≡◌, ℕ, ◌+◌, ◌-◌, ◌≤◌, Bool, true, false, ◌&&◌, cond, ◌==◌, nat_lt, nat_le, List, [], ◌∷◌, ◌++◌, length, take, drop, map, filter, refl, sym, ◌∙◌, ap, arith, length-drop}
 use Rattle.std.specs.List.{prefix_len, AllByRecursion}
-use Rattle.std.specs.List.Sorted.{IsSortedBy, IsPermutation}
+use Rattle.std.specs.List.Sorted.{IsSortedBy}
 use Rattle.std.proofs.Math.Nat.{add-sub_cancel_left}
 use Rattle.std.proofs.Math.Seq.{take-append_seam, drop-append_seam, take-length}
 use Rattle.std.proofs.lemmas.Bool.{le-leb, leb-true, ne_eqb}
 use Rattle.std.proofs.lemmas.Bool.Decides.{nat_tests}
 use Rattle.std.proofs.lemmas.List.{drop-drop, drop-map, take-map, length-map}
 use Rattle.std.proofs.lemmas.List.Elements.{filter_agree}
-use Rattle.std.proofs.lemmas.List.Sorted.{IsPermutation-map}
-use Rattle.codespan_plan.specs.declared.annotation.Annotation.{Annotation as RustAnnotation}
-use Rattle.codespan_plan.specs.Annotations.{Annotation, is_before, is_of_file}
-use Rattle.codespan_plan.specs.AnnotationViews.{annotation_view}
+use Rattle.codespan_annotations.specs.declared.annotation.Annotation.{Annotation as RustAnnotation}
+use Rattle.codespan_annotations.specs.Annotations.{Annotation, is_before, is_of_file}
+use Rattle.codespan_annotations.specs.AnnotationViews.{annotation_view}
 use Rattle.codespan_plan.proofs.AnnotationGroups.{IsRising, rising-filter, split_at}
-use Rattle.codespan_plan.proofs.AnnotationOrder.{below_order, file_rises}
+use Rattle.codespan_annotations.proofs.AnnotationOrder.{below_order, file_rises}
 use Rattle.codespan_laws.proofs.ListElements.{all-weaker, all-pass, filter-whole, filter-filter}
 use Rattle.codespan_laws.proofs.SortedLists.{Rises, rises-from_sorted}
 
@@ -48,7 +47,10 @@ from_file-next xs f up =
     own = filter-filter (is_of_file f) (λ (e : Annotation). nat_le f e.file) xs ∙ filter_agree _ (is_of_file f) (λ (e : Annotation). from_own f e.file) xs
 
     later : filter (λ (e : Annotation). nat_lt f e.file) (from_file f xs) ≡ from_file (f + 1) xs
-    later = filter-filter (λ (e : Annotation). nat_lt f e.file) (λ (e : Annotation). nat_le f e.file) xs ∙ filter_agree _ (λ (e : Annotation). nat_le (f + 1) e.file) (λ (e : Annotation). from_next f e.file) xs
+    later = filter-filter (λ (e : Annotation). nat_lt f e.file)
+        (λ (e : Annotation). nat_le f e.file) xs
+        ∙ filter_agree _ (λ (e : Annotation). nat_le (f + 1) e.file)
+        (λ (e : Annotation). from_next f e.file) xs
 
 -- all annotations are from the first file on
 pub from_file-first : (xs : List Annotation) → xs ≡ from_file 0 xs
@@ -68,7 +70,9 @@ prefix-append p (x ∷ a) b h k = ap (λ t. cond t (1 + prefix_len p (a ++ b)) 0
 own-len : (xs : List Annotation) (f : ℕ) → prefix_len (is_of_file f) (filter (is_of_file f) xs ++ from_file (f + 1) xs) ≡ length (filter (is_of_file f) xs)
 own-len xs f =
     prefix-append (is_of_file f) (filter (is_of_file f) xs) (from_file (f + 1) xs) (all-pass (is_of_file f) xs)
-    (all-weaker (λ e. nat_le (f + 1) e.file ≡ true) (λ e. is_of_file f e ≡ false) (λ e t. other e.file (leb-true (f + 1) e.file t)) (from_file (f + 1) xs) (all-pass (λ (e : Annotation). nat_le (f + 1) e.file) xs))
+    (all-weaker (λ e. nat_le (f + 1) e.file ≡ true) (λ e. is_of_file f e ≡ false)
+    (λ e t. other e.file (leb-true (f + 1) e.file t)) (from_file (f + 1) xs)
+    (all-pass (λ (e : Annotation). nat_le (f + 1) e.file) xs))
   where
     other : (k : ℕ) → f + 1 ≤ k → (k == f) ≡ false
     other k h = ne_eqb k f (λ e. omega arith)
@@ -92,7 +96,9 @@ pub record IsFilePart {Id : Type 0} (xs : List (RustAnnotation Id)) (at n f : �
   pub rest : drop (at + length (next_part xs at n)) (map annotation_view xs) ≡ from_file (f + 1) (map annotation_view xs)
 
 -- a loop over the files takes the part of the next one
-pub next-file : {Id : Type 0} (xs : List (RustAnnotation Id)) (at n f : ℕ) → IsSortedBy is_before (map annotation_view xs) → at ≤ length xs → drop at (map annotation_view xs) ≡ from_file f (map annotation_view xs)
+pub next-file : {Id : Type 0} (xs : List (RustAnnotation Id)) (at n f : ℕ)
+    → IsSortedBy is_before (map annotation_view xs) → at ≤ length xs
+    → drop at (map annotation_view xs) ≡ from_file f (map annotation_view xs)
     → n ≡ prefix_len (λ e. is_of_file f (annotation_view e)) (take (length xs - at) (drop at xs)) → n ≤ length (take (length xs - at) (drop at xs)) → IsFilePart xs at n f
 next-file xs at n f up inside left is low =
     let ys = map annotation_view xs in
@@ -115,7 +121,3 @@ next-file xs at n f up inside left is low =
       own = front;
       rest = ap (λ i. drop (at + i) ys) (long ∙ n-is) ∙ sym (drop-drop (length a) at ys) ∙ ap (λ (l : List Annotation). drop (length a) l) here ∙ drop-append_seam a b;
     }
-
--- sorted annotations are those that were collected
-pub collected-sorted : {Id : Type 0} (all : List Annotation) (collected annotations : List (RustAnnotation Id)) → map annotation_view collected ≡ all → IsPermutation collected annotations → IsPermutation all (map annotation_view annotations)
-collected-sorted all collected annotations is perm = subst (λ (l : List Annotation). IsPermutation l (map annotation_view annotations)) is (IsPermutation-map annotation_view collected annotations perm)

@@ -5,12 +5,13 @@ use Rattle.std.proofs.lemmas.Bool.{le-ltb, ltb-false}
 use Rattle.std.proofs.lemmas.List.{append-nil}
 use Rattle.std.proofs.lemmas.List.Elements.{filter_map-append, filter_agree}
 use Rattle.codespan_base.specs.Labels.{LaneMark, LabelModel}
-use Rattle.codespan_plan.specs.Annotations.{Annotation, AnnotationKind, Shown, Single, Multi, rank_of, is_before, shows_line}
+use Rattle.codespan_annotations.specs.Annotations.{Annotation, AnnotationKind, Shown, Single, Multi, rank_of, is_before, shows_line}
 use Rattle.codespan_plan.specs.SnippetLines.{are_shown, lane_mark_in, lane_marks_in, single_label_of, single_labels_in}
 use Rattle.codespan_plan.proofs.AnnotationGroups.{IsRising}
 use Rattle.codespan_plan.proofs.FileLabels.{has_label_range, is_of_range}
-use Rattle.codespan_plan.proofs.AnnotationOrder.{kind_rises, line_rises, lane_mark_annotation, IsOn}
-use Rattle.codespan_plan.proofs.LabelAnnotations.{is_kind}
+use Rattle.codespan_annotations.proofs.AnnotationOrder.{kind_rises, line_rises, lane_mark_annotation}
+use Rattle.codespan_plan.proofs.SingleLabelOrder.{IsOn}
+use Rattle.codespan_collect.proofs.LabelAnnotations.{is_kind}
 use Rattle.codespan_laws.proofs.OrderSorts.{has_range}
 use Rattle.codespan_laws.proofs.ListElements.{all-weaker, all-both, any-nothing, filter-filter}
 use Rattle.codespan_laws.proofs.SortedLists.{Rises, reverse-cons}
@@ -85,7 +86,9 @@ first-shows f l (x ∷ xs) on up = by_test (shows_line x) refl
     by_test : (b : Bool) → shows_line x ≡ b → b ≡ (b || list_any shows_line xs)
     by_test true t = refl
     by_test false t =
-        sym (any-nothing shows_line xs (all-weaker (λ y. IsOn f l y × (is_before y x ≡ false)) (λ y. shows_line y ≡ false) (later t) xs (all-both (IsOn f l) (λ y. is_before y x ≡ false) xs on.1 up.0)))
+        sym (any-nothing shows_line xs (all-weaker (λ y. IsOn f l y × (is_before y x ≡ false))
+        (λ y. shows_line y ≡ false) (later t) xs
+        (all-both (IsOn f l) (λ y. is_before y x ≡ false) xs on.1 up.0)))
 
 -- ---- annotations in order
 

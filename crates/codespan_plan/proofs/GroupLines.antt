@@ -5,7 +5,7 @@ use Rattle.std.proofs.Math.Nat.{add-sub_cancel_left}
 use Rattle.std.proofs.Math.Seq.{take-length}
 use Rattle.std.proofs.lemmas.List.{get_or-drop, length-take-le, drop-drop}
 use Rattle.std.proofs.lemmas.Bool.{eq-eqb}
-use Rattle.codespan_plan.specs.Annotations.{Annotation, is_on_line, shows_line}
+use Rattle.codespan_annotations.specs.Annotations.{Annotation, is_on_line, shows_line}
 use Rattle.codespan_plan.specs.SnippetLines.{SnippetLine, are_shown, groups, lines_to, lines_from}
 use Rattle.codespan_plan.proofs.AnnotationGroups.{group_at, groups-cons}
 

@@ -7,9 +7,9 @@ use Rattle.codespan_base.specs.FileModel.{FileModel}
 use Rattle.codespan_base.specs.Labels.{LabelModel, LaneMark, MultiLabel, lane_mark_of, lane_marks_on, multi_labels, part_on}
 use Rattle.codespan_picture.specs.Arguments.{LaneMarkTuple, lane_mark_view, lanes_in_order, ascend_from}
 use Rattle.codespan_picture.specs.Snippets.{LabeledFileModel, lane_count}
-use Rattle.codespan_plan.specs.Annotations.{Annotation, is_before}
+use Rattle.codespan_annotations.specs.Annotations.{Annotation, is_before}
 use Rattle.codespan_plan.specs.SnippetLines.{do_lane_marks_fit, lane_marks_in}
-use Rattle.codespan_plan.proofs.AnnotationOrder.{lane_below, lane_mark_annotation}
+use Rattle.codespan_annotations.proofs.AnnotationOrder.{lane_below, lane_mark_annotation}
 use Rattle.codespan_laws.proofs.ListElements.{all-weaker}
 use Rattle.codespan_laws.proofs.SortedLists.{Climbs}
 

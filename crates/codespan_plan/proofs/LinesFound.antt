@@ -11,9 +11,9 @@ use Rattle.codespan_base.specs.FileModel.Lookup.{LineNumber}
 use Rattle.codespan_picture.specs.Lookups.{Failures, lookups_of_file, first_error}
 use Rattle.codespan_plan.specs.declared.plan.snippet_lines.SnippetLine.{SnippetLine as RustLine}
 use Rattle.codespan_plan.specs.SnippetLineViews.{AddsLines, IsSnippetLineIn, numbers_looked_up, line_view}
-use Rattle.codespan_plan.specs.Annotations.{Annotation}
+use Rattle.codespan_annotations.specs.Annotations.{Annotation}
 use Rattle.codespan_plan.specs.SnippetLines.{SnippetLine, Labeled, fill_of, fills_of}
-use Rattle.codespan_plan.proofs.FirstErrors.{first_error-lookups, or_failure-succeeded, or_failure-some}
+use Rattle.codespan_collect.proofs.FirstErrors.{first_error-lookups, or_failure-succeeded, or_failure-some}
 use Rattle.codespan_laws.proofs.ListElements.{all-append}
 
 module _ {Id : Type 0} {layout : Layout} {f : FileModel} where
@@ -73,7 +73,9 @@ left_all {Id} {failure} {id} {layout} same none = record {
   succeeded = ap (λ (ls : List Lookup). first_error failure (lookups_of_file id ls)) (numbers_looked_up-nothing layout);
 }
 
-module _ {Id : Type 0} {failure : Failures Id} {id : Id} {layout : Layout} {f : FileModel} {whole rest : List SnippetLine} {old now : List (RustLine Id)} (left : LinesLeft failure id layout f whole rest old now)
+module _ {Id : Type 0} {failure : Failures Id} {id : Id} {layout : Layout} {f : FileModel}
+    {whole rest : List SnippetLine} {old now : List (RustLine Id)}
+    (left : LinesLeft failure id layout f whole rest old now)
     (snippet_lines next : List SnippetLine) (same : rest ≡ snippet_lines ++ next) where
   -- these come next
   next_whole : (left.taken ++ snippet_lines) ++ next ≡ whole
@@ -95,7 +97,9 @@ module _ {Id : Type 0} {failure : Failures Id} {id : Id} {layout : Layout} {f : 
       ap (numbers_failed failure id layout) (sym next_whole) ∙ numbers_failed-append failure id layout (left.taken ++ snippet_lines) next
       ∙ or_failure-some (numbers_failed failure id layout (left.taken ++ snippet_lines)) (numbers_failed failure id layout next) e (next_failed ∙ failed)
 
-module _ {Id : Type 0} {failure : Failures Id} {id : Id} {layout : Layout} {f : FileModel} {whole rest : List SnippetLine} {old now : List (RustLine Id)} (left : LinesLeft failure id layout f whole rest old now)
+module _ {Id : Type 0} {failure : Failures Id} {id : Id} {layout : Layout} {f : FileModel}
+    {whole rest : List SnippetLine} {old now : List (RustLine Id)}
+    (left : LinesLeft failure id layout f whole rest old now)
     (none : rest ≡ []) where
   -- where none are left, all were added
   taken_all : left.taken ≡ whole

@@ -15,28 +15,31 @@ use Rattle.codespan_picture.specs.Arguments.{locus_view}
 use Rattle.codespan_picture.specs.Lines.{drawn_lines}
 use Rattle.codespan_picture.specs.Lookups.{lookups_of_file, filled_lines, first_error, locus_lookups, numbers_for_padding, filled_line_lookups}
 use Rattle.codespan_picture.specs.Padding.{digit_count, digits_of, numbered_lines, padding_of}
-use Rattle.codespan_plan.specs.TextLoci.{IsTextLocus}
+use Rattle.codespan_annotations.specs.TextLoci.{IsTextLocus}
 use Rattle.codespan_picture.specs.Snippets.{InFile, LabeledFileModel, labeled_file_model, labeled_file_models, lane_count, locus_start, rows_after, file_ids}
-use Rattle.codespan_plan.specs.declared.collect.Collected.{Collected}
-use Rattle.codespan_plan.specs.declared.collect.labeled_files.LabeledFile.{LabeledFile as RustFile}
+use Rattle.codespan_collect.specs.declared.collected.Collected.{Collected}
+use Rattle.codespan_annotations.specs.declared.labeled_files.LabeledFile.{LabeledFile as RustFile}
 use Rattle.codespan_plan.specs.declared.plan.snippet_plans.SnippetPlan.{SnippetPlan}
 use Rattle.codespan_plan.specs.declared.plan.snippet_lines.SnippetLine.{SnippetLine as RustLine}
 use Rattle.codespan_plan.specs.declared.plan.snippet_lines.SnippetLine.TheVariants as rust
-use Rattle.codespan_plan.specs.Annotations.{Annotation}
-use Rattle.codespan_plan.specs.OutputPlans.{AreSnippetPlans, IsCollected, IsOutputPlan, IsSnippetPlan, ids_of, padding_lookups, file_locus_lookups, output_plan_failure}
-use Rattle.codespan_plan.specs.AnnotationViews.{annotation_view}
-use Rattle.codespan_plan.specs.LabeledFiles.{HasLabels, ids_view}
+use Rattle.codespan_annotations.specs.Annotations.{Annotation}
+use Rattle.codespan_plan.specs.OutputPlans.{AreSnippetPlans, IsOutputPlan, IsSnippetPlan, ids_of, padding_lookups, file_locus_lookups, output_plan_failure}
+use Rattle.codespan_collect.specs.Collections.{IsCollected}
+use Rattle.codespan_annotations.specs.AnnotationViews.{annotation_view}
+use Rattle.codespan_annotations.specs.LabeledFiles.{HasLabels, ids_view}
 use Rattle.codespan_plan.specs.declared.plan.OutputPlan.{OutputPlan}
-use Rattle.codespan_plan.specs.SnippetLineViews.{IsSnippetLineIn, IsSnippetLineOf, lookups_of_line, lookups_of_lines, lookups_of_filled, numbers_looked_up, line_view}
-use Rattle.codespan_plan.specs.Loci.{loci_lookups, start_byte}
-use Rattle.codespan_plan.specs.IndexedLabels.{IsIdAt}
+use Rattle.codespan_plan.specs.SnippetLineViews.{IsSnippetLineIn, IsSnippetLineOf, lookups_of_line, lookups_of_lines, numbers_looked_up, line_view}
+use Rattle.codespan_annotations.specs.SourceFiles.{lookups_of_filled}
+use Rattle.codespan_plan.specs.Loci.{loci_lookups}
+use Rattle.codespan_annotations.specs.FileStarts.{start_byte}
+use Rattle.codespan_annotations.specs.FileIndices.{IsIdAt}
 use Rattle.codespan_plan.specs.SnippetPlans.{ArePlans, ArePlansOf, IsPlan, number_lookups, plans_failure, line_digits, lines_at, width_in}
 use Rattle.codespan_plan.specs.SnippetLines.{SnippetLine, fill_of, fills_of, rows_of_lines, DoFit}
 use Rattle.codespan_plan.proofs.PlansFound.{by_index-same}
 use Rattle.codespan_plan.proofs.SpannedPadding.{spanned-padding_width}
 use Rattle.codespan_plan.proofs.AnnotationOutput.{snippet-fills, snippet-fits, snippet-lines, snippet-rows}
-use Rattle.codespan_plan.proofs.LabelIndexing.{AreFiles}
-use Rattle.codespan_plan.proofs.LocusStarts.{start-is}
+use Rattle.codespan_collect.proofs.LabelIndexing.{AreFiles}
+use Rattle.codespan_plan.proofs.SnippetStarts.{start-is}
 use Rattle.codespan_plan.proofs.SnippetLineRows.{line_of_snippet_line, lines_of_snippet_lines}
 
 -- ---- one snippet line
@@ -49,7 +52,9 @@ line_view-file Unbroken f (rust.Filled index number annotations) is = subst (λ 
 line_view-file layout f (rust.Break next) is = is
 
 -- its lookups are those of the layout for the line that it fills in
-snippet_line-lookups : {Id : Type 0} (layout : Layout) (f : FileModel) (g : RustLine Id) → IsSnippetLineIn layout f g → lookups_of_line g ≡ flat_map (filled_line_lookups layout) (fill_of (line_view g))
+snippet_line-lookups : {Id : Type 0} (layout : Layout) (f : FileModel) (g : RustLine Id)
+    → IsSnippetLineIn layout f g → lookups_of_line g
+    ≡ flat_map (filled_line_lookups layout) (fill_of (line_view g))
 snippet_line-lookups layout f (rust.Labeled line annotations) is = refl
 snippet_line-lookups Classic f (rust.Filled index number annotations) is = ap (λ (o : Option ℕ). lookups_of_filled o index) is
 snippet_line-lookups Unbroken f (rust.Filled index number annotations) is = ap (λ (o : Option ℕ). lookups_of_filled o index) is
@@ -69,14 +74,19 @@ lines_of-file layout f [] h = tt
 lines_of-file layout f (g ∷ gs) h = (line_view-file layout f g h.0, lines_of-file layout f gs h.1)
 
 -- their lookups are those of the layout for the lines that they fill in
-snippet_lines-lookups : {Id : Type 0} (layout : Layout) (f : FileModel) (gs : List (RustLine Id)) → AllByRecursion (IsSnippetLineIn layout f) gs → lookups_of_lines gs ≡ flat_map (filled_line_lookups layout) (fills_of (map line_view gs))
+snippet_lines-lookups : {Id : Type 0} (layout : Layout) (f : FileModel) (gs : List (RustLine Id))
+    → AllByRecursion (IsSnippetLineIn layout f) gs
+    → lookups_of_lines gs ≡ flat_map (filled_line_lookups layout) (fills_of (map line_view gs))
 snippet_lines-lookups layout f [] h = refl
 snippet_lines-lookups layout f (g ∷ gs) h =
     (λ i. snippet_line-lookups layout f g h.0 i ++ snippet_lines-lookups layout f gs h.1 i)
     ∙ sym (flat_map-append (filled_line_lookups layout) (fill_of (line_view g)) (fills_of (map line_view gs)))
 
 -- in the unbroken layout the digits of their numbers are those of their lines'
-snippet_lines-digits : {Id : Type 0} (f : FileModel) (gs : List (RustLine Id)) → AllByRecursion (IsSnippetLineIn Unbroken f) gs → flat_map line_digits gs ≡ map (λ l. digit_count (f.number l)) (lines_of_snippet_lines (map line_view gs))
+snippet_lines-digits : {Id : Type 0} (f : FileModel) (gs : List (RustLine Id))
+    → AllByRecursion (IsSnippetLineIn Unbroken f) gs
+    → flat_map line_digits gs ≡ map (λ l. digit_count (f.number l))
+    (lines_of_snippet_lines (map line_view gs))
 snippet_lines-digits f [] h = refl
 snippet_lines-digits f (g ∷ gs) h =
     (λ i. snippet_line-digits f g h.0 i ++ snippet_lines-digits f gs h.1 i)
@@ -96,7 +106,9 @@ record AreLinesOfSnippet (config : Config) (s : LabeledFileModel) (snippet_lines
 numbered : (config : Config) → config.layout ≡ Unbroken → (s : LabeledFileModel) → numbered_lines config s ≡ drawn_lines config s.file s.labels
 numbered config unbroken s = ap (λ v. numbered_lines (record config { layout = v }) s) unbroken
 
-module _ {Id : Type 0} {database : FileDatabase Id} (lawful : AreFiles database) {config : Config} {xs : List (InFile Id)} {collected : Collected Id} (all : IsCollected database config xs collected) where
+module _ {Id : Type 0} {database : FileDatabase Id} (lawful : AreFiles database) {config : Config}
+    {xs : List (InFile Id)} {collected : Collected Id}
+    (all : IsCollected database config xs collected) where
   -- which ids name one file, and the file that an id names
   abbrev same : Id → Id → Bool
   same = database.same
@@ -125,7 +137,10 @@ module _ {Id : Type 0} {database : FileDatabase Id} (lawful : AreFiles database)
   numbers-are : number_lookups config.layout es (ids_view collected.files.items) ≡ padding_lookups config database xs
   numbers-are =
       ap (number_lookups config.layout es) all.files.ids_are
-      ∙ by_index-same (λ k id. lookups_of_file id (numbers_looked_up config.layout (fills_of (lines_at es k)))) (λ id. lookups_of_file id (numbers_for_padding database xs config config.layout id)) 0 (file_ids same xs)
+      ∙ by_index-same (λ k id. lookups_of_file id
+      (numbers_looked_up config.layout (fills_of (lines_at es k))))
+      (λ id. lookups_of_file id (numbers_for_padding database xs config config.layout id)) 0
+      (file_ids same xs)
       (λ i id at. let e : 0 + i ≡ i = omega arith in
       ap (λ k. lookups_of_file id (numbers_looked_up config.layout (fills_of (lines_at es k)))) e
       ∙ ap (λ (ls : List ℕ). lookups_of_file id (numbers_looked_up config.layout ls)) (snippet i id at).fills
@@ -187,7 +202,9 @@ module _ {Id : Type 0} {database : FileDatabase Id} (lawful : AreFiles database)
   all_at = λ i id h. let e : i ≡ 0 + i = omega arith in subst (λ n. IsIdAt (file_ids same xs) n id) e h
 
   -- the ids of plans
-  ids-from : (k : ℕ) (fs : List (RustFile Id)) (plans : List (SnippetPlan Id)) (snippet_lines : List (RustLine Id)) → ArePlans config.layout file es k fs plans snippet_lines → ids_of plans ≡ ids_view fs
+  ids-from : (k : ℕ) (fs : List (RustFile Id)) (plans : List (SnippetPlan Id))
+      (snippet_lines : List (RustLine Id)) → ArePlans config.layout file es k fs plans snippet_lines
+      → ids_of plans ≡ ids_view fs
   ids-from k [] [] snippet_lines h = refl
   ids-from k [] (p ∷ ps) snippet_lines h = absurd h
   ids-from k (f ∷ fs) [] snippet_lines h = absurd h
@@ -251,13 +268,18 @@ module _ {Id : Type 0} {database : FileDatabase Id} (lawful : AreFiles database)
 
 -- ---- what was collected, with its plans
 
-module _ {Id : Type 0} {database : FileDatabase Id} (lawful : AreFiles database) {config : Config} {xs : List (InFile Id)} {collected : Collected Id} (all : IsCollected database config xs collected) where
+module _ {Id : Type 0} {database : FileDatabase Id} (lawful : AreFiles database) {config : Config}
+    {xs : List (InFile Id)} {collected : Collected Id}
+    (all : IsCollected database config xs collected) where
   -- plans fail with what the output plan fails with
   pub failure-is : plans_failure config.layout database.failure collected ≡ output_plan_failure config database xs
   failure-is = λ i. first_error database.failure (numbers-are lawful all i ++ loci-are lawful all i)
 
   -- plans, and the padding width, are the output plan of the labels
-  pub output_plan-planned : {output_plan : OutputPlan Id} → ArePlansOf config.layout database.file collected output_plan.files.items output_plan.snippet_lines.items → output_plan.padding ≡ padding_of config (labeled_file_models database.same database.file xs)
+  pub output_plan-planned : {output_plan : OutputPlan Id}
+      → ArePlansOf config.layout database.file collected output_plan.files.items
+      output_plan.snippet_lines.items → output_plan.padding
+      ≡ padding_of config (labeled_file_models database.same database.file xs)
       → IsOutputPlan database config xs output_plan
   output_plan-planned {output_plan} found padding = record {
     ids_are = plan_ids lawful all output_plan.files.items output_plan.snippet_lines.items found;

@@ -1,12 +1,12 @@
 -- The files' plans that a loop finds, one after another.
-use Rattle.std.proofs.Common.{◌≡◌, ◌≢◌, ℕ, suc, ◌+◌, ◌-◌, ◌≤◌, true, List, [], ◌∷◌, ◌++◌, length, get_or, take, drop, map, filter, Option, Some, None, Result, Ok, Err, refl, sym, ap, ◌∙◌, subst, subst₂, arith}
+use Rattle.std.proofs.Common.{◌≡◌, ◌≢◌, ℕ, suc, ◌+◌, ◌-◌, ◌≤◌, true, List, [], ◌∷◌, ◌++◌, length, take, drop, map, filter, Option, Some, None, Result, Ok, Err, refl, sym, ap, ◌∙◌, subst, subst₂, arith}
 use Rattle.std.specs.Prelude.{All, IfOk, flat_map}
 use Rattle.std.specs.List.{AllByRecursion, prefix_len}
 use Rattle.std.specs.List.Sorted.{IsSortedBy}
 use Rattle.std.specs.Result.{result_and}
 use Rattle.std.proofs.lemmas.Bool.{eqb-true}
 use Rattle.std.proofs.lemmas.Grind.{flat_map-append}
-use Rattle.std.proofs.lemmas.List.{append-nil, append_assoc, drop-append-le, drop_all, get_or-map, get_or_default, length-append, length-map, length-take, length-take-le, map-append, take-append-drop, take-append-le, take_all}
+use Rattle.std.proofs.lemmas.List.{append-nil, append_assoc, drop-append-le, drop_all, get_or-map, length-append, length-map, length-take, length-take-le, map-append, take-append-drop, take-append-le, take_all}
 use Rattle.std.proofs.lemmas.List.Elements.{All-from_recursion}
 use Rattle.std.proofs.lemmas.Result.{IfOk-weaker}
 use Rattle.codespan_base.specs.declared.files.Error.{Error}
@@ -15,24 +15,24 @@ use Rattle.codespan_base.specs.declared.term.config.Layout.{Layout}
 use Rattle.codespan_base.specs.FileModel.{FileModel, Lookup, or_failure}
 use Rattle.codespan_picture.specs.Arguments.{locus_view}
 use Rattle.codespan_picture.specs.Lookups.{Failures, lookups_of_file, first_error}
-use Rattle.codespan_plan.specs.FileLookups.{FailsByOrFormat}
-use Rattle.codespan_plan.specs.declared.annotation.Annotation.{Annotation as RustAnnotation}
-use Rattle.codespan_plan.specs.declared.collect.labeled_files.LabeledFile.{LabeledFile as RustFile}
+use Rattle.codespan_annotations.specs.FileLookups.{FailsByOrFormat}
+use Rattle.codespan_annotations.specs.declared.annotation.Annotation.{Annotation as RustAnnotation}
+use Rattle.codespan_annotations.specs.declared.labeled_files.LabeledFile.{LabeledFile as RustFile}
 use Rattle.codespan_plan.specs.declared.plan.snippet_plans.SnippetPlan.{SnippetPlan}
 use Rattle.codespan_plan.specs.declared.plan.snippet_lines.SnippetLine.{SnippetLine as RustLine}
-use Rattle.codespan_plan.specs.Annotations.{Annotation, is_before, is_of_file}
-use Rattle.codespan_plan.specs.AnnotationViews.{IsLineOf, IsOfFiles, annotation_view}
+use Rattle.codespan_annotations.specs.Annotations.{Annotation, is_before, is_of_file}
+use Rattle.codespan_annotations.specs.AnnotationViews.{IsLineOf, IsOfFiles, annotation_view}
 use Rattle.codespan_plan.specs.SnippetLineViews.{AddsLines, numbers_looked_up}
-use Rattle.codespan_plan.specs.LabeledFiles.{ids_view}
+use Rattle.codespan_annotations.specs.LabeledFiles.{ids_view}
 use Rattle.codespan_plan.specs.Loci.{locus_lookups_of, loci_lookups, snippet_start_of}
-use Rattle.codespan_plan.specs.TextLoci.{IsTextLocus}
-use Rattle.codespan_plan.specs.IndexedLabels.{IsIdAt}
+use Rattle.codespan_annotations.specs.TextLoci.{IsTextLocus}
+use Rattle.codespan_annotations.specs.FileIndices.{IsIdAt}
 use Rattle.codespan_plan.specs.SnippetPlans.{ArePlans, IsPlan, by_index, number_lookups, lines_at}
 use Rattle.codespan_plan.specs.SnippetLines.{SnippetLine, fills_of, lines_of}
-use Rattle.codespan_plan.proofs.FirstErrors.{first_error-append, or_failure-succeeded, or_failure-none, or_failure-some, first_error-none, first_error-some}
+use Rattle.codespan_collect.proofs.FirstErrors.{first_error-append, or_failure-succeeded, or_failure-none, or_failure-some, first_error-none, first_error-some}
 use Rattle.codespan_plan.proofs.FileParts.{IsFilePart, from_file, next-file, next_part}
-use Rattle.codespan_plan.proofs.FileIndices.{at-get}
-use Rattle.codespan_plan.proofs.LabelIndexing.{IsElementAt, take-at}
+use Rattle.codespan_annotations.proofs.FileIndices.{at-get}
+use Rattle.codespan_annotations.proofs.IndexedElements.{IsElementAt, take-at}
 use Rattle.codespan_laws.proofs.ListElements.{all-both, all-mapped, all-part, all-pass, all-weaker}
 
 -- ---- ids at their indices
@@ -130,20 +130,20 @@ added-count : {Id : Type 0} {layout : Layout} {f : FileModel} {old new : List (R
     → (added : AddsLines layout f old new snippet_lines) → length new - length old ≡ length added.more
 added-count {old = old} added = let whole = ap length added.whole in omega (arith, whole, length-append old added.more)
 
--- a plan that was made for the file at the index is its plan, with the lines that were added
-pub plan_found : {Id : Type 0} {files : List (RustFile Id)} {xs zs : List (RustAnnotation Id)} {at n k : ℕ} {f : RustFile Id} (turn : IsAtFile files xs at n k f) {layout : Layout} {file : Id → FileModel}
+-- a plan that was made for the file is its plan, with the lines that were added
+pub plan_found : {Id : Type 0} {files : List (RustFile Id)} {xs zs : List (RustAnnotation Id)}
+    {at n k : ℕ} {f : RustFile Id} (turn : IsAtFile files xs at n k f) {layout : Layout}
+    {file : Id → FileModel}
     {old new : List (RustLine Id)} (added : AddsLines layout (file f.id) old new (lines_of (map annotation_view (next_part zs at n)))) → zs ≡ xs
-    → {count : ℕ} → count ≡ length new - length old → {plan : SnippetPlan Id} → plan.file.now ≡ get_or files k plan.file.now
-    → IsTextLocus (snippet_start_of file plan.file.now) (locus_view plan.locus) → plan.line_total ≡ count → IsPlan layout file (map annotation_view xs) k f plan added.more
-plan_found {Id} {files} {k = k} {f = f} turn {file = file} added zs_are counted {plan} here locus total =
-    let same : plan.file.now ≡ f = here ∙ get_or_default files k plan.file.now f turn.here.inside ∙ sym turn.here.is in
-    record {
-      file_is = same;
-      index = subst (λ (g : RustFile Id). IsTextLocus (snippet_start_of file g) (locus_view plan.locus)) same locus;
-      count_is = total ∙ counted ∙ added-count added;
-      are = added.are ∙ own_snippet_lines turn zs_are;
-      each = added.each;
-    }
+    → {count : ℕ} → count ≡ length new - length old → {plan : SnippetPlan Id} → plan.file.now ≡ f
+    → IsTextLocus (snippet_start_of file f) (locus_view plan.locus) → plan.line_total ≡ count → IsPlan layout file (map annotation_view xs) k f plan added.more
+plan_found turn added zs_are counted same locus total = record {
+  file_is = same;
+  index = locus;
+  count_is = total ∙ counted ∙ added-count added;
+  are = added.are ∙ own_snippet_lines turn zs_are;
+  each = added.each;
+}
 
 -- there are at least as many snippet lines as a plan counts in front
 count-within : {Id : Type 0} {layout : Layout} {file : Id → FileModel} {es : List Annotation} {k : ℕ} {f : RustFile Id} {plan : SnippetPlan Id} (snippet_lines : List (RustLine Id))

@@ -2,9 +2,9 @@
 use Rattle.std.proofs.Common.{◌≡◌, ℕ, ◌+◌, ◌-◌, ◌<◌, ◌≤◌, true, false, List, [], ◌++◌, map, length, take, drop, get_or, Option, Some, sym, ◌∙◌, ap, arith}
 use Rattle.std.specs.List.{prefix_len}
 use Rattle.std.proofs.lemmas.List.{drop-map, take-map, length-drop, length-map, length-take, get_or-map, at_drop_all}
-use Rattle.codespan_plan.specs.declared.annotation.Annotation.{Annotation as RustAnnotation}
-use Rattle.codespan_plan.specs.Annotations.{Annotation, is_on_line, shows_line}
-use Rattle.codespan_plan.specs.AnnotationViews.{annotation_view}
+use Rattle.codespan_annotations.specs.declared.annotation.Annotation.{Annotation as RustAnnotation}
+use Rattle.codespan_annotations.specs.Annotations.{Annotation, is_on_line, shows_line}
+use Rattle.codespan_annotations.specs.AnnotationViews.{annotation_view}
 use Rattle.codespan_plan.specs.SnippetLines.{SnippetLine, groups, lines_from, lines_to}
 use Rattle.codespan_plan.proofs.FileParts.{next_part, prefix-map}
 use Rattle.codespan_plan.proofs.GroupLines.{IsGroup, part, next_group, snippet_lines-next, snippet_lines-skip}

@@ -1,14 +1,4 @@
 pub mod Loci
-pub mod TextLoci
-pub mod FileLookups
-pub mod SourceFiles
-pub mod LabelSpans
-pub mod LabeledFiles
-pub mod Annotations
-pub mod SpannedDigits
-pub mod AnnotationViews
-pub mod CollectedLabels
-pub mod IndexedLabels
 pub mod SnippetLines
 pub mod SnippetLineViews
 pub mod LinePlanners

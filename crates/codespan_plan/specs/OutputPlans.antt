@@ -1,29 +1,20 @@
--- What a view knows before it writes: the annotations of all labels, in order, and the plan of
--- each snippet.
-use Rattle.std.specs.Prelude.{◌≡◌, List, [], ◌∷◌, ◌++◌, length, take, drop, flat_map, fold, map, max, Option, None}
+-- What a view knows before it writes: the plan of each snippet, and the padding width.
+use Rattle.std.specs.Prelude.{◌≡◌, List, [], ◌∷◌, ◌++◌, length, take, drop, flat_map, map, Option, None}
 use Rattle.std.specs.List.{AllByRecursion}
-use Rattle.std.specs.List.Sorted.{IsPermutation, IsSortedBy}
 use Rattle.codespan_picture.specs.Types.{Error, Config}
-use Rattle.codespan_base.specs.FileModel.{Lookup}
+use Rattle.codespan_base.specs.FileModel.{Lookup, FileDatabase}
 use Rattle.codespan_picture.specs.Arguments.{locus_view}
 use Rattle.codespan_picture.specs.Lines.{drawn_lines}
 use Rattle.codespan_picture.specs.Lookups.{lookups_of_file, filled_lines, first_error, locus_lookups, numbers_for_padding, filled_line_lookups}
 use Rattle.codespan_picture.specs.Padding.{padding_of}
 use Rattle.codespan_picture.specs.Rows.{Locus}
 use Rattle.codespan_picture.specs.Snippets.{InFile, LabeledFileModel, labeled_file_model, labeled_file_models, lane_count, rows_after, file_ids}
-use Rattle.codespan_plan.specs.declared.collect.Collected.{Collected}
 use Rattle.codespan_plan.specs.declared.plan.OutputPlan.{OutputPlan}
 use Rattle.codespan_plan.specs.declared.plan.snippet_plans.SnippetPlan.{SnippetPlan}
 use Rattle.codespan_plan.specs.declared.plan.snippet_lines.SnippetLine.{SnippetLine as RustLine}
-use Rattle.codespan_plan.specs.Annotations.{is_before}
-use Rattle.codespan_plan.specs.AnnotationViews.{Adds, IsOfFiles, annotation_view}
 use Rattle.codespan_plan.specs.SnippetLineViews.{IsSnippetLineOf, lookups_of_lines, line_view}
-use Rattle.codespan_plan.specs.LabeledFiles.{HasLabels, ids_view}
-use Rattle.codespan_plan.specs.IndexedLabels.{all_annotations}
-use Rattle.codespan_plan.specs.SpannedDigits.{all_digits}
 use Rattle.codespan_plan.specs.SnippetLines.{rows_of_lines, DoFit}
-use Rattle.codespan_base.specs.FileModel.{FileDatabase}
-use Rattle.codespan_plan.specs.TextLoci.{IsLocusOfFile}
+use Rattle.codespan_annotations.specs.TextLoci.{IsLocusOfFile}
 
 -- where the snippet of each file starts
 abbrev pub loci_of : {Id : Type 0} → List (SnippetPlan Id) → List Locus
@@ -48,29 +39,6 @@ pub record IsSnippetPlan {Id : Type 0} (config : Config) (s : LabeledFileModel) 
       (filled_lines config s)
 
 module _ {Id : Type 0} (database : FileDatabase Id) where
-  -- the files of these labels were collected, and the padding width of the classic layout
-  pub record AreFilesCollected (xs : List (InFile Id)) (collected : Collected Id) : Type 0 where
-    pub ids_are : ids_view collected.files.items ≡ file_ids database.same xs
-    pub labels_are : AllByRecursion (HasLabels database.same database.file xs) collected.files.items
-    pub padding_is : collected.padding ≡ fold max 0 (all_digits database.file xs)
-
-  -- this was collected of these labels, one after another
-  pub record IsCollectedInTurn (config : Config) (xs : List (InFile Id))
-      (collected : Collected Id) : Type 0 where
-    pub files : AreFilesCollected xs collected
-    pub adds : Adds (IsOfFiles database.file (ids_view collected.files.items)) []
-        collected.annotations.items (all_annotations database.same database.file config xs)
-
-  -- this was collected of these labels, and is in order
-  pub record IsCollected (config : Config) (xs : List (InFile Id)) (collected : Collected Id) : Type
-      0 where
-    pub files : AreFilesCollected xs collected
-    pub sorted : IsSortedBy is_before (map annotation_view collected.annotations.items)
-    pub permutation : IsPermutation (all_annotations database.same database.file config xs)
-        (map annotation_view collected.annotations.items)
-    pub lines : AllByRecursion (IsOfFiles database.file (ids_view collected.files.items))
-        collected.annotations.items
-
   -- the plans are those of the files of these labels, and the lines are theirs, those of the first
   -- file in front
   abbrev pub AreSnippetPlans : Config → List (InFile Id) → List (SnippetPlan Id)

@@ -3,15 +3,16 @@ use Rattle.std.specs.Prelude.{◌≡◌, ℕ, List, [], ◌∷◌, ◌++◌, map
 use Rattle.std.specs.List.{AllByRecursion}
 use Rattle.codespan_picture.specs.Types.{Layout, Classic, Unbroken}
 use Rattle.codespan_base.specs.FileModel.{FileModel, Lookup}
-use Rattle.codespan_base.specs.FileModel.Lookup.{LineNumber, LineRange}
+use Rattle.codespan_base.specs.FileModel.Lookup.{LineNumber}
 use Rattle.codespan_plan.specs.declared.plan.snippet_lines.Gap.{Gap}
 use Rattle.codespan_plan.specs.declared.plan.snippet_lines.Gap.TheVariants.{Nothing, Line, Lines}
 use Rattle.codespan_plan.specs.declared.plan.snippet_lines.SnippetLine.{SnippetLine as RustLine}
 use Rattle.codespan_plan.specs.declared.plan.snippet_lines.SnippetLine.TheVariants as rust
-use Rattle.codespan_plan.specs.AnnotationViews.{IsLineOf, annotation_view}
-use Rattle.codespan_plan.specs.Annotations.{Annotation}
+use Rattle.codespan_annotations.specs.AnnotationViews.{IsLineOf, annotation_view}
+use Rattle.codespan_annotations.specs.Annotations.{Annotation}
 use Rattle.codespan_plan.specs.SnippetLines.{SnippetLine, Labeled, Filled, Break, lines_between}
 use Rattle.codespan_picture.specs.Sequences.{before_line}
+use Rattle.codespan_annotations.specs.SourceFiles.{lookups_of_filled}
 
 -- a line of a snippet
 abbrev pub line_view : {Id : Type 0} → RustLine Id → SnippetLine
@@ -41,15 +42,6 @@ known_number Unbroken number = Some number
 abbrev pub numbers_looked_up : Layout → List ℕ → List Lookup
 numbers_looked_up Classic ls = []
 numbers_looked_up Unbroken ls = map LineNumber ls
-
--- the lookup of a line's number, where that is not known
-abbrev pub number_lookup : Option ℕ → ℕ → List Lookup
-number_lookup None l = LineNumber l ∷ []
-number_lookup (Some number) l = []
-
--- the lookups of a filled line: its range, and its number where that is not known
-abbrev pub lookups_of_filled : Option ℕ → ℕ → List Lookup
-lookups_of_filled number l = LineRange l ∷ number_lookup number l
 
 -- the lookups when a line is rendered
 abbrev pub lookups_of_line : {Id : Type 0} → RustLine Id → List Lookup

@@ -6,18 +6,19 @@ use Rattle.codespan_base.specs.FileModel.{FileModel, Lookup}
 use Rattle.codespan_picture.specs.Arguments.{locus_view}
 use Rattle.codespan_picture.specs.Lookups.{Failures, lookups_of_file, first_error}
 use Rattle.codespan_picture.specs.Padding.{digit_count}
-use Rattle.codespan_plan.specs.declared.collect.labeled_files.LabeledFile.{LabeledFile as RustFile}
-use Rattle.codespan_plan.specs.declared.collect.Collected.{Collected}
+use Rattle.codespan_annotations.specs.declared.labeled_files.LabeledFile.{LabeledFile as RustFile}
+use Rattle.codespan_collect.specs.declared.collected.Collected.{Collected}
 use Rattle.codespan_plan.specs.declared.plan.snippet_plans.SnippetPlan.{SnippetPlan}
 use Rattle.codespan_plan.specs.declared.plan.snippet_lines.SnippetLine.{SnippetLine as RustLine}
 use Rattle.codespan_plan.specs.declared.plan.snippet_lines.SnippetLine.TheVariants as rust
-use Rattle.codespan_plan.specs.Annotations.{Annotation, is_of_file}
-use Rattle.codespan_plan.specs.AnnotationViews.{annotation_view}
+use Rattle.codespan_annotations.specs.Annotations.{Annotation, is_of_file}
+use Rattle.codespan_annotations.specs.AnnotationViews.{annotation_view}
 use Rattle.codespan_plan.specs.SnippetLineViews.{IsSnippetLineIn, numbers_looked_up, line_view}
-use Rattle.codespan_plan.specs.LabeledFiles.{ids_view}
-use Rattle.codespan_plan.specs.Loci.{loci_lookups, start_byte}
+use Rattle.codespan_annotations.specs.LabeledFiles.{ids_view}
+use Rattle.codespan_plan.specs.Loci.{loci_lookups}
+use Rattle.codespan_annotations.specs.FileStarts.{start_byte}
 use Rattle.codespan_plan.specs.SnippetLines.{SnippetLine, fills_of, lines_of}
-use Rattle.codespan_plan.specs.TextLoci.{IsTextLocus}
+use Rattle.codespan_annotations.specs.TextLoci.{IsTextLocus}
 
 -- the lines of the snippet of the file at an index
 abbrev pub lines_at : List Annotation → ℕ → List SnippetLine

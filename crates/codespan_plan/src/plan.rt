@@ -1,16 +1,17 @@
 //! The plan of a rich output: all that is known before its header is rendered.
 
 ghost use Rattle.std.specs.Prelude.{IfOk, map};
-ghost use Rattle.codespan_plan.specs.FileLookups.{FailsByOrFormat};
+ghost use Rattle.codespan_annotations.specs.FileLookups.{FailsByOrFormat};
 ghost use Rattle.codespan_picture.specs.Picture.{label_of};
-ghost use Rattle.codespan_plan.specs.OutputPlans.{IsCollected, IsOutputPlan, output_plan_failure};
+ghost use Rattle.codespan_collect.specs.Collections.{IsCollected};
+ghost use Rattle.codespan_plan.specs.OutputPlans.{IsOutputPlan, output_plan_failure};
 
-use crate::collect::Collected;
 use crate::plan::padding::padding_width;
 use crate::plan::snippet_lines::SnippetLine;
 use crate::plan::snippet_plans::{SnippetPlan, plan_snippets};
 use codespan_base::files::{Error, Files};
 use codespan_base::term::Config;
+use codespan_collect::collected::Collected;
 use std::alloc::Global;
 
 pub mod padding;

@@ -64,7 +64,9 @@ module _ {Id : Type 0} {config : Config} {files : FileDatabase Id} {d : Diagnost
   pub text_is_utf8 : {old new : Sink} {bytes : List ℕ} → WritesStyled config.display_style config config files d old (Ok tt) new
       → old ≡ fresh_sink no_style_marks (Some []) → new.contents ≡ Some bytes → AreCharacters config.chars → ((id : Id) → IsLawful (files.file id)) → IsUtf8 bytes
   text_is_utf8 rendered fresh contents characters lawful =
-      subst IsUtf8 (sym (written_text _ fresh contents rendered.writes.received)) (text-output files d lawful config.display_style config config characters rendered.writes.loci rendered.writes.on_end.1.texts).utf8
+      subst IsUtf8 (sym (written_text _ fresh contents rendered.writes.received))
+      (text-output files d lawful config.display_style config config characters
+      rendered.writes.loci rendered.writes.on_end.1.texts).utf8
 
   -- the error of a string call whose writer has not failed
   pub string_error : {old new : Sink} {e : Error} → WritesStyled config.display_style config config files d old (Err e) new → new.frame.failed ≡ false → IsEmitError config files d e
@@ -93,7 +95,13 @@ module _ {Id : Type 0} {config : Config} {files : FileDatabase Id} {d : Diagnost
     received = λ known. text_prefix old new _ plain (rendered.writes.received known);
     on_end = record {
       error_is = ⊎_elim (λ w. inl (w.0, tt))
-          (λ w. inr (tt, w.1, written_before-other files config d rendered.writes.loci config.display_style e (λ same. ap (λ (x : Sink). x.contents) same) (λ ps wrote known. text_written old new _ plain (wrote known)) w.2))
+          (λ w. inr (
+            tt,
+            w.1,
+            written_before-other files config d rendered.writes.loci
+                config.display_style e (λ same. ap (λ (x : Sink). x.contents) same)
+                (λ ps wrote known. text_written old new _ plain (wrote known)) w.2,
+          ))
           rendered.writes.on_end.error_is;
       early = λ rich p. ap (λ (x : Sink). x.contents) (rendered.writes.on_end.early rich p);
     };

@@ -2,7 +2,7 @@
 use Rattle.std.proofs.Common.{◌≡◌, List, None}
 use Rattle.codespan_base.specs.FileModel.{FileDatabase, Lookup}
 use Rattle.codespan_picture.specs.Lookups.{first_error}
-use Rattle.codespan_plan.proofs.FirstErrors.{all_succeed}
+use Rattle.codespan_collect.proofs.FirstErrors.{all_succeed}
 use Rattle.codespan_views.specs.Failures.{SomeFails}
 
 -- where some of these lookups fails, there is a first one

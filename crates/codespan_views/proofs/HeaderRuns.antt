@@ -1,5 +1,5 @@
 -- Headers of labels, one after another.
-use Rattle.std.proofs.Common.{◌≡◌, ◌≢◌, ◌+◌, ◌<◌, true, false, List, [], ◌∷◌, ◌++◌, length, map, flat_map, take, None, Some, Result, Ok, Err, ⊎_elim, inl, inr, sym, subst, ap, ◌∙◌, append-nil, arith}
+use Rattle.std.proofs.Common.{◌≡◌, ◌≢◌, ◌<◌, true, false, List, [], ◌∷◌, ◌++◌, length, map, flat_map, take, None, Some, Result, Ok, Err, ⊎_elim, inl, inr, sym, subst, ap, ◌∙◌, append-nil, arith}
 use Rattle.std.specs.Prelude.{IfErr}
 use Rattle.std.specs.List.{AllZip}
 use Rattle.std.proofs.lemmas.Grind.{flat_map-append}
@@ -16,7 +16,7 @@ use Rattle.codespan_base.specs.WriterLaw.{Sink, with_written, is_known, PrefixWr
 use Rattle.codespan_base.proofs.Writes.{is_known-with_written, with_written-append, with_written-nil, PrefixWritten-first, PrefixWritten-last}
 use Rattle.codespan_picture.specs.Lookups.{first_error, header_lookups_of}
 use Rattle.codespan_picture.specs.Picture.{AreLoci, IsLocus, heading_of, label_start, notes_of}
-use Rattle.codespan_plan.specs.TextLoci.{IsLocusOfLabel}
+use Rattle.codespan_annotations.specs.TextLoci.{IsLocusOfLabel}
 use Rattle.codespan_picture.specs.Rows.{Locus, Row}
 use Rattle.codespan_picture.specs.RowStreams.{stream_of_rows}
 use Rattle.codespan_picture.specs.Snippets.{InFile, has_any, header_rows, note_rows}
@@ -27,14 +27,16 @@ use Rattle.std.proofs.Math.Seq.{take-append_seam}
 use Rattle.codespan_views.specs.Private.Headers.{HeaderLookupFailed, HeadersWritten, HeadersFailed, HeaderWriteFailed}
 use Rattle.codespan_laws.proofs.Loci.{locus_there, zip_append, zip_each, zip_length, zip_map, zip_weaker}
 use Rattle.codespan_views.proofs.Renderings.{PrefixWritten-none}
-use Rattle.codespan_plan.proofs.FirstErrors.{all_succeed, first_error-none, first_error-some}
+use Rattle.codespan_collect.proofs.FirstErrors.{all_succeed, first_error-none, first_error-some}
 use Rattle.codespan_views.proofs.SnippetParts.{write_at}
 use Rattle.codespan_views.proofs.LabelHeaders.{none_of_empty, no_loci, some_headers, stated_of, primary_labels, context, headers_stream, headers_stream-append, header, short, short-some, noted, noted-after}
 
 -- ---- all of them
 
 -- rendering ended at one of the labels
-module _ {Id : Type 0} {config : Config} (files : FileDatabase Id) {d : Diagnostic Id} {old new : Sink} {e : Error} (w : HeadersFailed config files.file files.failure d old (primary_labels d) e new) where
+module _ {Id : Type 0} {config : Config} (files : FileDatabase Id) {d : Diagnostic Id}
+    {old new : Sink} {e : Error} (w : HeadersFailed config files.file files.failure d old
+    (primary_labels d) e new) where
   -- the lookups of the headers
   abbrev header_lookups : List (Id × Lookup)
   header_lookups = flat_map header_lookups_of (primary_labels d)
@@ -67,7 +69,9 @@ module _ {Id : Type 0} {config : Config} (files : FileDatabase Id) {d : Diagnost
   first = headers_stream config d w.written.loci
 
   -- a prefix of the rest is one of the output, after what has been written
-  prefix_whole : (here : Locus) → is_known old ≡ true → (is_known w.mid ≡ true → PrefixWritten w.mid (headers_stream config d (here ∷ others)) new) → PrefixWritten old (short config d (loci_with here)) new
+  prefix_whole : (here : Locus) → is_known old ≡ true
+      → (is_known w.mid ≡ true → PrefixWritten w.mid (headers_stream config d (here ∷ others)) new)
+      → PrefixWritten old (short config d (loci_with here)) new
   prefix_whole here known prefix =
       let is = w.written.written known in
       let rest = headers_stream config d (here ∷ others) in
@@ -157,7 +161,9 @@ module _ {Id : Type 0} {config : Config} (files : FileDatabase Id) {d : Diagnost
     loci = written.loci;
     are_loci = label_loci files d written.loci written.are;
     received = λ known. written.written known
-        ∙ ap (λ (rows : List Row). with_written old (stream_of_rows (context config d) rows)) (sym (some_headers (IsLocusOfLabel files.file) (heading_of d) (primary_labels d) written.loci some written.are));
+        ∙ ap (λ (rows : List Row). with_written old (stream_of_rows (context config d) rows))
+        (sym (some_headers (IsLocusOfLabel files.file) (heading_of d) (primary_labels d)
+        written.loci some written.are));
     on_end = (written.frame, all_lookups_succeed);
   }
 
@@ -231,7 +237,9 @@ module _ {Id : Type 0} {config : Config} {files : FileDatabase Id} {d : Diagnost
         are_loci = rendered.are_loci;
         received = λ known.
             let is = rendered.received known in
-            writes.1 (ap is_known is ∙ is_known-with_written old before ∙ known) ∙ ap (λ (y : Sink). with_written y notes) is ∙ sym (with_written-append old before notes) ∙ ap (with_written old) (sym rows);
+            writes.1 (ap is_known is ∙ is_known-with_written old before ∙ known)
+            ∙ ap (λ (y : Sink). with_written y notes) is
+            ∙ sym (with_written-append old before notes) ∙ ap (with_written old) (sym rows);
         on_end = (writes.0 ∙ rendered.on_end.0, record { lookups_succeed = rendered.on_end.1.lookups_succeed; texts = rendered.on_end.1.texts });
       }
       by (Err e) writes io = record {

@@ -19,14 +19,14 @@ use Rattle.codespan_base.proofs.Writes.{is_known-with_written, with_written-appe
 use Rattle.codespan_picture.specs.Lookups.{Failures, first_error, header_lookups_of}
 use Rattle.codespan_picture.specs.Picture.{heading_of, label_of, label_start, labels_of, context_of, notes_of}
 use Rattle.codespan_picture.specs.StatedPicture.{stated_locus, headers}
-use Rattle.codespan_plan.specs.TextLoci.{IsLocusOfLabel}
+use Rattle.codespan_annotations.specs.TextLoci.{IsLocusOfLabel}
 use Rattle.codespan_picture.specs.Rows.{HeaderRow, HeaderText, RowContext, Locus, Row}
 use Rattle.codespan_picture.specs.RowStreams.{header_row, stream_of, stream_of_rows}
 use Rattle.codespan_picture.specs.Snippets.{InFile, has_any, header_rows, note_rows, primary_of}
 use Rattle.codespan_views.specs.Private.Headers.{HeadersWritten, HeadersFailed}
 use Rattle.codespan_laws.proofs.Loci.{zip_append}
-use Rattle.codespan_plan.proofs.LabelIndexing.{IsElementAt}
-use Rattle.codespan_plan.proofs.FirstErrors.{first_error-none}
+use Rattle.codespan_annotations.proofs.IndexedElements.{IsElementAt}
+use Rattle.codespan_collect.proofs.FirstErrors.{first_error-none}
 
 -- what a filter keeps was there
 contained : {X : Type 0} (b : Bool) (x y : X) (ys zs : List X) → (Contains zs x → Contains ys x) → Contains (cond b (y ∷ zs) zs) x → Contains (y ∷ ys) x
@@ -146,7 +146,9 @@ module _ {Id : Type 0} {config : Config} {file : Id → FileModel} {failure : Fa
   none_yet {s} same = record { frame = ap (λ (x : Sink). x.frame) same; loci = []; are = tt; written = λ known. same ∙ sym (with_written-nil s); succeeded = refl }
 
   -- headers have been written, and then those of other labels
-  written_more : {s t u : Sink} {xs ys : List (InFile Id)} → HeadersWritten config file failure d s xs t → HeadersWritten config file failure d t ys u → HeadersWritten config file failure d s (xs ++ ys) u
+  written_more : {s t u : Sink} {xs ys : List (InFile Id)}
+      → HeadersWritten config file failure d s xs t → HeadersWritten config file failure d t ys u
+      → HeadersWritten config file failure d s (xs ++ ys) u
   written_more {s} {xs = xs} {ys = ys} first second = record {
     frame = second.frame ∙ first.frame;
     loci = first.loci ++ second.loci;
@@ -200,7 +202,10 @@ all_written {config = config} {file = file} {failure = failure} {d = d} {i = i} 
 module _ {Id : Type 0} {config now : Config} {file : Id → FileModel} {failure : Failures Id} {d : Diagnostic Id} {i : ℕ} {label : Label Id} {s t : Sink}
     (at : IsElementAt d.labels.items i label) (equal : now ≡ config) (before : HeadersWritten config file failure d s (primary_of (map label_of (take i d.labels.items))) t) where
   -- its header has been written too
-  pub written_next : {u : Sink} → HeadersWritten now file failure d t (primary_of (label_of label ∷ [])) u → HeadersWritten config file failure d s (primary_of (map label_of (take (i + 1) d.labels.items))) u
+  pub written_next : {u : Sink} → HeadersWritten now file failure d t
+      (primary_of (label_of label ∷ [])) u
+      → HeadersWritten config file failure d s
+      (primary_of (map label_of (take (i + 1) d.labels.items))) u
   written_next {u} here =
       subst (λ (xs : List (InFile Id)). HeadersWritten config file failure d s xs u) (sym (primary_next at))
       (written_more before (subst (λ (k : Config). HeadersWritten k file failure d t (primary_of (label_of label ∷ [])) u) equal here))

@@ -13,22 +13,22 @@ use Rattle.codespan_picture.specs.RowStreams.{stream_of, stream_of_rows}
 use Rattle.codespan_views.specs.declared.snippet.lines.Snippet.{Snippet}
 use Rattle.codespan_plan.specs.declared.plan.snippet_lines.SnippetLine.{SnippetLine as RustLine}
 use Rattle.codespan_views.specs.Private.LookupsWhileRendering.{WritesWithLookups}
-use Rattle.codespan_plan.specs.SourceFiles.{failure_of, model_of}
+use Rattle.codespan_annotations.specs.SourceFiles.{failure_of, model_of}
 use Rattle.codespan_plan.specs.SnippetLineViews.{lookups_of_line, lookups_of_lines, line_view}
 use Rattle.codespan_plan.specs.SnippetLines.{SnippetLine, Filled, Labeled, lane_marks_in, line_of_group, rows_of_line, rows_of_lines, single_labels_in}
-use Rattle.codespan_plan.specs.Annotations.{Annotation}
+use Rattle.codespan_annotations.specs.Annotations.{Annotation}
 use Rattle.codespan_renderer.specs.declared.term.renderer.Renderer.{Renderer}
 use Rattle.codespan_renderer.specs.Renderers.{Renders, config_of}
 use Rattle.codespan_rows.specs.RenderedRows.{source_line}
 use Rattle.codespan_picture.specs.Arguments.{LaneMarkTuple, SingleLabelTuple, lane_mark_view, single_label_views}
-use Rattle.codespan_plan.specs.declared.annotation.LineInfo.{LineInfo}
-use Rattle.codespan_plan.specs.AnnotationViews.{IsLineOf}
+use Rattle.codespan_annotations.specs.declared.annotation.LineInfo.{LineInfo}
+use Rattle.codespan_annotations.specs.AnnotationViews.{IsLineOf}
 use Rattle.std.specs.Prelude.{slice_range}
 use Rattle.codespan_views.specs.Private.LineRendering.{RendersLine}
 use Rattle.codespan_views.proofs.RendererRuns.{renders_after, renders_alone, renders_as}
 use Rattle.codespan_views.proofs.LookupRuns.{IsLookupRun, run_as, run_cut, run_of_nothing, run_then}
-use Rattle.codespan_plan.proofs.FirstErrors.{first_error-lookups}
-use Rattle.codespan_plan.proofs.LabelIndexing.{IsElementAt, take-at}
+use Rattle.codespan_collect.proofs.FirstErrors.{first_error-lookups}
+use Rattle.codespan_annotations.proofs.IndexedElements.{IsElementAt, take-at}
 
 module _ {F Id Name Source : Type 0} (database : F → FileDatabase Id) (lines : Snippet F Id Name Source) (config : Config) where
   -- the file
@@ -77,7 +77,9 @@ module _ {F Id Name Source : Type 0} {database : F → FileDatabase Id} {lines :
   rendered-nothing = record { rendered = run_of_nothing }
 
   -- one snippet line is rendered
-  rendered-one : {snippet_line : RustLine Id} {s t : Sink} {r : Result (Unit {0}) Error} → RendersOne database lines config snippet_line s r t → RendersAll database lines config (snippet_line ∷ []) s r t
+  rendered-one : {snippet_line : RustLine Id} {s t : Sink} {r : Result (Unit {0}) Error}
+      → RendersOne database lines config snippet_line s r t
+      → RendersAll database lines config (snippet_line ∷ []) s r t
   rendered-one {snippet_line} renders = record {
     rendered = run_as
         (ap (lookups database lines config) (sym (append-nil (lookups_of_line snippet_line))))
@@ -117,7 +119,9 @@ module _ {F Id Name Source : Type 0} {database : F → FileDatabase Id} {lines :
   rendered-all whole i {s} {t} {r} past all = subst (λ (snippet_lines : List (RustLine Id)). RendersAll database lines config snippet_lines s r t) (take_all i whole past) all
 
 -- a line that is filled in is rendered as a labeled one, after the lookups of it
-pub filled-rendered : {W F Id Name Source : Type 0} {sink : W → Sink} (database : F → FileDatabase Id) (lines : Snippet F Id Name Source) (lookups : List Lookup) {l index : ℕ} (annotations : List Annotation)
+pub filled-rendered : {W F Id Name Source : Type 0} {sink : W → Sink}
+    (database : F → FileDatabase Id) (lines : Snippet F Id Name Source) (lookups : List Lookup)
+    {l index : ℕ} (annotations : List Annotation)
     {old new : Renderer W} {r : Result (Unit {0}) Error} → l ≡ index → failure_of database lines.file lookups ≡ None
     → RendersLine sink database lines [] (Labeled l annotations) old r new → RendersLine sink database lines lookups (Filled index annotations) old r new
 filled-rendered {sink = sink} database lines lookups annotations {old} {new} {r} same succeeded rendered =

@@ -1,5 +1,5 @@
 -- The snippets of an output plan, one after another.
-use Rattle.std.proofs.Common.{◌≡◌, ℕ, ◌+◌, ◌-◌, ◌≤◌, Bool, ◌||◌, List, [], ◌∷◌, ◌++◌, length, drop, map, Option, None, Result, Ok, Err, refl, sym, subst, subst₂, ap, ◌∙◌, arith}
+use Rattle.std.proofs.Common.{◌≡◌, ℕ, ◌+◌, ◌≤◌, Bool, ◌||◌, List, [], ◌∷◌, ◌++◌, length, drop, map, Option, None, Result, Ok, Err, refl, sym, subst, subst₂, ap, ◌∙◌, arith}
 use Rattle.std.specs.Prelude.{IfErr, flat_map, nat_lt}
 use Rattle.std.proofs.lemmas.List.{append-nil, append_assoc}
 use Rattle.codespan_base.specs.declared.term.config.Config.{Config}
@@ -9,12 +9,11 @@ use Rattle.codespan_base.specs.Streams.{Stream}
 use Rattle.codespan_base.specs.WriterLaw.{Writes, Sink}
 use Rattle.codespan_base.specs.Errors.{IsIo}
 use Rattle.codespan_views.specs.Private.LookupsWhileRendering.{WroteStream, WritesWithLookups}
-use Rattle.codespan_picture.specs.Snippets.{row_after, snippet, snippets}
+use Rattle.codespan_picture.specs.Snippets.{row_after, snippet, snippets, LabeledFileModel, has_any, labeled_file_model, labeled_file_models}
 use Rattle.codespan_picture.specs.Lookups.{lookups_of_file, first_error, late_lookups, snippet_lookups}
 use Rattle.codespan_picture.specs.Picture.{labels_of, context_of, notes_of}
 use Rattle.codespan_picture.specs.Rows.{RowContext, Locus, Row}
 use Rattle.codespan_picture.specs.RowStreams.{stream_of_rows}
-use Rattle.codespan_picture.specs.Snippets.{LabeledFileModel, has_any, labeled_file_model, labeled_file_models}
 use Rattle.codespan_base.specs.FileModel.Lookup.{Source}
 use Rattle.codespan_picture.specs.Arguments.{locus_view}
 use Rattle.codespan_plan.specs.OutputPlans.{IsOutputPlan, IsSnippetPlan, ids_of, loci_of}
@@ -25,8 +24,8 @@ use Rattle.codespan_plan.specs.declared.plan.OutputPlan.{OutputPlan}
 use Rattle.codespan_plan.specs.declared.plan.snippet_plans.SnippetPlan.{SnippetPlan}
 use Rattle.codespan_plan.specs.declared.plan.snippet_lines.SnippetLine.{SnippetLine as RustLine}
 use Rattle.codespan_views.proofs.LookupRuns.{IsLookupRun, run_as, run_cut, run_of_nothing, run_of_writes, run_then}
-use Rattle.codespan_plan.proofs.FirstErrors.{first_error-append, or_failure-none}
-use Rattle.codespan_plan.proofs.LabelIndexing.{IsElementAt, drop-one}
+use Rattle.codespan_collect.proofs.FirstErrors.{first_error-append, or_failure-none}
+use Rattle.codespan_annotations.proofs.IndexedElements.{IsElementAt, drop-one}
 use Rattle.codespan_views.proofs.SnippetParts.{rows-two, write_at}
 use Rattle.codespan_views.proofs.PlannedFiles.{drop-end, followed-at, ids-count, id-inside, id-at, index-inside, index-at, rows-are}
 
@@ -117,7 +116,10 @@ module _ {Id : Type 0} {database : FileDatabase Id} {view : RichDiagnostic Id} {
       let none : drop k ids ≡ [] =
       drop-end ids k (omega (arith, ids-count output_plan.files.items, subst (λ (hs : List (SnippetPlan Id)). length hs ≤ k) equal past)) in
       subst₂ (λ (o : Option Error) (s : Stream). WritesWithLookups o old s (Ok tt) mid)
-      (sym left.succeeded ∙ ap (first_error database.failure) (sym (append-nil left.lookups) ∙ ap (λ js. left.lookups ++ flat_map (snippet_lookups_of database view) js) (sym none) ∙ left.lookups_whole) ∙ failure-all)
+      (sym left.succeeded ∙ ap (first_error database.failure)
+      (sym (append-nil left.lookups) ∙ ap
+      (λ js. left.lookups ++ flat_map (snippet_lookups_of database view) js) (sym none)
+      ∙ left.lookups_whole) ∙ failure-all)
       (ap (stream_of_rows context) (sym (append-nil left.rows) ∙ ap (λ r. left.rows ++ r) (sym (no-rows (drop k loci)) ∙ ap (rows_at (drop k loci)) (sym none))
       ∙ left.rows_whole ∙ rows-all))
       left.rendered.renders
@@ -127,7 +129,10 @@ module _ {Id : Type 0} {database : FileDatabase Id} {view : RichDiagnostic Id} {
       no-rows (p ∷ ps) = refl
 
   module _ {f : SnippetPlan Id} {snippet_lines : List (RustLine Id)} {notes next : Bool} {now : Config} (at : IsElementAt output_plan.files.items k f)
-      (is : IsSnippetPlan (view_config_of view) (labeled database view f.file.now.id) f snippet_lines) (notes_are : notes ≡ has_notes) (next_is : next ≡ nat_lt (k + 1) (length output_plan.files.items)) (equal : now ≡ renderer) where
+      (is : IsSnippetPlan (view_config_of view) (labeled database view f.file.now.id) f
+      snippet_lines) (notes_are : notes ≡ has_notes)
+      (next_is : next ≡ nat_lt (k + 1) (length output_plan.files.items))
+      (equal : now ≡ renderer) where
     -- the file with its labels
     abbrev own : LabeledFileModel
     own = labeled database view f.file.now.id
@@ -170,7 +175,10 @@ module _ {Id : Type 0} {database : FileDatabase Id} {view : RichDiagnostic Id} {
     snippet_lines_failure = first_error database.failure (lookups_of_file f.file.now.id (lookups_with snippet_lines))
 
     -- the snippet is rendered, by an equal configuration
-    snippet-here : {r : Result (Unit {0}) Error} {new : Sink} → WritesWithLookups snippet_lines_failure mid (stream_of_rows (context_by now) (rows_in f (database.file f.file.now.id) snippet_lines)) r new
+    snippet-here : {r : Result (Unit {0}) Error} {new : Sink}
+        → WritesWithLookups snippet_lines_failure mid
+        (stream_of_rows (context_by now) (rows_in f (database.file f.file.now.id) snippet_lines)) r
+        new
         → IsLookupRun snippet_lines_failure mid snippet_stream r new
     snippet-here renders = run_as refl (λ i. stream_of_rows (context_by (equal i)) (rows_in f (database.file f.file.now.id) snippet_lines)) (record { renders = renders })
 
@@ -187,14 +195,18 @@ module _ {Id : Type 0} {database : FileDatabase Id} {view : RichDiagnostic Id} {
         both
 
     -- the file is rendered
-    left-next : {new : Sink} → IsLookupRun (first_error database.failure lookups_here) mid (stream_of_rows context rows_here) (Ok tt) new → SnippetsLeft database view output_plan renderer (k + 1) old new
+    left-next : {new : Sink} → IsLookupRun (first_error database.failure lookups_here) mid
+        (stream_of_rows context rows_here) (Ok tt) new
+        → SnippetsLeft database view output_plan renderer (k + 1) old new
     left-next rendered =
         record {
           rows = left.rows ++ rows_here;
           rendered = run_as rendered.renders.0 (sym (rows-two context left.rows rows_here)) (run_then left.rendered rendered);
           rows_whole = append_assoc left.rows rows_here (rest (k + 1)) ∙ ap (λ (r : List Row). left.rows ++ r) (sym rows-next) ∙ left.rows_whole;
           lookups = left.lookups ++ lookups_here;
-          succeeded = first_error-append database.failure left.lookups lookups_here ∙ ap (λ (o : Option Error). or_failure o (first_error database.failure lookups_here)) left.succeeded ∙ rendered.renders.0;
+          succeeded = first_error-append database.failure left.lookups lookups_here
+              ∙ ap (λ (o : Option Error). or_failure o (first_error database.failure lookups_here))
+              left.succeeded ∙ rendered.renders.0;
           lookups_whole = append_assoc left.lookups lookups_here (lookups_from (k + 1)) ∙ ap (λ (ls : List (Id × Lookup)). left.lookups ++ ls) (sym lookups-next) ∙ left.lookups_whole;
         }
 
@@ -206,7 +218,9 @@ module _ {Id : Type 0} {database : FileDatabase Id} {view : RichDiagnostic Id} {
         let after = first_error database.failure (lookups_from (k + 1)) in
         (run_as
         (sym (ap (λ (o : Option Error). or_failure o (or_failure here after)) left.succeeded)
-        ∙ ap (or_failure (first_error database.failure left.lookups)) (sym (first_error-append database.failure lookups_here (lookups_from (k + 1))) ∙ ap (first_error database.failure) (sym lookups-next))
+        ∙ ap (or_failure (first_error database.failure left.lookups))
+        (sym (first_error-append database.failure lookups_here (lookups_from (k + 1)))
+        ∙ ap (first_error database.failure) (sym lookups-next))
         ∙ sym (first_error-append database.failure left.lookups (lookups_from k)) ∙ ap (first_error database.failure) left.lookups_whole ∙ failure-all)
         (ap (λ (s : Stream). stream_of_rows context left.rows ++ s) (sym (rows-two context rows_here (rest (k + 1))) ∙ ap (stream_of_rows context) (sym rows-next))
         ∙ sym (rows-two context left.rows (rest k)) ∙ ap (stream_of_rows context) (left.rows_whole ∙ rows-all))
@@ -223,7 +237,10 @@ module _ {Id : Type 0} {database : FileDatabase Id} {view : RichDiagnostic Id} {
       end-here : {r : Result (Unit {0}) Error} {new : Sink} → Writes inner (stream_of_rows (context_by after) (trailing_border_rows f follows)) r new → IfErr r IsIo
           → IsLookupRun (first_error database.failure lookups_here) mid (stream_of_rows context rows_here) r new
       end-here {r} {new} writes io =
-          rendered-here (run_then (snippet-here renders) (run_of_writes r (write_at (λ (c : Config). stream_of_rows (context_by c) (trailing_border_rows f follows)) (equal_after ∙ equal) inner new r writes) io))
+          rendered-here (run_then (snippet-here renders)
+          (run_of_writes r (write_at (λ (c : Config).
+          stream_of_rows (context_by c) (trailing_border_rows f follows)) (equal_after ∙ equal)
+          inner new r writes) io))
 
       -- it was written
       pub next-file : {new : Sink} → WroteStream inner (stream_of_rows (context_by after) (trailing_border_rows f follows)) new → SnippetsLeft database view output_plan renderer (k + 1) old new

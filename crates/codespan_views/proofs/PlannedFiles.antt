@@ -5,9 +5,8 @@ use Rattle.std.proofs.lemmas.Grind.{common_steps}
 use Rattle.std.proofs.lemmas.List.{drop-drop, get_or-map, length-drop, length-map, length-take}
 use Rattle.codespan_base.specs.declared.term.config.Config.{Config}
 use Rattle.codespan_base.specs.FileModel.{FileDatabase}
-use Rattle.codespan_picture.specs.Snippets.{row_after, snippet}
+use Rattle.codespan_picture.specs.Snippets.{row_after, snippet, InFile, LabeledFileModel, empty_lanes, has_any, labeled_file_model}
 use Rattle.codespan_picture.specs.Rows.{EmptyRow, Row, SnippetStartRow}
-use Rattle.codespan_picture.specs.Snippets.{InFile, LabeledFileModel, empty_lanes, has_any, labeled_file_model}
 use Rattle.codespan_picture.specs.Arguments.{locus_view}
 use Rattle.codespan_plan.specs.OutputPlans.{AreSnippetPlans, IsSnippetPlan, ids_of, loci_of}
 use Rattle.codespan_views.specs.Private.SnippetRows.{trailing_border_rows, rows_in}
@@ -15,7 +14,7 @@ use Rattle.codespan_plan.specs.SnippetLineViews.{line_view}
 use Rattle.codespan_plan.specs.SnippetLines.{rows_of_lines}
 use Rattle.codespan_plan.specs.declared.plan.snippet_plans.SnippetPlan.{SnippetPlan}
 use Rattle.codespan_plan.specs.declared.plan.snippet_lines.SnippetLine.{SnippetLine as RustLine}
-use Rattle.codespan_plan.proofs.LabelIndexing.{IsElementAt, drop-one}
+use Rattle.codespan_annotations.proofs.IndexedElements.{IsElementAt, drop-one}
 
 -- no element from the end on
 pub drop-end : {X : Type 0} (xs : List X) (k : ℕ) → length xs ≤ k → drop k xs ≡ []
@@ -69,14 +68,18 @@ module _ {Id : Type 0} (database : FileDatabase Id) (config : Config) (xs : List
   -- of the files after it
   abbrev pub IsFirstFile : List (SnippetPlan Id) → SnippetPlan Id → List (RustLine Id) → Type 0
   IsFirstFile later f snippet_lines =
-      IsSnippetPlan config (labeled_file_model database.same database.file xs f.file.now.id) f (take f.line_total snippet_lines) × AreSnippetPlans database config xs later (drop f.line_total snippet_lines)
+      IsSnippetPlan config (labeled_file_model database.same database.file xs f.file.now.id) f
+      (take f.line_total snippet_lines)
+      × AreSnippetPlans database config xs later (drop f.line_total snippet_lines)
 
   -- the files from an index on are those of their labels, with the snippet lines from an index on
   pub record AreFilesFrom (files : List (SnippetPlan Id)) (k : ℕ) (snippet_lines : List (RustLine Id)) (start : ℕ) : Type 0 where
     pub inside : start ≤ length snippet_lines
     pub are : AreSnippetPlans database config xs (drop k files) (drop start snippet_lines)
 
-module _ {Id : Type 0} {database : FileDatabase Id} {config : Config} {xs : List (InFile Id)} {files : List (SnippetPlan Id)} {k : ℕ} {f : SnippetPlan Id} {snippet_lines : List (RustLine Id)} {start : ℕ}
+module _ {Id : Type 0} {database : FileDatabase Id} {config : Config} {xs : List (InFile Id)}
+    {files : List (SnippetPlan Id)} {k : ℕ} {f : SnippetPlan Id}
+    {snippet_lines : List (RustLine Id)} {start : ℕ}
     (at : IsElementAt files k f) (from : AreFilesFrom database config xs files k snippet_lines start) where
   -- from the file at an index on they are that file, and those after it
   files-at : IsFirstFile database config xs (drop (k + 1) files) f (drop start snippet_lines)

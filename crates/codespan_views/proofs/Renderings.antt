@@ -15,7 +15,7 @@ use Rattle.codespan_base.specs.declared.term.config.DisplayStyle.TheVariants.{Ri
 use Rattle.codespan_picture.specs.Picture.{files_of, labels_of, output}
 use Rattle.codespan_picture.specs.StatedPicture.{stated_loci}
 use Rattle.codespan_picture.specs.Rows.{Locus}
-use Rattle.codespan_plan.specs.TextLoci.{IsLocusOfFile}
+use Rattle.codespan_annotations.specs.TextLoci.{IsLocusOfFile}
 use Rattle.std.specs.List.{AllZip}
 use Rattle.codespan_picture.specs.Lookups.{early_lookups, late_lookups, first_error}
 use Rattle.codespan_views.specs.WriteCalls.{WritesOutput}
@@ -24,7 +24,7 @@ use Rattle.codespan_laws.proofs.Loci.{stated_are_loci}
 use Rattle.codespan_views.specs.Private.LookupsWhileRendering.{WroteStream}
 use Rattle.codespan_base.proofs.Chains.{written-then, failed-then}
 use Rattle.codespan_views.proofs.Failures.{some_fails}
-use Rattle.codespan_plan.proofs.FirstErrors.{first_error-some, first_error-none, all_succeed}
+use Rattle.codespan_collect.proofs.FirstErrors.{first_error-some, first_error-none, all_succeed}
 
 -- nothing has been written, which is a prefix of everything
 pub PrefixWritten-none : (s : Sink) (items : Stream) (t : Sink) → t ≡ s → PrefixWritten s items t
@@ -68,7 +68,11 @@ module _ {Id : Type 0} {renderer view : Config} {files : FileDatabase Id} {d : D
     on_end = record {
       error_is = inr (
         ap (λ (s : Sink). s.frame) unchanged,
-        (omega (arith, length-append (before_header view files d) (after_header view files d)), λ p q. first_error-some files.failure (before_header view files d) (after_header view files d) e (known p q)),
+        (
+          omega (arith, length-append (before_header view files d) (after_header view files d)),
+          λ p q. first_error-some files.failure (before_header view files d)
+              (after_header view files d) e (known p q),
+        ),
         λ h. inl unchanged,
       );
       early = λ rich p. unchanged;
@@ -96,7 +100,11 @@ module _ {Id : Type 0} {renderer view : Config} {files : FileDatabase Id} {d : D
     on_end = record {
       error_is = inr (
         frame,
-        (omega (arith, length-append (before_header view files d) (after_header view files d)), λ p q. first_error-none files.failure (before_header view files d) (after_header view files d) succeeded ∙ known p),
+        (
+          omega (arith, length-append (before_header view files d) (after_header view files d)),
+          λ p q. first_error-none files.failure (before_header view files d)
+              (after_header view files d) succeeded ∙ known p,
+        ),
         λ h. inr (known (λ (m : e ≡ OutOfMemory). two_errors e h m)),
       );
       early = λ rich p. absurd (some_fails files (before_header view files d) succeeded p);
@@ -113,7 +121,10 @@ module _ {Id : Type 0} {renderer view : Config} {files : FileDatabase Id} {d : D
     on_end = (
       frame,
       record {
-        lookups_succeed = all_succeed files.failure (before_header view files d ++ after_header view files d) (first_error-none files.failure (before_header view files d) (after_header view files d) succeeded_early ∙ succeeded_late);
+        lookups_succeed = all_succeed files.failure
+            (before_header view files d ++ after_header view files d)
+            (first_error-none files.failure (before_header view files d) (after_header view files d)
+            succeeded_early ∙ succeeded_late);
         texts = file_texts files d written.loci written.are;
       },
     );

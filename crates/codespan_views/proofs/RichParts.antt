@@ -18,18 +18,17 @@ use Rattle.codespan_base.proofs.Writes.{PrefixWritten-first, PrefixWritten-last,
 use Rattle.codespan_plan.specs.declared.plan.OutputPlan.{OutputPlan}
 use Rattle.codespan_plan.specs.declared.plan.snippet_plans.SnippetPlan.{SnippetPlan}
 use Rattle.codespan_plan.specs.declared.plan.snippet_lines.SnippetLine.{SnippetLine as RustLine}
-use Rattle.codespan_plan.specs.CollectedLabels.{labels_failure}
+use Rattle.codespan_collect.specs.CollectedLabels.{labels_failure}
 use Rattle.codespan_views.specs.Private.LookupsWhileRendering.{WroteStream, WrotePrefix, FailedWithLookups, WritesWithLookups}
 use Rattle.codespan_plan.specs.OutputPlans.{AreSnippetPlans, IsOutputPlan, ids_of, loci_of, output_plan_failure}
 use Rattle.codespan_views.specs.WriteCalls.{WritesOutput}
 use Rattle.codespan_picture.specs.Lookups.{early_lookups, first_error, late_lookups}
 use Rattle.codespan_picture.specs.Picture.{heading_of, label_of, labels_of, context_of, notes_of}
 use Rattle.codespan_picture.specs.Padding.{padding_of}
-use Rattle.codespan_picture.specs.Snippets.{snippets}
-use Rattle.codespan_plan.specs.TextLoci.{IsLocusOfFile}
+use Rattle.codespan_picture.specs.Snippets.{snippets, InFile, has_any, labeled_file_model, labeled_file_models, note_rows}
+use Rattle.codespan_annotations.specs.TextLoci.{IsLocusOfFile}
 use Rattle.codespan_picture.specs.Rows.{FinalRow, HeaderRow, Row}
 use Rattle.codespan_picture.specs.RowStreams.{header_row, stream_of, stream_of_rows}
-use Rattle.codespan_picture.specs.Snippets.{InFile, has_any, labeled_file_model, labeled_file_models, note_rows}
 use Rattle.codespan_base.proofs.Chains.{written-then, failed-before, failed-then, known-after}
 use Rattle.codespan_views.proofs.Renderings.{after_header, before_header, early_failure, finished, late_failure, ByLoci, failed_by_writer, failed_early, failed_late}
 use Rattle.codespan_views.proofs.NoteRows.{whole_of_notes}
@@ -91,7 +90,9 @@ early-of_labels_are view database {source_labels} source_labels_are collected_ar
     ∙ ap (λ ls. output_plan_failure view database (map label_of ls)) (sym collected_are)
 
 -- the plan of the labels that were collected is that of the diagnostic's
-pub planned-of_all : {Id : Type 0} {view : Config} {database : FileDatabase Id} {source_labels collected items : List (Label Id)} {output_plan : OutputPlan Id} → source_labels ≡ items → collected ≡ source_labels
+pub planned-of_all : {Id : Type 0} {view : Config} {database : FileDatabase Id}
+    {source_labels collected items : List (Label Id)} {output_plan : OutputPlan Id}
+    → source_labels ≡ items → collected ≡ source_labels
     → IsOutputPlan database view (map label_of collected) output_plan → IsOutputPlan database view (map label_of items) output_plan
 planned-of_all {view = view} {database = database} {output_plan = output_plan} source_labels_are collected_are planned =
     subst (λ ls. IsOutputPlan database view (map label_of ls) output_plan) (collected_are ∙ source_labels_are) planned
@@ -136,7 +137,9 @@ module _ {Id : Type 0} {view : Config} {database : FileDatabase Id} {d : Diagnos
 
   -- the snippets, as a configuration renders them
   abbrev middle : Config → Stream
-  middle k = stream_of_rows (context_of k d.severity output_plan.padding) (snippets view (has_any (notes_of d)) (loci_of output_plan.files.items) (labeled_file_models database.same database.file (labels_of d)))
+  middle k = stream_of_rows (context_of k d.severity output_plan.padding)
+      (snippets view (has_any (notes_of d)) (loci_of output_plan.files.items)
+      (labeled_file_models database.same database.file (labels_of d)))
 
   -- the notes and the empty line
   abbrev end : Config → Stream
@@ -153,7 +156,10 @@ module _ {Id : Type 0} {view : Config} {database : FileDatabase Id} {d : Diagnos
   -- the snippets start at loci of the files
   loci-are : AllZip IsLocusOfFile (labeled_file_models database.same database.file (labels_of d)) (loci_of output_plan.files.items)
   loci-are =
-      subst (λ (ids : List Id). AllZip IsLocusOfFile (map (labeled_file_model database.same database.file (labels_of d)) ids) (loci_of output_plan.files.items)) ready.planned.ids_are (from output_plan.files.items output_plan.snippet_lines.items ready.planned.files_are)
+      subst (λ (ids : List Id). AllZip IsLocusOfFile
+      (map (labeled_file_model database.same database.file (labels_of d)) ids)
+      (loci_of output_plan.files.items)) ready.planned.ids_are
+      (from output_plan.files.items output_plan.snippet_lines.items ready.planned.files_are)
     where
       from : (fs : List (SnippetPlan Id)) (snippet_lines : List (RustLine Id)) → AreSnippetPlans database view (labels_of d) fs snippet_lines
           → AllZip IsLocusOfFile (map (labeled_file_model database.same database.file (labels_of d)) (ids_of fs)) (loci_of fs)
@@ -175,7 +181,9 @@ module _ {Id : Type 0} {view : Config} {database : FileDatabase Id} {d : Diagnos
       }
 
   -- a prefix of that is one of the output
-  prefix-as : (renderer : Config) {old new : Sink} → (is_known old ≡ true → PrefixWritten old (whole renderer) new) → ByLoci renderer view database d (λ s. is_known old ≡ true → PrefixWritten old s new)
+  prefix-as : (renderer : Config) {old new : Sink}
+      → (is_known old ≡ true → PrefixWritten old (whole renderer) new)
+      → ByLoci renderer view database d (λ s. is_known old ≡ true → PrefixWritten old s new)
   prefix-as renderer {old} {new} prefix =
       let names = output-is renderer in
       record { loci = names.loci; are = names.are; holds = λ known. PrefixWritten-as old new (whole renderer) _ names.holds (prefix known) }
@@ -190,7 +198,9 @@ module _ {Id : Type 0} {view : Config} {database : FileDatabase Id} {d : Diagnos
         → RendersAllSnippets now mid (Err e) new → WritesOutput Rich renderer view database d old (Err e) new
     failed-in_snippets {now} {old} {mid} {new} {e} some written equal part =
         ⊎_elim
-        (λ (w : IsIo e × WrotePrefix mid (middle renderer) new). let failed = failed-before (end renderer) (failed-then header written w.1) in failed_by_writer ready.early failed.0 w.0 (prefix-as renderer failed.1))
+        (λ (w : IsIo e × WrotePrefix mid (middle renderer) new). let failed =
+        failed-before (end renderer) (failed-then header written w.1) in
+        failed_by_writer ready.early failed.0 w.0 (prefix-as renderer failed.1))
         (λ (w : FailedWithLookups (late_failure view database d) mid (middle renderer) e new).
         failed_late ready.early (w.frame ∙ written.0) (some_late view database d some) w.error_is
         (prefix-as renderer (λ known. cut known (written.1 known) w.prefix)))

@@ -17,7 +17,7 @@ use crate::snippet::{render_snippet, render_trailing_border};
 use codespan_base::diagnostic::Diagnostic;
 use codespan_base::files::{Error, Files};
 use codespan_base::term::{Config, WriteStyle};
-use codespan_plan::collect::collect;
+use codespan_collect::collected::collect;
 use codespan_plan::plan::snippet_lines::SnippetLine;
 use codespan_plan::plan::snippet_plans::SnippetPlan;
 use codespan_plan::plan::{OutputPlan, plan_output};

@@ -8,11 +8,11 @@ ghost use Rattle.codespan_views.specs.WriteCalls.{WritesStyled};
 ghost use Rattle.codespan_views.specs.Private.ViewRendering.{RendersHeadersOf, RendersInStyle};
 
 use crate::parts::{render_diagnostic_header, render_notes};
+use codespan_annotations::file_start::is_primary;
+use codespan_annotations::source_file::SourceFile;
 use codespan_base::diagnostic::{Diagnostic, Label};
 use codespan_base::files::{Error, Files};
 use codespan_base::term::WriteStyle;
-use codespan_plan::file_start::is_primary;
-use codespan_plan::source_file::SourceFile;
 use codespan_renderer::term::renderer::Renderer;
 
 /// Renders a header for each primary label of a diagnostic, with the locus of the label's start, or

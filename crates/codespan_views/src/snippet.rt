@@ -6,11 +6,11 @@ ghost use Rattle.codespan_views.specs.Private.LineRendering.{AreLinesOf};
 
 use crate::snippet::line_labels::LineLabels;
 use crate::snippet::lines::{Snippet, SnippetContext};
+use codespan_annotations::source_file::SourceFile;
 use codespan_base::files::{Error, Files};
 use codespan_base::term::WriteStyle;
 use codespan_plan::plan::snippet_lines::SnippetLine;
 use codespan_plan::plan::snippet_plans::SnippetPlan;
-use codespan_plan::source_file::SourceFile;
 use codespan_renderer::term::renderer::Renderer;
 use std::convert::AsStr;
 

@@ -2,15 +2,15 @@
 
 ghost use Rattle.std.specs.Prelude.{◌≡◌, ◌∷◌, [], All, IfOk, OnOk, map};
 ghost use Rattle.codespan_base.specs.LawfulFiles.{FailsBy};
-ghost use Rattle.codespan_plan.specs.AnnotationViews.{IsLineOf, annotation_view};
+ghost use Rattle.codespan_annotations.specs.AnnotationViews.{IsLineOf, annotation_view};
 ghost use Rattle.codespan_plan.specs.SnippetLineViews.{IsGapBefore, gap_lines, known_number};
 ghost use Rattle.codespan_plan.specs.SnippetLines.{fills_of, lines_of, lines_to};
 ghost use Rattle.codespan_plan.specs.LinePlanners.{AddsPlanned, numbers_failure};
-ghost use Rattle.codespan_plan.specs.SourceFiles.{model_of};
+ghost use Rattle.codespan_annotations.specs.SourceFiles.{model_of};
 
-use crate::annotation::groups::{line_len, shows_line};
-use crate::annotation::{Annotation, LineInfo};
-use crate::source_file::SourceFile;
+use codespan_annotations::annotation::groups::{line_len, shows_line};
+use codespan_annotations::annotation::{Annotation, LineInfo};
+use codespan_annotations::source_file::SourceFile;
 use codespan_base::files::{Error, Files};
 use codespan_base::term::Layout;
 

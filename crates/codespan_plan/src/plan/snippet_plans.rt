@@ -1,29 +1,29 @@
 //! The plan of each file's snippet: its locus and its lines.
 
-ghost use Rattle.std.specs.Prelude.{◌≡◌, ◌<◌, ◌-◌, [], All, Err, IfOk, OnOk, length, map, slice_index_or};
+ghost use Rattle.std.specs.Prelude.{◌≡◌, ◌-◌, [], All, Err, IfOk, OnOk, length, map};
 ghost use Rattle.std.specs.List.{AllByRecursion};
 ghost use Rattle.std.specs.List.Sorted.{IsSortedBy};
 ghost use Rattle.std.specs.Result.{result_and};
 ghost use Rattle.codespan_base.specs.LawfulFiles.{FailsBy};
 ghost use Rattle.codespan_picture.specs.Arguments.{locus_view};
-ghost use Rattle.codespan_plan.specs.FileLookups.{FailsByOrFormat, failure_in};
-ghost use Rattle.codespan_plan.specs.Annotations.{is_before};
-ghost use Rattle.codespan_plan.specs.AnnotationViews.{IsLineOf, IsOfFiles, annotation_view};
-ghost use Rattle.codespan_plan.specs.LabeledFiles.{ids_view};
+ghost use Rattle.codespan_annotations.specs.FileLookups.{FailsByOrFormat, failure_in};
+ghost use Rattle.codespan_annotations.specs.Annotations.{is_before};
+ghost use Rattle.codespan_annotations.specs.AnnotationViews.{IsLineOf, IsOfFiles, annotation_view};
+ghost use Rattle.codespan_annotations.specs.LabeledFiles.{ids_view};
 ghost use Rattle.codespan_plan.specs.Loci.{locus_failure, snippet_start_of};
 ghost use Rattle.codespan_plan.specs.SnippetPlans.{ArePlansOf, plans_failure};
 ghost use Rattle.codespan_plan.specs.SnippetLines.{fills_of, lines_of};
 ghost use Rattle.codespan_plan.specs.SnippetLineViews.{AddsLines, numbers_looked_up};
-ghost use Rattle.codespan_plan.specs.TextLoci.{IsTextLocus};
+ghost use Rattle.codespan_annotations.specs.TextLoci.{IsTextLocus};
 
-use crate::annotation::Annotation;
-use crate::annotation::groups::file_len;
-use crate::collect::Collected;
-use crate::collect::labeled_files::LabeledFile;
 use crate::plan::snippet_lines::{LinePlanner, SnippetLine};
-use crate::source_file::SourceFile;
+use codespan_annotations::annotation::Annotation;
+use codespan_annotations::annotation::groups::file_len;
+use codespan_annotations::labeled_files::LabeledFile;
+use codespan_annotations::source_file::SourceFile;
 use codespan_base::files::{Error, Files};
 use codespan_base::term::Layout;
+use codespan_collect::collected::Collected;
 use codespan_picture::arguments::Locus;
 use std::alloc::Global;
 
@@ -71,30 +71,26 @@ fn push_snippet<'files, 'e, 'd, F: Files<'files>>(
     Ok(snippet_lines.len() - before)
 }
 
-/// Returns the plan of the snippet of the file at an index, which has this many lines: looks up the
-/// name of the file, and the location at which the snippet starts.
+/// Returns the plan of the snippet of a file, which has this many lines: looks up the name of the
+/// file, and the location at which the snippet starts.
 ///
 /// # Errors
 ///
 /// As [`SourceFile::locus`].
 #[inline(always)]
-fn plan_snippet<'files, 'e, 'd, F: Files<'files>>(
+fn plan_snippet<'files, 'e, F: Files<'files>>(
     alloc: Global,
     files: &'files F,
-    collected: &'e Collected<'d, F::FileId>,
-    index: usize,
+    file: &'e LabeledFile<F::FileId>,
     line_total: usize,
 ) -> Result<SnippetPlan<'e, F::FileId>, Error>
-    requires { index < length collected.now.files.items }
-    ensures file { IfOk result (λ plan. plan.file.now
-        ≡ slice_index_or collected.now.files.items index plan.file.now) }
+    ensures file { IfOk result (λ plan. plan.file.now ≡ file.now) }
     ensures locus { IfOk result (λ plan. IsTextLocus
-        (snippet_start_of (F.database files.now).file plan.file.now) (locus_view plan.locus)) }
+        (snippet_start_of (F.database files.now).file file.now) (locus_view plan.locus)) }
     ensures line_total { IfOk result (λ plan. plan.line_total ≡ line_total) }
-    ensures failed { FailsByOrFormat (locus_failure (F.database files.now).failure
-        collected.now.files.items index) result }
+    ensures failed { FailsByOrFormat (locus_failure (F.database files.now).failure file.now)
+        result }
 {
-    let file = &collected.files[index];
     let source = SourceFile { files, id: file.id };
     let locus = source.locus(alloc, file.start.byte())?;
     Ok(SnippetPlan {
@@ -154,7 +150,7 @@ pub fn plan_snippets<'files, 'e, 'd, F: Files<'files>>(
         let own = &collected.annotations[start..start + len];
         let line_total = push_snippet(files, file.id, layout, own, snippet_lines)?;
         start += len;
-        match plan_snippet(alloc, files, collected, index, line_total) {
+        match plan_snippet(alloc, files, file, line_total) {
             Ok(plan) => plans.push(plan)?,
             Err(failed) => located = first_failed(located, failed),
         }

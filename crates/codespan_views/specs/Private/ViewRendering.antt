@@ -5,10 +5,9 @@ use Rattle.codespan_base.specs.Streams.{Stream, newline}
 use Rattle.codespan_base.specs.WriterLaw.{Sink}
 use Rattle.codespan_picture.specs.Lookups.{first_error, late_lookups}
 use Rattle.codespan_picture.specs.Picture.{heading_of, labels_of, context_of, notes_of}
-use Rattle.codespan_picture.specs.Snippets.{snippets}
+use Rattle.codespan_picture.specs.Snippets.{snippets, InFile, has_any, labeled_file_models, note_rows, primary_of}
 use Rattle.codespan_picture.specs.Rows.{FinalRow, Locus, Row}
 use Rattle.codespan_picture.specs.RowStreams.{header_row, stream_of_rows}
-use Rattle.codespan_picture.specs.Snippets.{InFile, has_any, labeled_file_models, note_rows, primary_of}
 use Rattle.codespan_renderer.specs.declared.term.renderer.Renderer.{Renderer}
 use Rattle.codespan_renderer.specs.Renderers.{config_of, writer_of}
 use Rattle.codespan_views.specs.declared.rich.RichDiagnostic.{RichDiagnostic}

@@ -1,19 +1,19 @@
 //! The lines of a file's snippet.
 
 ghost use Rattle.std.specs.Prelude.{◌≡◌, [], IsTrue, map};
-ghost use Rattle.codespan_plan.specs.AnnotationViews.{IsLineOf, annotation_view};
+ghost use Rattle.codespan_annotations.specs.AnnotationViews.{IsLineOf, annotation_view};
 ghost use Rattle.codespan_plan.specs.SnippetLineViews.{lookups_of_line, line_view};
 ghost use Rattle.codespan_views.specs.Private.LineRendering.{HasLine, HasLines, RendersLine, RendersLines};
-ghost use Rattle.codespan_plan.specs.SourceFiles.{model_of};
+ghost use Rattle.codespan_annotations.specs.SourceFiles.{model_of};
 ghost use Rattle.codespan_plan.specs.SnippetLines.{Labeled, Break, do_annotations_fit, do_lane_marks_fit};
 
 use crate::snippet::line_labels::{LineLabels, fill_multi_labels};
+use codespan_annotations::annotation::{Annotation, LineInfo};
+use codespan_annotations::source_file::SourceFile;
 use codespan_base::diagnostic::Severity;
 use codespan_base::files::{Error, Files};
 use codespan_base::term::WriteStyle;
-use codespan_plan::annotation::{Annotation, LineInfo};
 use codespan_plan::plan::snippet_lines::SnippetLine;
-use codespan_plan::source_file::SourceFile;
 use codespan_renderer::term::renderer::{Lanes, Line, Renderer};
 
 /// What all snippets of an output share.

@@ -2,7 +2,7 @@ use contract.Lifetimes.{Lfts}
 use Rattle.std.proofs.Common.{rules, Err, refl, sym, ap, ◌∙◌}
 use Rattle.std.proofs.lemmas.Result.{err_from_is_err_and}
 use Rattle.codespan_plan.specs.SnippetPlans.{width_in}
-use Rattle.codespan_plan.proofs.LabelIndexing.{AreFiles, are-files}
+use Rattle.codespan_collect.proofs.LabelIndexing.{AreFiles, are-files}
 use Rattle.codespan_plan.proofs.PlanFiles.{chosen-padding, failure-is, output_plan-planned}
 use Rattle.codespan_plan.proofs.plan.plan_output.Given.{Over}
 use Rattle.codespan_plan.proofs.plan.plan_output.Goals as goal
@@ -28,7 +28,9 @@ returns-clause-planned g c =
     let plans = c.in_ok-files.files.items in
     let snippet_lines = c.plan_snippets.new.snippet_lines.items in
     let found = c.in_ok-files.ensures.plans in
-    let padding = chosen-padding lawful c.requires plans snippet_lines found (c.padding_width-padding.ensures ∙ ap (width_in c.args.config.now.layout c.args.collected.now.padding) c.deref.ensures.value) in
+    let padding = chosen-padding lawful c.requires plans snippet_lines found
+    (c.padding_width-padding.ensures ∙ ap
+    (width_in c.args.config.now.layout c.args.collected.now.padding) c.deref.ensures.value) in
     output_plan-planned lawful c.requires found padding
 
 pub returns-clause-failed : goal.returns-clause-failed

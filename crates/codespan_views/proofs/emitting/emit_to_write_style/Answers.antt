@@ -10,9 +10,13 @@ returns-in-Rich g c =
 pub returns-in-Medium : goal.returns-in-Medium
 returns-in-Medium g c =
     view_rendered c.new-renderer.ensures.config c.new-in-Medium.ensures.diagnostic
-    (ap g.W.WriteStyle.sink c.new-renderer.ensures.writer) (ap g.W.WriteStyle.sink (search rules)) (c.new-in-Medium.ensures.style ∙ sym c.in-Medium.is) c.new-renderer.ensures.config c.render-in-Medium.ensures.renders
+    (ap g.W.WriteStyle.sink c.new-renderer.ensures.writer) (ap g.W.WriteStyle.sink (search rules))
+    (c.new-in-Medium.ensures.style ∙ sym c.in-Medium.is) c.new-renderer.ensures.config
+    c.render-in-Medium.ensures.renders
 
 pub returns-in-Short : goal.returns-in-Short
 returns-in-Short g c =
     view_rendered c.new-renderer.ensures.config c.new-in-Short.ensures.diagnostic
-    (ap g.W.WriteStyle.sink c.new-renderer.ensures.writer) (ap g.W.WriteStyle.sink (search rules)) (c.new-in-Short.ensures.style ∙ sym c.in-Short.is) c.new-renderer.ensures.config c.render-in-Short.ensures.renders
+    (ap g.W.WriteStyle.sink c.new-renderer.ensures.writer) (ap g.W.WriteStyle.sink (search rules))
+    (c.new-in-Short.ensures.style ∙ sym c.in-Short.is) c.new-renderer.ensures.config
+    c.render-in-Short.ensures.renders

@@ -20,7 +20,10 @@ loop-note-init g c = renders_nothing
 -- the notes up to this one, and it too
 one_more : (g : Over) (c : After-render_snippet_note g) {r : Result (Unit {0}) Error} {new : Renderer g.row.W.Denot}
     → Renders g.W.WriteStyle.sink (rendered_note (config_of c.loop-note.renderer) c.args.padding c.as_str.result.now) c.loop-note.renderer r new
-    → Renders g.W.WriteStyle.sink (stream_of_notes string_bytes (context_of (config_of c.args.renderer.now) c.args.diagnostic.now.severity c.args.padding) (take (c.loop-note.note-index + 1) c.args.diagnostic.now.notes.items)) c.args.renderer.now r new
+    → Renders g.W.WriteStyle.sink (stream_of_notes string_bytes
+    (context_of (config_of c.args.renderer.now) c.args.diagnostic.now.severity c.args.padding)
+    (take (c.loop-note.note-index + 1) c.args.diagnostic.now.notes.items)) c.args.renderer.now r
+    new
 one_more g c part =
     let d = c.args.diagnostic.now in
     let notes = d.notes.items in

@@ -8,4 +8,6 @@ use Rattle.codespan_views.proofs.parts.render_notes.Given as goal
 -- the notes before this one have been rendered
 abbrev pub invariant-loop-note : goal.invariant-loop-note
 invariant-loop-note g l =
-    Renders g.W.WriteStyle.sink (stream_of_notes string_bytes (context_of (config_of l.initial.renderer) l.diagnostic.severity l.padding) (take l.note-index l.diagnostic.notes.items)) l.initial.renderer (Ok tt) l.renderer
+    Renders g.W.WriteStyle.sink (stream_of_notes string_bytes
+    (context_of (config_of l.initial.renderer) l.diagnostic.severity l.padding)
+    (take l.note-index l.diagnostic.notes.items)) l.initial.renderer (Ok tt) l.renderer

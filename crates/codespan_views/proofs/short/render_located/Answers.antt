@@ -2,7 +2,7 @@ use Rattle.std.proofs.Common.{◌≤◌, Err, length, refl, ap, ◌∙◌, arith
 use Rattle.std.proofs.lemmas.Result.{err_from_is_err_and}
 use Rattle.codespan_views.specs.Private.ViewRendering.{RendersHeadersOf}
 use Rattle.codespan_views.proofs.LabelHeaders.{all_written, written_next, failed_next, none_yet, some_next}
-use Rattle.codespan_plan.proofs.LabelIndexing.{element-equal}
+use Rattle.codespan_annotations.proofs.IndexedElements.{element-equal}
 use Rattle.codespan_views.proofs.short.render_located.Goals as goal
 
 pub loop-label-init : goal.loop-label-init

@@ -9,4 +9,6 @@ returns-in_err-render_headers-clause-renders g c =
     rw (p.1 ∙ ap Err p.2) (medium_failed c.in_err-render_headers.ensures.renders)
 
 pub returns-clause-renders : goal.returns-clause-renders
-returns-clause-renders g c = medium_written c.in_ok-render_headers.ensures.renders c.render_notes.result c.in_ok-render_headers.ensures.same.config c.render_notes.ensures.writes c.render_notes.ensures.io
+returns-clause-renders g c = medium_written c.in_ok-render_headers.ensures.renders
+    c.render_notes.result c.in_ok-render_headers.ensures.same.config c.render_notes.ensures.writes
+    c.render_notes.ensures.io

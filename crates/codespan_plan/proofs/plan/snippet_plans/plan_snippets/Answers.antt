@@ -1,12 +1,10 @@
 use Rattle.std.proofs.Common.{◌<◌, ◌≤◌, [], Err, length, map, get_or, refl, sym, ap, ◌∙◌, subst, arith}
 use Rattle.std.proofs.lemmas.Result.{err_from_is_err_and}
-use Rattle.codespan_picture.specs.Lookups.{first_error}
-use Rattle.codespan_plan.specs.FileLookups.{FailsByOrFormat}
-use Rattle.codespan_plan.specs.AnnotationViews.{annotation_view}
+use Rattle.codespan_annotations.specs.FileLookups.{FailsByOrFormat}
+use Rattle.codespan_annotations.specs.AnnotationViews.{annotation_view}
 use Rattle.codespan_plan.specs.SnippetPlans.{ArePlans, plans_failure}
-use Rattle.codespan_plan.proofs.FileLengths.{rest-sorted}
+use Rattle.codespan_annotations.proofs.FileLengths.{rest-sorted}
 use Rattle.codespan_plan.proofs.FileParts.{from_file-first}
-use Rattle.codespan_plan.proofs.LocusStarts.{locus_lookups-at}
 use Rattle.codespan_plan.proofs.PlansFound.{IsAtFile, next_inside, next_left, own_lookups, own_lines, plan_found, planned-more, planned-fails, planned-unlocated, plans-add, plans-all}
 use Rattle.codespan_plan.proofs.plan.snippet_plans.plan_snippets.Given.{Over}
 use Rattle.codespan_plan.proofs.plan.snippet_plans.plan_snippets.Goals.{After-branch-located, After-file_len-len, in-Err, in-Ok+in_ok-push-in-Ok}
@@ -47,7 +45,12 @@ pub file_len-len-requires : goal.file_len-len-requires
 file_len-len-requires g c = rw c.deref.ensures.value (rest-sorted c.args.collected.now.annotations.items c.loop-index.start c.requires.sorted)
 
 pub push_snippet-requires : goal.push_snippet-requires
-push_snippet-requires g c κs = ((refl, tt), own_lines (turn g (goal.at.push_snippet-requires g c).After-file_len-len) c.deref-in-loop-index.ensures.value (((g.F.Files.database c.args.files.now).file)) c.requires.lines)
+push_snippet-requires g c κs = (
+  (refl, tt),
+  own_lines (turn g (goal.at.push_snippet-requires g c).After-file_len-len)
+      c.deref-in-loop-index.ensures.value (((g.F.Files.database c.args.files.now).file))
+      c.requires.lines,
+)
 
 pub returns-in_err-line_total-clause-failed : goal.returns-in_err-line_total-clause-failed
 returns-in_err-line_total-clause-failed g c =
@@ -59,11 +62,9 @@ returns-in_err-line_total-clause-failed g c =
 pub loop-index-preserved : goal.loop-index-preserved
 loop-index-preserved g c =
     let failure = ((g.F.Files.database c.args.files.now).failure) in
-    let files = c.args.collected.now.files.items in
     let at = turn g (goal.at.loop-index-preserved g c).After-file_len-len in
     let before = c.loop-index.invariant.planned in
     let zs_are = c.deref-in-loop-index.ensures.value in
-    let lookups = locus_lookups-at files c.loop-index.index c.file-item.result at.here.inside at.here.is in
     let numbers = sym (own_lookups at zs_are c.args.layout failure) ∙ c.in_ok-line_total.ensures.failed in
     let added = c.in_ok-line_total.ensures.added in
     record {
@@ -73,8 +74,8 @@ loop-index-preserved g c =
         | in-Ok+in_ok-push-in-Ok w ↦
             rw w.located-is (planned-more at.here before (ap (λ plans. plans.items) w.plans-is ∙ w.in_ok-push-in-Ok.ensures.items) added.whole
             (plan_found at added zs_are c.in_ok-line_total.ensures.count w.in-Ok.ensures.file w.in-Ok.ensures.locus w.in-Ok.ensures.line_total)
-            numbers (ap (first_error failure) (sym lookups) ∙ w.in-Ok.ensures.failed))
-        | in-Err w ↦ rw (w.plans-is, w.located-is ∙ w.first_failed-located.ensures) (planned-unlocated at.here before numbers (λ memory display. ap (first_error failure) (sym lookups) ∙ w.in-Err.ensures.failed memory display))
+            numbers w.in-Ok.ensures.failed)
+        | in-Err w ↦ rw (w.plans-is, w.located-is ∙ w.first_failed-located.ensures) (planned-unlocated at.here before numbers w.in-Err.ensures.failed)
       ];
     }
 

@@ -1,5 +1,5 @@
 use Rattle.std.proofs.Common.{◌≡◌, ◌≤◌, length, map, take, drop}
-use Rattle.codespan_plan.specs.AnnotationViews.{annotation_view}
+use Rattle.codespan_annotations.specs.AnnotationViews.{annotation_view}
 use Rattle.codespan_plan.proofs.FileParts.{from_file}
 use Rattle.codespan_plan.proofs.PlansFound.{ArePlanned}
 use Rattle.codespan_plan.proofs.plan.snippet_plans.plan_snippets.Given as goal
@@ -10,5 +10,7 @@ abbrev pub invariant-loop-index : goal.invariant-loop-index
 invariant-loop-index g l = record {
   inside : l.start ≤ length l.collected.annotations.items;
   left : drop l.start (map annotation_view l.collected.annotations.items) ≡ from_file l.index (map annotation_view l.collected.annotations.items);
-  planned : ArePlanned l.layout (((g.F.Files.database l.files).file)) (map annotation_view l.collected.annotations.items) (((g.F.Files.database l.files).failure)) (take l.index l.collected.files.items) l.plans.items l.snippet_lines.items l.located;
+  planned : ArePlanned l.layout (((g.F.Files.database l.files).file))
+      (map annotation_view l.collected.annotations.items) (((g.F.Files.database l.files).failure))
+      (take l.index l.collected.files.items) l.plans.items l.snippet_lines.items l.located;
 }

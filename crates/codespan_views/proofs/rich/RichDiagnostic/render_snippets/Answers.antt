@@ -1,6 +1,6 @@
 use Rattle.std.proofs.Common.{Err, refl, ap, ◌∙◌, arith}
 use Rattle.std.proofs.lemmas.Result.{err_from_is_err_and}
-use Rattle.codespan_plan.proofs.LabelIndexing.{element-equal}
+use Rattle.codespan_annotations.proofs.IndexedElements.{element-equal}
 use Rattle.codespan_views.proofs.PlannedFiles.{later-files, own-inside, own-snippet_lines}
 use Rattle.codespan_views.proofs.OutputPlanRendering.{cut-after_snippet, cut-in_snippet, left-end, left-start, next-file}
 use Rattle.codespan_views.proofs.RendererRuns.{same_renderer, same_twice}
@@ -30,7 +30,9 @@ returns-in_err-render_snippet g c =
     let p = err_from_is_err_and c.from_residual.result c.from_residual.ensures.1 in
     rw (p.1 ∙ ap Err p.2) (record {
       same = same_twice c.loop-index.invariant.same c.in_err-render_snippet.ensures.same;
-      renders = cut-in_snippet c.requires c.loop-index.invariant.left at own c.has_notes-notes_follow.ensures c.has_next_file.ensures c.loop-index.invariant.same.config c.in_err-render_snippet.ensures.renders;
+      renders = cut-in_snippet c.requires c.loop-index.invariant.left at own
+          c.has_notes-notes_follow.ensures c.has_next_file.ensures
+          c.loop-index.invariant.same.config c.in_err-render_snippet.ensures.renders;
     })
 
 pub returns-in_err-render_trailing_border : goal.returns-in_err-render_trailing_border
@@ -43,7 +45,9 @@ returns-in_err-render_trailing_border g c =
     let second = c.in_err-render_trailing_border.ensures in
     rw (p.1 ∙ ap Err p.2) (record {
       same = same_twice was (same_twice first.same second.same);
-      renders = cut-after_snippet c.requires c.loop-index.invariant.left at own c.has_notes-notes_follow.ensures c.has_next_file.ensures was.config first.renders first.same.config second.writes second.io;
+      renders = cut-after_snippet c.requires c.loop-index.invariant.left at own
+          c.has_notes-notes_follow.ensures c.has_next_file.ensures was.config first.renders
+          first.same.config second.writes second.io;
     })
 
 pub loop-index-preserved : goal.loop-index-preserved

@@ -1,8 +1,8 @@
 use Rattle.std.proofs.Common.{◌≡◌, Bool, get_or, Err, refl, sym, ap, ◌∙◌, arith}
 use Rattle.std.proofs.lemmas.List.{get_or_default}
 use Rattle.std.proofs.lemmas.Result.{err_from_is_err_and}
-use Rattle.codespan_plan.specs.Annotations.{shows_line}
-use Rattle.codespan_plan.specs.AnnotationViews.{annotation_view}
+use Rattle.codespan_annotations.specs.Annotations.{shows_line}
+use Rattle.codespan_annotations.specs.AnnotationViews.{annotation_view}
 use Rattle.codespan_plan.proofs.SnippetLineViews.{IsCounted, views_of-hidden, views_of-shown, group_of_views-len, lines_left-none, lines_to_shown}
 use Rattle.codespan_plan.proofs.LinesFound.{left_added, left_all, left_more, left_failed, left_succeeded}
 use Rattle.codespan_plan.proofs.plan.snippet_lines.LinePlanner.push_lines.Given.{Over}
@@ -27,7 +27,10 @@ pub returns-in_err-push_shown-clause-failed : goal.returns-in_err-push_shown-cla
 returns-in_err-push_shown-clause-failed g c =
     let xs = c.args.annotations.now in
     let line = counted g (goal.at.returns-in_err-push_shown-clause-failed g c).After-shows_line in
-    let opens = views_of-shown xs c.loop-at.hidden c.loop-at.at c.line_len.result c.index-annotations-at.result c.loop-at.last line (is_shown g (goal.at.returns-in_err-push_shown-clause-failed g c).After-shows_line (sym c.if-shows_line.ensures)) in
+    let opens = views_of-shown xs c.loop-at.hidden c.loop-at.at c.line_len.result
+    c.index-annotations-at.result c.loop-at.last line
+    (is_shown g (goal.at.returns-in_err-push_shown-clause-failed g c).After-shows_line
+    (sym c.if-shows_line.ensures)) in
     let snippet_lines = lines_to_shown xs c.loop-at.hidden c.loop-at.at c.line_len.result c.index-annotations-at.result c.loop-at.last in
     let p = err_from_is_err_and c.from_residual.result c.from_residual.ensures.1 in
     rw (p.1 ∙ ap Err p.2) (λ known. left_failed c.loop-at.invariant.left snippet_lines _ opens (c.in_err-push_shown.ensures.failed known))
@@ -42,7 +45,10 @@ pub loop-at-preserved-in_ok-push_shown : goal.loop-at-preserved-in_ok-push_shown
 loop-at-preserved-in_ok-push_shown g c =
     let xs = c.args.annotations.now in
     let line = counted g (goal.at.loop-at-preserved-in_ok-push_shown g c).After-shows_line in
-    let opens = views_of-shown xs c.loop-at.hidden c.loop-at.at c.line_len.result c.index-annotations-at.result c.loop-at.last line (is_shown g (goal.at.loop-at-preserved-in_ok-push_shown g c).After-shows_line (sym c.if-shows_line.ensures)) in
+    let opens = views_of-shown xs c.loop-at.hidden c.loop-at.at c.line_len.result
+    c.index-annotations-at.result c.loop-at.last line
+    (is_shown g (goal.at.loop-at-preserved-in_ok-push_shown g c).After-shows_line
+    (sym c.if-shows_line.ensures)) in
     let size = group_of_views-len xs c.loop-at.at c.line_len.result c.index-annotations-at.result line in
     record {
       within = size.1;
@@ -59,7 +65,10 @@ loop-at-preserved g c =
     record {
       within = size.1;
       hidden_within = omega arith;
-      left = rw (sym (views_of-hidden xs c.loop-at.hidden c.loop-at.at c.line_len.result c.index-annotations-at.result c.loop-at.last line (is_shown g (goal.at.loop-at-preserved g c).After-shows_line (sym c.if-shows_line.ensures)))) c.loop-at.invariant.left;
+      left = rw (sym (views_of-hidden xs c.loop-at.hidden c.loop-at.at c.line_len.result
+          c.index-annotations-at.result c.loop-at.last line
+          (is_shown g (goal.at.loop-at-preserved g c).After-shows_line
+          (sym c.if-shows_line.ensures)))) c.loop-at.invariant.left;
     }
 
 pub returns-clause-added : goal.returns-clause-added

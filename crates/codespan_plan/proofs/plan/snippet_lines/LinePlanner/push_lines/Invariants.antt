@@ -1,7 +1,7 @@
 use Rattle.std.proofs.Common.{◌-◌, ◌≤◌, length, map}
-use Rattle.codespan_plan.specs.AnnotationViews.{annotation_view}
+use Rattle.codespan_annotations.specs.AnnotationViews.{annotation_view}
 use Rattle.codespan_plan.specs.SnippetLines.{lines_of}
-use Rattle.codespan_plan.specs.SourceFiles.{model_of}
+use Rattle.codespan_annotations.specs.SourceFiles.{model_of}
 use Rattle.codespan_plan.proofs.SnippetLineViews.{lines_left}
 use Rattle.codespan_plan.proofs.LinesFound.{LinesLeft}
 use Rattle.codespan_plan.proofs.plan.snippet_lines.LinePlanner.push_lines.Given as goal
@@ -11,7 +11,10 @@ abbrev pub invariant-loop-at : goal.invariant-loop-at
 invariant-loop-at g l = record {
   within : l.at ≤ length l.annotations;
   hidden_within : l.hidden ≤ l.at;
-  left : LinesLeft (g.F.Files.database l.self.file.files.now).failure l.self.file.id l.self.layout (model_of g.F.Files.database l.self.file) (lines_of (map annotation_view l.annotations)) (lines_left l.annotations l.hidden l.at l.last) l.fn.snippet_lines.items l.snippet_lines.items;
+  left : LinesLeft (g.F.Files.database l.self.file.files.now).failure l.self.file.id l.self.layout
+      (model_of g.F.Files.database l.self.file) (lines_of (map annotation_view l.annotations))
+      (lines_left l.annotations l.hidden l.at l.last) l.fn.snippet_lines.items
+      l.snippet_lines.items;
 }
 
 abbrev pub decreases-loop-at : goal.decreases-loop-at

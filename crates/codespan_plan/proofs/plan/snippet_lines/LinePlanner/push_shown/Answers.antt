@@ -1,10 +1,10 @@
 use Rattle.std.proofs.Common.{◌∷◌, [], ◌++◌, map, Err, refl, sym, ap, ◌∙◌, subst}
 use Rattle.std.proofs.lemmas.Result.{err_from_is_err_and}
-use Rattle.codespan_plan.specs.AnnotationViews.{annotation_view}
+use Rattle.codespan_annotations.specs.AnnotationViews.{annotation_view}
 use Rattle.codespan_plan.specs.LinePlanners.{numbers_failure}
 use Rattle.codespan_plan.specs.SnippetLineViews.{AddsLines, gap_lines}
 use Rattle.codespan_plan.specs.SnippetLines.{Labeled, fills_of}
-use Rattle.codespan_plan.specs.SourceFiles.{model_of}
+use Rattle.codespan_annotations.specs.SourceFiles.{model_of}
 use Rattle.codespan_plan.proofs.LinesFound.{adds_then, fills_of-shown}
 use Rattle.codespan_plan.proofs.plan.snippet_lines.LinePlanner.push_shown.Goals as goal
 

@@ -7,7 +7,7 @@ use Rattle.codespan_picture.specs.Picture.{context_of}
 use Rattle.codespan_picture.specs.RowStreams.{break_row}
 use Rattle.codespan_renderer.specs.Renderers.{config_of}
 use Rattle.codespan_views.proofs.RendererRuns.{allocation_failed, renders_alone, renders_as}
-use Rattle.codespan_plan.specs.AnnotationViews.{annotation_view}
+use Rattle.codespan_annotations.specs.AnnotationViews.{annotation_view}
 use Rattle.codespan_views.proofs.LookupRuns.{out_of_memory}
 use Rattle.codespan_plan.proofs.LaneMarks.{lanes_fit}
 use Rattle.codespan_views.proofs.snippet.lines.Snippet.render_break.Goals as goal
@@ -18,7 +18,10 @@ returns-in_err-fill_multi_labels g c =
     rw p.1 (allocation_failed (out_of_memory p.2 c.in_err-fill_multi_labels.ensures.failed))
 
 pub render_snippet_break-requires : goal.render_snippet_break-requires
-render_snippet_break-requires g c = lanes_fit c.args.self.now.lane_count (map annotation_view c.args.next.now) _ (ap (map lane_mark_view) c.as_slice.ensures.value ∙ c.in_ok-fill_multi_labels.ensures.multi_labels) c.requires.fits
+render_snippet_break-requires g c = lanes_fit c.args.self.now.lane_count
+    (map annotation_view c.args.next.now) _
+    (ap (map lane_mark_view) c.as_slice.ensures.value
+    ∙ c.in_ok-fill_multi_labels.ensures.multi_labels) c.requires.fits
 
 pub returns : goal.returns
 returns g c =

@@ -3,7 +3,7 @@ use Rattle.std.proofs.lemmas.Result.{err_from_is_err_and}
 use Rattle.codespan_picture.specs.Arguments.{lane_mark_view, single_label_views, starts_in_order}
 use Rattle.codespan_rows.specs.LineViews.{line_view}
 use Rattle.codespan_views.proofs.LinesRendered.{line-rendered, line-shown}
-use Rattle.codespan_plan.specs.AnnotationViews.{annotation_view}
+use Rattle.codespan_annotations.specs.AnnotationViews.{annotation_view}
 use Rattle.codespan_plan.specs.SnippetLines.{single_labels_in}
 use Rattle.codespan_views.proofs.LookupRuns.{out_of_memory}
 use Rattle.codespan_views.proofs.RendererRuns.{allocation_failed}
@@ -18,7 +18,12 @@ returns-in_err-refill g c =
 pub invariant_of-lanes : goal.invariant_of-lanes
 invariant_of-lanes g c =
     let marks = ap (map lane_mark_view) c.as_slice.ensures.value ∙ c.in_ok-refill.ensures.multi_labels in
-    record { in_order = lanes_fit c.args.self.now.lane_count (map annotation_view c.args.annotations.now) _ marks (both-true (starts_in_order (single_labels_in (map annotation_view c.args.annotations.now))) _ c.requires.fits).1 }
+    record {
+      in_order = lanes_fit c.args.self.now.lane_count
+          (map annotation_view c.args.annotations.now) _ marks
+          (both-true (starts_in_order (single_labels_in (map annotation_view c.args.annotations.now)))
+          _ c.requires.fits).1;
+    }
 
 pub returns-in_err-cached : goal.returns-in_err-cached
 returns-in_err-cached g c =

@@ -4,8 +4,8 @@ use Rattle.std.proofs.lemmas.Result.{err_from_is_err_and}
 use Rattle.codespan_laws.proofs.ListElements.{all-mapped}
 use Rattle.codespan_plan.specs.SnippetLineViews.{IsSnippetLineOf, line_view}
 use Rattle.codespan_plan.specs.SnippetLines.{does_line_fit}
-use Rattle.codespan_plan.specs.SourceFiles.{model_of}
-use Rattle.codespan_plan.proofs.LabelIndexing.{IsElementAt}
+use Rattle.codespan_annotations.specs.SourceFiles.{model_of}
+use Rattle.codespan_annotations.proofs.IndexedElements.{IsElementAt}
 use Rattle.codespan_views.proofs.LinesRendered.{rendered-all, rendered-cut, rendered-next, rendered-nothing}
 use Rattle.codespan_views.proofs.RendererRuns.{same_renderer, same_twice}
 use Rattle.codespan_views.proofs.snippet.lines.Snippet.render_lines.Given.{Over}
@@ -45,7 +45,9 @@ returns-in_err-render_snippet_line g c =
     let p = err_from_is_err_and c.from_residual.result c.from_residual.ensures.1 in
     rw (p.1 ∙ ap Err p.2) (record {
       same = same_twice was.same c.in_err-render_snippet_line.ensures.same;
-      renders = (rendered-cut c.args.snippet_lines.now (c.loop-snippet_line.snippet_line-index + 1) (rendered-next at was.rendered was.same.config c.in_err-render_snippet_line.ensures.renders)).rendered.renders;
+      renders = (rendered-cut c.args.snippet_lines.now (c.loop-snippet_line.snippet_line-index + 1)
+          (rendered-next at was.rendered was.same.config
+          c.in_err-render_snippet_line.ensures.renders)).rendered.renders;
     })
 
 pub loop-snippet_line-preserved : goal.loop-snippet_line-preserved

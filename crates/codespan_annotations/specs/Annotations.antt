@@ -1,0 +1,90 @@
+-- Annotations, what a label does on a line of its file, and their order.
+use Rattle.std.specs.Prelude.{◌≡◌, ℕ, Bool, nat_lt, ◌==◌, List, [], ◌∷◌, Option, Some, None}
+use Rattle.std.specs.Ordering.{is_lt, nat_cmp, ordering_then}
+use Rattle.std.specs.declared.cmp.Ordering.{Ordering}
+use Rattle.codespan_base.specs.Labels.{LabelModel, LaneMark}
+
+-- a label makes the line shown, or is a single-line label on it, or is a multi-line label that has
+-- a part on it
+pub data AnnotationKind : Type 0 where
+  Shown : AnnotationKind
+  Single : (index : ℕ) (label : LabelModel) → AnnotationKind
+  Multi : (lane_mark : LaneMark) → AnnotationKind
+
+-- an annotation of a line; the file by its index among those of the output
+pub record Annotation : Type 0 where
+  pub file : ℕ
+  pub line : ℕ
+  pub kind : AnnotationKind
+
+-- ---- the order of annotations
+
+-- shown comes first, then single-line labels, then parts of multi-line labels
+abbrev pub rank_of : AnnotationKind → ℕ
+rank_of Shown = 0
+rank_of (Single index label) = 1
+rank_of (Multi lane_mark) = 2
+
+-- the start of a single-line label, and the lane of a multi-line one
+abbrev pub first_of : AnnotationKind → ℕ
+first_of Shown = 0
+first_of (Single index label) = label.start
+first_of (Multi lane_mark) = lane_mark.lane
+
+-- the end of a single-line label
+abbrev pub second_of : AnnotationKind → ℕ
+second_of Shown = 0
+second_of (Single index label) = label.end
+second_of (Multi lane_mark) = 0
+
+-- the index of a single-line label in the diagnostic's list
+abbrev pub index_in_list : AnnotationKind → ℕ
+index_in_list Shown = 0
+index_in_list (Single index label) = index
+index_in_list (Multi lane_mark) = 0
+
+-- by kind; single-line labels by their ranges, of equal ranges the greater index first; parts of
+-- multi-line labels by their lanes
+abbrev pub kind_cmp : AnnotationKind → AnnotationKind → Ordering
+kind_cmp x y =
+    ordering_then (nat_cmp (rank_of x) (rank_of y))
+    (ordering_then (nat_cmp (first_of x) (first_of y))
+    (ordering_then (nat_cmp (second_of x) (second_of y))
+    (nat_cmp (index_in_list y) (index_in_list x))))
+
+-- by file, by line, and then by kind
+abbrev pub annotation_cmp : Annotation → Annotation → Ordering
+annotation_cmp x y =
+    ordering_then (nat_cmp x.file y.file)
+    (ordering_then (nat_cmp x.line y.line) (kind_cmp x.kind y.kind))
+
+-- one annotation is before another
+abbrev pub is_before : Annotation → Annotation → Bool
+is_before x y = is_lt (annotation_cmp x y)
+
+-- ---- tests on annotations
+
+-- the annotation makes its line shown
+abbrev pub shows_line : Annotation → Bool
+shows_line e = nat_lt (rank_of e.kind) 2
+
+-- the annotation is of this line
+abbrev pub is_on_line : ℕ → Annotation → Bool
+is_on_line l e = e.line == l
+
+-- the annotation is of this file
+abbrev pub is_of_file : ℕ → Annotation → Bool
+is_of_file f e = e.file == f
+
+-- the annotation is a multi-line label mark in this lane, on this line of this file
+abbrev pub IsLaneMarkOn : ℕ → ℕ → ℕ → Annotation → Type 0
+IsLaneMarkOn f l lane e =
+    (e.file ≡ f) × (e.line ≡ l) × (rank_of e.kind ≡ 2) × (first_of e.kind ≡ lane)
+    × (second_of e.kind ≡ 0) × (index_in_list e.kind ≡ 0)
+
+-- ---- the annotations of a line
+
+-- an annotation of a line, if there is one
+abbrev pub annotation_if_any : ℕ → ℕ → Option AnnotationKind → List Annotation
+annotation_if_any file l None = []
+annotation_if_any file l (Some kind) = record { file = file; line = l; kind = kind } ∷ []

@@ -1,0 +1,19 @@
+-- The files of labels: their ids, each at its index.
+use Rattle.std.specs.Prelude.{◌≡◌, ℕ, zero, suc, Bool, false, List, [], ◌∷◌}
+use Rattle.std.specs.List.{AllByRecursion, position_or_len}
+
+-- the id at index f
+abbrev pub IsIdAt : {Id : Type 0} → List Id → ℕ → Id → Type 0
+IsIdAt [] f id = ⊥
+IsIdAt (j ∷ js) zero id = j ≡ id
+IsIdAt (j ∷ js) (suc f) id = IsIdAt js f id
+
+module _ {Id : Type 0} (same : Id → Id → Bool) where
+  -- the index of an id among these
+  abbrev pub index_of_file : List Id → Id → ℕ
+  index_of_file ids id = position_or_len (λ j. same j id) ids
+
+  -- no two of these ids are the same
+  abbrev pub AreDistinct : List Id → Type 0
+  AreDistinct [] = Unit {0}
+  AreDistinct (j ∷ js) = AllByRecursion (λ k. same j k ≡ false) js × AreDistinct js

@@ -1,0 +1,9 @@
+pub mod TextLoci
+pub mod FileLookups
+pub mod SourceFiles
+pub mod LabelSpans
+pub mod FileStarts
+pub mod FileIndices
+pub mod LabeledFiles
+pub mod Annotations
+pub mod AnnotationViews

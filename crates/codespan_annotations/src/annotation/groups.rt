@@ -1,0 +1,50 @@
+//! Groups of annotations in order: those of one file, and those of one line.
+
+ghost use Rattle.std.specs.Prelude.{◌≡◌, ◌≤◌, length};
+ghost use Rattle.std.specs.List.{prefix_len};
+ghost use Rattle.std.specs.List.Sorted.{IsSortedWithin};
+ghost use Rattle.codespan_annotations.specs.Annotations.{is_before, is_of_file, is_on_line, shows_line};
+ghost use Rattle.codespan_annotations.specs.AnnotationViews.{annotation_view};
+
+use crate::annotation::{Annotation, AnnotationKind};
+
+/// Returns whether an annotation makes its line shown. Where the first annotation of a line does
+/// not, the line is hidden.
+pub fn shows_line<FileId>(annotation: &Annotation<'_, FileId>) -> bool
+    ensures { result ≡ shows_line (annotation_view annotation.now) }
+{
+    !matches!(annotation.kind, AnnotationKind::Multi { .. })
+}
+
+/// Returns how many annotations at the start are of the line.
+pub fn line_len<FileId>(annotations: &[Annotation<'_, FileId>], line: usize) -> usize
+    ensures value { result ≡ prefix_len (λ e. is_on_line line (annotation_view e)) annotations.now }
+    ensures within { result ≤ length annotations.now }
+{
+    annotations
+        .iter()
+        .take_while(|annotation| annotation.line.index == line)
+        .count()
+}
+
+/// Returns how many annotations at the start are of the file. Where all are, as with one file, the
+/// first and the last one show it.
+///
+/// # Requires
+///
+/// The annotations are in order.
+pub fn file_len<FileId>(annotations: &[Annotation<'_, FileId>], file: usize) -> usize
+    requires { IsSortedWithin (λ x y. is_before (annotation_view x) (annotation_view y))
+        annotations.now 0 (length annotations.now) }
+    ensures value { result ≡ prefix_len (λ e. is_of_file file (annotation_view e)) annotations.now }
+    ensures within { result ≤ length annotations.now }
+{
+    let len = annotations.len();
+    if len != 0 && annotations[len - 1].file == file && annotations[0].file == file {
+        return len;
+    }
+    annotations
+        .iter()
+        .take_while(|annotation| annotation.file == file)
+        .count()
+}

@@ -1,0 +1,73 @@
+//! Where the snippet of each file starts.
+
+ghost use Rattle.std.specs.Prelude.{◌≡◌};
+ghost use Rattle.codespan_base.specs.Labels.{is_primary};
+ghost use Rattle.codespan_picture.specs.Picture.{label_of};
+ghost use Rattle.codespan_annotations.specs.FileStarts.{least_with, no_start, start_byte, start_with};
+
+use codespan_base::diagnostic::{Label, LabelStyle};
+
+/// Returns whether a label is primary.
+pub fn is_primary<FileId>(label: &Label<FileId>) -> bool
+    ensures { result ≡ is_primary (label_of label.now).label }
+{
+    matches!(label.style, LabelStyle::Primary)
+}
+
+/// Returns the lesser of a byte index and a known one, if there is one.
+fn least(known: Option<usize>, start: usize) -> usize
+    ensures { result ≡ least_with known start }
+{
+    match known {
+        Some(byte) => byte.min(start),
+        None => start,
+    }
+}
+
+/// Where the snippet of a file starts, by some of its labels. Byte indices are from 0.
+#[derive(Clone, Copy)]
+pub struct FileStart {
+    /// The least byte index at which a primary label starts; `None` where none is primary.
+    pub primary: Option<usize>,
+    /// The least byte index at which any label starts; `None` where there is none.
+    pub any: Option<usize>,
+}
+
+impl FileStart {
+    /// Returns the start without any label.
+    pub fn unknown() -> FileStart
+        ensures { result ≡ no_start }
+    {
+        FileStart {
+            primary: None,
+            any: None,
+        }
+    }
+
+    /// Returns the start with one label more.
+    pub fn with<FileId>(self, label: &Label<FileId>) -> FileStart
+        ensures { result ≡ start_with self (label_of label.now).label }
+    {
+        let start = label.range.start;
+        let primary = if is_primary(label) {
+            Some(least(self.primary, start))
+        } else {
+            self.primary
+        };
+        FileStart {
+            primary,
+            any: Some(least(self.any, start)),
+        }
+    }
+
+    /// Returns the byte index at which the snippet starts: the least start of a primary label, or
+    /// of any label where none is primary.
+    pub fn byte(self) -> usize
+        ensures { result ≡ start_byte self }
+    {
+        match self.primary {
+            Some(byte) => byte,
+            None => self.any.unwrap_or(0),
+        }
+    }
+}

@@ -1,0 +1,44 @@
+-- Labels one after another, with the files of those up to this one.
+use Rattle.std.proofs.Common.{◌≡◌, ℕ, ◌+◌, ◌<◌, Bool, true, List, [], ◌∷◌, ◌++◌, length, take, get_or, map, sym, ap, ◌∙◌, arith}
+use Rattle.std.specs.Cmp.{IsEquivalence}
+use Rattle.std.proofs.lemmas.List.{get_or-map, get_or-take, length-map, length-take-le, map-append}
+use Rattle.codespan_base.specs.declared.diagnostic.Label.{Label}
+use Rattle.codespan_picture.specs.Picture.{label_of}
+use Rattle.codespan_picture.specs.Snippets.{InFile, file_ids}
+use Rattle.codespan_annotations.specs.FileIndices.{index_of_file}
+use Rattle.codespan_annotations.proofs.FileOrder.{file_ids-has, has}
+use Rattle.codespan_annotations.proofs.FileIndices.{Differ, first_seen-differ, has-index}
+use Rattle.codespan_annotations.proofs.IndexedElements.{IsElementAt, take-at}
+
+-- the labels before an index
+abbrev pub before : {Id : Type 0} → List (Label Id) → ℕ → List (InFile Id)
+before labels index = map label_of (take index labels)
+
+module _ {Id : Type 0} {labels : List (Label Id)} {index : ℕ} {label : Label Id} (turn : IsElementAt labels index label) where
+  -- the labels before the next index
+  pub before-more : before labels (index + 1) ≡ before labels index ++ label_of label ∷ []
+  before-more = ap (map label_of) (take-at turn) ∙ map-append label_of (take index labels) (label ∷ [])
+
+  module _ {same : Id → Id → Bool} (o : IsEquivalence same) where
+    -- the files of the labels up to this one
+    abbrev ids : List Id
+    ids = file_ids same (before labels (index + 1))
+
+    -- the label's file is one of those
+    pub has-file : has same o ids label.file_id ≡ true
+    has-file =
+        let inside = turn.inside in
+        let long : length (take (index + 1) labels) ≡ index + 1 = length-take-le (index + 1) labels (omega (arith, inside)) in
+        let last : get_or (before labels (index + 1)) index (label_of label) ≡ label_of label =
+        get_or-map label_of (take (index + 1) labels) index label (label_of label) (omega (arith, long))
+        ∙ ap label_of (get_or-take (index + 1) labels index label (omega arith) ∙ sym turn.is) in
+        ap (λ (x : InFile Id). has same o ids x.id) (sym last)
+        ∙ file_ids-has same o (before labels (index + 1)) index (label_of label) (omega (arith, long, length-map (take (index + 1) labels) label_of))
+
+    -- its index is below their number
+    pub file-inside : index_of_file same ids label.file_id < length ids
+    file-inside = has-index same o ids label.file_id has-file
+
+    -- no two of the ids are the same
+    pub ids-differ : Differ same o ids
+    ids-differ = first_seen-differ same o (map (λ (x : InFile Id). x.id) (before labels (index + 1)))

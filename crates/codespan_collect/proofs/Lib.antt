@@ -1,0 +1,14 @@
+pub mod FewDigits
+pub mod FirstErrors
+pub mod LabelIndexing
+pub mod LabelsBefore
+pub mod LabelAnnotations
+pub mod LabelFiles
+pub mod FileStarts
+pub mod NearLines
+pub mod RangeMaps
+pub mod Collecting
+pub mod CollectedLines
+pub mod Contexts
+pub mod LabelsCollected
+pub mod CollectedInOrder

@@ -1,0 +1,152 @@
+-- Labels whose lines are looked up, one after another.
+use Rattle.std.specs.Prelude.{◌≡◌, ℕ, ◌<◌, Bool, true, false, List, ◌++◌, flat_map, fold, max, Option, Some, IfOk, Result}
+use Rattle.codespan_picture.specs.Types.{Label, Error, Config}
+use Rattle.codespan_base.specs.FileModel.{FileDatabase, FileModel, line_count, Lookup}
+use Rattle.codespan_base.specs.Labels.{LabelModel}
+use Rattle.codespan_picture.specs.Lookups.{Failures, looked_up_lines, lookups_of_file, first_error, is_looked_up, label_lookups, label_line_lookups, line_lookups, lookup_past_end}
+use Rattle.codespan_picture.specs.Picture.{label_of}
+use Rattle.codespan_picture.specs.Snippets.{InFile}
+use Rattle.codespan_annotations.specs.declared.annotation.Annotation.{Annotation as RustAnnotation}
+use Rattle.codespan_annotations.specs.declared.annotation.LineInfo.{LineInfo}
+use Rattle.codespan_collect.specs.declared.label_annotations.LabelCollector.{LabelCollector}
+use Rattle.codespan_collect.specs.declared.label_annotations.FoundAnnotations.{FoundAnnotations}
+use Rattle.codespan_collect.specs.declared.label_annotations.LabelIndices.{LabelIndices}
+use Rattle.codespan_annotations.specs.Annotations.{AnnotationKind}
+use Rattle.codespan_collect.specs.LabelAnnotations.{annotations_of, line_annotations, annotations_on, lookups_on, multi_at, kind_at}
+use Rattle.codespan_annotations.specs.FileLookups.{failure_in}
+use Rattle.codespan_annotations.specs.SourceFiles.{failure_unless_past_end, model_of}
+use Rattle.codespan_annotations.specs.AnnotationViews.{AddsOf}
+use Rattle.codespan_collect.specs.SpannedDigits.{digits_on, label_digits}
+
+-- the lookups of one label
+abbrev pub lookups_of_label : {Id : Type 0} → Config → FileDatabase Id → InFile Id
+    → List (Id × Lookup)
+lookups_of_label config database x =
+    lookups_of_file x.id
+    (label_line_lookups config (database.file x.id) (database.failure x.id) x.label)
+
+-- what the lookups of these labels fail with
+abbrev pub labels_failure : {Id : Type 0} → Config → FileDatabase Id → List (InFile Id)
+    → Option Error
+labels_failure config database xs =
+    first_error database.failure (label_lookups config database xs)
+
+-- a label with its file, what lookups of the file fail with, the configuration, and its indices
+pub record CollectedLabel (Id : Type 0) : Type 0 where
+  pub id : Id
+  pub file : FileModel
+  pub failure : Failures Id
+  pub config : Config
+  pub at : LabelIndices
+  pub label : LabelModel
+
+-- a label of the files of a database
+abbrev pub collected_label : {Id : Type 0} → FileDatabase Id → Config → LabelIndices → Label Id
+    → CollectedLabel Id
+collected_label database config at label = record {
+  id = label.file_id;
+  file = database.file label.file_id;
+  failure = database.failure;
+  config = config;
+  at = at;
+  label = (label_of label).label;
+}
+
+-- the label whose lines a collector looks up
+abbrev pub label_of_collector : {F Id Name Source : Type 0} → (F → FileDatabase Id)
+    → LabelCollector F Id Name Source → Label Id → CollectedLabel Id
+label_of_collector database collector label = record {
+  id = collector.file.id;
+  file = model_of database collector.file;
+  failure = (database collector.file.files.now).failure;
+  config = collector.config.now;
+  at = collector.at;
+  label = (label_of label).label;
+}
+
+module _ {Id : Type 0} (x : CollectedLabel Id) where
+  -- ---- one line
+
+  -- it has the line looked up
+  abbrev pub IsLookedUp : ℕ → Type 0
+  IsLookedUp l = is_looked_up x.config x.file x.label l ≡ true
+
+  -- the file has the line, where it is looked up
+  abbrev pub HasLineLookedUp : ℕ → Type 0
+  HasLineLookedUp l = IsLookedUp l → l < line_count x.file
+
+  -- its annotations of a line were appended
+  abbrev pub AddsLine : List (RustAnnotation Id) → List (RustAnnotation Id) → ℕ → Type 0
+  AddsLine old new l = AddsOf x.file old new (line_annotations x.config x.file x.at x.label l)
+
+  -- its annotations of a line were found, where it is looked up
+  abbrev pub FindsLine : FoundAnnotations Id → FoundAnnotations Id → ℕ → Type 0
+  FindsLine old new l =
+      AddsOf x.file old.annotations.items new.annotations.items
+      (annotations_on x.config x.file x.label x.at l)
+
+  -- the padding has grown as far as the number of a line needs, where it spans the line
+  abbrev pub ExtendsPaddingForLine : FoundAnnotations Id → FoundAnnotations Id → ℕ → Type 0
+  ExtendsPaddingForLine old new l =
+      new.padding.digits ≡ fold max old.padding.digits (digits_on x.file x.label l)
+
+  -- what the lookups of a line fail with, where it is looked up
+  abbrev pub failure_on : ℕ → Option Error
+  failure_on l = failure_in x.failure x.id (lookups_on x.config x.file x.label l)
+
+  -- ---- all of its lines
+
+  -- its annotations were found
+  abbrev pub FindsLines : FoundAnnotations Id → FoundAnnotations Id → Type 0
+  FindsLines old new =
+      AddsOf x.file old.annotations.items new.annotations.items
+      (annotations_of x.config x.file x.at x.label)
+
+  -- the padding has grown as far as the numbers of the lines that it spans need
+  abbrev pub ExtendsPadding : FoundAnnotations Id → FoundAnnotations Id → Type 0
+  ExtendsPadding old new =
+      new.padding.digits ≡ fold max old.padding.digits (label_digits x.file x.label)
+
+  -- what the lookups of its lines fail with
+  abbrev pub lines_failure : Option Error
+  lines_failure =
+      failure_in x.failure x.id
+      (flat_map line_lookups (looked_up_lines x.config x.file x.label)
+      ++ lookup_past_end x.config x.file (x.failure x.id) x.label)
+
+  -- what its lookups fail with, those of the lines of its ends first
+  abbrev pub label_failure : Option Error
+  label_failure =
+      failure_in x.failure x.id (label_line_lookups x.config x.file (x.failure x.id) x.label)
+
+-- where the call returns that the context goes on
+abbrev pub IfContinues : Result Bool Error → Type 0 → Type 0
+IfContinues r P = IfOk r (λ goes_on. goes_on ≡ true → P)
+
+-- where it returns that the context ended with the file
+abbrev pub IfEnded : Result Bool Error → Type 0 → Type 0
+IfEnded r P = IfOk r (λ goes_on. goes_on ≡ false → P)
+
+-- what a label does on a line, by the lines of its ends
+abbrev pub kind_by : {F Id Name Source : Type 0} → LabelCollector F Id Name Source → Label Id
+    → LineInfo
+    → Option AnnotationKind
+kind_by collector label line =
+    kind_at collector.config.now collector.at collector.lines.first collector.lines.last line.index
+    line.start
+    (label_of label).label
+
+-- its part on a line, by the lines of its ends
+abbrev pub multi_by : {F Id Name Source : Type 0} → LabelCollector F Id Name Source → Label Id
+    → LineInfo
+    → Option AnnotationKind
+multi_by collector label line =
+    multi_at collector.at collector.lines.first collector.lines.last line.index line.start
+    (label_of label).label
+
+-- the label looks up a line, which fails with this error
+abbrev pub FailsLine : {F Id Name Source : Type 0} → (F → FileDatabase Id)
+    → LabelCollector F Id Name Source → Label Id → ℕ → Error → Type 0
+FailsLine database collector label l e =
+    IsLookedUp (label_of_collector database collector label) l
+    × (failure_unless_past_end database collector.file collector.lines.last l ≡ Some e)

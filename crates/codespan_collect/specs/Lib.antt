@@ -1,0 +1,5 @@
+pub mod LabelAnnotations
+pub mod SpannedDigits
+pub mod CollectedLabels
+pub mod IndexedLabels
+pub mod Collections
