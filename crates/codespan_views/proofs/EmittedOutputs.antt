@@ -1,5 +1,5 @@
 -- Emitting an output as text.
-use Rattle.std.proofs.Common.{◌≡◌, ℕ, true, false, List, [], ◌∷◌, Option, Some, Ok, Err, Result, ⊎_elim, inl, inr, refl, sym, subst, ap, ◌∙◌}
+use Rattle.std.proofs.Common.{◌≡◌, ℕ, Bool, true, false, if◌then◌else◌, List, [], ◌∷◌, Option, Some, Ok, Err, Result, ⊎_elim, inl, inr, refl, sym, subst, ap, ◌∙◌}
 use Rattle.std.proofs.lemmas.Bool.{true≢false}
 use Rattle.std.specs.Borrow.{GName}
 use Rattle.codespan_base.specs.declared.term.config.DisplayStyle.{DisplayStyle}
@@ -7,6 +7,7 @@ use Rattle.codespan_base.specs.declared.term.config.DisplayStyle.TheVariants.{Ri
 use Rattle.codespan_base.specs.declared.term.config.Config.{Config}
 use Rattle.codespan_base.specs.declared.diagnostic.Diagnostic.{Diagnostic}
 use Rattle.codespan_base.specs.declared.files.Error.{Error}
+use Rattle.codespan_base.specs.declared.files.Error.TheVariants.{OutOfMemory}
 use Rattle.std.specs.Str.{IsUtf8}
 use Rattle.codespan_base.specs.FileModel.{FileDatabase}
 use Rattle.codespan_base.specs.LawfulFiles.{IsLawful}
@@ -68,10 +69,12 @@ module _ {Id : Type 0} {config : Config} {files : FileDatabase Id} {d : Diagnost
       (text-output files d lawful config.display_style config config characters
       rendered.writes.loci rendered.writes.on_end.1.texts).utf8
 
-  -- the error of a string call whose writer has not failed
-  pub string_error : {old new : Sink} {e : Error} → WritesStyled config.display_style config config files d old (Err e) new → new.frame.failed ≡ false → IsEmitError config files d e
-  string_error {old} {new} rendered not_failed =
-      ⊎_elim (λ w. absurd (true≢false (sym (ap (λ (f : Frame). f.failed) w.1) ∙ not_failed))) (λ w. inr w.1) rendered.writes.on_end.error_is
+  -- the error of a string call: an allocation failed, or the writer has not failed
+  pub string_failed : (has_failed : Bool) {old new : Sink} {e : Error} → WritesStyled config.display_style config config files d old (Err e) new → has_failed ≡ new.frame.failed
+      → IsEmitError config files d (if has_failed then OutOfMemory else e)
+  string_failed true rendered is = inl refl
+  string_failed false {old} {new} rendered is =
+      ⊎_elim (λ w. absurd (true≢false (sym (ap (λ (f : Frame). f.failed) w.1) ∙ sym is))) (λ w. inr w.1) rendered.writes.on_end.error_is
 
   -- a call writes through the references that it wrote through
   references_of : {old : Sink} (r : Result (Unit {0}) Error) {new : Sink} → WritesStyled config.display_style config config files d old r new → new.frame.through ≡ old.frame.through

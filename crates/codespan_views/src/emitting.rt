@@ -1,6 +1,7 @@
 //! The five calls that emit a diagnostic.
 
-ghost use Rattle.std.specs.Prelude.{string_bytes};
+ghost use Rattle.std.specs.Prelude.{◌≡◌, if◌then◌else◌, string_bytes};
+ghost use Rattle.codespan_base.specs.declared.files.Error.TheVariants.{OutOfMemory};
 ghost use Rattle.codespan_views.specs.Output.{Appends, Emits};
 ghost use Rattle.codespan_views.specs.WriteCalls.{WritesStyled, WritesText};
 
@@ -73,11 +74,20 @@ pub fn emit_into_string<'files, F: Files<'files>>(
         // UTF-8, and a line is cut at character boundaries only. The condition of the call is
         // proved from `codespan_laws::laws::outputs_are_texts`.
         Ok(()) => Ok(unsafe { String::from_utf8_unchecked(plain.into_inner()) }),
-        Err(error) => Err(if plain.has_failed() {
-            Error::OutOfMemory
-        } else {
-            error
-        }),
+        Err(error) => Err(string_error(plain.has_failed(), error)),
+    }
+}
+
+/// Returns the error of a call whose output goes into a string: where the writer has failed, an
+/// allocation did.
+#[inline(always)]
+fn string_error(has_failed: bool, error: Error) -> Error
+    ensures { result ≡ if has_failed then OutOfMemory else error }
+{
+    if has_failed {
+        Error::OutOfMemory
+    } else {
+        error
     }
 }
 

@@ -1,7 +1,11 @@
 //! Short and medium style: a header for each primary label, and in medium style the notes.
 
-ghost use Rattle.std.specs.Prelude.{◌≡◌, ◌∷◌, []};
+ghost use Rattle.std.specs.Prelude.{◌≡◌, ◌∷◌, [], IfOk};
+ghost use Rattle.codespan_annotations.specs.FileLookups.{FailsByOrFormat};
+ghost use Rattle.codespan_annotations.specs.TextLoci.{IsLocusOfLabel};
 ghost use Rattle.codespan_base.specs.declared.term.config.DisplayStyle.TheVariants.{Short, Medium};
+ghost use Rattle.codespan_picture.specs.Arguments.{locus_view};
+ghost use Rattle.codespan_picture.specs.Lookups.{first_error, header_lookups_of};
 ghost use Rattle.codespan_picture.specs.Picture.{label_of, labels_of};
 ghost use Rattle.codespan_renderer.specs.Renderers.{writer_of, config_of, SameRenderer};
 ghost use Rattle.codespan_views.specs.WriteCalls.{WritesStyled};
@@ -13,7 +17,7 @@ use codespan_annotations::source_file::SourceFile;
 use codespan_base::diagnostic::{Diagnostic, Label};
 use codespan_base::files::{Error, Files};
 use codespan_base::term::WriteStyle;
-use codespan_renderer::term::renderer::Renderer;
+use codespan_renderer::term::renderer::{Locus, Renderer};
 
 /// Renders a header for each primary label of a diagnostic, with the locus of the label's start, or
 /// one header without a locus where no label is primary; in medium style the notes follow. This is
@@ -155,12 +159,28 @@ fn render_if_primary<'files, F: Files<'files>, W: WriteStyle>(
     if !is_primary(label) {
         return Ok(false);
     }
+    let locus = label_locus(files, diagnostic, label)?;
+    render_diagnostic_header(diagnostic, renderer, Some(&locus))?;
+    Ok(true)
+}
+
+/// Looks up the locus of a label's header: the name of its file, and the location of its start.
+#[inline(always)]
+fn label_locus<'files, F: Files<'files>>(
+    files: &'files F,
+    diagnostic: &Diagnostic<F::FileId>,
+    label: &Label<F::FileId>,
+) -> Result<Locus, Error>
+    ensures locus { IfOk result (λ locus. IsLocusOfLabel
+        (F.database files.now).file (label_of label.now) (locus_view locus)) }
+    ensures failed { FailsByOrFormat
+        (first_error (F.database files.now).failure (header_lookups_of (label_of label.now)))
+        result }
+{
     let alloc = *diagnostic.labels.allocator();
     let file = SourceFile {
         files,
         id: label.file_id,
     };
-    let locus = file.locus(alloc, label.range.start)?;
-    render_diagnostic_header(diagnostic, renderer, Some(&locus))?;
-    Ok(true)
+    file.locus(alloc, label.range.start)
 }

@@ -1,10 +1,9 @@
-use Rattle.std.proofs.Common.{rules, ◌≡◌, ℕ, List, [], Some, inl, refl, sym, ap, ◌∙◌}
+use Rattle.std.proofs.Common.{rules, ◌≡◌, ℕ, List, [], Some, ap, ◌∙◌}
 use Rattle.codespan_base.specs.LawfulFiles.{IsLawful}
 use Rattle.codespan_base.specs.Streams.{no_style_marks}
 use Rattle.codespan_base.specs.WriterLaw.{Sink}
 use Rattle.codespan_base.specs.Writers.{fresh_sink}
-use Rattle.codespan_views.proofs.EmittedOutputs.{string_rendered, text_is_utf8, string_error}
-use Rattle.codespan_views.proofs.emitting.emit_into_string.Goals.{then-has_failed, else-has_failed}
+use Rattle.codespan_views.proofs.EmittedOutputs.{string_rendered, text_is_utf8, string_failed}
 use Rattle.codespan_views.proofs.emitting.emit_into_string.Goals as goal
 
 -- a writer of plain text over an empty buffer begins with nothing
@@ -24,10 +23,5 @@ returns-in-Ok g c =
     string_rendered c.in-Ok.ensures (begins-empty c.new-plain.ensures.begins c.in_ok-bytes.ensures.items) (search rules)
 
 -- an allocation failed, or the writer has not failed
-pub returns-after-has_failed : goal.returns-after-has_failed
-returns-after-has_failed g c =
-    let rendered = c.in-Err.ensures in
-    elim c.if-has_failed.branch [
-      | then-has_failed w ↦ rw w.result-is (inl refl)
-      | else-has_failed w ↦ rw w.result-is (string_error rendered (sym c.has_failed.ensures ∙ w.if-has_failed.false))
-    ]
+pub returns-in-Err : goal.returns-in-Err
+returns-in-Err g c = rw c.string_error.ensures (string_failed c.has_failed.result c.in-Err.ensures c.has_failed.ensures)
