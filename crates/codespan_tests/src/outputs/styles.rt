@@ -1,11 +1,12 @@
 //! Tests of short and medium style, and of the calls that emit.
 
-use crate::asserts::assert_bytes;
+use crate::asserts::{assert_bytes, assert_text};
 use crate::outputs::rendering::files_of;
 use codespan_reporting::diagnostic::{Diagnostic, Label};
 use codespan_reporting::files::{Error, SimpleFiles};
 use codespan_reporting::term::{
-    Config, DisplayStyle, PlainWriter, emit, emit_to_io_write, emit_to_string, emit_to_write_style,
+    Config, DisplayStyle, PlainWriter, Renderer, RichDiagnostic, ShortDiagnostic, emit,
+    emit_to_io_write, emit_to_string, emit_to_write_style,
 };
 use std::alloc::Global;
 use std::process::Abort;
@@ -21,7 +22,7 @@ fn in_style<'chars>(display_style: DisplayStyle) -> Config<'chars> {
     }
 }
 
-/// A style, what a vector holds, and what it holds once a bug is appended.
+/// A style, what a string or a vector holds, and what it holds once a bug is appended.
 type Row<'text> = (DisplayStyle, &'text str, &'text str);
 
 /// The rows.
@@ -30,6 +31,21 @@ static ROWS: [Row<'static>; 3] = [
     (DisplayStyle::Medium, "", "bug: \n"),
     (DisplayStyle::Short, "kept", "keptbug: \n"),
 ];
+
+/// Asserts what is appended to a string.
+fn assert_to_string(
+    rt: &impl Abort,
+    files: &SimpleFiles<&str, &str>,
+    bug: &Diagnostic<usize>,
+    row: &Row<'_>,
+) -> Result<(), Error> {
+    let (style, prefix, text) = row;
+    let config = in_style(*style);
+    let mut string = prefix.to_string(*bug.labels.allocator())?;
+    emit_to_string(&mut string, &config, files, bug)?;
+    assert_text(rt, string.as_str(), text);
+    Ok(())
+}
 
 /// Asserts what is appended to a vector.
 fn assert_to_io_write(
@@ -59,15 +75,37 @@ fn assert_emit(
     Ok(())
 }
 
-/// Each call that writes bytes appends to what a vector holds.
+/// Each call that appends keeps what a string or a vector holds.
 #[test]
 fn bare_bug(rt: HostRuntime) -> Result<(), Fail> {
     let files = SimpleFiles::new(rt.alloc());
     let bug = Diagnostic::bug(rt.alloc());
     for row in &ROWS {
+        assert_to_string(&rt, &files, &bug, row)?;
         assert_to_io_write(&rt, &files, &bug, row)?;
         assert_emit(&rt, &files, &bug, row)?;
     }
+    Ok(())
+}
+
+/// Renders a bug by each view, in one text.
+fn by_views(alloc: Global) -> Result<Vec<u8>, Error> {
+    let files: SimpleFiles<&str, &str> = SimpleFiles::new(alloc);
+    let bug = Diagnostic::bug(alloc);
+    let config = Config::default();
+    let mut plain = PlainWriter::new(Vec::new(alloc));
+    let mut renderer = Renderer::new(&mut plain, &config);
+    RichDiagnostic::new(&bug, &config).render(&files, &mut renderer)?;
+    ShortDiagnostic::new(&bug, true).render(&files, &mut renderer)?;
+    ShortDiagnostic::new(&bug, false).render(&files, &mut renderer)?;
+    Ok(plain.into_inner())
+}
+
+/// The views render the same.
+#[test]
+fn bare_views(rt: HostRuntime) -> Result<(), Fail> {
+    let bytes = by_views(rt.alloc())?;
+    assert_bytes(&rt, bytes.as_slice(), "bug: \n\nbug: \nbug: \n");
     Ok(())
 }
 
