@@ -1,10 +1,8 @@
 //! Worked diagnostics, and their expected outputs.
 
+use codespan_base::diagnostic::LabelStyle;
 use codespan_base::diagnostic::LabelStyle::{Primary, Secondary};
-use codespan_base::diagnostic::{Diagnostic, Label, LabelStyle, Severity};
-use codespan_base::files::Error;
 use codespan_base::term::{Config, DisplayStyle};
-use std::alloc::Global;
 use std::ops::Range;
 
 /// A worked diagnostic.
@@ -32,10 +30,14 @@ pub enum CaseName {
 type LabelFields<'text> = (LabelStyle, usize, Range<usize>, &'text str);
 
 /// A diagnostic, its files, and its expected output.
-#[derive(Drop)]
+#[derive(Clone, Copy)]
 pub struct Case<'text> {
-    /// The configuration.
-    pub config: Config<'text>,
+    /// The style of the configuration.
+    pub display_style: DisplayStyle,
+    /// The lines that are shown after the first line of a multi-line label.
+    pub start_context_lines: usize,
+    /// The lines that are shown before and after a label.
+    pub around: (usize, usize),
     /// The name and the text of each file.
     pub files: &'text [(&'text str, &'text str)],
     /// The code of an error.
@@ -52,235 +54,210 @@ pub struct Case<'text> {
     pub colored: Option<&'text str>,
 }
 
-impl<'text> Default for Case<'text> {
-    /// Returns an empty error, by the default configuration.
-    fn default() -> Case<'text> {
-        Case {
-            config: Config::default(),
-            files: &[],
-            code: None,
-            message: "",
-            labels: &[],
-            notes: &[],
-            output: "",
-            colored: None,
-        }
-    }
-}
+/// An empty error, by the default configuration.
+const EMPTY: Case<'static> = Case {
+    display_style: DisplayStyle::Rich,
+    start_context_lines: 3,
+    around: (0, 0),
+    files: &[],
+    code: None,
+    message: "",
+    labels: &[],
+    notes: &[],
+    output: "",
+    colored: None,
+};
 
 impl CaseName {
     /// Returns the diagnostic and its output.
-    pub fn case<'text>(self) -> Case<'text> {
+    pub fn case(self) -> &'static Case<'static> {
         match self {
-            CaseName::MutableBorrows => mutable_borrows(),
-            CaseName::MismatchedTypes => mismatched_types(),
-            CaseName::ColouredHeader => coloured_header(),
-            CaseName::TwoFiles => type_error(DisplayStyle::Rich, TWO_FILES),
-            CaseName::Medium => type_error(DisplayStyle::Medium, MEDIUM),
-            CaseName::Short => type_error(DisplayStyle::Short, SHORT),
-            CaseName::MappedNumbers => mapped_numbers(),
-            CaseName::SurroundingLines => surrounding_lines(),
+            CaseName::MutableBorrows => &MUTABLE_BORROWS,
+            CaseName::MismatchedTypes => &MISMATCHED_TYPES,
+            CaseName::ColouredHeader => &COLOURED_HEADER,
+            CaseName::TwoFiles => &TWO_FILES,
+            CaseName::Medium => &MEDIUM,
+            CaseName::Short => &SHORT,
+            CaseName::MappedNumbers => &MAPPED_NUMBERS,
+            CaseName::SurroundingLines => &SURROUNDING_LINES,
         }
     }
 }
 
-/// Returns the diagnostic, over files of these ids. Fails with `OutOfMemory`.
-pub fn diagnostic_of<FileId: Copy + Drop>(
-    alloc: Global,
-    case: &Case<'_>,
-    ids: &[FileId],
-) -> Result<Diagnostic<FileId>, Error> {
-    let mut diagnostic = Diagnostic::new(alloc, Severity::Error).with_message(case.message)?;
-    if let Some(code) = case.code {
-        diagnostic = diagnostic.with_code(code)?;
-    }
-    for (style, row_locus, range, message) in case.labels {
-        let id = ids.get(*row_locus).ok_or(Error::FileMissing)?;
-        let label = Label::new(alloc, *style, *id, range.start..range.end);
-        diagnostic = diagnostic.with_label(label.with_message(*message)?)?;
-    }
-    for note in case.notes {
-        diagnostic = diagnostic.with_note(*note)?;
-    }
-    Ok(diagnostic)
-}
-
-/// Returns three labels of one line, two of whose messages hang.
-fn mutable_borrows<'text>() -> Case<'text> {
-    Case {
-        files: &[(
-            "one_line.rs",
-            "fn main() {\n\
-             \x20   let mut v = vec![Some(\"foo\"), Some(\"bar\")];\n\
-             \x20   v.push(v.pop().unwrap());\n\
-             }\n",
-        )],
-        code: Some("E0499"),
-        message: "cannot borrow `v` as mutable more than once at a time",
-        labels: &[
-            (Primary, 0, 71..72, "second mutable borrow occurs here"),
-            (Secondary, 0, 64..65, "first borrow later used by call"),
-            (Secondary, 0, 66..70, "first mutable borrow occurs here"),
-        ],
-        output: "error[E0499]: cannot borrow `v` as mutable more than once at a time\n\
-                  \x20 ┌─ one_line.rs:3:12\n\
-                  \x20 │\n\
-                  3 │     v.push(v.pop().unwrap());\n\
-                  \x20 │     - ---- ^ second mutable borrow occurs here\n\
-                  \x20 │     │ │     \n\
-                  \x20 │     │ first mutable borrow occurs here\n\
-                  \x20 │     first borrow later used by call\n\n",
-        ..Case::default()
-    }
-}
-
-/// Returns a label over nine lines, of which some are left out, and one inside it.
-fn mismatched_types<'text>() -> Case<'text> {
-    Case {
-        config: Config {
-            start_context_lines: 2,
+impl Case<'_> {
+    /// Returns the configuration.
+    pub fn config<'chars>(&self) -> Config<'chars> {
+        let (before_label_lines, after_label_lines) = self.around;
+        Config {
+            display_style: self.display_style,
+            start_context_lines: self.start_context_lines,
+            before_label_lines,
+            after_label_lines,
             ..Config::default()
-        },
-        files: &[(
-            "src/lib.rs",
-            "fn main() {\n    1\n    + 1\n    + 1\n    + 1\n    + 1\n    +1\n    + 1\n    + 1\n    + 1\n}",
-        )],
-        code: Some("E0308"),
-        message: "mismatched types",
-        labels: &[
-            (Primary, 0, 17..80, "expected (), found integer"),
-            (Secondary, 0, 55..55, "missing whitespace"),
-        ],
-        notes: &["note:\texpected type `()`\n\tfound type `{integer}`"],
-        output: "error[E0308]: mismatched types\n\
-                  \x20  ┌─ src/lib.rs:2:6\n\
-                  \x20  │  \n\
-                  \x202 │       1\n\
-                  \x20  │ ╭─────^\n\
-                  \x203 │ │     + 1\n\
-                  \x204 │ │     + 1\n\
-                  \x20  · │\n\
-                  \x207 │ │     +1\n\
-                  \x20  │ │      - missing whitespace\n\
-                  \x208 │ │     + 1\n\
-                  \x209 │ │     + 1\n\
-                  10 │ │     + 1\n\
-                  \x20  │ ╰───────^ expected (), found integer\n\
-                  \x20  │  \n\
-                  \x20  = note:\texpected type `()`\n\
-                  \x20    \tfound type `{integer}`\n\n",
-        ..Case::default()
+        }
     }
 }
 
-/// Returns a header alone.
-fn coloured_header<'text>() -> Case<'text> {
-    Case {
-        config: Config {
-            display_style: DisplayStyle::Short,
-            ..Config::default()
-        },
-        message: "m",
-        output: "error: m\n",
-        colored: Some("\x1b[0m\x1b[1m\x1b[38;5;9merror\x1b[0m\x1b[1m: m\x1b[0m\n"),
-        ..Case::default()
-    }
-}
+/// Three labels of one line, two of whose messages hang.
+static MUTABLE_BORROWS: Case<'static> = Case {
+    files: &[(
+        "one_line.rs",
+        "fn main() {\n\
+         \x20   let mut v = vec![Some(\"foo\"), Some(\"bar\")];\n\
+         \x20   v.push(v.pop().unwrap());\n\
+         }\n",
+    )],
+    code: Some("E0499"),
+    message: "cannot borrow `v` as mutable more than once at a time",
+    labels: &[
+        (Primary, 0, 71..72, "second mutable borrow occurs here"),
+        (Secondary, 0, 64..65, "first borrow later used by call"),
+        (Secondary, 0, 66..70, "first mutable borrow occurs here"),
+    ],
+    output: "error[E0499]: cannot borrow `v` as mutable more than once at a time\n\
+              \x20 ┌─ one_line.rs:3:12\n\
+              \x20 │\n\
+              3 │     v.push(v.pop().unwrap());\n\
+              \x20 │     - ---- ^ second mutable borrow occurs here\n\
+              \x20 │     │ │     \n\
+              \x20 │     │ first mutable borrow occurs here\n\
+              \x20 │     first borrow later used by call\n\n",
+    ..EMPTY
+};
 
-/// Returns a type error that another file explains, in a style.
-fn type_error<'text>(display_style: DisplayStyle, output: &'text str) -> Case<'text> {
-    Case {
-        config: Config {
-            display_style,
-            ..Config::default()
-        },
-        files: &[
-            (
-                "Data/Nat.fun",
-                "module Data.Nat where\n\n\
-                 data Nat : Type where\n\
-                 \x20   zero : Nat\n\
-                 \x20   succ : Nat → Nat\n\n\
-                 {-# BUILTIN NATRAL Nat #-}\n\n\
-                 infixl 6 _+_ _-_\n\n\
-                 _+_ : Nat → Nat → Nat\n",
-            ),
-            (
-                "Test.fun",
-                "module Test where\n\n_ : Nat\n_ = 123 + \"hello\"\n",
-            ),
-        ],
-        code: Some("E0001"),
-        message: "unexpected type in application of `_+_`",
-        labels: &[
-            (Primary, 1, 37..44, "expected `Nat`, found `String`"),
-            (Secondary, 0, 130..155, "based on the definition of `_+_`"),
-        ],
-        notes: &["expected type `Nat`\n   found type `String`\n"],
-        output,
-        ..Case::default()
-    }
-}
+/// A label over nine lines, of which some are left out, and one inside it.
+static MISMATCHED_TYPES: Case<'static> = Case {
+    start_context_lines: 2,
+    files: &[(
+        "src/lib.rs",
+        "fn main() {\n    1\n    + 1\n    + 1\n    + 1\n    + 1\n    +1\n    + 1\n    + 1\n    + 1\n}",
+    )],
+    code: Some("E0308"),
+    message: "mismatched types",
+    labels: &[
+        (Primary, 0, 17..80, "expected (), found integer"),
+        (Secondary, 0, 55..55, "missing whitespace"),
+    ],
+    notes: &["note:\texpected type `()`\n\tfound type `{integer}`"],
+    output: "error[E0308]: mismatched types\n\
+              \x20  ┌─ src/lib.rs:2:6\n\
+              \x20  │  \n\
+              \x202 │       1\n\
+              \x20  │ ╭─────^\n\
+              \x203 │ │     + 1\n\
+              \x204 │ │     + 1\n\
+              \x20  · │\n\
+              \x207 │ │     +1\n\
+              \x20  │ │      - missing whitespace\n\
+              \x208 │ │     + 1\n\
+              \x209 │ │     + 1\n\
+              10 │ │     + 1\n\
+              \x20  │ ╰───────^ expected (), found integer\n\
+              \x20  │  \n\
+              \x20  = note:\texpected type `()`\n\
+              \x20    \tfound type `{integer}`\n\n",
+    ..EMPTY
+};
+
+/// A header alone.
+static COLOURED_HEADER: Case<'static> = Case {
+    display_style: DisplayStyle::Short,
+    message: "m",
+    output: "error: m\n",
+    colored: Some("\x1b[0m\x1b[1m\x1b[38;5;9merror\x1b[0m\x1b[1m: m\x1b[0m\n"),
+    ..EMPTY
+};
+
+/// A type error that another file explains, without its output.
+const TYPE_ERROR: Case<'static> = Case {
+    files: &[
+        (
+            "Data/Nat.fun",
+            "module Data.Nat where\n\n\
+             data Nat : Type where\n\
+             \x20   zero : Nat\n\
+             \x20   succ : Nat → Nat\n\n\
+             {-# BUILTIN NATRAL Nat #-}\n\n\
+             infixl 6 _+_ _-_\n\n\
+             _+_ : Nat → Nat → Nat\n",
+        ),
+        (
+            "Test.fun",
+            "module Test where\n\n_ : Nat\n_ = 123 + \"hello\"\n",
+        ),
+    ],
+    code: Some("E0001"),
+    message: "unexpected type in application of `_+_`",
+    labels: &[
+        (Primary, 1, 37..44, "expected `Nat`, found `String`"),
+        (Secondary, 0, 130..155, "based on the definition of `_+_`"),
+    ],
+    notes: &["expected type `Nat`\n   found type `String`\n"],
+    ..EMPTY
+};
 
 /// The type error in rich style.
-const TWO_FILES: &str = "error[E0001]: unexpected type in application of `_+_`\n\
-    \x20  ┌─ Test.fun:4:11\n\
-    \x20  │\n\
-    \x204 │ _ = 123 + \"hello\"\n\
-    \x20  │           ^^^^^^^ expected `Nat`, found `String`\n\
-    \x20  │\n\
-    \x20  ┌─ Data/Nat.fun:11:1\n\
-    \x20  │\n\
-    11 │ _+_ : Nat → Nat → Nat\n\
-    \x20  │ --------------------- based on the definition of `_+_`\n\
-    \x20  │\n\
-    \x20  = expected type `Nat`\n\
-    \x20       found type `String`\n\n";
+static TWO_FILES: Case<'static> = Case {
+    output: "error[E0001]: unexpected type in application of `_+_`\n\
+              \x20  ┌─ Test.fun:4:11\n\
+              \x20  │\n\
+              \x204 │ _ = 123 + \"hello\"\n\
+              \x20  │           ^^^^^^^ expected `Nat`, found `String`\n\
+              \x20  │\n\
+              \x20  ┌─ Data/Nat.fun:11:1\n\
+              \x20  │\n\
+              11 │ _+_ : Nat → Nat → Nat\n\
+              \x20  │ --------------------- based on the definition of `_+_`\n\
+              \x20  │\n\
+              \x20  = expected type `Nat`\n\
+              \x20       found type `String`\n\n",
+    ..TYPE_ERROR
+};
 
 /// The type error in medium style.
-const MEDIUM: &str = "Test.fun:4:11: error[E0001]: unexpected type in application of `_+_`\n \
-    = expected type `Nat`\n      found type `String`\n";
+static MEDIUM: Case<'static> = Case {
+    display_style: DisplayStyle::Medium,
+    output: "Test.fun:4:11: error[E0001]: unexpected type in application of `_+_`\n \
+             = expected type `Nat`\n      found type `String`\n",
+    ..TYPE_ERROR
+};
 
 /// The type error in short style.
-const SHORT: &str = "Test.fun:4:11: error[E0001]: unexpected type in application of `_+_`\n";
+static SHORT: Case<'static> = Case {
+    display_style: DisplayStyle::Short,
+    output: "Test.fun:4:11: error[E0001]: unexpected type in application of `_+_`\n",
+    ..TYPE_ERROR
+};
 
-/// Returns a label over three lines, of which the second has the number 100.
-fn mapped_numbers<'text>() -> Case<'text> {
-    Case {
-        files: &[("m", "a\nb\nc\nd")],
-        labels: &[(Primary, 0, 2..7, "x")],
-        output: "error: \n\
-                  \x20   ┌─ m:2:1\n\
-                  \x20   │  \n\
-                  \x20 2 │ ╭ b\n\
-                  100 │ │ c\n\
-                  101 │ │ d\n\
-                  \x20   │ ╰─^ x\n\n",
-        ..Case::default()
-    }
-}
+/// A label over three lines, of which the second has the number 100.
+static MAPPED_NUMBERS: Case<'static> = Case {
+    files: &[("m", "a\nb\nc\nd")],
+    labels: &[(Primary, 0, 2..7, "x")],
+    output: "error: \n\
+              \x20   ┌─ m:2:1\n\
+              \x20   │  \n\
+              \x20 2 │ ╭ b\n\
+              100 │ │ c\n\
+              101 │ │ d\n\
+              \x20   │ ╰─^ x\n\n",
+    ..EMPTY
+};
 
-/// Returns the end of a file, with lines before it.
-fn surrounding_lines<'text>() -> Case<'text> {
-    Case {
-        config: Config {
-            before_label_lines: 2,
-            after_label_lines: 1,
-            ..Config::default()
-        },
-        files: &[(
-            "surroundingLines.fun",
-            "#[foo]\nfn main() {\n    println!(\n        \"{}\",\n        Foo\n    );\n}\n\nstruct Foo",
-        )],
-        message: "Syntax error",
-        labels: &[(Primary, 0, 79..79, "Missing a semicolon")],
-        output: "error: Syntax error\n\
-                  \x20 ┌─ surroundingLines.fun:9:11\n\
-                  \x20 │\n\
-                  7 │ }\n\
-                  8 │ \n\
-                  9 │ struct Foo\n\
-                  \x20 │           ^ Missing a semicolon\n\n",
-        ..Case::default()
-    }
-}
+/// The end of a file, with lines before it.
+static SURROUNDING_LINES: Case<'static> = Case {
+    around: (2, 1),
+    files: &[(
+        "surroundingLines.fun",
+        "#[foo]\nfn main() {\n    println!(\n        \"{}\",\n        Foo\n    );\n}\n\nstruct Foo",
+    )],
+    message: "Syntax error",
+    labels: &[(Primary, 0, 79..79, "Missing a semicolon")],
+    output: "error: Syntax error\n\
+              \x20 ┌─ surroundingLines.fun:9:11\n\
+              \x20 │\n\
+              7 │ }\n\
+              8 │ \n\
+              9 │ struct Foo\n\
+              \x20 │           ^ Missing a semicolon\n\n",
+    ..EMPTY
+};

@@ -32,6 +32,11 @@ fn are_chars(chars: &Chars<'_>) -> bool {
     is_start(&chars.snippet_start) && chars.multi_top_left == '/'
 }
 
+/// Returns whether it is the configuration.
+fn is_config(config: &Config<'_>) -> bool {
+    are_chars(&config.chars) && config.tab_width == 7
+}
+
 /// Makes the clone of a configuration, or of a part of it, and judges it.
 pub fn judge_clone(alloc: Global, clone_call: CloneCall) -> Result<Outcome, Error> {
     let config = Config {
@@ -42,18 +47,17 @@ pub fn judge_clone(alloc: Global, clone_call: CloneCall) -> Result<Outcome, Erro
         },
         ..Config::default()
     };
-    Ok(match clone_call {
-        CloneCall::SnippetStart => match config.chars.snippet_start.clone() {
-            Ok(start) => judge_made(is_start(&start)),
-            Err(error) => judge_failure(&error, true),
-        },
-        CloneCall::Chars => match config.chars.clone() {
-            Ok(chars) => judge_made(are_chars(&chars)),
-            Err(error) => judge_failure(&error, true),
-        },
-        CloneCall::Config => match config.clone() {
-            Ok(config) => judge_made(are_chars(&config.chars) && config.tab_width == 7),
-            Err(error) => judge_failure(&error, true),
-        },
+    Ok(match is_cloned(&config, clone_call) {
+        Ok(is_equal) => judge_made(is_equal),
+        Err(error) => judge_failure(&error, true),
     })
+}
+
+/// Makes the clone, and returns whether it is equal.
+fn is_cloned(config: &Config<'_>, clone_call: CloneCall) -> Result<bool, Error> {
+    match clone_call {
+        CloneCall::SnippetStart => Ok(is_start(&config.chars.snippet_start.clone()?)),
+        CloneCall::Chars => Ok(are_chars(&config.chars.clone()?)),
+        CloneCall::Config => Ok(is_config(&config.clone()?)),
+    }
 }

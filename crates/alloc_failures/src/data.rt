@@ -99,17 +99,12 @@ fn diagnostic(alloc: Global, texts: Texts<'_>) -> Result<Diagnostic<usize>, Erro
 
 /// Makes a call of a label and judges it.
 pub fn judge_label(alloc: Global, call: LabelCall) -> Result<Outcome, Error> {
-    match call {
-        LabelCall::WithMessage => {
-            let expected = label(alloc, "another")?;
-            let returned = label(alloc, "a")?.with_message("another");
-            Ok(judge_value(&returned, &expected))
-        }
-        LabelCall::Clone => {
-            let initial = label(alloc, "a")?;
-            Ok(judge_value(&initial.clone(), &initial))
-        }
-    }
+    let expected = label(alloc, "another")?;
+    let returned = match call {
+        LabelCall::WithMessage => label(alloc, "a")?.with_message("another"),
+        LabelCall::Clone => expected.clone(),
+    };
+    Ok(judge_value(&returned, &expected))
 }
 
 /// Returns the texts that a diagnostic has to have after a call.
@@ -146,16 +141,53 @@ fn expected_texts(call: DiagnosticCall) -> Texts<'static> {
 pub fn judge_diagnostic(alloc: Global, call: DiagnosticCall) -> Result<Outcome, Error> {
     let expected = diagnostic(alloc, expected_texts(call))?;
     let initial = diagnostic(alloc, INITIAL)?;
-    let returned = match call {
+    match call {
+        DiagnosticCall::WithLabel => {
+            let added = label(alloc, "b")?;
+            Ok(judge_value(&initial.with_label(added), &expected))
+        }
+        DiagnosticCall::WithLabels | DiagnosticCall::WithLabelsIter => {
+            let added = labels(alloc, &["b", "c"])?;
+            Ok(judge_value(&with_labels(initial, call, added), &expected))
+        }
+        DiagnosticCall::WithNotes | DiagnosticCall::WithNotesIter => {
+            let added = notes(alloc, &["o", "p"])?;
+            Ok(judge_value(&with_notes(initial, call, added), &expected))
+        }
+        DiagnosticCall::Clone => Ok(judge_value(&expected.clone(), &expected)),
+        _ => Ok(judge_value(&with_text(initial, call), &expected)),
+    }
+}
+
+/// Makes a call that takes labels.
+fn with_labels(
+    initial: Diagnostic<usize>,
+    call: DiagnosticCall,
+    added: Vec<Label<usize>>,
+) -> Result<Diagnostic<usize>, Error> {
+    match call {
+        DiagnosticCall::WithLabels => initial.with_labels(added),
+        _ => initial.with_labels_iter(added),
+    }
+}
+
+/// Makes a call that takes notes.
+fn with_notes(
+    initial: Diagnostic<usize>,
+    call: DiagnosticCall,
+    added: Vec<String>,
+) -> Result<Diagnostic<usize>, Error> {
+    match call {
+        DiagnosticCall::WithNotes => initial.with_notes(added),
+        _ => initial.with_notes_iter(added),
+    }
+}
+
+/// Makes a call that takes a text.
+fn with_text(initial: Diagnostic<usize>, call: DiagnosticCall) -> Result<Diagnostic<usize>, Error> {
+    match call {
         DiagnosticCall::WithCode => initial.with_code("c"),
         DiagnosticCall::WithMessage => initial.with_message("another"),
-        DiagnosticCall::WithLabel => initial.with_label(label(alloc, "b")?),
-        DiagnosticCall::WithLabels => initial.with_labels(labels(alloc, &["b", "c"])?),
-        DiagnosticCall::WithLabelsIter => initial.with_labels_iter(labels(alloc, &["b", "c"])?),
-        DiagnosticCall::WithNote => initial.with_note("o"),
-        DiagnosticCall::WithNotes => initial.with_notes(notes(alloc, &["o", "p"])?),
-        DiagnosticCall::WithNotesIter => initial.with_notes_iter(notes(alloc, &["o", "p"])?),
-        DiagnosticCall::Clone => expected.clone(),
-    };
-    Ok(judge_value(&returned, &expected))
+        _ => initial.with_note("o"),
+    }
 }

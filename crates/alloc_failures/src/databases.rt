@@ -39,16 +39,17 @@ pub fn judge_database(alloc: Global, call: DatabaseCall) -> Result<Outcome, Erro
 
 /// Returns whether a file has the text, and lines of these numbers.
 fn is_file<'files, F: Files<'files>>(files: &'files F, id: F::FileId, numbers: [usize; 4]) -> bool {
-    has_text(files, id) && has_numbers(files, id, numbers)
+    has_text(files, id, TEXT)
+        && files.line_index(id, 6).ok() == Some(3)
+        && has_numbers(files, id, numbers)
 }
 
-/// Returns whether a file has the text, in lines of two bytes.
-fn has_text<'files, F: Files<'files>>(files: &'files F, id: F::FileId) -> bool {
-    let has_text = match files.source(id) {
-        Ok(source) => source.as_str() == TEXT,
+/// Returns whether a file has this text.
+pub fn has_text<'files, F: Files<'files>>(files: &'files F, id: F::FileId, text: &str) -> bool {
+    match files.source(id) {
+        Ok(source) => source.as_str() == text,
         Err(_) => false,
-    };
-    has_text && matches!(files.line_index(id, 6), Ok(3))
+    }
 }
 
 /// Returns whether the lines of a file have these numbers.
@@ -58,11 +59,7 @@ fn has_numbers<'files, F: Files<'files>>(
     numbers: [usize; 4],
 ) -> bool {
     for (line, number) in numbers.iter().enumerate() {
-        let is_right = match files.line_number(id, line) {
-            Ok(found) => found == *number,
-            Err(_) => false,
-        };
-        if !is_right {
+        if files.line_number(id, line).ok() != Some(*number) {
             return false;
         }
     }
@@ -82,8 +79,8 @@ fn has_files(files: &SimpleFiles<&'static str, &'static str>, count: usize) -> b
 /// Adds a fifth file to four, and judges it.
 fn judge_add(alloc: Global) -> Result<Outcome, Error> {
     let mut files = SimpleFiles::new(alloc);
-    for name in ["f", "g", "h", "i"] {
-        files.add(name, TEXT)?;
+    for name in &["f", "g", "h", "i"] {
+        files.add(*name, TEXT)?;
     }
     Ok(match files.add("j", TEXT) {
         Ok(id) => judge_made(id == 4 && has_files(&files, 5)),

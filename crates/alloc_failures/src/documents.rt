@@ -111,9 +111,12 @@ fn with_error(returned: Result<String, AllocError>) -> Result<String, Error> {
 /// Returns the text of the runs.
 fn document_text(alloc: Global) -> Result<StyledText, Error> {
     let mut runs = Vec::with_capacity(alloc, RUNS.len())?;
-    for (style, text) in RUNS {
+    for (style, text) in &RUNS {
         let text = String::from_str(alloc, text)?;
-        runs.push(Run { style, text })?;
+        runs.push(Run {
+            style: *style,
+            text,
+        })?;
     }
     Ok(StyledText { runs })
 }

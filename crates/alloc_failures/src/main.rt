@@ -20,6 +20,7 @@ mod clones;
 mod copying;
 mod data;
 mod databases;
+mod diagnostics;
 mod documents;
 mod native;
 mod outcome;

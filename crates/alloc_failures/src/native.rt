@@ -15,6 +15,86 @@ const OUTPUT: &[u8] =
 /// The memory before the call.
 const UNWRITTEN: [u8; 128] = [b'.'; 128];
 
+/// The file.
+static FILES: [RawFile<'static>; 1] = [RawFile {
+    name: b"f.txt",
+    source: b"abc\n",
+    first_byte: 0,
+    first_line: 0,
+    lines: &[],
+    loci: &[],
+}];
+
+/// The diagnostic.
+static DIAGNOSTIC: RawDiagnostic<'static> = RawDiagnostic {
+    severity: 3,
+    code: b"E1",
+    message: b"bad",
+    labels: &[RawLabel {
+        style: 0,
+        file: 0,
+        start: 0,
+        end: 3,
+        message: b"here",
+    }],
+    notes: &[RawText { bytes: b"a note" }],
+};
+
+/// The default configuration, in ASCII and without colors.
+static CONFIG: RawConfig<'static> = RawConfig {
+    abi: 1,
+    display_style: 0,
+    layout: 0,
+    spelling: 0,
+    characters: 1,
+    tab_width: 4,
+    start_context_lines: 3,
+    end_context_lines: 1,
+    before_label_lines: 0,
+    after_label_lines: 0,
+    chars: NO_CHARS,
+    styles: NO_STYLES,
+};
+
+/// Characters that are not used.
+const NO_CHARS: RawChars<'static> = RawChars {
+    snippet_start: b"",
+    source_border_left: 0,
+    source_border_left_break: 0,
+    note_bullet: 0,
+    single_primary_caret: 0,
+    single_secondary_caret: 0,
+    multi_primary_caret_start: 0,
+    multi_primary_caret_end: 0,
+    multi_secondary_caret_start: 0,
+    multi_secondary_caret_end: 0,
+    multi_top_left: 0,
+    multi_top: 0,
+    multi_bottom_left: 0,
+    multi_bottom: 0,
+    multi_left: 0,
+    pointer_left: 0,
+};
+
+/// Styles that are not used.
+const NO_STYLES: RawStyles = RawStyles {
+    header_bug: NO_COLOR,
+    header_error: NO_COLOR,
+    header_warning: NO_COLOR,
+    header_note: NO_COLOR,
+    header_help: NO_COLOR,
+    header_message: NO_COLOR,
+    primary_label_bug: NO_COLOR,
+    primary_label_error: NO_COLOR,
+    primary_label_warning: NO_COLOR,
+    primary_label_note: NO_COLOR,
+    primary_label_help: NO_COLOR,
+    secondary_label: NO_COLOR,
+    line_number: NO_COLOR,
+    source_border: NO_COLOR,
+    note_bullet: NO_COLOR,
+};
+
 /// A style without a color.
 const NO_COLOR: RawColorSpec = RawColorSpec {
     fg: 0,
@@ -31,7 +111,15 @@ pub fn judge_native(alloc: Global) -> Outcome {
         argument: 0,
         index: 0,
     };
-    let status = render_into(alloc, &mut out, &mut written, &mut detail);
+    let status = emit(
+        alloc,
+        &FILES,
+        &DIAGNOSTIC,
+        &CONFIG,
+        &mut out,
+        &mut written,
+        &mut detail,
+    );
     if status == OK {
         judge_made(written == OUTPUT.len() && out.starts_with(OUTPUT))
     } else if status == OUT_OF_MEMORY {
@@ -47,93 +135,5 @@ fn judge_unwritten(out: &[u8], written: usize) -> Outcome {
         Outcome::Failed
     } else {
         Outcome::Wrong(Wrong::Changed)
-    }
-}
-
-/// Renders the diagnostic over its file.
-fn render_into(alloc: Global, out: &mut [u8], written: &mut usize, detail: &mut Detail) -> u32 {
-    let file = RawFile {
-        name: b"f.txt",
-        source: b"abc\n",
-        first_byte: 0,
-        first_line: 0,
-        lines: &[],
-        loci: &[],
-    };
-    let label = RawLabel {
-        style: 0,
-        file: 0,
-        start: 0,
-        end: 3,
-        message: b"here",
-    };
-    let diagnostic = RawDiagnostic {
-        severity: 3,
-        code: b"E1",
-        message: b"bad",
-        labels: &[label],
-        notes: &[RawText { bytes: b"a note" }],
-    };
-    emit(alloc, &[file], &diagnostic, &config(), out, written, detail)
-}
-
-/// Returns the default configuration, in ASCII and without colors.
-fn config<'a>() -> RawConfig<'a> {
-    RawConfig {
-        abi: 1,
-        display_style: 0,
-        layout: 0,
-        spelling: 0,
-        characters: 1,
-        tab_width: 4,
-        start_context_lines: 3,
-        end_context_lines: 1,
-        before_label_lines: 0,
-        after_label_lines: 0,
-        chars: no_chars(),
-        styles: no_styles(),
-    }
-}
-
-/// Returns characters that are not used.
-fn no_chars<'a>() -> RawChars<'a> {
-    RawChars {
-        snippet_start: b"",
-        source_border_left: 0,
-        source_border_left_break: 0,
-        note_bullet: 0,
-        single_primary_caret: 0,
-        single_secondary_caret: 0,
-        multi_primary_caret_start: 0,
-        multi_primary_caret_end: 0,
-        multi_secondary_caret_start: 0,
-        multi_secondary_caret_end: 0,
-        multi_top_left: 0,
-        multi_top: 0,
-        multi_bottom_left: 0,
-        multi_bottom: 0,
-        multi_left: 0,
-        pointer_left: 0,
-    }
-}
-
-/// Returns styles that are not used.
-fn no_styles() -> RawStyles {
-    RawStyles {
-        header_bug: NO_COLOR,
-        header_error: NO_COLOR,
-        header_warning: NO_COLOR,
-        header_note: NO_COLOR,
-        header_help: NO_COLOR,
-        header_message: NO_COLOR,
-        primary_label_bug: NO_COLOR,
-        primary_label_error: NO_COLOR,
-        primary_label_warning: NO_COLOR,
-        primary_label_note: NO_COLOR,
-        primary_label_help: NO_COLOR,
-        secondary_label: NO_COLOR,
-        line_number: NO_COLOR,
-        source_border: NO_COLOR,
-        note_bullet: NO_COLOR,
     }
 }

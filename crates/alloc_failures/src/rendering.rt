@@ -3,8 +3,9 @@
 ghost use Rattle.std.specs.Prelude.{◌≡◌, ◌++◌, ℕ, List, IfOk, IsOk, IsErrAnd, IsErrOf, IsTrue, codes, string_bytes, false, true};
 ghost use Rattle.codespan_base.specs.Errors.{IsIo};
 
-use crate::cases::{Case, CaseName, diagnostic_of};
+use crate::cases::{Case, CaseName};
 use crate::copying::Copying;
+use crate::diagnostics::diagnostic_of;
 use crate::outcome::{Outcome, Wrong, judge_failure, judge_made};
 use crate::recording::Recording;
 use codespan_base::diagnostic::Diagnostic;
@@ -19,6 +20,7 @@ use codespan_views::emitting::{
 use codespan_views::rich::RichDiagnostic;
 use codespan_views::short::ShortDiagnostic;
 use std::alloc::Global;
+use std::io::Write;
 
 /// A call that renders.
 #[derive(Clone, Copy)]
@@ -37,6 +39,13 @@ pub enum RenderCall {
     EmitToString,
 }
 
+impl RenderCall {
+    /// Returns whether the call writes to a writer of styles.
+    fn is_styled(self) -> bool {
+        matches!(self, RenderCall::Render | RenderCall::EmitToWriteStyle)
+    }
+}
+
 /// The old text of a string that is appended to.
 const OLD_TEXT: &str = "kept";
 
@@ -48,9 +57,9 @@ pub fn judge_rendering(
 ) -> Result<Outcome, Error> {
     let case = case_name.case();
     match case_name {
-        CaseName::MappedNumbers => judge_mapped(alloc, call, &case),
-        CaseName::SurroundingLines => judge_copying(alloc, call, &case),
-        _ => judge_simple(alloc, call, &case),
+        CaseName::MappedNumbers => judge_mapped(alloc, call, case),
+        CaseName::SurroundingLines => judge_copying(alloc, call, case),
+        _ => judge_simple(alloc, call, case),
     }
 }
 
@@ -91,12 +100,12 @@ fn judge_call<'files, F: Files<'files>>(
 ) -> Result<Outcome, Error> {
     match call {
         RenderCall::EmitIntoString => {
-            let returned = emit_into_string(&case.config, files, diagnostic);
+            let returned = emit_into_string(&case.config(), files, diagnostic);
             Ok(judge_string(&returned, case.output))
         }
         RenderCall::EmitToString => {
             let mut string = String::from_str(alloc, OLD_TEXT)?;
-            let returned = emit_to_string(&mut string, &case.config, files, diagnostic);
+            let returned = emit_to_string(&mut string, &case.config(), files, diagnostic);
             Ok(judge_appended(&returned, string.as_str(), case.output))
         }
         _ => Ok(judge_written(alloc, call, case, files, diagnostic)),
@@ -111,29 +120,38 @@ fn judge_written<'files, F: Files<'files>>(
     files: &'files F,
     diagnostic: &Diagnostic<F::FileId>,
 ) -> Outcome {
-    let config = &case.config;
     let mut recording = Recording::new(alloc);
-    match (call, case.colored) {
-        (RenderCall::Emit, _) => {
-            let returned = emit(&mut recording, config, files, diagnostic);
-            judge_recording(&returned, &recording, case.output)
-        }
-        (RenderCall::Render | RenderCall::EmitToWriteStyle, Some(colored)) => {
-            let styles = Styles::default();
-            let mut writer = StylesWriter::new(Ansi::new(&mut recording), &styles);
-            let returned = render_styled(&mut writer, call, config, files, diagnostic);
-            judge_recording(&returned, &recording, colored)
-        }
-        (RenderCall::Render | RenderCall::EmitToWriteStyle, None) => {
-            let mut writer = PlainWriter::new(&mut recording);
-            let returned = render_styled(&mut writer, call, config, files, diagnostic);
-            judge_recording(&returned, &recording, case.output)
-        }
-        _ => {
-            let returned = emit_to_io_write(&mut recording, config, files, diagnostic);
-            judge_recording(&returned, &recording, case.output)
-        }
+    let returned = render_to(&mut recording, call, case, files, diagnostic);
+    let output = match case.colored {
+        Some(colored) if call.is_styled() => colored,
+        _ => case.output,
+    };
+    judge_recording(&returned, &recording, output)
+}
+
+/// Makes a call that writes to a writer: in escape sequences, if it writes style marks and the case
+/// is rendered in these.
+fn render_to<'files, F: Files<'files>, W: Write>(
+    writer: &mut W,
+    call: RenderCall,
+    case: &Case<'_>,
+    files: &'files F,
+    diagnostic: &Diagnostic<F::FileId>,
+) -> Result<(), Error> {
+    let config = &case.config();
+    if !call.is_styled() {
+        return match call {
+            RenderCall::Emit => emit(writer, config, files, diagnostic),
+            _ => emit_to_io_write(writer, config, files, diagnostic),
+        };
     }
+    if case.colored.is_none() {
+        let mut plain = PlainWriter::new(writer);
+        return render_styled(&mut plain, call, config, files, diagnostic);
+    }
+    let styles = Styles::default();
+    let mut colored = StylesWriter::new(Ansi::new(writer), &styles);
+    render_styled(&mut colored, call, config, files, diagnostic)
 }
 
 /// Renders to a writer of styles: by the view of the style, or by the emit call.

@@ -1,5 +1,6 @@
 //! The calls that do not allocate.
 
+use crate::databases::has_text;
 use crate::outcome::{Outcome, judge_made};
 use codespan_base::diagnostic::LabelStyle::{Primary, Secondary};
 use codespan_base::diagnostic::{Diagnostic, Label, LabelStyle, Severity};
@@ -43,10 +44,10 @@ struct Prepared<'text> {
 
 /// Prepares what the calls need, which allocates, and then makes the calls.
 pub fn judge_without_alloc(alloc: Global, extent: Extent) -> Result<Outcome, Error> {
-    let needed = prepare(alloc)?;
+    let mut needed = prepare(alloc)?;
     match extent {
         Extent::Preparation => Ok(Outcome::Done),
-        Extent::Calls => Ok(judge_made(are_right(alloc, needed)?)),
+        Extent::Calls => judge_calls(alloc, &mut needed),
     }
 }
 
@@ -84,88 +85,77 @@ fn locus_of(
     })
 }
 
-/// Makes each call, and returns whether all results are as expected. An error of a call is reported
-/// as one of the preparation would be.
-fn are_right(alloc: Global, needed: Prepared<'_>) -> Result<bool, Error> {
-    let Prepared {
-        mut rows,
-        mut colored_output,
-        mut output,
-        start,
-        row_locus,
-        file,
-        files,
-        mapped,
-    } = needed;
-    render_rows(&mut rows, &start, &row_locus)?;
-    render_colored(&mut colored_output)?;
-    render_bug(alloc, &mut output, &files)?;
-    Ok(
-        rows.as_slice() == ROWS.as_bytes()
-            && colored_output.as_slice() == COLORED.as_bytes()
-            && output.as_slice() == b"bug: \n\n".as_slice()
-            && looks_up(&file, (), 2)
-            && looks_up(&files, 0, 2)
-            && looks_up(&mapped, (), 40)
-            && matches!(files.get(1), Err(Error::FileMissing))
-            && is_found(&files)
-            && are_defaults(&files)
+/// Makes each call and judges the results. An error of a call is reported as one of the preparation
+/// would be.
+fn judge_calls(alloc: Global, needed: &mut Prepared<'_>) -> Result<Outcome, Error> {
+    let mut plain_rows = PlainWriter::new(&mut needed.rows);
+    render_rows(&mut plain_rows, &needed.start, &needed.row_locus)?;
+    render_colored(&mut needed.colored_output)?;
+    render_bug(alloc, &mut needed.output, &needed.files)?;
+    Ok(judge_made(
+        are_written(needed)
+            && are_looked_up(needed)
             && are_styles(&Styles::default())
             && are_starts()
             && column_index("\n\n🗻∈🌏\n\n", 2..13, 10) == 2
             && are_made(alloc),
-    )
+    ))
+}
+
+/// Returns whether the vectors hold what is expected.
+fn are_written(needed: &Prepared<'_>) -> bool {
+    needed.rows.as_slice() == ROWS.as_bytes()
+        && needed.colored_output.as_slice() == COLORED.as_bytes()
+        && needed.output.as_slice() == b"bug: \n\n".as_slice()
+}
+
+/// Returns whether the lookups of the file databases return what is expected.
+fn are_looked_up(needed: &Prepared<'_>) -> bool {
+    looks_up(&needed.file, (), 2)
+        && looks_up(&needed.files, 0, 2)
+        && looks_up(&needed.mapped, (), 40)
+        && is_found(&needed.files)
+        && are_defaults(&needed.files)
 }
 
 /// Returns whether the lookups of byte 7 of a file return what is expected.
 fn looks_up<'files, F: Files<'files>>(files: &'files F, id: F::FileId, number: usize) -> bool {
-    let has_text = match files.source(id) {
-        Ok(source) => source.as_str() == TEXT,
-        Err(_) => false,
+    let location = Location {
+        line_number: number,
+        column_number: 3,
     };
-    let is_number = match files.line_number(id, 1) {
-        Ok(found) => found == number,
-        Err(_) => false,
-    };
-    let is_location = match files.location(id, 7) {
-        Ok(row_locus) => row_locus.line_number == number && row_locus.column_number == 3,
-        Err(_) => false,
-    };
-    let starts_there = match files.line_range(id, 1) {
-        Ok(range) => range.start == 4,
-        Err(_) => false,
-    };
-    has_text
-        && is_number
-        && is_location
-        && starts_there
+    has_text(files, id, TEXT)
         && files.name(id).is_ok()
-        && matches!(files.line_index(id, 7), Ok(1))
-        && matches!(files.column_number(id, 1, 7), Ok(3))
+        && files.line_index(id, 7).ok() == Some(1)
+        && files.line_number(id, 1).ok() == Some(number)
+        && files.line_range(id, 1).unwrap_or(0..0).start == 4
+        && files.column_number(id, 1, 7).ok() == Some(3)
+        && files.location(id, 7).ok() == Some(location)
 }
 
-/// Returns whether an existing file is found.
+/// Returns whether the existing file is found, and no other.
 fn is_found(files: &SimpleFiles<&str, &str>) -> bool {
-    match files.get(0) {
+    let is_found = match files.get(0) {
         Ok(file) => file.source().as_str() == TEXT,
         Err(_) => false,
-    }
+    };
+    is_found && matches!(files.get(1), Err(Error::FileMissing))
 }
 
 /// Returns whether the free functions for the lookups of a custom database return what is expected
 /// at byte 7.
 fn are_defaults(files: &SimpleFiles<&str, &str>) -> bool {
-    let is_location = match default_location(files, 0, 7) {
-        Ok(row_locus) => row_locus.line_number == 2 && row_locus.column_number == 3,
-        Err(_) => false,
+    let location = Location {
+        line_number: 2,
+        column_number: 3,
     };
-    is_location
-        && matches!(default_line_number(1), Ok(2))
+    default_location(files, 0, 7).ok() == Some(location)
+        && default_line_number(1).ok() == Some(2)
         && matches!(
             default_line_number(usize::MAX),
             Err(Error::LineTooLarge { .. })
         )
-        && matches!(default_column_number(files, 0, 1, 7), Ok(3))
+        && default_column_number(files, 0, 1, 7).ok() == Some(3)
 }
 
 /// Returns whether each lookup of the default styles returns what is expected.
@@ -182,13 +172,12 @@ fn are_styles(styles: &Styles) -> bool {
 
 /// Returns whether the lines of a text start where they should.
 fn are_starts() -> bool {
-    let mut are_right = true;
-    let mut count = 0usize;
-    for (start, expected) in line_starts("foo\nbar\r\n\nbaz").zip([0, 4, 9, 10]) {
-        are_right = are_right && start == expected;
-        count = count.saturating_add(1);
-    }
-    are_right && count == 4
+    let mut starts = line_starts("foo\nbar\r\n\nbaz");
+    starts.next() == Some(0)
+        && starts.next() == Some(4)
+        && starts.next() == Some(9)
+        && starts.next() == Some(10)
+        && starts.next().is_none()
 }
 
 /// Returns whether constructors, and clones of what owns no text, return what is expected.
@@ -215,11 +204,14 @@ fn render_bug(
     emit(output, &Config::default(), files, &Diagnostic::bug(alloc))
 }
 
-/// Writes each kind of row, in plain text.
-fn render_rows(text: &mut Vec<u8>, start: &Locus, row_locus: &Locus) -> Result<(), Error> {
+/// Writes each kind of row.
+fn render_rows<W: WriteStyle>(
+    writer: &mut W,
+    start: &Locus,
+    row_locus: &Locus,
+) -> Result<(), Error> {
     let config = Config::default();
-    let mut writer = PlainWriter::new(text);
-    let mut renderer = Renderer::new(&mut writer, &config);
+    let mut renderer = Renderer::new(writer, &config);
     renderer.render_header(None, Severity::Error, None, "")?;
     renderer.render_snippet_start(1, start)?;
     renderer.render_snippet_empty(1, Severity::Error, 2, &[])?;
@@ -274,10 +266,14 @@ fn render_line<W: WriteStyle>(
 
 /// Writes a source line with a label and its message, in colors.
 fn render_colored(text: &mut Vec<u8>) -> Result<(), Error> {
-    let config = Config::default();
     let styles = Styles::default();
-    let mut writer = StylesWriter::new(Ansi::new(text), &styles);
-    let mut renderer = Renderer::new(&mut writer, &config);
+    render_label(&mut StylesWriter::new(Ansi::new(text), &styles))
+}
+
+/// Writes a source line with a label and its message.
+fn render_label<W: WriteStyle>(writer: &mut W) -> Result<(), Error> {
+    let config = Config::default();
+    let mut renderer = Renderer::new(writer, &config);
     let labels = [(Primary, 1..2, "m")];
     renderer.render_snippet_source(1, 1, "abc", Severity::Error, &labels, 0, &[])
 }
@@ -289,6 +285,6 @@ const ROWS: &str = "error: \n  ┌─ f:1:1\n  │    \n1 │   ╭ ab\n  │ �
     Test.fun:4:11: error[E0001]: unexpected type in application of `_+_`\n \
     = a\n   \n   b\n";
 
-/// The rows of `render_colored`.
+/// The rows of `render_label`, in colors.
 const COLORED: &str = "\x1b[0m\x1b[36m1\x1b[0m \x1b[0m\x1b[36m│\x1b[0m a\x1b[0m\x1b[31mb\x1b[0mc\n\
     \x20 \x1b[0m\x1b[36m│\x1b[0m  \x1b[0m\x1b[31m^\x1b[0m \x1b[0m\x1b[31mm\x1b[0m\n";

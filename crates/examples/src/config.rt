@@ -1,8 +1,8 @@
 //! Reports every error in a text of settings, by the front end of a small language of settings.
 
 use codespan_reporting::files::{Error, SimpleFile};
-use codespan_reporting::term::{Config, emit_to_string};
-use examples_library::config::{lex, parse, text_of};
+use codespan_reporting::term::{Config, emit_to_io_write};
+use examples_library::config::{Setting, Word, lex, parse, text_of};
 
 /// Settings, with an error of each kind.
 const SETTINGS: &str = "\
@@ -22,22 +22,32 @@ pub fn run(rt: &HostRuntime) -> Result<(), Error> {
     let file = SimpleFile::new(alloc, "server.conf", SETTINGS)?;
     let mut settings = Vec::new(alloc);
     let mut line = Vec::new(alloc);
-    let mut output = String::new(alloc);
-    for word in lex(alloc, SETTINGS)? {
-        if text_of(SETTINGS, word) != "\n" {
-            line.push(word)?;
+    for word in &lex(alloc, SETTINGS)? {
+        if text_of(SETTINGS, *word) != "\n" {
+            line.push(*word)?;
             continue;
         }
-        match parse(SETTINGS, &settings, &line) {
-            Ok(None) => {}
-            Ok(Some(setting)) => settings.push(setting)?,
-            Err(problem) => {
-                let error = problem.diagnostic(alloc)?;
-                emit_to_string(&mut output, &Config::default(), &file, &error)?;
-            }
-        }
+        read_line(rt, &file, &line, &mut settings)?;
         line.clear();
     }
-    print!(rt; "{output}settings that were read: {}\n", settings.len())?;
+    print!(rt; "settings that were read: {}\n", settings.len())?;
+    Ok(())
+}
+
+/// Adds the setting of a line, or prints its error.
+fn read_line(
+    rt: &HostRuntime,
+    file: &SimpleFile<&str, &str>,
+    line: &[Word],
+    settings: &mut Vec<Setting>,
+) -> Result<(), Error> {
+    match parse(SETTINGS, settings, line) {
+        Ok(None) => {}
+        Ok(Some(setting)) => settings.push(setting)?,
+        Err(problem) => {
+            let error = problem.diagnostic(rt.alloc())?;
+            emit_to_io_write(&mut rt.stdout(), &Config::default(), file, &error)?;
+        }
+    }
     Ok(())
 }

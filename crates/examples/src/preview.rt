@@ -38,26 +38,25 @@ fn mismatched_units(
     flight: usize,
     units: usize,
 ) -> Result<Diagnostic<usize>, Error> {
-    let argument = Label::primary(alloc, flight, 130..135).with_message(
-        "expected `Speed`, found `Length`",
-    )?;
-    let call = Label::secondary(alloc, flight, 97..138).with_message("in this call")?;
-    let parameter = Label::secondary(alloc, flight, 42..53).with_message(
-        "the parameter is declared here",
-    )?;
-    let definition = Label::secondary(alloc, units, 43..56).with_message(
-        "`Speed` is defined here",
-    )?;
     Diagnostic::error(alloc)
         .with_code("E0012")?
         .with_message("mismatched units")?
-        .with_label(argument)?
-        .with_label(call)?
-        .with_label(parameter)?
-        .with_label(definition)?
+        .with_label(Label::primary(alloc, flight, 130..135).with_message(
+            "expected `Speed`, found `Length`",
+        )?)?
+        .with_label(Label::secondary(alloc, flight, 97..138).with_message("in this call")?)?
+        .with_label(Label::secondary(alloc, flight, 42..53).with_message(
+            "the parameter is declared here",
+        )?)?
+        .with_label(Label::secondary(alloc, units, 43..56).with_message(
+            "`Speed` is defined here",
+        )?)?
         .with_note("expected unit `m / s`\n   found unit `m`")?
         .with_note("help: give the length that is covered in a second: `11 km / s`")
 }
+
+/// The two files.
+type Sources = SimpleFiles<&'static str, &'static str>;
 
 /// Prints the error in each style.
 pub fn run(rt: &HostRuntime) -> Result<(), Error> {
@@ -66,19 +65,32 @@ pub fn run(rt: &HostRuntime) -> Result<(), Error> {
     let flight = files.add("flight.lum", FLIGHT)?;
     let units = files.add("units.lum", UNITS)?;
     let diagnostic = mismatched_units(alloc, flight, units)?;
+    print_in_color(rt, &files, &diagnostic)?;
+    print(rt, DisplayStyle::Medium, &files, &diagnostic)?;
+    print(rt, DisplayStyle::Short, &files, &diagnostic)
+}
 
-    let mut stdout = rt.stdout();
-    let rich = Config::default();
+/// Prints the error in rich style, in color.
+fn print_in_color(
+    rt: &HostRuntime,
+    files: &Sources,
+    diagnostic: &Diagnostic<usize>,
+) -> Result<(), Error> {
     let styles = Styles::default();
-    let mut colored = StylesWriter::new(Ansi::new(&mut stdout), &styles);
-    emit_to_write_style(&mut colored, &rich, &files, &diagnostic)?;
+    let mut writer = StylesWriter::new(Ansi::new(rt.stdout()), &styles);
+    emit_to_write_style(&mut writer, &Config::default(), files, diagnostic)
+}
 
-    for display_style in [DisplayStyle::Medium, DisplayStyle::Short] {
-        let config = Config {
-            display_style,
-            ..Config::default()
-        };
-        emit_to_io_write(&mut stdout, &config, &files, &diagnostic)?;
-    }
-    Ok(())
+/// Prints the error in this style, as plain text.
+fn print(
+    rt: &HostRuntime,
+    display_style: DisplayStyle,
+    files: &Sources,
+    diagnostic: &Diagnostic<usize>,
+) -> Result<(), Error> {
+    let config = Config {
+        display_style,
+        ..Config::default()
+    };
+    emit_to_io_write(&mut rt.stdout(), &config, files, diagnostic)
 }

@@ -1,5 +1,6 @@
 //! The errors of the program.
 
+use crate::fields::Malformed;
 use codespan_base::files::Error;
 use std::alloc::AllocError;
 use std::io;
@@ -13,6 +14,12 @@ pub enum RunError {
     Io(io::Error),
     /// Rendering or an allocation failed.
     CannotRender(Error),
+}
+
+impl From<Malformed> for RunError {
+    fn from(_cause: Malformed) -> RunError {
+        RunError::Input
+    }
 }
 
 impl From<AllocError> for RunError {

@@ -6,8 +6,11 @@
 //! line. A text is a line with its length in bytes, and then that many bytes and a newline. An
 //! empty code is none.
 
-use crate::error::RunError;
 use std::str;
+
+/// The input is malformed.
+#[derive(Clone, Copy)]
+pub struct Malformed;
 
 /// The remaining fields.
 #[derive(Drop)]
@@ -22,39 +25,39 @@ impl<'a> Fields<'a> {
     }
 
     /// Reads a line.
-    pub fn line(&mut self) -> Result<&'a str, RunError> {
+    pub fn line(&mut self) -> Result<&'a str, Malformed> {
         match self.left.iter().position(|byte| *byte == b'\n') {
             Some(length) => self.ended(length),
-            None => Err(RunError::Input),
+            None => Err(Malformed),
         }
     }
 
     /// Reads a number.
-    pub fn number(&mut self) -> Result<usize, RunError> {
+    pub fn number(&mut self) -> Result<usize, Malformed> {
         match self.line()?.parse() {
             Ok(number) => Ok(number),
-            Err(_) => Err(RunError::Input),
+            Err(_) => Err(Malformed),
         }
     }
 
     /// Reads a text.
-    pub fn text(&mut self) -> Result<&'a str, RunError> {
+    pub fn text(&mut self) -> Result<&'a str, Malformed> {
         let length = self.number()?;
         self.ended(length)
     }
 
     /// Reads this many bytes and the newline after them.
-    fn ended(&mut self, length: usize) -> Result<&'a str, RunError> {
+    fn ended(&mut self, length: usize) -> Result<&'a str, Malformed> {
         let Some((taken, rest)) = self.left.split_at_checked(length) else {
-            return Err(RunError::Input);
+            return Err(Malformed);
         };
         let Some((b'\n', left)) = rest.split_first() else {
-            return Err(RunError::Input);
+            return Err(Malformed);
         };
         self.left = left;
         match str::from_utf8(taken) {
             Ok(text) => Ok(text),
-            Err(_) => Err(RunError::Input),
+            Err(_) => Err(Malformed),
         }
     }
 }

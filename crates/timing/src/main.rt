@@ -11,6 +11,8 @@ mod error;
 mod fields;
 mod request;
 
+use codespan_base::diagnostic::Diagnostic;
+use codespan_base::files::{Error, SimpleFiles};
 use codespan_base::term::Config;
 use codespan_views::emitting::emit_into_string;
 use error::RunError;
@@ -20,22 +22,41 @@ use std::io::{Read, Write};
 use std::time::Instant;
 
 fn main(rt: HostRuntime) -> Result<(), RunError> {
-    let alloc = rt.alloc();
-    let mut input = Vec::new(alloc);
+    let mut input = Vec::new(rt.alloc());
     rt.stdin().read_to_end(&mut input)?;
-    let mut fields = Fields::new(input.as_slice());
+    run(&rt, Fields::new(input.as_slice()))
+}
+
+/// Renders what the fields state, and writes the last output and the time.
+fn run(rt: &HostRuntime, mut fields: Fields<'_>) -> Result<(), RunError> {
     let times = fields.number()?;
-    let files = read_files(alloc, &mut fields)?;
-    let diagnostic = read_diagnostic(alloc, &mut fields)?;
+    let files = read_files(rt.alloc(), &mut fields)?;
+    let diagnostic = read_diagnostic(rt.alloc(), &mut fields)?;
 
+    let mut output = String::new(rt.alloc());
+    let start = Instant::now(rt)?;
+    render(times, &files, &diagnostic, &mut output)?;
+    let nanos = start.elapsed(rt)?.as_nanos();
+
+    write(rt, output.as_str(), nanos)
+}
+
+/// Renders this many times, and leaves the last output.
+fn render(
+    times: usize,
+    files: &SimpleFiles<&str, &str>,
+    diagnostic: &Diagnostic<usize>,
+    output: &mut String,
+) -> Result<(), Error> {
     let config = Config::default();
-    let mut output = String::new(alloc);
-    let start = Instant::now(&rt)?;
     for _ in 0..times {
-        output = emit_into_string(&config, &files, &diagnostic)?;
+        *output = emit_into_string(&config, files, diagnostic)?;
     }
-    let nanos = start.elapsed(&rt)?.as_nanos();
+    Ok(())
+}
 
+/// Writes the output, and how long rendering took.
+fn write(rt: &HostRuntime, output: &str, nanos: u128) -> Result<(), RunError> {
     rt.stdout().write_all(output.as_bytes())?;
     writeln!(rt.stderr(), "{nanos}")?;
     Ok(())

@@ -18,7 +18,7 @@ use codespan_base::term::Chars;
 use gallery_script::errors::LineError;
 use gallery_script::escape::unescape;
 use gallery_script::fields::cut;
-use gallery_script::statement::{Line, parse_line};
+use gallery_script::statement::{Line, Statement, parse_line};
 use std::alloc::Global;
 
 /// Returns the rows of an input.
@@ -51,10 +51,27 @@ fn apply_line<'input>(
     if word == "character" {
         return set_character(&mut last(rows)?.case.config.chars, rest);
     }
+    apply_case_line(alloc, rows, line)
+}
+
+/// Applies a line of the gallery's input.
+fn apply_case_line<'input>(
+    alloc: Global,
+    rows: &mut Vec<Row<'input>>,
+    line: &'input str,
+) -> Result<(), LineError> {
     match parse_line(alloc, line)? {
         Line::Ignored => Ok(()),
         Line::Title(name) => add_row(alloc, rows, name),
-        Line::Description(statement) => last(rows)?.case.apply(statement),
+        Line::Description(statement) => apply_to_last(rows, statement),
+    }
+}
+
+/// Applies a statement to the case of the last row.
+fn apply_to_last(rows: &mut Vec<Row<'_>>, statement: Statement) -> Result<(), LineError> {
+    match rows.last_mut() {
+        Some(row) => row.case.apply(statement),
+        None => Err(LineError::NoCase),
     }
 }
 

@@ -2,7 +2,7 @@
 
 ghost use Rattle.std.specs.Prelude.{◌≤◌};
 
-use crate::direct::rows::{DirectRow, ROWS};
+use crate::direct::rows::ROWS;
 use crate::failure::{FailureAt, RunError};
 use crate::judging::{STYLES, judge_direct, judge_row};
 use crate::rendering::CALLS;
@@ -11,6 +11,7 @@ use crate::rows::parse_rows;
 use crate::stops::WRITERS;
 use program_io::input::read_text;
 use std::alloc::Global;
+use std::fmt::Display;
 use std::io;
 use std::io::{Read, Write};
 
@@ -56,24 +57,24 @@ struct Sum {
 }
 
 impl Sum {
-    /// Counts a row and its runs, and returns whether all are right; otherwise it writes the error
-    /// as one line.
-    fn counts<W: Write>(
+    /// Counts a row and its runs, and writes its line: by which calls it was rendered, or the
+    /// error.
+    fn report<W: Write, D: Display + Drop>(
         &mut self,
         output: &mut W,
         name: &str,
         judged: Result<usize, FailureAt>,
-    ) -> io::Result<bool> {
+        calls: D,
+    ) -> io::Result<()> {
         self.rows = self.rows.saturating_add(1);
         match judged {
             Ok(runs) => {
                 self.runs = self.runs.saturating_add(runs);
-                Ok(true)
+                writeln!(output, "row {name}: {calls}, {WRITERS} writers")
             }
             Err(failure) => {
                 self.is_wrong = true;
-                writeln!(output, "row {name}: wrong: {failure}")?;
-                Ok(false)
+                writeln!(output, "row {name}: wrong: {failure}")
             }
         }
     }
@@ -88,8 +89,7 @@ fn judge_all<R: Read, W: Write>(
 ) -> Result<(), RunError> {
     let text = read_text(alloc, input)?;
     judge_text(alloc, text.as_str(), output, sum)?;
-    judge_direct_rows(alloc, output, sum)?;
-    Ok(())
+    judge_direct_rows(alloc, output, sum)
 }
 
 /// Makes the runs of the rows of an input.
@@ -100,58 +100,33 @@ fn judge_text<W: Write>(
     sum: &mut Sum,
 ) -> Result<(), RunError> {
     let rows = parse_rows(alloc, text)?;
-    judge_rows(alloc, rows.as_slice(), output, sum)?;
-    Ok(())
+    judge_rows(alloc, rows.as_slice(), output, sum)
 }
 
-/// Makes the runs of rows.
+/// Makes the runs of rows, and writes a line for each.
 fn judge_rows<W: Write>(
     alloc: Global,
     rows: &[Row<'_>],
     output: &mut W,
     sum: &mut Sum,
-) -> io::Result<()> {
+) -> Result<(), RunError> {
+    let (styles, calls) = (STYLES.len(), CALLS.len());
     for row in rows {
-        report_row(alloc, row, output, sum)?;
+        let judged = judge_row(alloc, row);
+        let calls = format_args!("{calls} calls in {styles} styles");
+        sum.report(output, row.case.name, judged, calls)?;
     }
     Ok(())
 }
 
-/// Makes the runs of the direct calls.
-fn judge_direct_rows<W: Write>(alloc: Global, output: &mut W, sum: &mut Sum) -> io::Result<()> {
+/// Makes the runs of the direct calls, and writes a line for each.
+fn judge_direct_rows<W: Write>(
+    alloc: Global,
+    output: &mut W,
+    sum: &mut Sum,
+) -> Result<(), RunError> {
     for row in &ROWS {
-        report_direct_row(alloc, row, output, sum)?;
-    }
-    Ok(())
-}
-
-/// Makes the runs of a direct call and writes its line.
-fn report_direct_row<W: Write>(
-    alloc: Global,
-    row: &DirectRow<'_>,
-    output: &mut W,
-    sum: &mut Sum,
-) -> io::Result<()> {
-    let (name, call) = (row.name, row.call);
-    if sum.counts(output, name, judge_direct(alloc, row))? {
-        writeln!(output, "row {name}: {call}, {WRITERS} writers")?;
-    }
-    Ok(())
-}
-
-/// Makes the runs of a row and writes its line.
-fn report_row<W: Write>(
-    alloc: Global,
-    row: &Row<'_>,
-    output: &mut W,
-    sum: &mut Sum,
-) -> io::Result<()> {
-    let (name, styles, calls) = (row.case.name, STYLES.len(), CALLS.len());
-    if sum.counts(output, name, judge_row(alloc, row))? {
-        writeln!(
-            output,
-            "row {name}: {calls} calls in {styles} styles, {WRITERS} writers"
-        )?;
+        sum.report(output, row.name, judge_direct(alloc, row), row.call)?;
     }
     Ok(())
 }

@@ -1,0 +1,51 @@
+//! The diagnostics of the cases.
+
+use crate::cases::Case;
+use codespan_base::diagnostic::{Diagnostic, Label};
+use codespan_base::files::Error;
+use std::alloc::Global;
+
+/// Returns the diagnostic, over files of these ids. Fails with `OutOfMemory`.
+pub fn diagnostic_of<FileId: Copy + Drop>(
+    alloc: Global,
+    case: &Case<'_>,
+    ids: &[FileId],
+) -> Result<Diagnostic<FileId>, Error> {
+    let mut diagnostic = headline_of(alloc, case)?;
+    for (style, file, range, message) in case.labels {
+        let id = ids.get(*file).ok_or(Error::FileMissing)?;
+        let label = Label::new(alloc, *style, *id, range.start..range.end);
+        add_label(&mut diagnostic.labels, label, message)?;
+    }
+    with_notes(diagnostic, case.notes)
+}
+
+/// Returns the diagnostic without its labels and notes.
+fn headline_of<FileId: Drop>(alloc: Global, case: &Case<'_>) -> Result<Diagnostic<FileId>, Error> {
+    let diagnostic = Diagnostic::error(alloc).with_message(case.message)?;
+    match case.code {
+        Some(code) => diagnostic.with_code(code),
+        None => Ok(diagnostic),
+    }
+}
+
+/// Adds a label with this message.
+fn add_label<FileId: Drop>(
+    labels: &mut Vec<Label<FileId>>,
+    label: Label<FileId>,
+    message: &str,
+) -> Result<(), Error> {
+    labels.push(label.with_message(message)?)?;
+    Ok(())
+}
+
+/// Adds notes.
+fn with_notes<FileId: Drop>(
+    mut diagnostic: Diagnostic<FileId>,
+    notes: &[&str],
+) -> Result<Diagnostic<FileId>, Error> {
+    for note in notes {
+        diagnostic = diagnostic.with_note(*note)?;
+    }
+    Ok(diagnostic)
+}
