@@ -33,26 +33,25 @@ fn run(rt: &HostRuntime, mut fields: Fields<'_>) -> Result<(), RunError> {
     let files = read_files(rt.alloc(), &mut fields)?;
     let diagnostic = read_diagnostic(rt.alloc(), &mut fields)?;
 
-    let mut output = String::new(rt.alloc());
     let start = Instant::now(rt)?;
-    render(times, &files, &diagnostic, &mut output)?;
+    let output = render(times, &files, &diagnostic)?;
     let nanos = start.elapsed(rt)?.as_nanos();
 
     write(rt, output.as_str(), nanos)
 }
 
-/// Renders this many times, and leaves the last output.
+/// Renders this many times, and returns the last output.
 fn render(
     times: usize,
     files: &SimpleFiles<&str, &str>,
     diagnostic: &Diagnostic<usize>,
-    output: &mut String,
-) -> Result<(), Error> {
+) -> Result<String, Error> {
     let config = Config::default();
+    let mut output = String::new(*diagnostic.labels.allocator());
     for _ in 0..times {
-        *output = emit_into_string(&config, files, diagnostic)?;
+        output = emit_into_string(&config, files, diagnostic)?;
     }
-    Ok(())
+    Ok(output)
 }
 
 /// Writes the output, and how long rendering took.
