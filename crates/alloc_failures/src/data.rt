@@ -17,24 +17,36 @@ pub enum LabelCall {
 /// A call of [`Diagnostic`].
 #[derive(Clone, Copy)]
 pub enum DiagnosticCall {
-    /// `with_code`
-    WithCode,
-    /// `with_message`
-    WithMessage,
+    /// One that takes a text.
+    WithText(TextCall),
     /// `with_label`
     WithLabel,
-    /// `with_labels`
-    WithLabels,
-    /// `with_labels_iter`
-    WithLabelsIter,
-    /// `with_note`
-    WithNote,
-    /// `with_notes`
-    WithNotes,
-    /// `with_notes_iter`
-    WithNotesIter,
+    /// `with_labels` or `with_labels_iter`
+    WithLabels(ListCall),
+    /// `with_notes` or `with_notes_iter`
+    WithNotes(ListCall),
     /// `clone`
     Clone,
+}
+
+/// A call of [`Diagnostic`] that takes a text.
+#[derive(Clone, Copy)]
+pub enum TextCall {
+    /// `with_code`
+    Code,
+    /// `with_message`
+    Message,
+    /// `with_note`
+    Note,
+}
+
+/// What a call of [`Diagnostic`] takes labels or notes from.
+#[derive(Clone, Copy)]
+pub enum ListCall {
+    /// A vector.
+    OfVector,
+    /// An iterator.
+    OfIterator,
 }
 
 /// Returns a label with this message.
@@ -110,11 +122,11 @@ pub fn judge_label(alloc: Global, call: LabelCall) -> Result<Outcome, Error> {
 /// Returns the texts that a diagnostic has to have after a call.
 fn expected_texts(call: DiagnosticCall) -> Texts<'static> {
     match call {
-        DiagnosticCall::WithCode | DiagnosticCall::Clone => Texts {
+        DiagnosticCall::WithText(TextCall::Code) | DiagnosticCall::Clone => Texts {
             code: Some("c"),
             ..INITIAL
         },
-        DiagnosticCall::WithMessage => Texts {
+        DiagnosticCall::WithText(TextCall::Message) => Texts {
             message: "another",
             ..INITIAL
         },
@@ -122,15 +134,15 @@ fn expected_texts(call: DiagnosticCall) -> Texts<'static> {
             labels: &["a", "b"],
             ..INITIAL
         },
-        DiagnosticCall::WithLabels | DiagnosticCall::WithLabelsIter => Texts {
+        DiagnosticCall::WithLabels(_) => Texts {
             labels: &["a", "b", "c"],
             ..INITIAL
         },
-        DiagnosticCall::WithNote => Texts {
+        DiagnosticCall::WithText(TextCall::Note) => Texts {
             notes: &["n", "o"],
             ..INITIAL
         },
-        DiagnosticCall::WithNotes | DiagnosticCall::WithNotesIter => Texts {
+        DiagnosticCall::WithNotes(_) => Texts {
             notes: &["n", "o", "p"],
             ..INITIAL
         },
@@ -146,48 +158,48 @@ pub fn judge_diagnostic(alloc: Global, call: DiagnosticCall) -> Result<Outcome, 
             let added = label(alloc, "b")?;
             Ok(judge_value(&initial.with_label(added), &expected))
         }
-        DiagnosticCall::WithLabels | DiagnosticCall::WithLabelsIter => {
+        DiagnosticCall::WithLabels(list) => {
             let added = labels(alloc, &["b", "c"])?;
-            Ok(judge_value(&with_labels(initial, call, added), &expected))
+            Ok(judge_value(&with_labels(initial, list, added), &expected))
         }
-        DiagnosticCall::WithNotes | DiagnosticCall::WithNotesIter => {
+        DiagnosticCall::WithNotes(list) => {
             let added = notes(alloc, &["o", "p"])?;
-            Ok(judge_value(&with_notes(initial, call, added), &expected))
+            Ok(judge_value(&with_notes(initial, list, added), &expected))
         }
         DiagnosticCall::Clone => Ok(judge_value(&expected.clone(), &expected)),
-        _ => Ok(judge_value(&with_text(initial, call), &expected)),
+        DiagnosticCall::WithText(text) => Ok(judge_value(&with_text(initial, text), &expected)),
     }
 }
 
 /// Makes a call that takes labels.
 fn with_labels(
     initial: Diagnostic<usize>,
-    call: DiagnosticCall,
+    list: ListCall,
     added: Vec<Label<usize>>,
 ) -> Result<Diagnostic<usize>, Error> {
-    match call {
-        DiagnosticCall::WithLabels => initial.with_labels(added),
-        _ => initial.with_labels_iter(added),
+    match list {
+        ListCall::OfVector => initial.with_labels(added),
+        ListCall::OfIterator => initial.with_labels_iter(added),
     }
 }
 
 /// Makes a call that takes notes.
 fn with_notes(
     initial: Diagnostic<usize>,
-    call: DiagnosticCall,
+    list: ListCall,
     added: Vec<String>,
 ) -> Result<Diagnostic<usize>, Error> {
-    match call {
-        DiagnosticCall::WithNotes => initial.with_notes(added),
-        _ => initial.with_notes_iter(added),
+    match list {
+        ListCall::OfVector => initial.with_notes(added),
+        ListCall::OfIterator => initial.with_notes_iter(added),
     }
 }
 
 /// Makes a call that takes a text.
-fn with_text(initial: Diagnostic<usize>, call: DiagnosticCall) -> Result<Diagnostic<usize>, Error> {
-    match call {
-        DiagnosticCall::WithCode => initial.with_code("c"),
-        DiagnosticCall::WithMessage => initial.with_message("another"),
-        _ => initial.with_note("o"),
+fn with_text(initial: Diagnostic<usize>, text: TextCall) -> Result<Diagnostic<usize>, Error> {
+    match text {
+        TextCall::Code => initial.with_code("c"),
+        TextCall::Message => initial.with_message("another"),
+        TextCall::Note => initial.with_note("o"),
     }
 }

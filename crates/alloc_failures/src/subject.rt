@@ -2,7 +2,7 @@
 
 use crate::cases::CaseName;
 use crate::clones::{CloneCall, judge_clone};
-use crate::data::{DiagnosticCall, LabelCall, judge_diagnostic, judge_label};
+use crate::data::{DiagnosticCall, LabelCall, ListCall, TextCall, judge_diagnostic, judge_label};
 use crate::databases::{DatabaseCall, judge_database};
 use crate::documents::{DocumentCall, judge_document};
 use crate::native::judge_native;
@@ -41,11 +41,11 @@ pub const CALLS: [(&str, Subject); 28] = [
     ("Label::clone", Subject::Label(LabelCall::Clone)),
     (
         "Diagnostic::with_code",
-        Subject::Diagnostic(DiagnosticCall::WithCode),
+        Subject::Diagnostic(DiagnosticCall::WithText(TextCall::Code)),
     ),
     (
         "Diagnostic::with_message",
-        Subject::Diagnostic(DiagnosticCall::WithMessage),
+        Subject::Diagnostic(DiagnosticCall::WithText(TextCall::Message)),
     ),
     (
         "Diagnostic::with_label",
@@ -53,23 +53,23 @@ pub const CALLS: [(&str, Subject); 28] = [
     ),
     (
         "Diagnostic::with_labels",
-        Subject::Diagnostic(DiagnosticCall::WithLabels),
+        Subject::Diagnostic(DiagnosticCall::WithLabels(ListCall::OfVector)),
     ),
     (
         "Diagnostic::with_labels_iter",
-        Subject::Diagnostic(DiagnosticCall::WithLabelsIter),
+        Subject::Diagnostic(DiagnosticCall::WithLabels(ListCall::OfIterator)),
     ),
     (
         "Diagnostic::with_note",
-        Subject::Diagnostic(DiagnosticCall::WithNote),
+        Subject::Diagnostic(DiagnosticCall::WithText(TextCall::Note)),
     ),
     (
         "Diagnostic::with_notes",
-        Subject::Diagnostic(DiagnosticCall::WithNotes),
+        Subject::Diagnostic(DiagnosticCall::WithNotes(ListCall::OfVector)),
     ),
     (
         "Diagnostic::with_notes_iter",
-        Subject::Diagnostic(DiagnosticCall::WithNotesIter),
+        Subject::Diagnostic(DiagnosticCall::WithNotes(ListCall::OfIterator)),
     ),
     (
         "Diagnostic::clone",

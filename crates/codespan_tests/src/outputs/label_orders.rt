@@ -36,7 +36,8 @@ fn output(alloc: Global) -> Result<String, Error> {
     for line in 0..50_usize {
         let carets = if line % 2 == 0 { "^^^^^" } else { "-----" };
         let rows = format!(in alloc;
-            "{:>2} │ abcdefgh\n   │ {carets}\n   │ ││││\n   │ │││m{}\n   │ ││m{}\n   │ │m{}\n   │ m{}\n",
+            "{:>2} │ abcdefgh\n   │ {carets}\n   │ ││││\n\
+            \x20  │ │││m{}\n   │ ││m{}\n   │ │m{}\n   │ m{}\n",
             line + 1,
             line + 150,
             line + 100,

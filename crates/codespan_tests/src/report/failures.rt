@@ -3,8 +3,8 @@
 use crate::report::{Failing, NO_FAILURES, OUTPUT, REQUEST, Run, assert_seen, ran};
 use std::test::Fail;
 
-/// A run whose input fails.
-static FAILED_INPUT: Run<'static> = (&REQUEST, b"abc\n", ("", "report: cannot read input\n", 1));
+/// What is seen of a run whose input fails.
+const FAILED_INPUT: (&str, &str, u8) = ("", "report: cannot read input\n", 1);
 
 #[test]
 fn failed_input(rt: HostRuntime) -> Result<(), Fail> {
@@ -14,7 +14,7 @@ fn failed_input(rt: HostRuntime) -> Result<(), Fail> {
             ..NO_FAILURES
         };
         let outcome = ran(rt.alloc(), &REQUEST, b"abc\n", failing)?;
-        assert_seen(&rt, &outcome, &FAILED_INPUT);
+        assert!(rt; outcome.seen() == FAILED_INPUT, "read {read}");
     }
     Ok(())
 }

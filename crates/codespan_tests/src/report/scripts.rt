@@ -8,10 +8,10 @@ use std::test::Fail;
 
 /// The style of a run over the file `f.txt`, its script, and what is to be seen of it: the output,
 /// what is written to `error_output`, and the status.
-pub type Run<'run> = (&'run str, &'run str, (&'run str, &'run str, u8));
+pub type ScriptRun<'run> = (&'run str, &'run str, (&'run str, &'run str, u8));
 
 /// Runs the scripts.
-fn check<R: Abort + AllocGlobal>(rt: &R, runs: &[Run<'_>]) -> Result<(), Fail> {
+fn check<R: Abort + AllocGlobal>(rt: &R, runs: &[ScriptRun<'_>]) -> Result<(), Fail> {
     for (style, input, expected) in runs {
         check_run(rt, &(&[*style, "f.txt"], input.as_bytes(), *expected))?;
     }
@@ -19,7 +19,7 @@ fn check<R: Abort + AllocGlobal>(rt: &R, runs: &[Run<'_>]) -> Result<(), Fail> {
 }
 
 /// The run of `script_run`.
-static SCRIPT_RUN: [Run<'static>; 1] = [(
+static SCRIPT_RUN: [ScriptRun<'static>; 1] = [(
     "rich",
     "message bad\nprimary 0 3 here\nnote why\n---\nabc\n",
     (
@@ -35,12 +35,16 @@ fn script_run(rt: HostRuntime) -> Result<(), Fail> {
 }
 
 /// The run of `script_unknown_word`.
-static SCRIPT_UNKNOWN_WORD: [Run<'static>; 1] = [(
+static SCRIPT_UNKNOWN_WORD: [ScriptRun<'static>; 1] = [(
     "rich",
     "message a\ncolour red\n---\n",
     (
         "",
-        "error[S1]: unknown word\n  ┌─ script:2:1\n  │\n2 │ colour red\n  │ ^^^^^^ expected severity, code, message, primary, secondary or note\n\n",
+        "error[S1]: unknown word\n\
+        \x20 ┌─ script:2:1\n\
+        \x20 │\n\
+        2 │ colour red\n\
+        \x20 │ ^^^^^^ expected severity, code, message, primary, secondary or note\n\n",
         3,
     ),
 )];
@@ -51,12 +55,18 @@ fn script_unknown_word(rt: HostRuntime) -> Result<(), Fail> {
 }
 
 /// The run of `script_repeated_word`.
-static SCRIPT_REPEATED_WORD: [Run<'static>; 1] = [(
+static SCRIPT_REPEATED_WORD: [ScriptRun<'static>; 1] = [(
     "rich",
     "code A\ncode B\n---\n",
     (
         "",
-        "error[S4]: repeated word\n  ┌─ script:2:1\n  │\n1 │ code A\n  │ ---- first given here\n2 │ code B\n  │ ^^^^ given again\n\n",
+        "error[S4]: repeated word\n\
+        \x20 ┌─ script:2:1\n\
+        \x20 │\n\
+        1 │ code A\n\
+        \x20 │ ---- first given here\n\
+        2 │ code B\n\
+        \x20 │ ^^^^ given again\n\n",
         3,
     ),
 )];
@@ -67,13 +77,17 @@ fn script_repeated_word(rt: HostRuntime) -> Result<(), Fail> {
 }
 
 /// The runs of `script_bad_number_and_end`.
-static SCRIPT_BAD_NUMBER_AND_END: [Run<'static>; 3] = [
+static SCRIPT_BAD_NUMBER_AND_END: [ScriptRun<'static>; 3] = [
     (
         "rich",
         "primary 0 x\n---\n",
         (
             "",
-            "error[S3]: bad number\n  ┌─ script:1:11\n  │\n1 │ primary 0 x\n  │           ^ expected a decimal number\n\n",
+            "error[S3]: bad number\n\
+            \x20 ┌─ script:1:11\n\
+            \x20 │\n\
+            1 │ primary 0 x\n\
+            \x20 │           ^ expected a decimal number\n\n",
             3,
         ),
     ),
@@ -99,7 +113,7 @@ fn script_bad_number_and_end(rt: HostRuntime) -> Result<(), Fail> {
 }
 
 /// The runs of `script_medium_and_short`.
-static SCRIPT_MEDIUM_AND_SHORT: [Run<'static>; 4] = [
+static SCRIPT_MEDIUM_AND_SHORT: [ScriptRun<'static>; 4] = [
     (
         "medium",
         "secondary 5 2 back\n---\nab\ncdef\n",
@@ -128,7 +142,7 @@ fn script_medium_and_short(rt: HostRuntime) -> Result<(), Fail> {
 }
 
 /// The runs of `scripts_that_are_read`.
-static SCRIPTS_THAT_ARE_READ: [Run<'static>; 7] = [
+static SCRIPTS_THAT_ARE_READ: [ScriptRun<'static>; 7] = [
     ("rich", "---", ("error: \n\n", "", 0)),
     ("rich", "---\r\nabc", ("error: \n\n", "", 0)),
     ("rich", "---\n---\nx", ("error: \n\n", "", 0)),
@@ -148,7 +162,7 @@ fn scripts_that_are_read(rt: HostRuntime) -> Result<(), Fail> {
 }
 
 /// The runs of `scripts_that_are_read_too`.
-static SCRIPTS_THAT_ARE_READ_TOO: [Run<'static>; 6] = [
+static SCRIPTS_THAT_ARE_READ_TOO: [ScriptRun<'static>; 6] = [
     (
         "rich",
         "primary 0 1  two\n---\nabc\n",

@@ -1,16 +1,20 @@
 //! Scripts with an error, each with its diagnostic.
 
-use crate::report::scripts::{Run, check};
+use crate::report::scripts::{ScriptRun, check};
 use std::test::Fail;
 
 /// The runs of `scripts_with_unknown_words`.
-static SCRIPTS_WITH_UNKNOWN_WORDS: [Run<'static>; 5] = [
+static SCRIPTS_WITH_UNKNOWN_WORDS: [ScriptRun<'static>; 5] = [
     (
         "rich",
         "---\r",
         (
             "",
-            "error[S1]: unknown word\n  ┌─ script:1:1\n  │\n1 │ ---\n  │ ^^^^ expected severity, code, message, primary, secondary or note\n\n",
+            "error[S1]: unknown word\n\
+            \x20 ┌─ script:1:1\n\
+            \x20 │\n\
+            1 │ ---\n\
+            \x20 │ ^^^^ expected severity, code, message, primary, secondary or note\n\n",
             3,
         ),
     ),
@@ -19,7 +23,11 @@ static SCRIPTS_WITH_UNKNOWN_WORDS: [Run<'static>; 5] = [
         "--- \n",
         (
             "",
-            "error[S1]: unknown word\n  ┌─ script:1:1\n  │\n1 │ --- \n  │ ^^^ expected severity, code, message, primary, secondary or note\n\n",
+            "error[S1]: unknown word\n\
+            \x20 ┌─ script:1:1\n\
+            \x20 │\n\
+            1 │ --- \n\
+            \x20 │ ^^^ expected severity, code, message, primary, secondary or note\n\n",
             3,
         ),
     ),
@@ -28,7 +36,11 @@ static SCRIPTS_WITH_UNKNOWN_WORDS: [Run<'static>; 5] = [
         " code a\n---\n",
         (
             "",
-            "error[S1]: unknown word\n  ┌─ script:1:1\n  │\n1 │  code a\n  │ ^ expected severity, code, message, primary, secondary or note\n\n",
+            "error[S1]: unknown word\n\
+            \x20 ┌─ script:1:1\n\
+            \x20 │\n\
+            1 │  code a\n\
+            \x20 │ ^ expected severity, code, message, primary, secondary or note\n\n",
             3,
         ),
     ),
@@ -37,7 +49,11 @@ static SCRIPTS_WITH_UNKNOWN_WORDS: [Run<'static>; 5] = [
         "primary\t0 1\n---\n",
         (
             "",
-            "error[S1]: unknown word\n  ┌─ script:1:1\n  │\n1 │ primary 0 1\n  │ ^^^^^^^^^ expected severity, code, message, primary, secondary or note\n\n",
+            "error[S1]: unknown word\n\
+            \x20 ┌─ script:1:1\n\
+            \x20 │\n\
+            1 │ primary 0 1\n\
+            \x20 │ ^^^^^^^^^ expected severity, code, message, primary, secondary or note\n\n",
             3,
         ),
     ),
@@ -46,7 +62,11 @@ static SCRIPTS_WITH_UNKNOWN_WORDS: [Run<'static>; 5] = [
         "bad",
         (
             "",
-            "error[S1]: unknown word\n  ┌─ script:1:1\n  │\n1 │ bad\n  │ ^^^ expected severity, code, message, primary, secondary or note\n\n",
+            "error[S1]: unknown word\n\
+            \x20 ┌─ script:1:1\n\
+            \x20 │\n\
+            1 │ bad\n\
+            \x20 │ ^^^ expected severity, code, message, primary, secondary or note\n\n",
             3,
         ),
     ),
@@ -58,13 +78,17 @@ fn scripts_with_unknown_words(rt: HostRuntime) -> Result<(), Fail> {
 }
 
 /// The runs of `scripts_with_unknown_severities`.
-static SCRIPTS_WITH_UNKNOWN_SEVERITIES: [Run<'static>; 5] = [
+static SCRIPTS_WITH_UNKNOWN_SEVERITIES: [ScriptRun<'static>; 5] = [
     (
         "rich",
         "severity\n---\n",
         (
             "",
-            "error[S2]: unknown severity\n  ┌─ script:1:9\n  │\n1 │ severity\n  │         ^ expected bug, error, warning, note or help\n\n",
+            "error[S2]: unknown severity\n\
+            \x20 ┌─ script:1:9\n\
+            \x20 │\n\
+            1 │ severity\n\
+            \x20 │         ^ expected bug, error, warning, note or help\n\n",
             3,
         ),
     ),
@@ -73,7 +97,11 @@ static SCRIPTS_WITH_UNKNOWN_SEVERITIES: [Run<'static>; 5] = [
         "severity  bug\n---\n",
         (
             "",
-            "error[S2]: unknown severity\n  ┌─ script:1:10\n  │\n1 │ severity  bug\n  │          ^^^^ expected bug, error, warning, note or help\n\n",
+            "error[S2]: unknown severity\n\
+            \x20 ┌─ script:1:10\n\
+            \x20 │\n\
+            1 │ severity  bug\n\
+            \x20 │          ^^^^ expected bug, error, warning, note or help\n\n",
             3,
         ),
     ),
@@ -82,7 +110,11 @@ static SCRIPTS_WITH_UNKNOWN_SEVERITIES: [Run<'static>; 5] = [
         "severity Error\n---\n",
         (
             "",
-            "error[S2]: unknown severity\n  ┌─ script:1:10\n  │\n1 │ severity Error\n  │          ^^^^^ expected bug, error, warning, note or help\n\n",
+            "error[S2]: unknown severity\n\
+            \x20 ┌─ script:1:10\n\
+            \x20 │\n\
+            1 │ severity Error\n\
+            \x20 │          ^^^^^ expected bug, error, warning, note or help\n\n",
             3,
         ),
     ),
@@ -91,7 +123,13 @@ static SCRIPTS_WITH_UNKNOWN_SEVERITIES: [Run<'static>; 5] = [
         "severity bug\nseverity x\n---\n",
         (
             "",
-            "error[S4]: repeated word\n  ┌─ script:2:1\n  │\n1 │ severity bug\n  │ -------- first given here\n2 │ severity x\n  │ ^^^^^^^^ given again\n\n",
+            "error[S4]: repeated word\n\
+            \x20 ┌─ script:2:1\n\
+            \x20 │\n\
+            1 │ severity bug\n\
+            \x20 │ -------- first given here\n\
+            2 │ severity x\n\
+            \x20 │ ^^^^^^^^ given again\n\n",
             3,
         ),
     ),
@@ -100,7 +138,11 @@ static SCRIPTS_WITH_UNKNOWN_SEVERITIES: [Run<'static>; 5] = [
         "severity x\nseverity bug\n---\n",
         (
             "",
-            "error[S2]: unknown severity\n  ┌─ script:1:10\n  │\n1 │ severity x\n  │          ^ expected bug, error, warning, note or help\n\n",
+            "error[S2]: unknown severity\n\
+            \x20 ┌─ script:1:10\n\
+            \x20 │\n\
+            1 │ severity x\n\
+            \x20 │          ^ expected bug, error, warning, note or help\n\n",
             3,
         ),
     ),
@@ -112,13 +154,17 @@ fn scripts_with_unknown_severities(rt: HostRuntime) -> Result<(), Fail> {
 }
 
 /// The runs of `scripts_with_bad_numbers`.
-static SCRIPTS_WITH_BAD_NUMBERS: [Run<'static>; 5] = [
+static SCRIPTS_WITH_BAD_NUMBERS: [ScriptRun<'static>; 5] = [
     (
         "rich",
         "primary\n---\n",
         (
             "",
-            "error[S3]: bad number\n  ┌─ script:1:8\n  │\n1 │ primary\n  │        ^ expected a decimal number\n\n",
+            "error[S3]: bad number\n\
+            \x20 ┌─ script:1:8\n\
+            \x20 │\n\
+            1 │ primary\n\
+            \x20 │        ^ expected a decimal number\n\n",
             3,
         ),
     ),
@@ -127,7 +173,11 @@ static SCRIPTS_WITH_BAD_NUMBERS: [Run<'static>; 5] = [
         "secondary 0\n---\n",
         (
             "",
-            "error[S3]: bad number\n  ┌─ script:1:12\n  │\n1 │ secondary 0\n  │            ^ expected a decimal number\n\n",
+            "error[S3]: bad number\n\
+            \x20 ┌─ script:1:12\n\
+            \x20 │\n\
+            1 │ secondary 0\n\
+            \x20 │            ^ expected a decimal number\n\n",
             3,
         ),
     ),
@@ -136,7 +186,11 @@ static SCRIPTS_WITH_BAD_NUMBERS: [Run<'static>; 5] = [
         "primary x y\n---\n",
         (
             "",
-            "error[S3]: bad number\n  ┌─ script:1:9\n  │\n1 │ primary x y\n  │         ^ expected a decimal number\n\n",
+            "error[S3]: bad number\n\
+            \x20 ┌─ script:1:9\n\
+            \x20 │\n\
+            1 │ primary x y\n\
+            \x20 │         ^ expected a decimal number\n\n",
             3,
         ),
     ),
@@ -145,7 +199,11 @@ static SCRIPTS_WITH_BAD_NUMBERS: [Run<'static>; 5] = [
         "primary 0 18446744073709551616\n---\n",
         (
             "",
-            "error[S3]: bad number\n  ┌─ script:1:11\n  │\n1 │ primary 0 18446744073709551616\n  │           ^^^^^^^^^^^^^^^^^^^^ expected a decimal number\n\n",
+            "error[S3]: bad number\n\
+            \x20 ┌─ script:1:11\n\
+            \x20 │\n\
+            1 │ primary 0 18446744073709551616\n\
+            \x20 │           ^^^^^^^^^^^^^^^^^^^^ expected a decimal number\n\n",
             3,
         ),
     ),
@@ -154,7 +212,11 @@ static SCRIPTS_WITH_BAD_NUMBERS: [Run<'static>; 5] = [
         "primary +1 2\n---\n",
         (
             "",
-            "error[S3]: bad number\n  ┌─ script:1:9\n  │\n1 │ primary +1 2\n  │         ^^ expected a decimal number\n\n",
+            "error[S3]: bad number\n\
+            \x20 ┌─ script:1:9\n\
+            \x20 │\n\
+            1 │ primary +1 2\n\
+            \x20 │         ^^ expected a decimal number\n\n",
             3,
         ),
     ),
@@ -166,13 +228,20 @@ fn scripts_with_bad_numbers(rt: HostRuntime) -> Result<(), Fail> {
 }
 
 /// The runs of `scripts_without_end`.
-static SCRIPTS_WITHOUT_END: [Run<'static>; 3] = [
+static SCRIPTS_WITHOUT_END: [ScriptRun<'static>; 3] = [
     (
         "rich",
         "code é路\nnote\ncode b\r\n---\n",
         (
             "",
-            "error[S4]: repeated word\n  ┌─ script:3:1\n  │\n1 │ code é路\n  │ ---- first given here\n2 │ note\n3 │ code b\n  │ ^^^^ given again\n\n",
+            "error[S4]: repeated word\n\
+            \x20 ┌─ script:3:1\n\
+            \x20 │\n\
+            1 │ code é路\n\
+            \x20 │ ---- first given here\n\
+            2 │ note\n\
+            3 │ code b\n\
+            \x20 │ ^^^^ given again\n\n",
             3,
         ),
     ),
@@ -181,7 +250,11 @@ static SCRIPTS_WITHOUT_END: [Run<'static>; 3] = [
         "message a\r",
         (
             "",
-            "error[S5]: missing end of script\n  ┌─ script:1:11\n  │\n1 │ message a\n  │            expected ---\n\n",
+            "error[S5]: missing end of script\n\
+            \x20 ┌─ script:1:11\n\
+            \x20 │\n\
+            1 │ message a\n\
+            \x20 │            expected ---\n\n",
             3,
         ),
     ),
