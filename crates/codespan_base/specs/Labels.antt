@@ -46,8 +46,8 @@ last_line f x = line_of f.starts x.end
 abbrev pub is_single : FileModel → LabelModel → Bool
 is_single f x = first_line f x == last_line f x
 
--- the label with its drawn range, where its line starts at this byte: at least one byte long, and
--- counted from there
+-- the label with its drawn range, where its line starts at this byte: counted from there, and at
+-- least one byte long, but its end is at most the greatest usize
 abbrev pub from_line_start : ℕ → LabelModel → LabelModel
 from_line_start start x = record x {
   start = x.start - start;
@@ -91,15 +91,15 @@ single_labels f labels l =
     sorted (reverse (map (drawn_label f)
     (filter (λ x. is_single f x && (first_line f x == l)) labels)))
 
--- ---- multi-line label marks of a line
+-- ---- lane marks of a line
 
--- what a multi-line label does on a line
+-- a multi-line label mark: what a multi-line label does on a line
 pub data MultiLabel : Type 0 where
   Top : ℕ → MultiLabel
   Left : MultiLabel
   Bottom : ℕ → Stream → MultiLabel
 
--- a multi-line label mark: what a label does on a line, with the label's lane and style
+-- a lane mark: a multi-line label mark with its lane and style
 pub record LaneMark : Type 0 where
   pub lane : ℕ
   pub style : LabelStyle
@@ -118,12 +118,12 @@ part_at s e l start x =
 abbrev pub part_on : FileModel → ℕ → LabelModel → Option MultiLabel
 part_on f l x = part_at (first_line f x) (last_line f x) l (line_start f l) x
 
--- the multi-line label mark, where the label has one
+-- the lane mark, where the label has one
 abbrev pub lane_mark_of : ℕ → LabelModel → Option MultiLabel → Option LaneMark
 lane_mark_of lane x None = None
 lane_mark_of lane x (Some part) = Some (record { lane = lane; style = x.style; part = part })
 
--- the multi-line label marks of a line, in the order of the lanes
+-- the lane marks of a line, in the order of the lanes
 abbrev pub lane_marks_on : FileModel → List LabelModel → ℕ → List LaneMark
 lane_marks_on f labels l =
     filter_map (λ (entry : ℕ × LabelModel). lane_mark_of entry.0 entry.1 (part_on f l entry.1))

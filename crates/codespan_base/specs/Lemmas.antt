@@ -1,4 +1,5 @@
--- Lemmas that the laws of files rest on. A reader may skip them: nothing is defined here.
+-- Lemmas that the laws of files rest on. A reader may skip them: no contract rests
+-- on what is defined here.
 pub mod Lines
 pub use Rattle.codespan_files.specs.Lemmas.Simple
 pub use Rattle.codespan_files.specs.Lemmas.Mapped

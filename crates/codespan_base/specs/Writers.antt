@@ -37,7 +37,7 @@ pub record WritesNothing {T E : Type 0} (old : T) (result : Result (Unit {0}) E)
   pub ok : result ≡ Ok tt
   pub same : new ≡ old
 
--- ---- the two that take style marks
+-- ---- the two that own their writer and take style marks
 
 -- a writer that spells style marks so and has these bytes, owns what it writes to, and has not
 -- failed

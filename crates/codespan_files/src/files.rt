@@ -61,12 +61,16 @@ pub struct Location {
 ///   that is the last line.
 /// - `line_range` returns a line's start and end. Of a file that exists it fails with
 ///   [`Error::LineTooLarge`] exactly where the index is not below the number of lines.
+/// - An id that names no file has a model too: `exists` is false, the name is the empty text, and
+///   the text is empty.
 ///
 /// A name is the text that its `Display` states; where it states none, nothing is known of it.
 ///
 /// # Examples
 ///
-/// A database of two files. `docs/FILES.md` goes through another one step by step.
+/// A database of two files, the module `files::checked` of `crates/examples`, which also defines
+/// `Part`, `Checked`, `part_name` and `one_part`. `docs/FILES.md` goes through another one step by
+/// step.
 ///
 /// ```rust
 /// impl<'a, 'text: 'a> Files<'a> for Checked<'text> {
@@ -207,7 +211,9 @@ pub trait Files<'a> {
     /// Returns the column number of a byte on a line as users see it: in most databases the
     /// characters from the line's start to the byte, counted from 1, as
     /// [`default_column_number`](codespan_reporting::files::default_column_number) has it. Both
-    /// indices count from 0.
+    /// indices count from 0. An implementation can not call that function, since that would be a
+    /// cycle; it writes
+    /// [`column_number_by_default!`](codespan_base::column_number_by_default) as its body.
     ///
     /// # Errors
     ///
@@ -226,7 +232,8 @@ pub trait Files<'a> {
 
     /// Returns the line number and the column number of a byte, as users see them: in most
     /// databases as [`default_location`](codespan_reporting::files::default_location) has it. The
-    /// byte index counts from 0.
+    /// byte index counts from 0. An implementation can not call that function, since that would be
+    /// a cycle; it writes [`location_by_default!`](codespan_base::location_by_default) as its body.
     ///
     /// # Errors
     ///

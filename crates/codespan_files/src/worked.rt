@@ -36,7 +36,7 @@ fn greatest_indices()
     ensures reversed { column_index_of (codes "ab") 5 1 9 ≡ 0 }
     ensures range { simple_failure (codes "a\nb") (LineRange (2 ^ 64 - 1))
         ≡ Some (LineTooLarge (2 ^ 64 - 1) 1) }
-    ensures answered { simple_failure (codes "a\nb") (LineNumber (2 ^ 64 - 2)) ≡ None }
+    ensures succeeds { simple_failure (codes "a\nb") (LineNumber (2 ^ 64 - 2)) ≡ None }
     ensures number { (simple_file None (codes "a\nb")).number (2 ^ 64 - 2) ≡ 2 ^ 64 - 1 }
     ensures failed { simple_failure (codes "a\nb") (LineNumber (2 ^ 64 - 1))
         ≡ Some (LineTooLarge (2 ^ 64 - 1) (2 ^ 64 - 2)) }
@@ -45,7 +45,7 @@ fn greatest_indices()
 /// Computes the numbers after a set number so great that the next line's number does not fit.
 fn mapped_overflow()
     ensures greatest { number_from (setting (with_number 1 (2 ^ 64 - 1) []) 1) 1 ≡ 2 ^ 64 - 1 }
-    ensures answered { let settings = with_number 1 (2 ^ 64 - 1) [] in
+    ensures succeeds { let settings = with_number 1 (2 ^ 64 - 1) [] in
         mapped_failure (codes "a\nb\nc\nd") settings (LineNumber 1) ≡ None }
     ensures failed { let settings = with_number 1 (2 ^ 64 - 1) [] in
         mapped_failure (codes "a\nb\nc\nd") settings (LineNumber 2) ≡ Some (LineTooLarge 2 1) }

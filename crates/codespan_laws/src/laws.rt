@@ -33,8 +33,9 @@ ghost use Rattle.codespan_picture.specs.StatedPicture.{stated_loci};
 ghost use Rattle.codespan_picture.specs.Rows.{Locus, RowContext, Lanes, Line};
 ghost use Rattle.codespan_picture.specs.Snippets.{LabeledFileModel};
 
-/// A rich output means its labels, whatever the loci in it: all the laws of its lines, carets,
-/// lanes, breaks, messages and numbers together.
+/// States that a rich output means its labels, whatever the loci in it: all the laws of its lines,
+/// carets, lanes, breaks, messages and numbers together, where ids are compared by an equivalence
+/// and each file has a line.
 pub fn outputs_mean_labels<Id>()
     ensures { (renderer view : Config) (files : FileDatabase Id) (d : Diagnostic Id)
         → IsEquivalence files.same → ((id : Id) → 0 < line_count (files.file id))
@@ -43,38 +44,40 @@ pub fn outputs_mean_labels<Id>()
 
 // ---- drawn lines and breaks
 
-/// The drawn lines and the breaks follow from the shown lines: between two of them one line is
-/// filled in, and of two or more there is a break.
+/// States that the drawn lines and the breaks follow from the shown lines: between two of them one
+/// line is filled in, and of two or more there is a break.
 pub fn rows_are_of_shown_lines()
     ensures { (config : Config) (s : LabeledFileModel) → RowsOfShown config s }
 {}
 
-/// There is a break row exactly where shown lines are three or more apart.
+/// States that there is a break row exactly where shown lines are three or more apart.
 pub fn breaks_are_gaps()
     ensures { (config : Config) (s : LabeledFileModel) → BreaksAreGaps config s }
 {}
 
-/// The bars of a break row are those of the labels that cover every line that is left out.
+/// States that the bars of a break row are those of the labels that go through every line that is
+/// left out, where no label of the file starts after its end.
 pub fn breaks_are_covered()
     ensures { (config : Config) (layout : Layout) (s : LabeledFileModel)
         → StartsBeforeEnds s.labels → BreaksAreCovered config layout s }
 {}
 
-/// The source rows of a file number at most twice what its labels show.
+/// States that the source rows of a file number at most twice what its labels show.
 pub fn source_rows_are_few()
     ensures { (config : Config) (s : LabeledFileModel) → SourceRowsAreFew config s }
 {}
 
 // ---- carets and pointers
 
-/// The text of a caret row, between its lanes and its trailing message, is the caret cells of its
-/// line.
+/// States that the text of a caret row, between its lanes and its trailing message, is the caret
+/// cells of its line.
 pub fn carets_are_cells()
     ensures { (context : RowContext) → CaretsAreCells context }
 {}
 
-/// Pointers are in the first cells of the characters in which hanging labels start, and their
-/// messages begin there.
+/// States that pointers are in the first cells of the characters in which hanging labels start, and
+/// that the message of a label that starts at a character boundary begins there, where each of
+/// these characters has a cell.
 pub fn pointers_are_cells()
     ensures { (context : RowContext) (line : Line)
         → StartsHaveCells line.labels (line_metrics context line) → PointersAreCells context line }
@@ -82,25 +85,28 @@ pub fn pointers_are_cells()
 
 // ---- lanes
 
-/// On source and break rows a lane has a bar exactly where its label covers the line.
+/// States that on source and break rows a lane has a bar exactly on the lines after its label's
+/// first, up to its last, where no label of the file starts after its end.
 pub fn bars_are_labels()
     ensures { (layout : Layout) (s : LabeledFileModel)
         → StartsBeforeEnds s.labels → BarsAreLabels layout s }
 {}
 
-/// Each lane of a file is one line: a top corner, bars, and a bottom corner below it.
+/// States that each lane is one line, a top corner, bars, and a bottom corner below it, where no
+/// label of the file starts after its end. In the classic layout rows of the first line may leave
+/// the lane out below a corner in the source row.
 pub fn lanes_are_lines()
     ensures { (config : Config) (layout : Layout) (s : LabeledFileModel)
         → StartsBeforeEnds s.labels → LanesAreLines config layout s }
 {}
 
-/// After the bar left of the source the stream of each row that has lanes has what the row shows in
-/// each of them.
+/// States that after the bar left of the source the stream of each row that has lanes has what the
+/// row shows in each of them.
 pub fn lanes_are_shown()
     ensures { (context : RowContext) → LanesAreShown context }
 {}
 
-/// Each lane takes two characters.
+/// States that each lane takes two characters.
 pub fn lanes_take_two()
     ensures { (context : RowContext) (leading : ℕ) (row : LaneRow) (lanes : Lanes)
         → row_length (row_lanes context leading row lanes) ≡ 2 * lanes.count }
@@ -108,7 +114,8 @@ pub fn lanes_take_two()
 
 // ---- messages
 
-/// Each label with a message has it exactly once in a rich output, and no other message is in it.
+/// States that each label with a message has it exactly once in a rich output, and that no other
+/// message is in it, where ids are compared by an equivalence and each file has a line.
 pub fn messages_appear_once<Id>()
     ensures { (renderer view : Config) (files : FileDatabase Id) (d : Diagnostic Id)
         → IsEquivalence files.same → ((id : Id) → 0 < line_count (files.file id))
@@ -116,68 +123,70 @@ pub fn messages_appear_once<Id>()
         → MessagesAppearOnce renderer view files d loci }
 {}
 
-/// Of a line's labels with a message at most one trails, and each other one hangs.
+/// States that of a line's labels with a message at most one trails, and each other one hangs.
 pub fn each_message_trails_or_hangs()
     ensures { EachTrailsOrHangs }
 {}
 
 // ---- the order of labels
 
-/// A reordering of the labels changes nothing in a rich output, its loci included, if it keeps the
-/// order of the files by their first labels, of each file's multi-line labels, and of the labels of
-/// one line and one drawn range. The ids of the files need only be equal, as equal ids name one
-/// file.
+/// States that a reordering of the labels changes nothing in a rich output, its loci included, if
+/// it keeps the order of the files by their first labels, of each file's multi-line labels, and of
+/// the labels of one line and one drawn range, where ids are compared by an equivalence and equal
+/// ids have one file. The ids of the files in the two orders need only be equal.
 pub fn order_is_free<Id>()
     ensures { (same : Id → Id → Bool) (file : Id → FileModel) → OrderIsFree same file }
 {}
 
-/// `sorted` is the one list in the order of ranges, and of equal ranges in the order of its
-/// argument. That is a line's labels in reverse, so of equal ranges the last label comes first.
+/// States that `sorted` is the one list in the order of ranges, and of equal ranges in the order of
+/// its argument. That is a line's labels in reverse, so of equal ranges the last label comes first.
 pub fn labels_are_sorted()
     ensures { (labels : List LabelModel) → SortsLabels labels }
 {}
 
 // ---- every row
 
-/// The number of each drawn line fits the padding: in the unbroken layout always, and in the
-/// classic one where the configuration shows no lines after labels and the numbers never fall.
+/// States that the number of each drawn line fits the padding: in the unbroken layout always, and
+/// in the classic one where the configuration shows no lines after labels and the numbers never
+/// fall.
 pub fn padding_fits()
     ensures { (config : Config) (ss : List LabeledFileModel) → PaddingFits config ss }
 {}
 
-/// Other characters, with a text before the locus of as many characters, change no row's number of
-/// characters.
+/// States that other characters, with a text before the locus of as many characters, change no
+/// row's number of characters.
 pub fn characters_are_free()
     ensures { CharactersAreFree }
 {}
 
-/// The last style mark of a row, if it has one, is a reset.
+/// States that the last style mark of a row, if it has one, is a reset.
 pub fn rows_end_reset()
     ensures { RowsEndReset }
 {}
 
 // ---- names, texts and colors
 
-/// An output has loci: those with the names that the files state are loci of it.
+/// States that an output has loci: those with the names that the files state are loci of it.
 pub fn stated_loci_are_loci<Id>()
     ensures { (files : FileDatabase Id) (d : Diagnostic Id) (style : DisplayStyle)
         → AreLoci files d style (stated_loci files d style) }
 {}
 
-/// Where the names of the labels' files are stated, the output is the picture of the diagnostic.
+/// States that the output is the picture of the diagnostic, where the names of the labels' files
+/// are stated.
 pub fn stated_names_make_the_picture<Id>()
     ensures { (files : FileDatabase Id) (d : Diagnostic Id) → OutputIsPicture files d }
 {}
 
-/// Where they are stated, the headers before a failed lookup are those of the labels before the
-/// first one for which a lookup fails.
+/// States that the headers before a failed lookup are those of the labels before the first one for
+/// which a lookup fails, where the names of the labels' files are stated.
 pub fn stated_names_make_the_headers<Id>()
     ensures { (files : FileDatabase Id) (d : Diagnostic Id) → HeadersAreBeforeFailure files d }
 {}
 
-/// An output is UTF-8, style marks aside, in each style: where its characters are characters, its
-/// files are lawful, and the names of its loci are UTF-8; and so is the picture, where the stated
-/// names are UTF-8.
+/// States that an output is UTF-8, style marks aside, in each style: where its characters are
+/// characters, its files are lawful, and the names of its loci are UTF-8; and so is the picture,
+/// where the stated names are UTF-8.
 pub fn outputs_are_texts<Id>()
     ensures output { (style : DisplayStyle) (renderer view : Config)
         (files : FileDatabase Id) (d : Diagnostic Id) → OutputIsText style renderer view files d }
@@ -185,9 +194,9 @@ pub fn outputs_are_texts<Id>()
         (files : FileDatabase Id) (d : Diagnostic Id) → PictureIsText style renderer view files d }
 {}
 
-/// Colors change no text: however a writer spells style marks, what it writes of an output is the
-/// plain text and, among it, the bytes of style marks. Over `NoColor` these are none, whatever the
-/// styles.
+/// States that colors change no text: however a writer spells style marks, what it writes of an
+/// output is the plain text and, among it, the bytes of style marks. Over `NoColor` these are none,
+/// whatever the styles.
 pub fn colors_change_no_text<Id>()
     ensures spelled { (spelling : Spelling) (style : DisplayStyle) (renderer view : Config)
         (files : FileDatabase Id) (d : Diagnostic Id) (loci : List Locus)

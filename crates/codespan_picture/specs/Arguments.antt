@@ -1,4 +1,4 @@
--- Labels, multi-line label marks and loci as the calls of a renderer take them.
+-- Labels, lane marks and loci as the calls of a renderer take them.
 use Rattle.std.specs.Prelude.{ℕ, Bool, List, map, string_bytes, ◌+◌, true, ◌&&◌, nat_lt, nat_le, [], ◌∷◌}
 use Rattle.std.specs.Borrow.{Bor}
 use Rattle.std.specs.declared.ops.Range.{Range}
@@ -14,7 +14,7 @@ use Rattle.codespan_picture.specs.Rows.{Locus, Lanes}
 abbrev pub SingleLabelTuple : Type 0
 SingleLabelTuple = LabelStyle × Range ℕ × Bor (List ℕ)
 
--- a multi-line label mark, as an argument
+-- a lane mark, as an argument
 abbrev pub LaneMarkTuple : Type 0
 LaneMarkTuple = ℕ × LabelStyle × rust_multi_label.MultiLabel
 
@@ -36,17 +36,17 @@ starts_from least (x ∷ xs) = nat_le least x.start && starts_from x.start xs
 abbrev pub starts_in_order : List LabelModel → Bool
 starts_in_order xs = starts_from 0 xs
 
--- what a multi-line label does on a line
+-- a multi-line label mark
 abbrev pub multi_label_view : rust_multi_label.MultiLabel → MultiLabel
 multi_label_view (rust_variant.Top start) = Top start
 multi_label_view rust_variant.Left = Left
 multi_label_view (rust_variant.Bottom end message) = Bottom end (bytes message.now)
 
--- a multi-line label mark
+-- a lane mark
 abbrev pub lane_mark_view : LaneMarkTuple → LaneMark
 lane_mark_view m = record { lane = m.0; style = m.1; part = multi_label_view m.2 }
 
--- the multi-line label marks in a row's lanes
+-- the lane marks in a row's lanes
 abbrev pub lanes_of : ℕ → List LaneMarkTuple → Lanes
 lanes_of count ms = record { count = count; marks = map lane_mark_view ms }
 
@@ -56,8 +56,8 @@ ascend_from count least [] = true
 ascend_from count least (m ∷ ms) =
     nat_le least m.lane && nat_lt m.lane count && ascend_from count (m.lane + 1) ms
 
--- the one condition on a caller that passes multi-line label marks: their lanes ascend strictly and
--- are below the number of lanes
+-- the one condition on a caller that passes lane marks: their lanes ascend strictly and are below
+-- the number of lanes
 abbrev pub lanes_in_order : ℕ → List LaneMarkTuple → Bool
 lanes_in_order count ms = ascend_from count 0 (map lane_mark_view ms)
 

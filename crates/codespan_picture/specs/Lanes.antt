@@ -15,13 +15,12 @@ abbrev pub source_shape : ℕ → MultiLabel → Shape
 source_shape leading (Top start) = if begins_in_source_row leading start then TopCorner else Space
 source_shape leading _ = Bar
 
--- what it shows in an empty row, and in a break row, which has the multi-line label marks of the
--- line after it
+-- what it shows in an empty row, and in a break row, which has the lane marks of the line after it
 abbrev pub plain_shape : MultiLabel → Shape
 plain_shape (Top start) = Space
 plain_shape _ = Bar
 
--- whether a lane goes on below its corner in a source row
+-- whether a lane goes on in every row below its corner in a source row
 abbrev pub is_unbroken : Layout → Bool
 is_unbroken Classic = false
 is_unbroken Unbroken = true
@@ -42,7 +41,7 @@ underline_shape layout leading corner_lane lane (Bottom end message) =
     if lane == corner_lane then BottomCorner else if nat_lt lane corner_lane then Space else Bar
 
 -- a kind of row, as far as its lanes go: a source row; an empty or a break row; a caret, pointer or
--- hanging row; the underline row of a multi-line label mark
+-- hanging row; the underline row of a lane mark
 pub data LaneRow : Type 0 where
   Source : LaneRow
   Plain : LaneRow
@@ -56,23 +55,23 @@ row_shape layout leading Plain lane = plain_shape
 row_shape layout leading Below lane = below_shape layout leading
 row_shape layout leading (Underline m) lane = underline_shape layout leading m.lane lane
 
--- the multi-line label mark, in its own underline row, whose corner is left of the lane
+-- the lane mark, in its own underline row, whose corner is left of the lane
 abbrev pub row_crossing : LaneRow → ℕ → Option LaneMark
 row_crossing (Underline m) lane = if nat_lt m.lane lane then Some m else None
 row_crossing _ lane = None
 
--- ---- the multi-line label marks of a row
+-- ---- the lane marks of a row
 
--- the multi-line label mark of the line in a lane
+-- the lane mark of the line in a lane
 abbrev pub lane_mark_in : List LaneMark → ℕ → Option LaneMark
 lane_mark_in marks lane = find (λ (m : LaneMark). m.lane == lane) marks
 
--- what a row shows in a lane, from the multi-line label mark in it
+-- what a row shows in a lane, from the lane mark in it
 abbrev pub shape_of : (MultiLabel → Shape) → Option LaneMark → Shape
 shape_of shape None = Space
 shape_of shape (Some m) = shape m.part
 
--- the style of a multi-line label mark, primary where there is none
+-- the style of a lane mark, primary where there is none
 abbrev pub style_of_lane_mark : Option LaneMark → LabelStyle
 style_of_lane_mark None = Primary
 style_of_lane_mark (Some m) = m.style
@@ -95,8 +94,8 @@ crossing_cells severity chars (Some m) n =
     style_mark (LabelMark severity m.style) ++ repeated n (corner_line chars m.part)
     ++ style_mark Reset
 
--- the two characters of a lane; `crossing` is the multi-line label mark, in its own underline row,
--- whose corner is left of the lane
+-- the two characters of a lane; `crossing` is the lane mark, in its own underline row, whose corner
+-- is left of the lane
 unfoldable pub lane_cells : Severity → Chars → Option LaneMark → LabelStyle → Shape → Stream
 lane_cells severity chars crossing style Space = crossing_cells severity chars crossing 2
 lane_cells severity chars crossing style Bar =

@@ -31,5 +31,5 @@ pub mod Padding
 pub mod Picture
 pub mod StatedPicture
 pub mod Lookups
--- labels, multi-line label marks and loci as calls take them
+-- labels, lane marks and loci as calls take them
 pub mod Arguments

@@ -1,5 +1,5 @@
--- The parts of rows as streams. Each definition is shut: a chain of calls matches its parts from
--- left to right.
+-- The parts of rows as streams. Those that are unfoldable stay folded in a proof unless it opens
+-- them: a chain of calls then matches their parts from left to right.
 use Rattle.std.specs.Prelude.{ℕ, ◌+◌, ◌-◌, Bool, true, ◌||◌, ◌&&◌, ◌==◌, nat_lt, nat_le, max, List, [], ◌∷◌, ◌++◌, filter, length, fold, flat_map, Option, Some, None, if◌then◌else◌, codes, decimal}
 use Rattle.std.specs.List.{list_any, range_with_len}
 use Rattle.codespan_picture.specs.Types.{Severity, LabelStyle, Primary, Secondary, Chars}
@@ -71,7 +71,7 @@ label_message severity style message =
 
 -- ---- the lanes of a row
 
--- one lane, from the multi-line label mark in it
+-- one lane, from the lane mark in it
 unfoldable pub lane_of : RowContext → Option LaneMark → (MultiLabel → Shape) → Option LaneMark
     → Stream
 lane_of context crossing shape lane_mark =

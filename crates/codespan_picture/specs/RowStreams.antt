@@ -1,5 +1,5 @@
--- The stream of each row, and of many. Each definition is shut: a chain of calls matches its parts
--- from left to right.
+-- The stream of each row, and of many. Those that are unfoldable stay folded in a proof unless it
+-- opens them: a chain of calls then matches their parts from left to right.
 use Rattle.std.specs.Prelude.{ℕ, List, [], ◌∷◌, ◌++◌, flat_map, Option, Some, None, codes}
 use Rattle.codespan_picture.specs.Types.{Severity, Chars}
 use Rattle.codespan_base.specs.Streams.{Stream, Header, HeaderMessage, NoteBullet, SourceBorder, LabelMark, Reset, style_mark, glyph, bytes, space, newline}

@@ -26,7 +26,7 @@ pub record RowContext : Type 0 where
   pub severity : Severity
   pub padding : ℕ
 
--- the multi-line label marks in a row's lanes
+-- the lane marks in a row's lanes
 pub record Lanes : Type 0 where
   pub count : ℕ
   pub marks : List LaneMark

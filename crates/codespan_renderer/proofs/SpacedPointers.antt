@@ -1,5 +1,5 @@
 -- The pointers of a line with spaces between them.
-use Rattle.std.proofs.Common.{◌≡◌, ℕ, ◌+◌, ◌-◌, ◌<◌, ◌≤◌, min, Bool, true, false, cond, nat_lt, nat_le, List, [], ◌∷◌, ◌++◌, length, drop, get_or, drop-cons, add-one, Option, Some, None, refl, sym, ap, ◌∙◌, arith, append_assoc, append-nil, lt-ltb}
+use Rattle.std.proofs.Common.{◌≡◌, ℕ, ◌+◌, ◌-◌, ◌<◌, ◌≤◌, min, Bool, true, false, cond, nat_lt, nat_le, List, [], ◌∷◌, ◌++◌, length, drop, get_or, drop-cons, add-one, Option, Some, None, ◌⊎◌, inl, inr, refl, sym, ap, ◌∙◌, arith, append_assoc, append-nil, lt-ltb}
 use Rattle.std.proofs.lemmas.Bool.Decides.{nat_tests}
 use Rattle.std.proofs.lemmas.Grind.{common_steps}
 use Rattle.codespan_base.specs.declared.diagnostic.LabelStyle.{LabelStyle}
@@ -15,10 +15,11 @@ use Rattle.codespan_picture.specs.RowParts.{starts_in, pointer_style, max_label_
 use Rattle.codespan_renderer.specs.Private.BestStyles.{pointer_found}
 use Rattle.std.specs.Prelude.{if◌then◌else◌}
 use Rattle.std.specs.List.{list_any}
-use Rattle.codespan_renderer.proofs.ScannedPointers.{spaces_none, spaces_due, spaces_past, pointer_none, pointer_some}
+use Rattle.codespan_renderer.proofs.ScannedPointers.{spaces_none, spaces_due, spaces_past, spaces_last, pointer_none, pointer_some}
 use Rattle.codespan_picture.proofs.HangingStarts.{any-below, any-hanging, starts_in-low}
 use Rattle.codespan_picture.proofs.Consecutive.{AreConsecutive, none-before}
 use Rattle.codespan_rows.proofs.UnderlineRows.{width-in, width-out}
+use Rattle.codespan_rows.proofs.ScanState.{ConsecutiveWithin, ScanState}
 
 -- ---- a loop over the pointers
 
@@ -201,3 +202,29 @@ pub spaced-near : (context : RowContext) (labels : List LabelModel) (cs : List M
     → spaced context edge 0 (pointers_before before ps) ≡ pointers context labels (metrics_before before cs)
 spaced-near context labels cs ps before edge adjacent near found wide =
     rw (wide, found) (spaced-before context labels before cs adjacent near)
+
+-- ---- the end of a scan
+
+-- what a scan has left lies as all characters of a line do
+left-consecutive : (top byte_index column : ℕ) (cs : List Metrics) → ConsecutiveWithin top byte_index column cs → AreConsecutive byte_index column cs
+left-consecutive top byte_index column [] within = tt
+left-consecutive top byte_index column (c ∷ cs) within =
+    let here = within.0 in (here.here, here.at, omega (arith, here.some), left-consecutive top (byte_index + c.bytes) (column + c.width) cs within.1)
+
+-- where the next character does not begin before the byte index, or begins past the greatest start, only the pending spaces are still to be written
+pub spaces_rest : (context : RowContext) (labels : List LabelModel) (before reach top run : ℕ) (cs left : List Metrics) (c : Metrics) (pending : ℕ) → reach ≡ max_label_start labels → cs ≡ c ∷ left → ScanState top run cs
+    → (before ≤ c.byte_index) ⊎ ((c.byte_index < before) × (reach < c.byte_index)) → spaces pending ++ pointers context labels (metrics_before before cs) ≡ spaces pending
+spaces_rest context labels before reach top run cs left c pending far step state either =
+    let next : ConsecutiveWithin top state.byte_index state.column (c ∷ left) = rw step at state.consecutive_within in
+    by_either next.0.here (left-consecutive top state.byte_index state.column cs state.consecutive_within) either
+  where
+    by_either : c.byte_index ≡ state.byte_index → AreConsecutive state.byte_index state.column cs → (before ≤ c.byte_index) ⊎ ((c.byte_index < before) × (reach < c.byte_index))
+        → spaces pending ++ pointers context labels (metrics_before before cs) ≡ spaces pending
+    by_either here adjacent (inl late) =
+        let low : before ≤ state.byte_index = omega (arith, here, late) in
+        let none : metrics_before before cs ≡ [] = none-before (λ q. nat_lt q before) state.byte_index state.column cs adjacent (λ q from. grind (arith, nat_tests)) in
+        rw none (spaces_last context labels before [] pending refl)
+    by_either here adjacent (inr (early, late)) =
+        let past : max_label_start labels < state.byte_index = omega (arith, here, late, far) in
+        let none = (far-char_metrics context labels state.byte_index state.column (metrics_before before cs) (before-consecutive before state.byte_index state.column cs adjacent) past).drawn in
+        rw none (append-nil (spaces pending))

@@ -1,4 +1,4 @@
--- A cursor over multi-line label marks in order finds the mark of each lane.
+-- A cursor over lane marks in order finds the mark of each lane.
 use Rattle.std.proofs.Common.{◌≡◌, ℕ, suc, zero, ◌+◌, ◌-◌, ◌<◌, ◌≤◌, Bool, true, false, cond, eqb, leb, ltb, ◌&&◌, List, [], ◌∷◌, ◌++◌, map, length, get_or, drop, None, Some, refl, sym, ap, ◌∙◌, arith, add-one, drop-cons, max}
 use Rattle.std.specs.Prelude.{IsTrue, flat_map}
 use Rattle.std.specs.List.{range_with_len}
@@ -17,7 +17,7 @@ use Rattle.codespan_picture.specs.Rows.{RowContext, Lanes}
 use Rattle.codespan_picture.specs.RowParts.{lane_of, row_lanes}
 use Rattle.codespan_rows.proofs.RowEquations.{spaces-add}
 
--- ---- the first of the remaining multi-line label marks
+-- ---- the first of the remaining lane marks
 
 pub here-is : (marks : List LaneMarkTuple) (next lane : ℕ) (d : LaneMarkTuple) → next < length marks → (get_or marks next d).0 ≡ lane → lane_mark_here (drop next marks) lane ≡ Some (get_or marks next d)
 here-is marks next lane d h e = rw (drop-cons marks next d h, eq-eqb (get_or marks next d).0 lane e) refl
@@ -39,7 +39,7 @@ after-none marks next lane h = let e : drop next marks ≡ [] = grind (arith, co
 
 pub ruleset taking = (here-is, after-here, later-is, after-later, none-is, after-none)
 
--- ---- multi-line label marks in order
+-- ---- lane marks in order
 
 and_left : (a b : Bool) → (a && b) ≡ true → a ≡ true
 and_left true b h = refl
@@ -49,7 +49,7 @@ and_right : (a b : Bool) → (a && b) ≡ true → b ≡ true
 and_right true b h = h
 and_right false b h = absurd (false≢true h)
 
--- the first of multi-line label marks in order
+-- the first of lane marks in order
 record IsFirst (count from : ℕ) (m : LaneMarkTuple) (ms : List LaneMarkTuple) : Type 0 where
   above : from ≤ m.0
   after : IsTrue (ascend_from count (m.0 + 1) (map lane_mark_view ms))
@@ -67,7 +67,7 @@ none_below count from (m ∷ ms) lane h k =
     let e : eqb m.0 lane ≡ false = ne_eqb m.0 lane (λ e. omega (arith, e, f.above)) in
     rw e (none_below count (m.0 + 1) ms lane f.after (omega (arith, f.above)))
 
--- at a lane the cursor finds its multi-line label mark
+-- at a lane the cursor finds its lane mark
 here-cons : (count lane : ℕ) (m : LaneMarkTuple) (ms : List LaneMarkTuple) (b : Bool) → eqb m.0 lane ≡ b → IsTrue (ascend_from count lane (map lane_mark_view (m ∷ ms)))
     → lane_mark_in (map lane_mark_view (m ∷ ms)) lane ≡ option_map lane_mark_view (lane_mark_here (m ∷ ms) lane)
 here-cons count lane m ms true e h = rw e refl
@@ -79,7 +79,7 @@ here : (count lane : ℕ) (marks : List LaneMarkTuple) → IsTrue (ascend_from c
 here count lane [] h = refl
 here count lane (m ∷ ms) h = here-cons count lane m ms _ refl h
 
--- the multi-line label marks that remain agree with those of later lanes
+-- the lane marks that remain agree with those of later lanes
 left-cons : (count lane : ℕ) (m : LaneMarkTuple) (ms : List LaneMarkTuple) (k : ℕ) (b : Bool) → eqb m.0 lane ≡ b → lane < k
     → lane_mark_in (map lane_mark_view (m ∷ ms)) k ≡ lane_mark_in (map lane_mark_view (lane_marks_after (m ∷ ms) lane)) k
 left-cons count lane m ms k true e h =
@@ -110,7 +110,7 @@ order count lane (m ∷ ms) h = order-cons count lane m ms _ refl h
 
 -- ---- the cursor
 
--- a number of lanes from this one on, each with the multi-line label mark that the cursor finds
+-- a number of lanes from this one on, each with the lane mark that the cursor finds
 abbrev pub cursor : RowContext → ℕ → RustLaneRow → ℕ → ℕ → List LaneMarkTuple → Stream
 cursor context leading row lane zero marks = []
 cursor context leading row lane (suc n) marks = lane_of_view context leading row lane (lane_mark_here marks lane) ++ cursor context leading row (lane + 1) n (lane_marks_after marks lane)
@@ -122,12 +122,12 @@ cursor-next context leading row i n marks h = let e : n - i ≡ suc (n - (i + 1)
 pub cursor-end : (context : RowContext) (leading : ℕ) (row : RustLaneRow) (i n : ℕ) (marks : List LaneMarkTuple) → n ≤ i → cursor context leading row i (n - i) marks ≡ []
 cursor-end context leading row i n marks h = let e : n - i ≡ 0 = omega arith in rw e refl
 
--- a lane without a multi-line label mark, and without a line through it, is spaces
+-- a lane without a lane mark, and without a line through it, is spaces
 empty-lane : (context : RowContext) (leading : ℕ) (row : RustLaneRow) (lane : ℕ) → row_crossing (lane_row_view row) lane ≡ None → lane_of_view context leading row lane None ≡ spaces 2
 unfolding lane_of_view lane_of lane_cells crossing_cells
 empty-lane context leading row lane clear = rw clear refl
 
--- where no multi-line label mark is taken all remain
+-- where no lane mark is taken all remain
 left-all : (marks : List LaneMarkTuple) (lane : ℕ) → lane_mark_here marks lane ≡ None → lane_marks_after marks lane ≡ marks
 left-all [] lane none = refl
 left-all (m ∷ ms) lane none = by (eqb m.0 lane) none
@@ -161,7 +161,7 @@ cursor-past context leading row marks (suc n) lane rest clear bare =
     ∙ sym (append_assoc (spaces 2) (spaces (n + n)) (cursor context leading row (lane + 1 + n) rest marks))
     ∙ (λ i. (sym (spaces-add 2 (n + n)) ∙ ap spaces two) i ++ cursor context leading row (b i) rest marks)
 
--- the empty lanes up to that of the next multi-line label mark are written at once
+-- the empty lanes up to that of the next lane mark are written at once
 pub cursor-empty : (context : RowContext) (leading : ℕ) (row : RustLaneRow) (marks : List LaneMarkTuple) (count lane until empty : ℕ) → lane < count → until ≤ count → lane + empty ≤ max lane until
     → ((k : ℕ) → lane ≤ k → k < lane + empty → row_crossing (lane_row_view row) k ≡ None) → ((k : ℕ) → k < until → lane_mark_here marks k ≡ None)
     → cursor context leading row lane (count - lane) marks ≡ spaces (empty + empty) ++ cursor context leading row (lane + empty) (count - (lane + empty)) marks

@@ -38,7 +38,7 @@ no-label c (x ∷ xs) e =
     let parts = or_parts (is_primary x) (list_any is_primary xs) e in
     rw (parts.0, no-label c xs parts.1) refl
 
--- none of these multi-line label marks is of a primary label that covers the character
+-- none of these lane marks is of a primary label that covers the character
 no-lane_mark : (c : Metrics) (ms : List LaneMark) → list_any (λ (m : LaneMark). is_primary_style m.style) ms ≡ false
     → list_any (λ (m : LaneMark). is_primary_style m.style && part_covers c m.part) ms ≡ false
 no-lane_mark c [] e = refl

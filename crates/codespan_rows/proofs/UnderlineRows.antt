@@ -29,7 +29,7 @@ use Rattle.codespan_rows.specs.RenderedRows.{later_notes}
 
 -- ---- the lanes of an underline row
 
--- the lanes of the row of a multi-line label mark are those of that kind of row
+-- the lanes of the row of a lane mark are those of that kind of row
 pub underline_lanes_are : (context : RowContext) (leading : ℕ) (lane : ℕ) (style : LabelStyle) (part : rust_multi_label.MultiLabel) (lanes : Lanes)
     → row_lanes_view context leading (Underline lane style part) lanes ≡ row_lanes context leading (kind.Underline (lane_mark_view (lane, style, part))) lanes
 unfolding row_lanes_view row_lanes
@@ -96,11 +96,11 @@ pub ruleset widths_before = (width-before-first, width-before-next)
 
 -- ---- the underlines of a line
 
--- the rows of the remaining multi-line label marks
+-- the rows of the remaining lane marks
 abbrev pub underlines_of : RowContext → Line → List LaneMarkTuple → Stream
 underlines_of context line marks = stream_of_rows context (map (UnderlineRow line) (filter (λ (m : LaneMark). has_underline (leading_whitespace line.text) m.part) (map lane_mark_view marks)))
 
--- the multi-line label mark at an index has a row
+-- the lane mark at an index has a row
 pub underlines-in : (context : RowContext) (line : Line) (leading : ℕ) (marks : List LaneMarkTuple) (i : ℕ) (d : LaneMarkTuple) → i < length marks
     → leading ≡ leading_whitespace line.text → has_underline leading (multi_label_view (get_or marks i d).2) ≡ true
     → underlines_of context line (drop i marks) ≡ underline_row context line (lane_mark_view (get_or marks i d)) ++ newline ++ underlines_of context line (drop (i + 1) marks)

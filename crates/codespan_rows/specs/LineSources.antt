@@ -24,7 +24,7 @@ char_input x row = record {
 abbrev pub characters_of : CharInput → List Metrics
 characters_of x = char_metrics x.tab_width x.text
 
--- the characters of the line, and the position after the last one
+-- the characters of the line, and the placeholder after the last one
 abbrev pub characters_to_end_of : CharInput → List Metrics
 characters_to_end_of x = char_metrics_to_end x.tab_width x.text
 

@@ -22,7 +22,7 @@ context_view x = record {
   padding = x.padding;
 }
 
--- the multi-line label marks in a row's lanes
+-- the lane marks in a row's lanes
 abbrev pub lanes_view : lanes.Lanes → Lanes
 lanes_view x = lanes_of x.count x.marks.now
 
@@ -43,7 +43,7 @@ lane_row_view rust_variant.Below = Below
 lane_row_view (rust_variant.Underline corner_lane style part) =
     Underline (lane_mark_view (corner_lane, style, part))
 
--- one lane of a kind of row, from the multi-line label mark in it
+-- one lane of a kind of row, from the lane mark in it
 unfoldable pub lane_of_view : RowContext → ℕ → RustLaneRow → ℕ → Option LaneMarkTuple → Stream
 lane_of_view context leading row lane lane_mark =
     lane_of context (row_crossing (lane_row_view row) lane)

@@ -11,13 +11,13 @@ abbrev pub is_from : Option ℕ → ℕ → Bool
 is_from None byte_index = false
 is_from (Some start) byte_index = nat_le start byte_index
 
--- the label of one of the multi-line label marks covers the character
+-- the label of one of the lane marks covers the character
 abbrev pub is_marked : PrimaryLaneMarks → Metrics → Bool
 is_marked m c = is_from m.from c.byte_index || nat_le (c.byte_index + c.bytes) m.to
 
--- they cover the characters that the labels of the primary ones of these multi-line label marks
+-- they cover the characters that the labels of the primary ones of these lane marks
 -- cover
 abbrev pub CoversAsMarks : List LaneMark → PrimaryLaneMarks → Type 0
-CoversAsMarks marks given =
-    (c : Metrics) → 1 ≤ c.bytes → is_marked given c
+CoversAsMarks marks covered =
+    (c : Metrics) → 1 ≤ c.bytes → is_marked covered c
     ≡ list_any (λ (m : LaneMark). is_primary_style m.style && part_covers c m.part) marks

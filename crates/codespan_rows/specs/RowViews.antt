@@ -59,7 +59,7 @@ lane_glyph_view x crossing style own =
 abbrev pub line_metrics_view : context.RowContext → line.Line → List Metrics
 line_metrics_view x row = char_metrics x.tab_width row.text.now
 
--- the characters of a line, and the position after the last one
+-- the characters of a line, and the placeholder after the last one
 abbrev pub line_metrics_to_end_view : context.RowContext → line.Line → List Metrics
 line_metrics_to_end_view x row = char_metrics_to_end x.tab_width row.text.now
 

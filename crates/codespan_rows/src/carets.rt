@@ -64,7 +64,7 @@ fn write_caret_run<W: PutStyle>(
 
 /// Writes the end of a run of carets of one style, and the style mark of the next.
 #[inline(always)]
-pub fn end_caret_run<W: PutStyle>(
+fn end_caret_run<W: PutStyle>(
     w: &mut W,
     context: RowContext<'_>,
     previous: Option<LabelStyle>,
@@ -80,7 +80,7 @@ pub fn end_caret_run<W: PutStyle>(
     change_style(w, context.severity, previous, style)
 }
 
-/// Writes the carets under the characters of a line, the last of which is the position after the
+/// Writes the carets under the characters of a line, the last of which is the placeholder after the
 /// text.
 fn write_carets<W: PutStyle, S: LineSource>(
     w: &mut W,
@@ -113,6 +113,10 @@ fn write_carets<W: PutStyle, S: LineSource>(
 }
 
 /// Writes a label's message in its style.
+///
+/// # Errors
+///
+/// The writer's error; a prefix has then been written.
 pub fn write_message<W: PutStyle>(
     w: &mut W,
     severity: Severity,
@@ -129,7 +133,7 @@ pub fn write_message<W: PutStyle>(
 /// Writes a space and the trailing message, where there is one.
 #[tactic(auto, using(codespan_base::proofs::Writes::write_chains), unfolding(codespan_picture::specs::RowParts::trailing_message))]
 #[inline(always)]
-pub fn write_trailing<W: PutStyle>(
+fn write_trailing<W: PutStyle>(
     w: &mut W,
     severity: Severity,
     trailing: Option<&SingleLabel<'_>>,
@@ -147,6 +151,15 @@ pub fn write_trailing<W: PutStyle>(
 }
 
 /// Writes the carets under a line, and the message that trails them.
+///
+/// # Requires
+///
+/// - `source` has the context's tab width, and the text and labels of `line`.
+/// - `messages.trailing` is the label of `line` whose message trails, where there is one.
+///
+/// # Errors
+///
+/// The writer's error; a prefix has then been written.
 pub fn write_caret_row<W: PutStyle, S: LineSource>(
     w: &mut W,
     context: RowContext<'_>,

@@ -33,6 +33,10 @@ pub trait CharCursor: Drop {
 
     /// Returns the style of the caret under the character that it has just returned: primary where
     /// a primary label is over it, secondary where only others are, and `None` where no label is.
+    ///
+    /// # Requires
+    ///
+    /// The cursor has just returned `metrics`.
     fn style_under(&mut self, metrics: Metrics) -> Option<LabelStyle>
         requires { has_returned metrics self.old }
         ensures left { left self.new ≡ left self.old }
@@ -40,6 +44,10 @@ pub trait CharCursor: Drop {
         ensures style { result ≡ style_under (single_label_views (labels self.old)) metrics };
 
     /// Returns whether a primary label is over the character that it has just returned.
+    ///
+    /// # Requires
+    ///
+    /// The cursor has just returned `metrics`.
     fn has_primary(&mut self, metrics: Metrics) -> bool
         requires { has_returned metrics self.old }
         ensures left { left self.new ≡ left self.old }

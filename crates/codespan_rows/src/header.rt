@@ -77,6 +77,10 @@ fn write_header_start<W: PutStyle>(
 }
 
 /// Writes the header of a diagnostic.
+///
+/// # Errors
+///
+/// The writer's error; a prefix has then been written.
 pub fn write_header<W: PutStyle>(
     w: &mut W,
     locus: Option<&Locus>,
@@ -106,6 +110,10 @@ fn start_text<'a>(chars: &'a Chars<'_>) -> &'a str
 }
 
 /// Writes the start of a file's snippet.
+///
+/// # Errors
+///
+/// The writer's error; a prefix has then been written.
 pub fn write_snippet_start<W: PutStyle>(
     w: &mut W,
     chars: &Chars<'_>,

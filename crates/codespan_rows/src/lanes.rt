@@ -30,7 +30,7 @@ pub enum LaneRow<'d> {
     Plain,
     /// A caret, pointer or hanging row.
     Below,
-    /// The underline row of a multi-line label mark: its lane, its style, and its part.
+    /// The underline row of a lane mark: its lane, its style, and its part.
     Underline(usize, LabelStyle, MultiLabel<'d>),
 }
 
@@ -39,11 +39,11 @@ pub enum LaneRow<'d> {
 struct Lane<'d> {
     /// Its index, from the left.
     index: usize,
-    /// The multi-line label mark in it, if any.
+    /// The lane mark in it, if any.
     mark: Option<(usize, LabelStyle, MultiLabel<'d>)>,
 }
 
-/// Returns the multi-line label mark of an underline row whose corner is left of the lane.
+/// Returns the lane mark of an underline row whose corner is left of the lane.
 fn crossing<'d>(row: LaneRow<'d>, lane: usize) -> Option<(usize, LabelStyle, MultiLabel<'d>)>
     ensures { option_map lane_mark_view result ≡ row_crossing (lane_row_view row.entry) lane }
 {
@@ -53,7 +53,7 @@ fn crossing<'d>(row: LaneRow<'d>, lane: usize) -> Option<(usize, LabelStyle, Mul
             style,
             part,
         )),
-        _ => None,
+        LaneRow::Source | LaneRow::Plain | LaneRow::Below | LaneRow::Underline(_, _, _) => None,
     }
 }
 
@@ -63,7 +63,7 @@ fn corner_line(chars: &Chars<'_>, part: MultiLabel<'_>) -> char
 {
     match part {
         MultiLabel::Top(_) => chars.multi_top,
-        _ => chars.multi_bottom,
+        MultiLabel::Left | MultiLabel::Bottom(_, _) => chars.multi_bottom,
     }
 }
 
@@ -142,7 +142,7 @@ fn write_lane_cells<W: PutStyle>(
     }
 }
 
-/// Writes one lane, from the multi-line label mark in it.
+/// Writes one lane, from the lane mark in it.
 #[tactic(auto, unfolding(codespan_picture::specs::RowParts::lane_of, crate::specs::LineViews::lane_of_view))]
 fn inner_gutter_column<W: PutStyle>(
     w: &mut W,
@@ -166,7 +166,7 @@ fn inner_gutter_column<W: PutStyle>(
     }
 }
 
-/// Returns the next multi-line label mark, if it is in the lane, and the index of the one after it.
+/// Returns the next lane mark, if it is in the lane, and the index of the one after it.
 #[tactic(auto, using(crate::proofs::LaneCursor::taking))]
 fn take_lane_mark<'d>(
     marks: &[(usize, LabelStyle, MultiLabel<'d>)],
@@ -185,7 +185,7 @@ fn take_lane_mark<'d>(
     (None, next)
 }
 
-/// Returns the lane of the next multi-line label mark, or the number of lanes where none is left.
+/// Returns the lane of the next lane mark, or the number of lanes where none is left.
 fn next_lane(lanes: Lanes<'_, '_>, next: usize) -> usize
     ensures bare { (lane : ℕ) → lane < result
         → lane_mark_here (drop next lanes.entry.marks.now) lane ≡ None }
@@ -201,8 +201,8 @@ fn next_lane(lanes: Lanes<'_, '_>, next: usize) -> usize
 /// The greatest number of empty lanes that are written at once.
 const MAX_EMPTY_LANES: usize = 32;
 
-/// Returns how many lanes from this one on, up to that of the next multi-line label mark, are
-/// empty: no line runs through them from a corner. At most as many as are written at once.
+/// Returns how many lanes from this one on, up to that of the next lane mark, are empty: no line
+/// runs through them from a corner. At most as many as are written at once.
 fn num_empty_lanes(row: LaneRow<'_>, lane: usize, until: usize) -> usize
     ensures bare { (other : ℕ) → lane ≤ other → other < lane + result
         → row_crossing (lane_row_view row.entry) other ≡ None }
@@ -211,13 +211,17 @@ fn num_empty_lanes(row: LaneRow<'_>, lane: usize, until: usize) -> usize
 {
     let end = match row {
         LaneRow::Underline(corner_lane, _, _) => until.min(corner_lane.saturating_add(1)),
-        _ => until,
+        LaneRow::Source | LaneRow::Plain | LaneRow::Below => until,
     };
     end.saturating_sub(lane).min(MAX_EMPTY_LANES)
 }
 
 /// Writes the lanes of a row, from left to right. Most rows have none, which is tested before any
 /// call.
+///
+/// # Errors
+///
+/// The writer's error; a prefix has then been written.
 #[inline(always)]
 pub fn inner_gutter<W: PutStyle>(
     w: &mut W,

@@ -24,7 +24,7 @@ pub struct RowContext<'config> {
     pub padding: usize,
 }
 
-/// The multi-line label marks in a row's lanes, in the order of the lanes.
+/// The lane marks in a row's lanes, in the order of the lanes.
 #[derive(Clone, Copy)]
 pub struct Lanes<'row, 'd> {
     /// The number of lanes.

@@ -31,7 +31,7 @@ pub trait LineSource {
         ensures left { Self.Cursor.left result ≡ characters_of (of self.now) }
         ensures labels { Self.Cursor.labels result ≡ (of self.now).labels };
 
-    /// Returns a cursor over the characters of the line and the position after the last one, and
+    /// Returns a cursor over the characters of the line and the placeholder after the last one, and
     /// the column at which it begins. It may leave out characters that end before all labels start
     /// and before the byte index `end`.
     fn characters_from_labels(&self, end: usize) -> (u128, Self::Cursor)
@@ -55,6 +55,16 @@ pub trait LineSource {
     }
 
     /// Writes all pointers of the line.
+    ///
+    /// # Requires
+    ///
+    /// - This has the context's tab width, and the text and labels of `line`.
+    /// - The labels with a message in `messages.before` and `messages.after` are those of `line`
+    ///   that hang.
+    ///
+    /// # Errors
+    ///
+    /// The writer's error; a prefix has then been written.
     fn caret_pointers<W: PutStyle>(
         &self,
         w: &mut W,
@@ -68,8 +78,18 @@ pub trait LineSource {
             (pointers_view context.entry line.entry (line_metrics_view context.entry line.entry))
             result (W.sink w.new) };
 
-    /// Writes the pointers of the characters that begin before this byte index, which is at most
-    /// the greatest start of a label.
+    /// Writes the pointers of the characters that begin before this byte index.
+    ///
+    /// # Requires
+    ///
+    /// - This has the context's tab width, and the text and labels of `line`.
+    /// - The labels with a message in `messages.before` and `messages.after` are those of `line`
+    ///   that hang.
+    /// - `before` is at most the greatest start of a label of `line`.
+    ///
+    /// # Errors
+    ///
+    /// The writer's error; a prefix has then been written.
     fn caret_pointers_before<W: PutStyle>(
         &self,
         w: &mut W,

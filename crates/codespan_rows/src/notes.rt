@@ -16,6 +16,10 @@ use codespan_base::term::config::put_style::PutStyle;
 use codespan_base::term::config::writing::{put_all, put_char};
 
 /// Writes a row of a snippet without source.
+///
+/// # Errors
+///
+/// The writer's error; a prefix has then been written.
 pub fn write_empty<W: PutStyle>(
     w: &mut W,
     context: RowContext<'_>,
@@ -32,6 +36,10 @@ pub fn write_empty<W: PutStyle>(
 }
 
 /// Writes the row of a break.
+///
+/// # Errors
+///
+/// The writer's error; a prefix has then been written.
 pub fn write_break<W: PutStyle>(
     w: &mut W,
     context: RowContext<'_>,
@@ -79,6 +87,10 @@ fn write_later_piece<W: PutStyle>(w: &mut W, padding: usize, piece: &str) -> Res
 }
 
 /// Writes the rows of a note: one for each of its lines.
+///
+/// # Errors
+///
+/// The writer's error; a prefix has then been written.
 pub fn write_note<W: PutStyle>(
     w: &mut W,
     chars: &Chars<'_>,

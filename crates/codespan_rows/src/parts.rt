@@ -19,6 +19,10 @@ use codespan_picture::arguments::Locus;
 use codespan_picture::padding::count_digits;
 
 /// Writes the end of a row: a line feed.
+///
+/// # Errors
+///
+/// The writer's error; a prefix has then been written.
 pub fn write_newline<W: PutStyle>(w: &mut W) -> Result<(), W::Error>
     ensures { Writes (W.sink w.old) newline result (W.sink w.new) }
 {
@@ -26,6 +30,10 @@ pub fn write_newline<W: PutStyle>(w: &mut W) -> Result<(), W::Error>
 }
 
 /// Writes a space.
+///
+/// # Errors
+///
+/// The writer's error; a prefix has then been written.
 pub fn write_space<W: PutStyle>(w: &mut W) -> Result<(), W::Error>
     ensures { Writes (W.sink w.old) space result (W.sink w.new) }
 {
@@ -33,6 +41,10 @@ pub fn write_space<W: PutStyle>(w: &mut W) -> Result<(), W::Error>
 }
 
 /// Writes the outer gutter without a line number: the padding and one space more.
+///
+/// # Errors
+///
+/// The writer's error; a prefix has then been written.
 #[inline(always)]
 pub fn outer_gutter<W: PutStyle>(w: &mut W, padding: usize) -> Result<(), W::Error>
     ensures { Writes (W.sink w.old) (gutter padding) result (W.sink w.new) }
@@ -42,6 +54,10 @@ pub fn outer_gutter<W: PutStyle>(w: &mut W, padding: usize) -> Result<(), W::Err
 
 /// Writes the outer gutter with a line number: aligned to the right in the padding, or in full
 /// where it is wider.
+///
+/// # Errors
+///
+/// The writer's error; a prefix has then been written.
 #[inline(always)]
 pub fn outer_gutter_number<W: PutStyle>(
     w: &mut W,
@@ -58,6 +74,10 @@ pub fn outer_gutter_number<W: PutStyle>(
 }
 
 /// Writes the left border.
+///
+/// # Errors
+///
+/// The writer's error; a prefix has then been written.
 #[inline(always)]
 pub fn border_left<W: PutStyle>(w: &mut W, chars: &Chars<'_>) -> Result<(), W::Error>
     ensures { Writes (W.sink w.old) (border chars.now) result (W.sink w.new) }
@@ -68,6 +88,10 @@ pub fn border_left<W: PutStyle>(w: &mut W, chars: &Chars<'_>) -> Result<(), W::E
 }
 
 /// Writes the left border of a break row.
+///
+/// # Errors
+///
+/// The writer's error; a prefix has then been written.
 pub fn border_left_break<W: PutStyle>(w: &mut W, chars: &Chars<'_>) -> Result<(), W::Error>
     ensures { Writes (W.sink w.old) (break_border chars.now) result (W.sink w.new) }
 {
@@ -77,6 +101,10 @@ pub fn border_left_break<W: PutStyle>(w: &mut W, chars: &Chars<'_>) -> Result<()
 }
 
 /// Writes one character in a label's style.
+///
+/// # Errors
+///
+/// The writer's error; a prefix has then been written.
 #[inline(always)]
 pub fn write_label_glyph<W: PutStyle>(
     w: &mut W,
@@ -92,6 +120,10 @@ pub fn write_label_glyph<W: PutStyle>(
 }
 
 /// Writes the style mark where the style changes, and the reset where it ends.
+///
+/// # Errors
+///
+/// The writer's error; a prefix has then been written.
 #[tactic(auto, using(codespan_base::proofs::Writes::write_chains), unfolding(codespan_picture::specs::RowParts::change))]
 pub fn change_style<W: PutStyle>(
     w: &mut W,
@@ -111,6 +143,10 @@ pub fn change_style<W: PutStyle>(
 }
 
 /// Writes a locus: name, line number and column number.
+///
+/// # Errors
+///
+/// The writer's error; a prefix has then been written.
 #[inline(always)]
 pub fn snippet_locus<W: PutStyle>(w: &mut W, at: &Locus) -> Result<(), W::Error>
     ensures { Writes (W.sink w.old) (locus (locus_view at.now)) result (W.sink w.new) }
@@ -124,6 +160,10 @@ pub fn snippet_locus<W: PutStyle>(w: &mut W, at: &Locus) -> Result<(), W::Error>
 }
 
 /// Writes the start of each row under a line: outer gutter, left border, inner gutter and a space.
+///
+/// # Errors
+///
+/// The writer's error; a prefix has then been written.
 #[inline(always)]
 pub fn write_row_start<W: PutStyle>(
     w: &mut W,

@@ -36,6 +36,10 @@ pub fn max_label_start(labels: &[SingleLabel<'_>]) -> usize
 }
 
 /// Writes the spaces before a pointer, and the pointer.
+///
+/// # Errors
+///
+/// The writer's error; a prefix has then been written.
 #[inline(always)]
 pub fn caret_pointer<W: PutStyle>(
     w: &mut W,
@@ -156,6 +160,16 @@ pub fn has_any_message(labels: &[SingleLabel<'_>]) -> bool
 }
 
 /// Writes the pointers and a row for each hanging message, where there is one.
+///
+/// # Requires
+///
+/// - `source` has the context's tab width, and the text and labels of `line`.
+/// - The labels with a message in `messages.before` and `messages.after` are those of `line` that
+///   hang, and the two are a prefix and a suffix of its labels.
+///
+/// # Errors
+///
+/// The writer's error; a prefix has then been written.
 pub fn write_hanging<W: PutStyle, S: LineSource>(
     w: &mut W,
     context: RowContext<'_>,

@@ -21,7 +21,7 @@ pub struct PrimaryLaneMarks {
 }
 
 impl PrimaryLaneMarks {
-    /// Returns what the labels of these multi-line label marks cover.
+    /// Returns what the labels of these lane marks cover.
     pub fn of(marks: &[(usize, LabelStyle, MultiLabel<'_>)]) -> PrimaryLaneMarks
         ensures { CoversAsMarks (map lane_mark_view marks.now) result }
     {
@@ -68,6 +68,10 @@ impl PrimaryLaneMarks {
     }
 
     /// Returns whether one of them covers the character.
+    ///
+    /// # Requires
+    ///
+    /// The character has a byte.
     pub fn covers_char(self, metrics: Metrics) -> bool
         requires { 1 ≤ metrics.bytes }
         ensures { result ≡ is_marked self metrics }

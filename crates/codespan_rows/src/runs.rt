@@ -10,6 +10,10 @@ use codespan_base::term::config::writing::{put_repeated, put_spaces};
 const MAX_COUNT: u128 = usize::MAX as u128;
 
 /// Writes `count` spaces.
+///
+/// # Errors
+///
+/// The writer's error; a prefix has then been written.
 #[inline(always)]
 pub fn write_spaces<W: PutStyle>(w: &mut W, count: u128) -> Result<(), W::Error>
     ensures { Writes (W.sink w.old) (spaces count) result (W.sink w.new) }
@@ -23,6 +27,10 @@ pub fn write_spaces<W: PutStyle>(w: &mut W, count: u128) -> Result<(), W::Error>
 }
 
 /// Writes one character `count` times.
+///
+/// # Errors
+///
+/// The writer's error; a prefix has then been written.
 pub fn write_repeated<W: PutStyle>(w: &mut W, c: char, count: u128) -> Result<(), W::Error>
     ensures { Writes (W.sink w.old) (repeated count c) result (W.sink w.new) }
 {

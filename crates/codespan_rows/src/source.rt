@@ -30,7 +30,7 @@ use codespan_picture::arguments::{MultiLabel, SingleLabel};
 use codespan_picture::char_metrics::Metrics;
 
 /// Returns the style of a character of the source: primary where a primary label covers it, inside
-/// the line or by these multi-line label marks.
+/// the line or by these lane marks.
 fn text_style<C: CharCursor>(
     characters: &mut C,
     marks: PrimaryLaneMarks,
@@ -64,7 +64,7 @@ fn has_primary(labels: &[SingleLabel<'_>]) -> bool
     false
 }
 
-/// Returns whether one of these multi-line label marks is primary.
+/// Returns whether one of these lane marks is primary.
 fn has_primary_lane_mark(marks: &[(usize, LabelStyle, MultiLabel<'_>)]) -> bool
     ensures { result
         ≡ list_any (λ (m : LaneMark). is_primary_style m.style) (map lane_mark_view marks.now) }
@@ -87,7 +87,7 @@ fn has_tab(text: &str) -> bool
 /// Returns whether the text of a line is written unchanged: it has no tab, and no label of the line
 /// is primary.
 #[inline(always)]
-pub fn is_plain(line: Line<'_, '_>) -> bool
+fn is_plain(line: Line<'_, '_>) -> bool
     ensures { result ≡ true → (context : RowContextSpec)
         → colored_text context (line_view line.entry) ≡ bytes line.entry.text.now }
 {
@@ -95,8 +95,8 @@ pub fn is_plain(line: Line<'_, '_>) -> bool
 }
 
 /// Returns the byte index from which on the text of a line is written unchanged: no primary label
-/// covers it, inside the line or by these multi-line label marks, and it has no tab. It is the end
-/// of the text where there is no other.
+/// covers it, inside the line or by these lane marks, and it has no tab. It is the end of the text
+/// where there is no other.
 #[inline(always)]
 fn plain_from(line: Line<'_, '_>, marks: PrimaryLaneMarks) -> usize
     requires marks { CoversAsMarks (map lane_mark_view line.lanes.marks.now) marks }
@@ -177,7 +177,7 @@ fn write_text<W: PutStyle, S: LineSource>(
 }
 
 /// Writes the end of a run of text of one style, and the style mark of the next.
-pub fn end_text_run<W: PutStyle>(
+fn end_text_run<W: PutStyle>(
     w: &mut W,
     context: RowContext<'_>,
     text: &[u8],
@@ -193,7 +193,7 @@ pub fn end_text_run<W: PutStyle>(
 
 /// Writes a line number, the left border, the lanes and a space.
 #[inline(always)]
-pub fn write_source_lanes<W: PutStyle>(
+fn write_source_lanes<W: PutStyle>(
     w: &mut W,
     context: RowContext<'_>,
     line: Line<'_, '_>,
@@ -208,6 +208,14 @@ pub fn write_source_lanes<W: PutStyle>(
 }
 
 /// Writes the source row of a line.
+///
+/// # Requires
+///
+/// `source` has the context's tab width, and the text and labels of `line`.
+///
+/// # Errors
+///
+/// The writer's error; a prefix has then been written.
 pub fn write_source_row<W: PutStyle, S: LineSource>(
     w: &mut W,
     context: RowContext<'_>,

@@ -117,8 +117,7 @@ fn write_underline_lanes<W: PutStyle>(
     )
 }
 
-/// Writes the underline row of a multi-line label mark, with `width` cells between its corner and
-/// its caret.
+/// Writes the underline row of a lane mark, with `width` cells between its corner and its caret.
 fn write_underline_row<W: PutStyle>(
     w: &mut W,
     context: RowContext<'_>,
@@ -154,6 +153,14 @@ fn has_underline(leading: usize, part: MultiLabel<'_>) -> bool
 }
 
 /// Writes the underline rows of a line, in the order of the lanes.
+///
+/// # Requires
+///
+/// `source` has the context's tab width, and the text and labels of `line`.
+///
+/// # Errors
+///
+/// The writer's error; a prefix has then been written.
 pub fn write_underlines<W: PutStyle, S: LineSource>(
     w: &mut W,
     context: RowContext<'_>,

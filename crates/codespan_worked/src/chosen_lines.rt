@@ -8,7 +8,7 @@ ghost use Rattle.codespan_base.specs.declared.diagnostic.LabelStyle.TheVariants.
 ghost use Rattle.codespan_base.specs.declared.term.config.Layout.TheVariants.{Unbroken};
 ghost use Rattle.codespan_worked.specs.Worked.{text_file, label, message_only, with_code, with_note, rich, rows, nat_files, nat_error};
 
-/// Two lines of context before a label.
+/// Computes the output of a label with two lines of context before it.
 fn surrounding_lines()
     ensures { text_of
         (rich (record default_config { before_label_lines = 2; after_label_lines = 1 })
@@ -27,7 +27,7 @@ fn surrounding_lines()
         ∷ [] ∷ []) }
 {}
 
-/// Files are in the order of their first labels.
+/// Shows that files are in the order of their first labels.
 fn two_files()
     ensures { text_of (rich default_config nat_error
         nat_files
@@ -49,7 +49,7 @@ fn two_files()
         ∷ [] ∷ []) }
 {}
 
-/// A note without labels.
+/// Computes the output of a note without labels.
 fn note_alone()
     ensures { text_of (rich default_config
         (with_note (codes "a note") (message_only Error (codes "a message"))) [] [])
@@ -58,7 +58,7 @@ fn note_alone()
         ∷ [] ∷ []) }
 {}
 
-/// An empty note has no row.
+/// Shows that an empty note has no row.
 fn empty_note()
     ensures { text_of (rich default_config (with_note (codes "") (message_only Error (codes "m")))
         [] [])
@@ -66,7 +66,7 @@ fn empty_note()
         ∷ [] ∷ []) }
 {}
 
-/// A number longer than the padding pushes its row.
+/// Shows that a number longer than the padding pushes its row.
 fn long_number_pushes_row()
     ensures { text_of (rich (record default_config { after_label_lines = 1 })
         (message_only Error [])
@@ -81,7 +81,7 @@ fn long_number_pushes_row()
         ∷ [] ∷ []) }
 {}
 
-/// In the unbroken layout the padding fits it.
+/// Shows that in the unbroken layout the padding fits the number of each drawn line.
 fn unbroken_padding()
     ensures { text_of (rich (record default_config { after_label_lines = 1; layout = Unbroken })
         (message_only Error [])
@@ -96,7 +96,7 @@ fn unbroken_padding()
         ∷ [] ∷ []) }
 {}
 
-/// Between shown lines one line is filled in, and of more there is a break.
+/// Shows that between shown lines one line is filled in, and of more there is a break.
 fn fills_and_breaks()
     ensures { text_of (rich default_config (message_only Error [])
         (text_file (codes "f") (codes "a\nb\nc\nd\ne\nf\ng") ∷ [])
@@ -117,7 +117,7 @@ fn fills_and_breaks()
         ∷ [] ∷ []) }
 {}
 
-/// A note is cut at its newlines.
+/// Shows that a note is cut at its newlines.
 fn note_pieces()
     ensures { text_of (rich default_config
         (with_note (codes "a\r\n\nb\n") (message_only Error (codes "m"))) [] [])
@@ -128,7 +128,7 @@ fn note_pieces()
         ∷ [] ∷ []) }
 {}
 
-/// One label and a note.
+/// Computes the output of one label and a note.
 fn script_run()
     ensures { text_of (rich default_config
         (with_note (codes "why") (message_only Error (codes "bad")))
@@ -144,7 +144,7 @@ fn script_run()
         ∷ [] ∷ []) }
 {}
 
-/// An error of a script: an unknown word.
+/// Computes the output of an error of a script: an unknown word.
 fn script_unknown_word()
     ensures { text_of (rich default_config
         (with_code (codes "S1") (message_only Error (codes "unknown word")))
@@ -159,7 +159,7 @@ fn script_unknown_word()
         ∷ [] ∷ []) }
 {}
 
-/// An error of a script: a repeated word.
+/// Computes the output of an error of a script: a repeated word.
 fn script_repeated_word()
     ensures { text_of (rich default_config
         (with_code (codes "S4") (message_only Error (codes "repeated word")))
@@ -176,7 +176,7 @@ fn script_repeated_word()
         ∷ [] ∷ []) }
 {}
 
-/// An error of a script: no number.
+/// Computes the output of an error of a script: no number.
 fn script_bad_number()
     ensures { text_of (rich default_config
         (with_code (codes "S3") (message_only Error (codes "bad number")))
@@ -190,7 +190,7 @@ fn script_bad_number()
         ∷ [] ∷ []) }
 {}
 
-/// An error of a script: no end.
+/// Computes the output of an error of a script: no end.
 fn script_bad_end()
     ensures { text_of (rich default_config
         (with_code (codes "S5") (message_only Error (codes "missing end of script")))

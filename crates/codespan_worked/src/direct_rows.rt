@@ -11,7 +11,7 @@ ghost use Rattle.codespan_picture.specs.Rows.{rows_of};
 ghost use Rattle.codespan_picture.specs.RowStreams.{stream_of_rows};
 ghost use Rattle.codespan_worked.specs.Worked.{label, line_of_labels, bars_in, rows};
 
-/// A range whose start is after its end is rendered as it is passed: it has no caret.
+/// Shows that a range whose start is after its end is rendered as it is passed: it has no caret.
 fn reversed_handed_in()
     ensures { text_of (stream_of_rows (context_of default_config Error 1)
         (rows_of (line_of_labels 1 (codes "abc") (label Secondary 0 2 1 (codes "r") ∷ []))))
@@ -20,7 +20,7 @@ fn reversed_handed_in()
         ∷ []) }
 {}
 
-/// Lanes ascend strictly and are below their number.
+/// Shows that lanes ascend strictly and are below their number.
 fn lanes_in_order_test()
     ensures none { lanes_in_order 0 [] ≡ true }
     ensures ascending { lanes_in_order 2 (bars_in (0 ∷ 1 ∷ [])) ≡ true }

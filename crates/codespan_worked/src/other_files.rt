@@ -8,7 +8,7 @@ ghost use Rattle.codespan_base.specs.declared.diagnostic.Severity.TheVariants.{E
 ghost use Rattle.codespan_base.specs.declared.diagnostic.LabelStyle.TheVariants.{Primary};
 ghost use Rattle.codespan_worked.specs.Worked.{text_file, mapped_text, from_zero, label, message_only, rich, short, rows, many_lines, many_labels, evens, odds};
 
-/// A line whose number is set, and those after it.
+/// Computes the output of a line whose number is set, and of those after it.
 fn mapped_numbers()
     ensures { text_of (rich default_config (message_only Error [])
         (mapped_text (codes "m") (codes "a\nb\nc\nd") (with_number 2 100 []) ∷ [])
@@ -23,7 +23,7 @@ fn mapped_numbers()
         ∷ [] ∷ []) }
 {}
 
-/// Lines that are numbered by their indices: 0 has one digit.
+/// Computes the output of lines that are numbered by their indices: 0 has one digit.
 fn line_number_zero()
     ensures { text_of (rich default_config (message_only Error [])
         (from_zero (text_file (codes "f") (codes "ab")) ∷ [])
@@ -36,7 +36,7 @@ fn line_number_zero()
         ∷ [] ∷ []) }
 {}
 
-/// In short style one header for the one label: what is written before a missing file.
+/// Computes the one header of the one label in short style: what is written before a missing file.
 fn missing_file_short()
     ensures { text_of (short default_config (message_only Error (codes "m"))
         (text_file (codes "f") (codes "ab") ∷ [])
@@ -44,8 +44,8 @@ fn missing_file_short()
         ≡ rows (codes "f:1:1: error: m" ∷ []) }
 {}
 
-/// Two hundred labels on fifty lines: neither the reverse order nor the odd ones first change the
-/// output.
+/// Computes the output of two hundred labels on fifty lines: neither the reverse order nor the odd
+/// ones first change it.
 fn label_orders()
     ensures reversed { text_of
         (rich default_config (message_only Error []) (many_lines ∷ []) (reverse many_labels))

@@ -9,7 +9,7 @@ ghost use Rattle.codespan_base.specs.declared.diagnostic.LabelStyle.TheVariants.
 ghost use Rattle.codespan_base.specs.declared.term.config.Layout.TheVariants.{Unbroken};
 ghost use Rattle.codespan_worked.specs.Worked.{text_file, label, message_only, with_code, with_note, rich, rows};
 
-/// A label from a line's start has its corner in the source row.
+/// Shows that a label from a line's start has its corner in the source row.
 fn from_line_start()
     ensures { text_of (rich default_config (message_only Error [])
         (text_file (codes "f") (codes "foo\nbar") ∷ [])
@@ -23,7 +23,7 @@ fn from_line_start()
         ∷ [] ∷ []) }
 {}
 
-/// Two lanes, with a break between shown lines.
+/// Computes the output of two lanes, with a break between shown lines.
 fn empty_elseif()
     ensures { text_of (rich (record default_config { start_context_lines = 2 })
         (with_code (codes "empty_if") (message_only Error (codes "empty elseif block")))
@@ -48,7 +48,7 @@ fn empty_elseif()
         ∷ [] ∷ []) }
 {}
 
-/// A line is filled in between two shown ones.
+/// Shows that a line is filled in between two shown ones.
 fn mismatched_types()
     ensures { text_of (rich (record default_config { start_context_lines = 2 })
         (with_note (codes "note:\texpected type `()`\n\tfound type `{integer}`")
@@ -78,7 +78,7 @@ fn mismatched_types()
         ∷ [] ∷ []) }
 {}
 
-/// An underline passes a bar.
+/// Shows that an underline passes a bar.
 fn crossing_lanes()
     ensures { text_of (rich default_config (message_only Error [])
         (text_file (codes "f") (codes "ab\ncd\nef") ∷ [])
@@ -96,7 +96,7 @@ fn crossing_lanes()
         ∷ [] ∷ []) }
 {}
 
-/// The output of `report` over two lines.
+/// Computes the output of `report` over two lines.
 fn report_two_lines()
     ensures { text_of (rich default_config (message_only Error (codes "bad"))
         (text_file (codes "f.txt") (codes "abc\nd") ∷ [])
@@ -110,7 +110,7 @@ fn report_two_lines()
         ∷ [] ∷ []) }
 {}
 
-/// The characters of a label's end are those of its end.
+/// Shows that the characters of a label's end are those of its end.
 fn other_bottom_characters()
     ensures { text_of (rich (record default_config {
       chars = record box_drawing {
@@ -135,7 +135,7 @@ fn other_bottom_characters()
         ∷ [] ∷ []) }
 {}
 
-/// A start after its end, on another line: no line has a bar.
+/// Computes the output of a start after its end, on another line: no line has a bar.
 fn reversed_over_lines()
     ensures { text_of (rich default_config (message_only Error [])
         (text_file (codes "f") (codes "ab\ncd") ∷ [])
@@ -150,7 +150,7 @@ fn reversed_over_lines()
         ∷ [] ∷ []) }
 {}
 
-/// Below a corner in a source row the lane is left out.
+/// Shows that below a corner in a source row the lane is left out.
 fn below_corner()
     ensures { text_of (rich default_config (message_only Error [])
         (text_file (codes "f") (codes "ab\ncd") ∷ [])
@@ -166,7 +166,7 @@ fn below_corner()
         ∷ [] ∷ []) }
 {}
 
-/// In the unbroken layout it is not.
+/// Shows that in the unbroken layout the lane goes on below a corner in a source row.
 fn unbroken_below_corner()
     ensures { text_of (rich (record default_config { layout = Unbroken }) (message_only Error [])
         (text_file (codes "f") (codes "ab\ncd") ∷ [])
@@ -182,7 +182,7 @@ fn unbroken_below_corner()
         ∷ [] ∷ []) }
 {}
 
-/// In the unbroken layout an underline passes the bar below a corner.
+/// Shows that in the unbroken layout an underline passes the bar below a corner.
 fn unbroken_underline()
     ensures { text_of (rich (record default_config { layout = Unbroken }) (message_only Error [])
         (text_file (codes "f") (codes "ab\ncd\nef") ∷ [])

@@ -8,14 +8,14 @@ ghost use Rattle.codespan_base.specs.declared.diagnostic.Severity.TheVariants.{B
 ghost use Rattle.codespan_base.specs.declared.diagnostic.LabelStyle.TheVariants.{Primary, Secondary};
 ghost use Rattle.codespan_worked.specs.Worked.{text_file, label, message_only, with_code, rich, rows, tabbed_file};
 
-/// No label: the header and the closing line.
+/// Computes the output of a diagnostic without labels: the header and the closing line.
 fn bare_bug()
     ensures { text_of (rich default_config (message_only Bug []) [] [])
         ≡ rows (codes "bug: "
         ∷ [] ∷ []) }
 {}
 
-/// An empty range in the middle of a line.
+/// Computes the output of an empty range in the middle of a line.
 fn hello_notes_middle()
     ensures { text_of (rich default_config (message_only Note (codes "middle"))
         (text_file (codes "hello") (codes "Hello world!\nBye world!\n   ") ∷ [])
@@ -28,7 +28,7 @@ fn hello_notes_middle()
         ∷ [] ∷ []) }
 {}
 
-/// An empty range at the end of the file.
+/// Computes the output of an empty range at the end of the file.
 fn hello_notes_end()
     ensures { text_of (rich default_config (message_only Note (codes "end of file"))
         (text_file (codes "hello") (codes "Hello world!\nBye world!\n   ") ∷ [])
@@ -41,7 +41,7 @@ fn hello_notes_end()
         ∷ [] ∷ []) }
 {}
 
-/// Two labels of one range: both hang, and the primary caret wins.
+/// Computes the output of two labels of one range: both hang, and the primary caret wins.
 fn same_range()
     ensures { text_of (rich default_config (message_only Error (codes "Unexpected token"))
         (text_file (codes "same_range") (codes "::S { }") ∷ [])
@@ -58,7 +58,7 @@ fn same_range()
         ∷ [] ∷ []) }
 {}
 
-/// Three labels of one line: one trails, two hang.
+/// Computes the output of three labels of one line: one trails, two hang.
 fn mutable_borrows()
     ensures { text_of (rich default_config
         (with_code (codes "E0499")
@@ -80,7 +80,7 @@ fn mutable_borrows()
         ∷ [] ∷ []) }
 {}
 
-/// A wide character has two cells, a combining one has none.
+/// Shows that a wide character has two cells, a combining one has none.
 fn wide_and_combining()
     ensures { text_of (rich default_config (message_only Note [])
         (text_file (codes "f") (codes "a路b́c") ∷ [])
@@ -96,7 +96,7 @@ fn wide_and_combining()
         ∷ [] ∷ []) }
 {}
 
-/// The primary caret wins, and an overlap forbids a trailing message.
+/// Shows that the primary caret wins, and an overlap forbids a trailing message.
 fn overlapping_labels()
     ensures { text_of (rich default_config (message_only Error [])
         (text_file (codes "f") (codes "abcdef") ∷ [])
@@ -113,7 +113,7 @@ fn overlapping_labels()
         ∷ [] ∷ []) }
 {}
 
-/// A start after its end, in one line.
+/// Computes the output of a start after its end, in one line.
 fn reversed_in_line()
     ensures { text_of (rich default_config (message_only Error [])
         (text_file (codes "f") (codes "abc") ∷ [])
@@ -126,7 +126,7 @@ fn reversed_in_line()
         ∷ [] ∷ []) }
 {}
 
-/// The same in ASCII.
+/// Computes the same in ASCII.
 fn reversed_in_line_ascii()
     ensures { text_of (rich (record default_config { chars = ascii }) (message_only Error [])
         (text_file (codes "f") (codes "abc") ∷ [])
@@ -139,7 +139,7 @@ fn reversed_in_line_ascii()
         ∷ [] ∷ []) }
 {}
 
-/// A range past the end has no caret.
+/// Shows that a range past the end has no caret.
 fn past_the_end()
     ensures { text_of (rich default_config (message_only Error [])
         (text_file (codes "f") (codes "ab") ∷ [])
@@ -152,7 +152,7 @@ fn past_the_end()
         ∷ [] ∷ []) }
 {}
 
-/// Tabs reach the next stop, of four cells.
+/// Computes the output of tabs up to the next stop, of four cells.
 fn tab_stops_4()
     ensures { text_of (rich default_config (message_only Error [])
         (tabbed_file ∷ [])
@@ -165,7 +165,7 @@ fn tab_stops_4()
         ∷ [] ∷ []) }
 {}
 
-/// The same, of three cells.
+/// Computes the same, of three cells.
 fn tab_stops_3()
     ensures { text_of (rich (record default_config { tab_width = 3 }) (message_only Error [])
         (tabbed_file ∷ [])
@@ -178,7 +178,7 @@ fn tab_stops_3()
         ∷ [] ∷ []) }
 {}
 
-/// At width 0 a tab has no cell.
+/// Computes the same at width 0: a tab has no cell.
 fn tab_stops_0()
     ensures { text_of (rich (record default_config { tab_width = 0 }) (message_only Error [])
         (tabbed_file ∷ [])
@@ -191,7 +191,7 @@ fn tab_stops_0()
         ∷ [] ∷ []) }
 {}
 
-/// A range that cuts characters takes them whole.
+/// Shows that a range that cuts characters takes them whole.
 fn moon_jump()
     ensures { text_of (rich default_config (message_only Note (codes "invalid unicode range"))
         (text_file (codes "moon_jump.rs") (codes "🐄🌑🐄🌒🐄🌓🐄🌔🐄🌕🐄🌖🐄🌗🐄🌘🐄") ∷ [])
@@ -204,7 +204,7 @@ fn moon_jump()
         ∷ [] ∷ []) }
 {}
 
-/// Of three equal ranges the last label hangs last.
+/// Shows that of three equal ranges the last label hangs last.
 fn three_equal_ranges()
     ensures { text_of (rich default_config (message_only Error [])
         (text_file (codes "f") (codes "abc") ∷ [])
@@ -223,7 +223,7 @@ fn three_equal_ranges()
         ∷ [] ∷ []) }
 {}
 
-/// Pointers count cells, not characters.
+/// Shows that pointers count cells, not characters.
 fn wide_pointers()
     ensures { text_of (rich default_config (message_only Error [])
         (text_file (codes "f") (codes "路ab") ∷ [])
@@ -241,7 +241,7 @@ fn wide_pointers()
         ∷ [] ∷ []) }
 {}
 
-/// An empty range at the greatest byte index.
+/// Computes the output of an empty range at the greatest byte index.
 fn greatest_positions()
     ensures { text_of (rich default_config (message_only Error [])
         (text_file (codes "f") (codes "ab") ∷ [])
@@ -254,7 +254,7 @@ fn greatest_positions()
         ∷ [] ∷ []) }
 {}
 
-/// From the greatest byte index to 0.
+/// Computes the output of a range from the greatest byte index to 0.
 fn greatest_positions_reversed()
     ensures { text_of (rich default_config (message_only Error [])
         (text_file (codes "f") (codes "ab") ∷ [])
@@ -267,7 +267,7 @@ fn greatest_positions_reversed()
         ∷ [] ∷ []) }
 {}
 
-/// The output of `report` in its stored run.
+/// Computes the output of `report` in its stored run.
 fn report_run()
     ensures { text_of (rich default_config (message_only Error (codes "bad"))
         (text_file (codes "f.txt") (codes "abc\n") ∷ [])

@@ -7,13 +7,13 @@ ghost use Rattle.codespan_base.specs.declared.diagnostic.Severity.TheVariants.{B
 ghost use Rattle.codespan_base.specs.declared.diagnostic.LabelStyle.TheVariants.{Primary, Secondary};
 ghost use Rattle.codespan_worked.specs.Worked.{text_file, label, message_only, with_code, with_note, rich, medium, short, rows, ansi, nat_files, nat_error};
 
-/// No label in short style: the header alone.
+/// Computes the output of a diagnostic without labels in short style: the header alone.
 fn bare_bug_short()
     ensures { text_of (short default_config (message_only Bug []) [] [])
         ≡ rows (codes "bug: " ∷ []) }
 {}
 
-/// Medium style: a header with its locus, and the notes.
+/// Computes an output in medium style: a header with its locus, and the notes.
 fn medium()
     ensures { text_of (medium default_config nat_error
         nat_files
@@ -24,7 +24,7 @@ fn medium()
         ∷ codes "      found type `String`" ∷ []) }
 {}
 
-/// Short style: a header with its locus.
+/// Computes an output in short style: a header with its locus.
 fn short()
     ensures { text_of (short default_config nat_error
         nat_files
@@ -33,14 +33,14 @@ fn short()
         ≡ rows (codes "Test.fun:4:11: error[E0001]: unexpected type in application of `_+_`" ∷ []) }
 {}
 
-/// An empty code is not written.
+/// Shows that an empty code is not written.
 fn short_without_code()
     ensures { text_of (short default_config
         (with_code (codes "") (message_only Error (codes "where did my errorcode go?"))) [] [])
         ≡ rows (codes "error: where did my errorcode go?" ∷ []) }
 {}
 
-/// One label of one file in short style.
+/// Computes the output of one label of one file in short style.
 fn report_short()
     ensures { text_of (short default_config (message_only Error (codes "bad"))
         (text_file (codes "f.txt") (codes "abc\n") ∷ [])
@@ -48,7 +48,7 @@ fn report_short()
         ≡ rows (codes "f.txt:1:1: error: bad" ∷ []) }
 {}
 
-/// One label of one file in medium style.
+/// Computes the output of one label of one file in medium style.
 fn report_medium()
     ensures { text_of (medium default_config (message_only Error (codes "bad"))
         (text_file (codes "f.txt") (codes "abc\n") ∷ [])
@@ -56,7 +56,7 @@ fn report_medium()
         ≡ rows (codes "f.txt:1:1: error: bad" ∷ []) }
 {}
 
-/// The error of a script, in short style.
+/// Computes the error of a script, in short style.
 fn script_bad_end_short()
     ensures { text_of (short default_config
         (with_code (codes "S5") (message_only Error (codes "missing end of script")))
@@ -65,13 +65,13 @@ fn script_bad_end_short()
         ≡ rows (codes "script:1:1: error[S5]: missing end of script" ∷ []) }
 {}
 
-/// The style marks of a header, in escape sequences.
+/// Computes the style marks of a header, in escape sequences.
 fn coloured_header()
     ensures { spelled ansi (short default_config (message_only Error (codes "m")) [] [])
         ≡ rows (codes "\u{1b}[0m\u{1b}[1m\u{1b}[38;5;9merror\u{1b}[0m\u{1b}[1m: m\u{1b}[0m" ∷ []) }
 {}
 
-/// The style marks of a label's rows, in escape sequences.
+/// Computes the style marks of a label's rows, in escape sequences.
 fn coloured_label()
     ensures { spelled ansi (rich default_config (message_only Error [])
         (text_file (codes "f") (codes "abc") ∷ [])

@@ -54,7 +54,7 @@ pub fn default_location<'a, F: Files<'a>>(
 
 /// Writes the body of a database's own `column_number`, from its `source` and `line_range`: it
 /// returns what [`default_column_number`](codespan_reporting::files::default_column_number)
-/// returns, and fails as it does.
+/// returns, and fails as it does. [`std::convert::AsStr`] has to be in scope.
 #[macro_export]
 macro_rules! column_number_by_default {
     ($files:expr, $id:expr, $line_index:expr, $byte_index:expr) => {{
@@ -73,7 +73,12 @@ macro_rules! location_by_default {
         let line_index = $crate::files::Files::line_index($files, $id, $byte_index)?;
         Ok($crate::files::Location {
             line_number: $crate::files::Files::line_number($files, $id, line_index)?,
-            column_number: $crate::files::Files::column_number($files, $id, line_index, $byte_index)?,
+            column_number: $crate::files::Files::column_number(
+                $files,
+                $id,
+                line_index,
+                $byte_index,
+            )?,
         })
     }};
 }

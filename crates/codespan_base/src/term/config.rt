@@ -142,7 +142,8 @@ pub enum DisplayStyle {
 pub enum Layout {
     /// The Rust crate's layout: the padding width fits the numbers of the lines from the start to
     /// the end of each label, and below a corner that is in a source row its lane is left out in
-    /// the other rows of that line.
+    /// the caret, pointer and hanging rows of that line, and in the underline rows of lanes left of
+    /// it.
     Classic,
     /// This project's own layout: the padding width fits the numbers of all drawn lines, and each
     /// lane is one line from corner to corner.

@@ -10,7 +10,7 @@ use Rattle.codespan_picture.specs.CharMetrics.{metrics_then, placeholder}
 abbrev pub Afters : Type 0
 Afters = ℕ → ℕ → List Metrics
 
--- nothing does
+-- nothing is
 abbrev pub no_more : Afters
 no_more = λ _ _. []
 

@@ -54,7 +54,8 @@ pub fn lanes_in_order(
 #[derive(Drop)]
 pub struct Renderer<'writer, 'config, W> {
     writer: &'writer mut W,
-    /// The last error of the writer.
+    /// The error that the next failed call returns: the writer's, or `WriteZero` where a `put` has
+    /// taken nothing.
     saved: Cell<io::Error>,
     config: &'config Config<'config>,
 }
@@ -219,8 +220,8 @@ impl<'writer, 'config, W: WriteStyle> Renderer<'writer, 'config, W> {
         with_error(written, &self.saved)
     }
 
-    /// Writes a break, for lines that are left out. The views pass the multi-line label marks of
-    /// the next line, as the Rust crate does.
+    /// Writes a break, for lines that are left out. The views pass the lane marks of the next line,
+    /// as the Rust crate does.
     ///
     /// # Errors
     /// `Io` alone: the writer fails or takes no bytes. A prefix has then been written.

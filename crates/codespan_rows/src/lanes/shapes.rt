@@ -1,4 +1,4 @@
-//! What the mark of a multi-line label shows in a row.
+//! What a multi-line label mark shows in a row.
 
 ghost use Rattle.std.specs.Prelude.{◌≡◌, ◌&&◌};
 ghost use Rattle.codespan_picture.specs.Arguments.{multi_label_view};
@@ -28,7 +28,10 @@ pub fn shape_in(
         (LaneRow::Underline(corner_lane, _, _), part) => {
             underline_shape(layout, leading, corner_lane, lane, part)
         }
-        (_, _) => Shape::Bar,
+        (
+            LaneRow::Source | LaneRow::Plain | LaneRow::Below,
+            MultiLabel::Left | MultiLabel::Bottom(_, _),
+        ) => Shape::Bar,
     }
 }
 

@@ -7,7 +7,8 @@ ghost use Rattle.codespan_base.specs.declared.diagnostic.Severity.TheVariants.{E
 ghost use Rattle.codespan_base.specs.declared.diagnostic.LabelStyle.TheVariants.{Primary, Secondary};
 ghost use Rattle.codespan_worked.specs.Worked.{text_file, label, message_only, rich, rows, ansi};
 
-/// A multi-line label colors its last line up to its end, and no character that reaches past it.
+/// Shows that a multi-line label colors its last line up to its end, and no character that reaches
+/// past it.
 fn bottom_colors_to_its_end()
     ensures { spelled ansi (rich default_config (message_only Error [])
         (text_file (codes "f") (codes "\n𝔸") ∷ [])
@@ -24,7 +25,7 @@ fn bottom_colors_to_its_end()
         ∷ [] ∷ []) }
 {}
 
-/// A multi-line label colors its first line from its start.
+/// Shows that a multi-line label colors its first line from its start.
 fn top_colors_from_its_start()
     ensures { spelled ansi (rich (record default_config { end_context_lines = 0 })
         (message_only Error [])
@@ -42,7 +43,7 @@ fn top_colors_from_its_start()
         ∷ [] ∷ []) }
 {}
 
-/// A secondary label colors no text.
+/// Shows that a secondary label colors no text.
 fn secondary_colors_nothing()
     ensures { spelled ansi (rich default_config (message_only Error [])
         (text_file (codes "f") (codes "\na") ∷ [])
@@ -59,7 +60,7 @@ fn secondary_colors_nothing()
         ∷ [] ∷ []) }
 {}
 
-/// An underline that passes a bar keeps its color, and the bar its own.
+/// Shows that an underline that passes a bar keeps its color, and the bar its own.
 fn underline_has_its_own_color()
     ensures { spelled ansi (rich default_config (message_only Error [])
         (text_file (codes "f") (codes "\n") ∷ [])
@@ -80,7 +81,7 @@ fn underline_has_its_own_color()
         ∷ [] ∷ []) }
 {}
 
-/// Where a primary label hangs from a character, the pointer has its color.
+/// Shows that where a primary label hangs from a character, the pointer has its color.
 fn primary_pointer_first()
     ensures { spelled ansi (rich default_config (message_only Error [])
         (text_file (codes "f") (codes "a") ∷ [])
@@ -98,7 +99,7 @@ fn primary_pointer_first()
         ∷ [] ∷ []) }
 {}
 
-/// A NUL at the end of a line is not rendered.
+/// Shows that a NUL at the end of a line is not rendered.
 fn nul_is_trimmed()
     ensures { text_of (rich default_config (message_only Error [])
         (text_file (codes "f") (codes "\0") ∷ [])
@@ -111,7 +112,7 @@ fn nul_is_trimmed()
         ∷ [] ∷ []) }
 {}
 
-/// Leading white space need not be ASCII.
+/// Shows that leading white space need not be ASCII.
 fn leading_whitespace_of_any_kind()
     ensures { text_of (rich default_config (message_only Error [])
         (text_file (codes "f") (codes "\u{2003}\n") ∷ [])
@@ -125,7 +126,7 @@ fn leading_whitespace_of_any_kind()
         ∷ [] ∷ []) }
 {}
 
-/// A pointer under a character of no width is rendered.
+/// Shows that a pointer under a character of no width is rendered.
 fn pointer_on_no_cell()
     ensures { text_of (rich (record default_config { end_context_lines = 0 })
         (message_only Error [])
@@ -142,7 +143,7 @@ fn pointer_on_no_cell()
         ∷ [] ∷ []) }
 {}
 
-/// A character of no width has no caret.
+/// Shows that a character of no width has no caret.
 fn no_caret_on_no_cell()
     ensures { text_of (rich (record default_config { tab_width = 0; end_context_lines = 0 })
         (message_only Error [])
@@ -156,7 +157,7 @@ fn no_caret_on_no_cell()
         ∷ [] ∷ []) }
 {}
 
-/// An underline from a top corner does not count the end of the line.
+/// Shows that an underline from a top corner does not count the end of the line.
 fn no_placeholder_in_top_underline()
     ensures { text_of (rich default_config (message_only Error [])
         (text_file (codes "f") (codes "a\n") ∷ [])
@@ -171,7 +172,7 @@ fn no_placeholder_in_top_underline()
         ∷ [] ∷ []) }
 {}
 
-/// An underline from a bottom corner does not count the end of the line.
+/// Shows that an underline from a bottom corner does not count the end of the line.
 fn no_placeholder_in_bottom_underline()
     ensures { text_of (rich (record default_config { end_context_lines = 0 })
         (message_only Error [])
@@ -186,7 +187,7 @@ fn no_placeholder_in_bottom_underline()
         ∷ [] ∷ []) }
 {}
 
-/// A pointer row does not count the end of the line.
+/// Shows that a pointer row does not count the end of the line.
 fn no_placeholder_in_pointers()
     ensures { text_of (rich (record default_config { end_context_lines = 0 })
         (message_only Error [])
@@ -203,7 +204,7 @@ fn no_placeholder_in_pointers()
         ∷ [] ∷ []) }
 {}
 
-/// A caret may be at the end of the line.
+/// Shows that a caret may be at the end of the line.
 fn placeholder_in_carets()
     ensures { text_of (rich default_config (message_only Error [])
         (text_file (codes "f") [] ∷ [])
@@ -216,7 +217,7 @@ fn placeholder_in_carets()
         ∷ [] ∷ []) }
 {}
 
-/// A tab counts from the line's start, not from the label.
+/// Shows that a tab counts from the line's start, not from the label.
 fn tabs_count_from_line_start()
     ensures { text_of (rich default_config (message_only Error [])
         (text_file (codes "f") (codes "\t\t") ∷ [])

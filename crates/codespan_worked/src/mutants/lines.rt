@@ -9,7 +9,7 @@ ghost use Rattle.codespan_base.specs.declared.diagnostic.LabelStyle.TheVariants.
 ghost use Rattle.codespan_base.specs.declared.term.config.Layout.TheVariants.{Unbroken};
 ghost use Rattle.codespan_worked.specs.Worked.{text_file, label, message_only, with_note, rich, rows};
 
-/// Lanes are counted in each file, not in the diagnostic.
+/// Shows that lanes are counted in each file, not in the diagnostic.
 fn lanes_count_per_file()
     ensures { text_of (rich default_config (message_only Error [])
         (text_file (codes "f") (codes "\n") ∷ text_file (codes "f") (codes "\n") ∷ [])
@@ -30,7 +30,7 @@ fn lanes_count_per_file()
         ∷ [] ∷ []) }
 {}
 
-/// The padding is that of the longest number.
+/// Shows that the padding is that of the longest number.
 fn padding_of_all_lines()
     ensures { text_of (rich default_config (message_only Error [])
         (text_file (codes "f") (codes "\n\n\n\n\n\n\n\n\n") ∷ [])
@@ -51,7 +51,7 @@ fn padding_of_all_lines()
         ∷ [] ∷ []) }
 {}
 
-/// Lanes are in the order of the labels.
+/// Shows that lanes are in the order of the labels.
 fn lanes_in_given_order()
     ensures { text_of (rich default_config (message_only Error [])
         (text_file (codes "f") (codes "\n") ∷ [])
@@ -67,7 +67,7 @@ fn lanes_in_given_order()
         ∷ [] ∷ []) }
 {}
 
-/// The locus of a snippet is that of its first primary label.
+/// Shows that the locus of a snippet is that of its first primary label.
 fn locus_of_primary_first()
     ensures { text_of (rich (record default_config { end_context_lines = 0 })
         (message_only Error [])
@@ -84,7 +84,7 @@ fn locus_of_primary_first()
         ∷ [] ∷ []) }
 {}
 
-/// A start right at the end of the leading white space has its corner in the source row.
+/// Shows that a start right at the end of the leading white space has its corner in the source row.
 fn corner_at_end_of_whitespace()
     ensures { text_of (rich default_config (message_only Error [])
         (text_file (codes "f") (codes "\n") ∷ [])
@@ -98,7 +98,7 @@ fn corner_at_end_of_whitespace()
         ∷ [] ∷ []) }
 {}
 
-/// Below a bottom corner its lane is empty.
+/// Shows that below a bottom corner its lane is empty.
 fn no_bar_below_bottom_corner()
     ensures { text_of (rich (record default_config { end_context_lines = 0 })
         (message_only Error [])
@@ -115,7 +115,7 @@ fn no_bar_below_bottom_corner()
         ∷ [] ∷ []) }
 {}
 
-/// In the unbroken layout no row leaves out the lane below a top corner.
+/// Shows that in the unbroken layout no row leaves out the lane below a top corner.
 fn bar_below_top_corner_unbroken()
     ensures { text_of (rich (record default_config { layout = Unbroken }) (message_only Error [])
         (text_file (codes "f") (codes "\n") ∷ [])
@@ -131,7 +131,7 @@ fn bar_below_top_corner_unbroken()
         ∷ [] ∷ []) }
 {}
 
-/// A pointer row reaches to the greatest start of all labels.
+/// Shows that a pointer row reaches to the greatest start of all labels.
 fn pointer_row_to_greatest_start()
     ensures { text_of (rich default_config (message_only Error [])
         (text_file (codes "f") (codes "aa") ∷ [])
@@ -147,7 +147,7 @@ fn pointer_row_to_greatest_start()
         ∷ [] ∷ []) }
 {}
 
-/// A label that overlaps another one does not trail.
+/// Shows that a label that overlaps another one does not trail.
 fn overlap_forbids_trailing()
     ensures { text_of (rich (record default_config { end_context_lines = 0 })
         (message_only Error [])
@@ -164,7 +164,7 @@ fn overlap_forbids_trailing()
         ∷ [] ∷ []) }
 {}
 
-/// An underline from a bottom corner passes a bar with its own character.
+/// Shows that an underline from a bottom corner passes a bar with its own character.
 fn underline_characters_of_bottom()
     ensures { text_of
         (rich (record default_config { chars = record box_drawing { multi_top = 0x25 } })
@@ -182,8 +182,8 @@ fn underline_characters_of_bottom()
         ∷ [] ∷ []) }
 {}
 
-/// The context lines of a label's start are after its first line, those of its end before its
-/// last.
+/// Shows that the context lines of a label's start are after its first line, those of its end
+/// before its last.
 fn context_of_start_and_end()
     ensures { text_of (rich (record default_config { end_context_lines = 0 })
         (message_only Error [])
@@ -202,7 +202,7 @@ fn context_of_start_and_end()
         ∷ [] ∷ []) }
 {}
 
-/// A break has the lanes of the line after it.
+/// Shows that a break has the lanes of the line after it.
 fn break_has_lanes_of_next_line()
     ensures { text_of
         (rich (record default_config { start_context_lines = 0; end_context_lines = 0 })
@@ -219,7 +219,7 @@ fn break_has_lanes_of_next_line()
         ∷ [] ∷ []) }
 {}
 
-/// A carriage return before the newline of a note is dropped.
+/// Shows that a carriage return before the newline of a note is dropped.
 fn carriage_return_of_note()
     ensures { text_of (rich default_config (with_note (codes "\r\n\nb c") (message_only Error []))
         (text_file (codes "f") [] ∷ [])
@@ -231,7 +231,7 @@ fn carriage_return_of_note()
         ∷ [] ∷ []) }
 {}
 
-/// There is an empty row between two files.
+/// Shows that there is an empty row between two files.
 fn empty_row_between_files()
     ensures { text_of (rich default_config (message_only Error [])
         (text_file (codes "f") [] ∷ text_file (codes "f") [] ∷ [])

@@ -14,10 +14,10 @@ const ESCAPE: u8 = 0x1b;
 
 /// A [`WriteColor`] of escape sequences.
 ///
-/// The sequences are this project's own. A style is ESC `[0m`, then ESC `[1m` for bold, then its
-/// colors: ESC `[3` for the text and ESC `[4` for the background, each with the color's number from
-/// 0 to 7 or, where it is intense, with `8;5;` and that number plus 8, and `m`. The reset is ESC
-/// `[0m`.
+/// The sequences are those of `termcolor::Ansi`, which the Rust crate uses. A style is ESC `[0m`,
+/// then ESC `[1m` for bold, then its colors: ESC `[3` for the text and ESC `[4` for the background,
+/// each with the color's number from 0 to 7 or, where it is intense, with `8;5;` and that number
+/// plus 8, and `m`. The reset is ESC `[0m`.
 #[derive(Debug, Drop)]
 pub struct Ansi<W> {
     inner: W,

@@ -11,8 +11,10 @@ use codespan_diagnostics::diagnostic::{LabelStyle, Severity};
 use std::io;
 use std::io::Write;
 
-/// A [`WriteStyle`] of plain text: each style mark has no bytes, and succeeds. It is this project's
-/// own.
+/// A [`WriteStyle`] of plain text: each style mark has no bytes, and succeeds.
+///
+/// The Rust crate has it too, but keeps it private; `into_inner` and `has_failed` are this
+/// project's own.
 ///
 /// # Examples
 ///

@@ -8,8 +8,9 @@ use codespan_diagnostics::diagnostic::{LabelStyle, Severity};
 
 /// The styles of the parts of the output.
 ///
-/// The default styles are this project's own: those that the Rust crate documents, with cyan for
-/// secondary labels, line numbers, borders and bullets, as the crate has it on Windows.
+/// The default styles are those of the Rust crate's code. Its documentation says blue, and cyan on
+/// Windows alone, for secondary labels, line numbers, borders and bullets; its code has cyan
+/// everywhere.
 ///
 /// # Examples
 ///

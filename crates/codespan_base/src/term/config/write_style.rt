@@ -103,14 +103,16 @@ pub trait WriteStyle: Write {
     fn set_source_border(&mut self) -> io::Result<()>
         ensures { Writes (sink self.old) (style_mark SourceBorder) result (sink self.new) };
 
-    /// Writes the style mark before a label's carets, lanes and message. Fails as
+    /// Writes the style mark before a label's carets, pointers, lanes, underline and message, and
+    /// before the source text that a primary label covers. Fails as
     /// [`set_header`](Self::set_header) does.
     fn set_label(&mut self, severity: Severity, label_style: LabelStyle) -> io::Result<()>
         ensures { Writes (sink self.old) (style_mark (LabelMark severity label_style))
             result (sink self.new) };
 
-    /// Writes the style mark after a part, which ends its style. Fails as
-    /// [`set_header`](Self::set_header) does.
+    /// Writes the style mark that ends the style. A style mark also ends the style before it: there
+    /// is no reset between `set_header` and `set_header_message`, nor between adjacent carets of
+    /// two styles. Fails as [`set_header`](Self::set_header) does.
     fn reset(&mut self) -> io::Result<()>
         ensures { Writes (sink self.old) (style_mark Reset) result (sink self.new) };
 

@@ -10,7 +10,7 @@ use std::str::Chars;
 use unicode_width::UnicodeWidthChar;
 
 /// An iterator over the characters of a line, from left to right; by [`CharMetrics::to_end`] also
-/// over the position after the last one, which counts as one more character of one byte and one
+/// over the placeholder after the last one, which counts as one more character of one byte and one
 /// cell.
 #[derive(Drop)]
 pub struct CharMetrics<'text> {
@@ -52,7 +52,7 @@ impl<'text> CharMetrics<'text> {
         }
     }
 
-    /// Returns a scan of the characters of the line, and the position after the last one.
+    /// Returns a scan of the characters of the line, and the placeholder after the last one.
     pub fn to_end(text: &'text str, tab_width: usize) -> CharMetrics<'text>
         ensures char_metrics { metrics_left result ≡ char_metrics_to_end tab_width text.now }
         ensures utf8 { ∥ IsUtf8 text.now ∥₁ }
@@ -68,7 +68,7 @@ impl<'text> CharMetrics<'text> {
     }
 
     /// Returns another scan that goes on where this one is. After the last character it yields the
-    /// position there where `to_end` is set.
+    /// placeholder where `to_end` is set.
     #[inline(always)]
     pub fn fork(&self, to_end: bool) -> CharMetrics<'text>
         ensures same { (after : Afters) → metrics_from after result ≡ metrics_from after self.now }

@@ -29,7 +29,7 @@ pub fn primary_first(found: Option<LabelStyle>, style: LabelStyle) -> Option<Lab
 {
     match found {
         Some(LabelStyle::Primary) => found,
-        _ => Some(style),
+        None | Some(LabelStyle::Secondary) => Some(style),
     }
 }
 
@@ -89,6 +89,11 @@ fn best_start(
 
 /// Returns the style of the pointer under a character, where a label hangs from it: a primary one
 /// takes precedence.
+///
+/// # Requires
+///
+/// The labels with a message in `messages.before` and `messages.after` are those of `labels` that
+/// hang.
 pub fn pointer_in(
     labels: &[SingleLabel<'_>],
     messages: Messages<'_, '_>,

@@ -116,7 +116,7 @@ impl<'row, 'd> LineSource for ScannedLine<'row, 'd> {
 }
 
 /// Writes the pointers of the characters of a line that begin before a byte index. It tests each
-/// label at each of them.
+/// label at each of them, up to the greatest start of a label, and reads no character after these.
 fn scanned_caret_pointers<W: PutStyle>(
     w: &mut W,
     context: RowContext<'_>,
@@ -131,8 +131,8 @@ fn scanned_caret_pointers<W: PutStyle>(
     let reach = max_label_start(line.labels);
     let mut pending = 0u128;
     for metrics in CharMetrics::new(line.text, context.tab_width) {
-        if metrics.byte_index >= before {
-            continue;
+        if metrics.byte_index >= before || metrics.byte_index > reach {
+            break;
         }
         let mut width = metrics.width;
         if let Some(style) = pointer_in(line.labels, messages, metrics) {
@@ -140,9 +140,7 @@ fn scanned_caret_pointers<W: PutStyle>(
             pending = 0;
             width = width.saturating_sub(1);
         }
-        if metrics.byte_index <= reach {
-            pending += width as u128;
-        }
+        pending += width as u128;
     }
     write_spaces(w, pending)
 }

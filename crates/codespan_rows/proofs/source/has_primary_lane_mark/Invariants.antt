@@ -4,7 +4,7 @@ use Rattle.codespan_base.specs.Labels.{LaneMark, is_primary_style}
 use Rattle.codespan_picture.specs.Arguments.{lane_mark_view}
 use Rattle.codespan_rows.proofs.source.has_primary_lane_mark.Given as goal
 
--- the remaining multi-line label marks decide
+-- the remaining lane marks decide
 abbrev pub invariant-loop-lane_mark : goal.invariant-loop-lane_mark
 invariant-loop-lane_mark l =
     list_any (λ (m : LaneMark). is_primary_style m.style) (map lane_mark_view (drop l.lane_mark-index l.marks))

@@ -91,6 +91,10 @@ impl<'cache, 'row, 'd> CachedLine<'cache, 'row, 'd> {
     /// Renders the line with its carets, its messages and its underlines. `outer_padding` is the
     /// padding width, in characters.
     ///
+    /// # Requires
+    ///
+    /// The renderer's tab width is that of the cache.
+    ///
     /// # Errors
     ///
     /// `Io` alone: the writer fails or takes no bytes. A prefix of the rows has then been written.
@@ -136,7 +140,7 @@ impl<'cache, 'row, 'd> CachedLine<'cache, 'row, 'd> {
     }
 
     /// Returns a cursor over its characters without the first `skipped` ones of the cache, and over
-    /// the position after the last one where `to_end` is set.
+    /// the placeholder after the last one where `to_end` is set.
     #[inline(always)]
     fn cursor(&self, skipped: usize, to_end: bool) -> CachedCursor<'cache, 'row, 'd>
         requires { skipped ≤ length self.now.cached.now }

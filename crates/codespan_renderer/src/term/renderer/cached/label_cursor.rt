@@ -30,6 +30,10 @@ pub struct LabelCursor<'row, 'd> {
 
 impl<'row, 'd> LabelCursor<'row, 'd> {
     /// Returns a cursor before the first label.
+    ///
+    /// # Requires
+    ///
+    /// The labels are in the order of their starts.
     pub fn new(labels: &'row [SingleLabel<'d>]) -> LabelCursor<'row, 'd>
         requires { IsTrue (starts_in_order (single_label_views labels.now)) }
         ensures passed { HasPassedLabels 0 result }
@@ -44,6 +48,10 @@ impl<'row, 'd> LabelCursor<'row, 'd> {
     }
 
     /// Passes the labels that start before the character's end.
+    ///
+    /// # Requires
+    ///
+    /// The character has a byte, and the cursor has passed the labels that start before it.
     pub fn advance(&mut self, metrics: Metrics)
         requires some { 1 ≤ metrics.bytes }
         requires passed { HasPassedLabels metrics.byte_index self.old }
@@ -63,6 +71,10 @@ impl<'row, 'd> LabelCursor<'row, 'd> {
 
     /// Passes the labels that start before the character's end, and returns the style of those over
     /// it: a primary one takes precedence.
+    ///
+    /// # Requires
+    ///
+    /// The character has a byte, and the cursor has passed the labels that start before it.
     pub fn style_under(&mut self, metrics: Metrics) -> Option<LabelStyle>
         requires some { 1 ≤ metrics.bytes }
         requires passed { HasPassedLabels metrics.byte_index self.old }
@@ -82,6 +94,10 @@ impl<'row, 'd> LabelCursor<'row, 'd> {
 
     /// Passes the labels that start before the character's end, and returns whether a primary one
     /// has a byte of it.
+    ///
+    /// # Requires
+    ///
+    /// The character has a byte, and the cursor has passed the labels that start before it.
     pub fn has_primary(&mut self, metrics: Metrics) -> bool
         requires some { 1 ≤ metrics.bytes }
         requires passed { HasPassedLabels metrics.byte_index self.old }
@@ -124,6 +140,10 @@ pub struct StartCursor<'row, 'd> {
 
 impl<'row, 'd> StartCursor<'row, 'd> {
     /// Returns a cursor before the first label.
+    ///
+    /// # Requires
+    ///
+    /// The labels are in the order of their starts.
     pub fn new(labels: &'row [SingleLabel<'d>]) -> StartCursor<'row, 'd>
         requires { IsTrue (starts_in_order (single_label_views labels.now)) }
         ensures passed { HasPassed 0 result }
@@ -134,6 +154,10 @@ impl<'row, 'd> StartCursor<'row, 'd> {
 
     /// Passes the labels that start before the character's end, and returns the best style of
     /// `found` and of those with a message that start in it.
+    ///
+    /// # Requires
+    ///
+    /// The character has a byte, and the cursor has passed the labels that start before it.
     pub fn best_start(&mut self, found: Option<LabelStyle>, metrics: Metrics) -> Option<LabelStyle>
         requires some { 1 ≤ metrics.bytes }
         requires passed { HasPassed metrics.byte_index self.old }

@@ -40,6 +40,10 @@ impl LineMetrics {
     /// Replaces the cached characters and pointers by those of a line, as far as its rows need
     /// them. Nothing is allocated for a line that has neither labels nor underlines.
     ///
+    /// # Requires
+    ///
+    /// The labels are in the order of their starts.
+    ///
     /// # Errors
     ///
     /// `OutOfMemory` where an allocation fails.

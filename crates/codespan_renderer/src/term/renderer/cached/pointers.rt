@@ -36,6 +36,10 @@ pub struct Pointer {
 
 /// Writes the pointers of the characters that begin before a byte index, with spaces between them
 /// and up to the column `edge`.
+///
+/// # Errors
+///
+/// The writer's error; a prefix has then been written.
 #[inline(always)]
 pub fn write_spaced<W: PutStyle>(
     w: &mut W,
@@ -60,7 +64,17 @@ pub fn write_spaced<W: PutStyle>(
 }
 
 /// Replaces the pointers by those of the labels of a line that hang. If none hangs, no character is
-/// read. Fails with `OutOfMemory`.
+/// read.
+///
+/// # Requires
+///
+/// - The labels with a message in `messages.before` and `messages.after` are those of `line` that
+///   hang, and each of the two is in the order of its starts.
+/// - `characters` has all characters of the line, by the tab width.
+///
+/// # Errors
+///
+/// `OutOfMemory` where an allocation fails.
 #[inline(always)]
 pub fn find_pointers(
     pointers: &mut Vec<Pointer>,

@@ -7,7 +7,7 @@ use Rattle.codespan_rows.specs.PrimaryLaneMarks.{is_marked}
 use Rattle.codespan_picture.specs.RowParts.{part_covers}
 use Rattle.codespan_rows.proofs.primary_lane_marks.PrimaryLaneMarks.of.Given as goal
 
--- what was found and the remaining multi-line label marks cover what all of them cover
+-- what was found and the remaining lane marks cover what all of them cover
 abbrev pub invariant-loop-lane_mark : goal.invariant-loop-lane_mark
 invariant-loop-lane_mark l =
     (c : Metrics) → 1 ≤ c.bytes

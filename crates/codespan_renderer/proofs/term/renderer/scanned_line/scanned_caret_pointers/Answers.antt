@@ -1,13 +1,17 @@
-use Rattle.std.proofs.Common.{◌≡◌, ◌-◌, arith, ap, subst, sym, ◌∙◌, ◌++◌}
+use Rattle.std.proofs.Common.{◌≡◌, ◌-◌, ◌≤◌, arith, ap, subst, sym, ◌∙◌, ◌++◌}
 use Rattle.std.specs.Str.{IsUtf8}
 use Rattle.std.proofs.lemmas.Str.{IsUtf8-had}
 use Rattle.std.proofs.lemmas.Result.{err_from_is_err_and}
 use Rattle.codespan_base.specs.Streams.{spaces}
 use Rattle.codespan_base.proofs.Loops.{StillToWrite-start, StillToWrite-more, StillToWrite-same, StillToWrite-failed, StillToWrite-last}
+use Rattle.codespan_picture.specs.Arguments.{single_label_views}
+use Rattle.codespan_picture.specs.RowParts.{metrics_before, pointers}
+use Rattle.codespan_rows.specs.LineViews.{context_view}
 use Rattle.codespan_renderer.specs.Private.MetricsLeft.{metrics_left}
-use Rattle.codespan_renderer.proofs.ScannedPointers.{spaces_none, pointer_first, spaces_first, spaces_last, spaces_due, spaces_past}
+use Rattle.codespan_renderer.proofs.ScannedPointers.{spaces_none, pointer_first, spaces_first, spaces_last, spaces_due}
+use Rattle.codespan_renderer.proofs.SpacedPointers.{spaces_rest}
 use Rattle.codespan_rows.proofs.ScanState.{scan_state-char_metrics, scan_state-more}
-use Rattle.codespan_renderer.proofs.term.renderer.scanned_line.scanned_caret_pointers.Goals.{in-Some-pointer_in+in_ok-caret_pointer, in_default}
+use Rattle.codespan_renderer.proofs.term.renderer.scanned_line.scanned_caret_pointers.Goals.{in-Some-pointer_in+in_ok-caret_pointer, in_default, in-None, in-Some+then-metrics-before}
 use Rattle.codespan_renderer.proofs.term.renderer.scanned_line.scanned_caret_pointers.Goals as goal
 
 pub loop-metrics-init : goal.loop-metrics-init
@@ -21,43 +25,33 @@ returns-in_err-caret_pointer g c = let p = err_from_is_err_and c.from_residual.r
     rw p.1 (StillToWrite-failed _ _ _ _ _ _ _ c.loop-metrics.invariant.with_written c.in_err-caret_pointer.ensures
     (pointer_first _ _ _ _ _ _ _ _ _ c.max_label_start-reach.ensures c.in-Some.ensures.steps (omega arith) (sym c.pointer_in.ensures ∙ c.in-Some-pointer_in.is)))
 
-pub loop-metrics-preserved-then-metrics-reach : goal.loop-metrics-preserved-then-metrics-reach
-loop-metrics-preserved-then-metrics-reach g c =
+pub loop-metrics-preserved : goal.loop-metrics-preserved
+loop-metrics-preserved g c =
     let i = c.loop-metrics.invariant in
     let step = c.in-Some.ensures.steps in
+    let near : c.in-Some.metrics.byte_index ≤ c.max_label_start-reach.result = omega arith in
     elim c.match-pointer_in.branch [
       | in-Some-pointer_in+in_ok-caret_pointer w ↦ let narrower : w.saturating_sub-width.result ≡ c.in-Some.metrics.width - 1 = w.saturating_sub-width.ensures in rw (w.w-is, w.pending-is, w.width-is, narrower) record {
         scan_state = scan_state-more _ _ _ _ _ (omega arith) (omega arith) (rw step at i.scan_state);
-        with_written = StillToWrite-same _ _ _ _ _ (sym (spaces_none _) ∙ spaces_due _ _ 0 _ _ c.if-metrics-reach.true)
+        with_written = StillToWrite-same _ _ _ _ _ (sym (spaces_none _) ∙ spaces_due _ _ 0 _ _ near)
             (StillToWrite-more _ _ _ _ _ _ _ i.with_written w.in_ok-caret_pointer.ensures
             (pointer_first _ _ _ _ _ _ _ _ _ c.max_label_start-reach.ensures step (omega arith) (sym c.pointer_in.ensures ∙ w.in-Some-pointer_in.is)));
       }
       | in_default w ↦ rw (w.w-is, w.pending-is, w.width-is) record {
         scan_state = scan_state-more _ _ _ _ _ (omega arith) (omega arith) (rw step at i.scan_state);
         with_written = StillToWrite-same _ _ _ _ _
-            (spaces_first _ _ _ _ _ _ _ _ c.max_label_start-reach.ensures step (omega arith) (sym c.pointer_in.ensures ∙ w.in_default.is) ∙ spaces_due _ _ _ _ _ c.if-metrics-reach.true) i.with_written;
-      }
-    ]
-
-pub loop-metrics-preserved : goal.loop-metrics-preserved
-loop-metrics-preserved g c =
-    let i = c.loop-metrics.invariant in
-    let step = c.in-Some.ensures.steps in
-    elim c.match-pointer_in.branch [
-      | in-Some-pointer_in+in_ok-caret_pointer w ↦ rw (w.w-is, w.pending-is) record {
-        scan_state = scan_state-more _ _ _ _ _ (omega arith) (omega arith) (rw step at i.scan_state);
-        with_written = StillToWrite-same _ _ _ _ _ (spaces_past _ _ _ _ c.if-metrics-reach.false ∙ sym (spaces_none _))
-            (StillToWrite-more _ _ _ _ _ _ _ i.with_written w.in_ok-caret_pointer.ensures
-            (pointer_first _ _ _ _ _ _ _ _ _ c.max_label_start-reach.ensures step (omega arith) (sym c.pointer_in.ensures ∙ w.in-Some-pointer_in.is)));
-      }
-      | in_default w ↦ rw (w.w-is, w.pending-is) record {
-        scan_state = scan_state-more _ _ _ _ _ (omega arith) (omega arith) (rw step at i.scan_state);
-        with_written = StillToWrite-same _ _ _ _ _
-            (spaces_first _ _ _ _ _ _ _ _ c.max_label_start-reach.ensures step (omega arith) (sym c.pointer_in.ensures ∙ w.in_default.is)
-            ∙ ap (λ s. spaces c.loop-metrics.pending ++ s) (spaces_past _ _ _ _ c.if-metrics-reach.false)) i.with_written;
+            (spaces_first _ _ _ _ _ _ _ _ c.max_label_start-reach.ensures step (omega arith) (sym c.pointer_in.ensures ∙ w.in_default.is) ∙ spaces_due _ _ _ _ _ near) i.with_written;
       }
     ]
 
 pub returns : goal.returns
-returns g c = StillToWrite-last _ _ _ _ _ _ c.loop-metrics.invariant.with_written
-    (rw (spaces_last _ _ _ _ _ c.in-None.ensures.steps.0) c.write_spaces.ensures)
+returns g c =
+    let at = c.loop-metrics in
+    let context = context_view c.args.context in
+    let labels = single_label_views c.args.line.labels.now in
+    let end : spaces at.pending ++ pointers context labels (metrics_before c.args.before (metrics_left at.metrics-iterator)) ≡ spaces at.pending =
+    elim c.match-next.branch [
+      | in-None w ↦ spaces_last context labels _ _ _ w.in-None.ensures.steps.0
+      | in-Some+then-metrics-before w ↦ spaces_rest context labels _ _ _ _ _ _ w.in-Some.metrics _ c.max_label_start-reach.ensures w.in-Some.ensures.steps at.invariant.scan_state w.then-metrics-before.either
+    ] in
+    StillToWrite-last _ _ _ _ _ _ at.invariant.with_written (rw end c.write_spaces.ensures)
