@@ -220,7 +220,8 @@ def emit(files: Sequence[File], diagnostic: Diagnostic, config: Config = Config(
     """Returns the rendered diagnostic over these files.
 
     Raises `InvalidArgument` where an argument is invalid, `ValueError` where a number is negative
-    or too large or a `str` has no UTF-8, and `MemoryError` where an allocation fails."""
+    or too large or a `str` has no UTF-8, `TypeError` where a field of `Chars` is not one character,
+    and `MemoryError` where an allocation fails."""
     outcome = _native.emit(files, diagnostic, config)
     if outcome.status == _native.OK:
         return outcome.output.decode(errors='surrogateescape')
