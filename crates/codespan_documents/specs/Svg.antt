@@ -10,7 +10,8 @@ use Rattle.codespan_documents.specs.Glyphs.{after_glyph, cells_of, extent_from, 
 
 -- ---- characters
 
--- the character can not be in an XML document
+-- a character below U+0020, U+FFFE or U+FFFF: an XML document can hold none of them but tab,
+-- newline and carriage return, which are spelled otherwise
 abbrev pub is_forbidden_in_xml : ℕ → Bool
 is_forbidden_in_xml c = nat_lt c 32 || (c == 65534) || (c == 65535)
 

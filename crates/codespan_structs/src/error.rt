@@ -6,7 +6,7 @@ use std::alloc::{AllocError, AllocFailed};
 /// An argument that can be invalid, by its number in the header.
 #[derive(Clone, Copy, Debug, PartialEq, Eq)]
 pub enum Argument {
-    /// The number of the layouts is another one.
+    /// The ABI version is another one.
     Abi = 1,
     /// The style of the output is invalid.
     DisplayStyle = 2,

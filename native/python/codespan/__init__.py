@@ -67,7 +67,7 @@ class Spelling(IntEnum):
     PLAIN = 0  #: not at all
     ANSI = 1  #: by escape sequences, in the default styles
     ANSI_STYLES = 2  #: by escape sequences, in those of `Config.styles`
-    MARKED = 3  #: by the character U+DCFF and then the one of the mark's number, as in codespan.h
+    MARKED = 3  #: by the character U+DCFF and that of the style mark's number, as in codespan.h
 
 
 class Color(IntEnum):

@@ -17,6 +17,10 @@ use std::alloc::Global;
 /// # Errors
 ///
 /// [`OutOfMemory`] where an allocation fails.
+///
+/// # Requires
+///
+/// [`first_invalid`](crate::validate::first_invalid) has found nothing.
 pub fn convert_files<'a>(alloc: Global, raw: &[RawFile<'a>]) -> Result<SourceFiles<'a>, OutOfMemory>
     requires { All IsValidFile raw.now }
     ensures { IfOk result (λ files. sources_of files ≡ map source_in raw.now) }
