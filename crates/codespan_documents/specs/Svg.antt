@@ -127,11 +127,11 @@ abbrev pub svg_element : CellPosition → List ℕ
 svg_element extent = size_element extent ++ font_attributes
 
 -- the content of the tag of the dark background
-unfoldable pub ground_element : List ℕ
-ground_element = codes "rect width=\"100%\" height=\"100%\" rx=\"6\" fill=\"#161b22\"/"
+unfoldable pub background_element : List ℕ
+background_element = codes "rect width=\"100%\" height=\"100%\" rx=\"6\" fill=\"#161b22\"/"
 
 -- the document that shows glyphs
 abbrev pub svg_document : List Glyph → List ℕ
 svg_document glyphs =
-    codes "<" ++ svg_element (extent_from start glyphs) ++ codes ">\n<" ++ ground_element
+    codes "<" ++ svg_element (extent_from start glyphs) ++ codes ">\n<" ++ background_element
     ++ codes ">\n" ++ texts_from first_pen glyphs ++ codes "</svg>\n"

@@ -27,7 +27,7 @@ pub fn convert_files<'a>(alloc: Global, raw: &[RawFile<'a>]) -> Result<SourceFil
 {
     let mut files = SourceFiles::new(alloc);
     for file in raw {
-        files.add(file_of(alloc, file)?)?;
+        files.add(file_of(alloc, file)?).map_err(|_| OutOfMemory)?;
     }
     Ok(files)
 }
@@ -49,7 +49,8 @@ fn source_text_of<'a>(alloc: Global, raw: &RawFile<'a>) -> Result<SourceText<'a>
     let name = text_of(raw.name);
     let source = text_of(raw.source);
     Ok(if raw.lines.is_empty() {
-        SourceText::Numbered(NumberedText::new(alloc, name, source, raw.first_line)?)
+        let text = NumberedText::new(alloc, name, source, raw.first_line);
+        SourceText::Numbered(text.map_err(|_| OutOfMemory)?)
     } else {
         SourceText::Lined(LinedText::new(name, source, raw.first_byte, raw.lines))
     })
