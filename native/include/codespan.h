@@ -28,7 +28,7 @@
 extern "C" {
 #endif
 
-/* The number of the layouts of this header; codespan_abi_version returns that of the library. */
+/* The ABI version of this header; codespan_abi_version returns that of the library. */
 #define CODESPAN_ABI 1u
 
 /* A tab width above this one is taken as this one, in cells: it bounds how far a tab can grow the
@@ -145,7 +145,8 @@ enum {
     CODESPAN_PLAIN = 0,       /* not at all */
     CODESPAN_ANSI = 1,        /* by escape sequences, in the default styles */
     CODESPAN_ANSI_STYLES = 2, /* by escape sequences, in those of `styles` */
-    CODESPAN_MARKED = 3       /* by the byte 255, which UTF-8 never has, and the number of the mark */
+    CODESPAN_MARKED = 3       /* by the byte 255, which UTF-8 never has, and the number of the
+                               * style mark */
 };
 
 /* The numbers of style marks, for CODESPAN_MARKED. Those of headers and labels are added to a
@@ -289,7 +290,7 @@ typedef struct codespan_detail {
  * CODESPAN_OK: out[0..*written) is the output, and the rest of `out` is unchanged.
  * CODESPAN_TOO_SMALL: *written is the length of the output, more than out_length, and `out` is
  * unchanged. Call again with as much room: the output is the same. So a call with an out_length of
- * 0, and any `out` but NULL, asks for the length.
+ * 0, and any `out` but NULL, returns the length.
  * Any other status: *written is 0, and `out` is unchanged.
  *
  * The arguments are looked at before anything is allocated. Where one is invalid the status is
@@ -300,7 +301,7 @@ uint32_t codespan_emit(const codespan_file *files, size_t files_length,
                        const codespan_diagnostic *diagnostic, const codespan_config *config,
                        uint8_t *out, size_t out_length, size_t *written, codespan_detail *detail);
 
-/* Returns the number of the layouts that the library was built for; CODESPAN_ABI is the header's. */
+/* Returns the ABI version of the library; CODESPAN_ABI is the header's. */
 uint32_t codespan_abi_version(void);
 
 /* Writes what a status means, in English, to `text`, which has room for text_length bytes: one line

@@ -35,7 +35,7 @@ fn archive() -> Result<PathBuf, String> {
         .map_err(|error| format!("no archive {}: {error}", path.display()))
 }
 
-/// Returns what tells cargo to link an archive `libNAME.a`.
+/// Returns the lines by which cargo links an archive `libNAME.a`.
 fn link(archive: &Path) -> Result<String, String> {
     let folder = archive.parent().and_then(Path::to_str);
     let name = (archive.file_name().and_then(|name| name.to_str()))

@@ -19,7 +19,7 @@ pub record Annotation : Type 0 where
 
 -- ---- the order of annotations
 
--- shown comes first, then single-line labels, then parts of multi-line labels
+-- shown comes first, then single-line labels, then multi-line label marks
 abbrev pub rank_of : AnnotationKind → ℕ
 rank_of Shown = 0
 rank_of (Single index label) = 1
@@ -43,8 +43,8 @@ index_in_list Shown = 0
 index_in_list (Single index label) = index
 index_in_list (Multi lane_mark) = 0
 
--- by kind; single-line labels by their ranges, of equal ranges the greater index first; parts of
--- multi-line labels by their lanes
+-- by kind; single-line labels by their ranges, of equal ranges the greater index first; multi-line
+-- label marks by their lanes
 abbrev pub kind_cmp : AnnotationKind → AnnotationKind → Ordering
 kind_cmp x y =
     ordering_then (nat_cmp (rank_of x) (rank_of y))

@@ -62,8 +62,8 @@ impl LabelSpan {
         index == self.first || index == self.last || self.is_inside(index)
     }
 
-    /// Returns how many annotations the spanned lines make at most: a part of a multi-line label on
-    /// each, and that those near the ends are shown.
+    /// Returns how many annotations memory is reserved for: as many as the spanned lines make at
+    /// most, if the label starts at or before its end; 1 otherwise.
     pub fn spanned_annotations(self, config: &Config<'_>) -> usize {
         let others = self.last.saturating_sub(self.first);
         if others == 0 {

@@ -47,7 +47,7 @@ pub extern "C" fn codespan_emit(
     emit(alloc, files, diagnostic, config, out, written, detail)
 }
 
-/// Returns the number of the layouts of the structs.
+/// Returns the ABI version of the layouts of the structs.
 #[unsafe(no_mangle)]
 pub extern "C" fn codespan_abi_version() -> u32
     ensures { result ≡ 1 }

@@ -31,7 +31,8 @@ impl PaddingWidth {
         PaddingWidth { digits, limit }
     }
 
-    /// Makes room for a number. Most numbers are found to fit by one comparison.
+    /// Widens the padding to the digits of a number. Most numbers are found to fit by one
+    /// comparison.
     #[inline(always)]
     pub fn fit(&mut self, number: usize)
         ensures { self.new.digits ≡ max (length (decimal number)) self.old.digits }

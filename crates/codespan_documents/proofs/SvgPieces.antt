@@ -1,7 +1,7 @@
 -- The parts of glyphs are those of their pieces, and each character has its cell: for the clause
 -- `parts` of `to_svg`, and for `svg::laws`.
-use Rattle.std.proofs.Common.{◌≡◌, ℕ, ◌+◌, ◌-◌, true, false, List, [], ◌∷◌, ◌++◌, map, codes, refl, sym, ap, ◌∙◌, append_assoc, None, Some, Option}
-use Rattle.std.specs.Prelude.{Bool, ◌==◌, ◌&&◌, not, nat_le, nat_lt, if◌then◌else◌}
+use Rattle.std.proofs.Common.{◌≡◌, ℕ, ◌+◌, true, false, List, [], ◌∷◌, ◌++◌, map, codes, refl, sym, ap, ◌∙◌, append_assoc, None, Some, Option}
+use Rattle.std.specs.Prelude.{Bool, ◌==◌, ◌&&◌, not, nat_le, if◌then◌else◌}
 use Rattle.std.specs.List.{flat_map}
 use Rattle.std.proofs.lemmas.List.{map-append}
 use Rattle.codespan_base.specs.declared.term.config.color.Color.{Color}
@@ -12,7 +12,7 @@ use Rattle.codespan_documents.specs.declared.svg.position.CellPosition.{CellPosi
 use Rattle.codespan_documents.specs.declared.svg.Pen.{Pen}
 use Rattle.codespan_documents.specs.Glyphs.{cells_of, follows, goes_on, is_narrow, is_newline, joined_cells, joins, start}
 use Rattle.codespan_documents.specs.HtmlReading.{Part, Tag, TextByte}
-use Rattle.codespan_documents.specs.Inks.{ink_number}
+use Rattle.codespan_documents.specs.Inks.{optional_color_number, same_ink}
 use Rattle.codespan_documents.specs.Svg.{first_pen, next_pen, text_element}
 use Rattle.codespan_documents.specs.SvgReading.{InCell, Piece, RowEnd, Text, cells_in, cells_of_piece, joined_glyphs, piece_parts, pieces_from, shown_cells, shown_glyphs, svg_shown, width_of}
 use Rattle.codespan_documents.proofs.HtmlReading.{and_true, is_code}
@@ -50,14 +50,14 @@ three_ifs false x y u v k l P t f = f refl
 
 -- a newline joins nothing
 newline_joins : (glyph next : Glyph) → is_newline glyph ≡ true → joins glyph next ≡ false
-newline_joins glyph next e = ap (λ t. (not t && nat_le (cells_of glyph) 1) && is_narrow next && ink_number glyph.ink == ink_number next.ink) e
+newline_joins glyph next e = ap (λ t. (not t && nat_le (cells_of glyph) 1) && is_narrow next && same_ink glyph.ink next.ink) e
 
 -- and follows nothing
 joins_newline : (glyph next : Glyph) → is_newline next ≡ true → joins glyph next ≡ false
 joins_newline glyph next e = at (is_narrow glyph)
   where
-    at : (n : Bool) → n && is_narrow next && ink_number glyph.ink == ink_number next.ink ≡ false
-    at true = ap (λ t. (not t && nat_le (cells_of next) 1) && ink_number glyph.ink == ink_number next.ink) e
+    at : (n : Bool) → n && is_narrow next && same_ink glyph.ink next.ink ≡ false
+    at true = ap (λ t. (not t && nat_le (cells_of next) 1) && same_ink glyph.ink next.ink) e
     at false = refl
 
 follows_newline : (before : Option Glyph) (glyph : Glyph) → is_newline glyph ≡ true → follows before glyph ≡ false
@@ -181,36 +181,39 @@ color_of n =
     if n == 0 then Some Black else if n == 1 then Some Red else if n == 2 then Some Green else if n == 3 then Some Yellow
     else if n == 4 then Some Blue else if n == 5 then Some Magenta else if n == 6 then Some Cyan else if n == 7 then Some White else None
 
--- the ink of a number
-abbrev ink_of_number : ℕ → Ink
-ink_of_number n =
-    if nat_lt n 272 then record { color = color_of (n - 256); bold = false } else record { color = color_of (n - 272); bold = true }
+color_is : (color : Option Color) → color_of (optional_color_number color) ≡ color
+color_is None = refl
+color_is (Some Black) = refl
+color_is (Some Red) = refl
+color_is (Some Green) = refl
+color_is (Some Yellow) = refl
+color_is (Some Blue) = refl
+color_is (Some Magenta) = refl
+color_is (Some Cyan) = refl
+color_is (Some White) = refl
 
-ink_is : (color : Option Color) (bold : Bool) → ink_of_number (ink_number (record { color = color; bold = bold })) ≡ record { color = color; bold = bold }
-ink_is None true = refl
-ink_is None false = refl
-ink_is (Some Black) true = refl
-ink_is (Some Black) false = refl
-ink_is (Some Red) true = refl
-ink_is (Some Red) false = refl
-ink_is (Some Green) true = refl
-ink_is (Some Green) false = refl
-ink_is (Some Yellow) true = refl
-ink_is (Some Yellow) false = refl
-ink_is (Some Blue) true = refl
-ink_is (Some Blue) false = refl
-ink_is (Some Magenta) true = refl
-ink_is (Some Magenta) false = refl
-ink_is (Some Cyan) true = refl
-ink_is (Some Cyan) false = refl
-ink_is (Some White) true = refl
-ink_is (Some White) false = refl
+-- colors of one number are one color
+one_color : (x y : Option Color) → optional_color_number x == optional_color_number y ≡ true → y ≡ x
+one_color x y e = sym (color_is y) ∙ ap color_of (sym (is_code _ _ e)) ∙ color_is x
+
+one_weight : (x y : Bool) → (if x then y else not y) ≡ true → y ≡ x
+one_weight true y e = e
+one_weight false true e = absurd (cc)
+one_weight false false e = refl
+
+abbrev inked : Option Color → Bool → Ink
+inked color bold = record { color = color; bold = bold }
+
+-- inks that are the same are one ink
+one_ink : (x y : Ink) → same_ink x y ≡ true → y ≡ x
+one_ink x y e =
+    let same = and_true (optional_color_number x.color == optional_color_number y.color) (if x.bold then y.bold else not y.bold) e in
+    ap (λ (color : Option Color). inked color y.bold) (one_color x.color y.color same.0)
+    ∙ ap (λ (bold : Bool). inked x.color bold) (one_weight x.bold y.bold same.1)
 
 -- glyphs of one text have one ink
 joined_inks : (glyph next : Glyph) → joins glyph next ≡ true → next.ink ≡ glyph.ink
-joined_inks glyph next e =
-    let numbers : ink_number glyph.ink ≡ ink_number next.ink = is_code _ _ (and_true (is_narrow glyph && is_narrow next) (ink_number glyph.ink == ink_number next.ink) e).1 in
-    sym (ink_is next.ink.color next.ink.bold) ∙ ap ink_of_number (sym numbers) ∙ ink_is glyph.ink.color glyph.ink.bold
+joined_inks glyph next e = one_ink glyph.ink next.ink (and_true (is_narrow glyph && is_narrow next) (same_ink glyph.ink next.ink) e).1
 
 -- ---- cells
 

@@ -19,7 +19,7 @@ use Rattle.codespan_documents.specs.declared.svg.Pen.{Pen}
 use Rattle.codespan_documents.specs.Glyphs.{cells_of, extent_from, follows, glyphs_of, glyphs_of_run, goes_on, is_newline, joined_cells, start}
 use Rattle.codespan_documents.specs.HtmlReading.{InTag, InText, Part, Tag, TextByte, html_parts, parts_from, text_of_parts}
 use Rattle.codespan_documents.specs.Runs.{StyledRun, characters_of}
-use Rattle.codespan_documents.specs.Svg.{above, color_attribute, first_pen, font_attributes, glyph_text, ground_element, height, is_forbidden_in_xml, left_of, next_pen, size_element, svg_document, svg_element, text_element, text_tag, texts_from, weight_attribute, width, xml_character}
+use Rattle.codespan_documents.specs.Svg.{above, color_attribute, first_pen, font_attributes, glyph_text, background_element, height, is_forbidden_in_xml, left_of, next_pen, size_element, svg_document, svg_element, text_element, text_tag, texts_from, weight_attribute, width, xml_character}
 use Rattle.codespan_documents.specs.SvgReading.{piece_parts, pieces_from, svg_parts, svg_shown, svg_text}
 use Rattle.codespan_documents.proofs.HtmlReading.{IsTextByte, and_true, bytes-read, character-bytes, is_code, text_of-append, text_of-bytes}
 use Rattle.codespan_documents.proofs.SvgPieces.{glyph_parts, parts_of_glyphs, parts_of_pieces, two_ifs}
@@ -226,24 +226,24 @@ glyphs-read pen (glyph ∷ glyphs) rest =
 
 -- ---- documents
 
-regrouped : (lt head gt line ground end texts last : List ℕ) → (((((lt ++ head) ++ (gt ++ line)) ++ ground) ++ end) ++ texts) ++ last ≡ ((lt ++ head) ++ gt) ++ (((line ++ ground) ++ end) ++ (texts ++ last))
-regrouped lt head gt line ground end texts last = simp append_assoc
+regrouped : (lt head gt line background end texts last : List ℕ) → (((((lt ++ head) ++ (gt ++ line)) ++ background) ++ end) ++ texts) ++ last ≡ ((lt ++ head) ++ gt) ++ (((line ++ background) ++ end) ++ (texts ++ last))
+regrouped lt head gt line background end texts last = simp append_assoc
 
 -- the document of glyphs reads back
 pub svg-read : (glyphs : List Glyph) → html_parts (svg_document glyphs) ≡ svg_parts glyphs
-unfolding ground_element
+unfolding background_element
 svg-read glyphs =
     let head = svg_element (extent_from start glyphs) in
     let texts = texts_from first_pen glyphs in
     let last = codes "</svg>\n" in
     let pieces : List Part = flat_map piece_parts (pieces_from first_pen glyphs) in
-    let whole : svg_document glyphs ≡ (codes "<" ++ head ++ codes ">") ++ (codes "\n<" ++ ground_element ++ codes ">\n" ++ (texts ++ last)) =
-    regrouped (codes "<") head (codes ">") (codes "\n<") ground_element (codes ">\n") texts last in
+    let whole : svg_document glyphs ≡ (codes "<" ++ head ++ codes ">") ++ (codes "\n<" ++ background_element ++ codes ">\n" ++ (texts ++ last)) =
+    regrouped (codes "<") head (codes ">") (codes "\n<") background_element (codes ">\n") texts last in
     let inner : parts_from InText (texts ++ last) ≡ pieces ++ Tag (codes "/svg") ∷ TextByte 10 ∷ [] =
     glyphs-read first_pen glyphs last ∙ ap (λ (parts : List Part). parts ++ parts_from InText last) (parts_of_pieces glyphs) in
     ap html_parts whole
-    ∙ element-read head (codes "\n<" ++ ground_element ++ codes ">\n" ++ (texts ++ last)) (svg-inside (extent_from start glyphs))
-    ∙ ap (λ (parts : List Part). Tag head ∷ TextByte 10 ∷ Tag ground_element ∷ TextByte 10 ∷ parts) inner
+    ∙ element-read head (codes "\n<" ++ background_element ++ codes ">\n" ++ (texts ++ last)) (svg-inside (extent_from start glyphs))
+    ∙ ap (λ (parts : List Part). Tag head ∷ TextByte 10 ∷ Tag background_element ∷ TextByte 10 ∷ parts) inner
 
 -- ---- text
 

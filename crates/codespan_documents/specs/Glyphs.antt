@@ -6,7 +6,7 @@ use Rattle.unicode_width.specs.Width.{char_width}
 use Rattle.codespan_base.specs.declared.term.config.styles.Styles.{Styles}
 use Rattle.codespan_documents.specs.declared.svg.glyph.Glyph.{Glyph}
 use Rattle.codespan_documents.specs.declared.svg.position.CellPosition.{CellPosition}
-use Rattle.codespan_documents.specs.Inks.{ink_number, ink_of}
+use Rattle.codespan_documents.specs.Inks.{ink_of, same_ink}
 use Rattle.codespan_documents.specs.Runs.{StyledRun}
 use Rattle.codespan_documents.specs.StyleSheet.{spec_of}
 
@@ -59,7 +59,7 @@ is_narrow glyph = not (is_newline glyph) && nat_le (cells_of glyph) 1
 -- the glyph belongs to the text of the one before it: both are narrow, in one ink
 abbrev pub joins : Glyph → Glyph → Bool
 joins before glyph =
-    is_narrow before && is_narrow glyph && ink_number before.ink == ink_number glyph.ink
+    is_narrow before && is_narrow glyph && same_ink before.ink glyph.ink
 
 -- the glyph belongs to the text of the one before it, if there is one
 abbrev pub follows : Option Glyph → Glyph → Bool

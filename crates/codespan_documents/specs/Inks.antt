@@ -1,5 +1,5 @@
 -- Inks: what a style is in an SVG document.
-use Rattle.std.specs.Prelude.{ℕ, ◌+◌, Option, Some, None, if◌then◌else◌}
+use Rattle.std.specs.Prelude.{ℕ, ◌==◌, Bool, not, ◌&&◌, Option, Some, None, if◌then◌else◌}
 use Rattle.codespan_base.specs.declared.term.config.color.Color.{Color}
 use Rattle.codespan_base.specs.declared.term.config.color.ColorSpec.{ColorSpec}
 use Rattle.codespan_base.specs.Ansi.{color_number}
@@ -14,6 +14,8 @@ abbrev pub optional_color_number : Option Color → ℕ
 optional_color_number None = 8
 optional_color_number (Some color) = color_number color
 
--- the number of an ink
-abbrev pub ink_number : Ink → ℕ
-ink_number ink = (if ink.bold then 272 else 256) + optional_color_number ink.color
+-- two inks have one color, and both are bold or neither is
+abbrev pub same_ink : Ink → Ink → Bool
+same_ink x y =
+    optional_color_number x.color == optional_color_number y.color
+    && (if x.bold then y.bold else not y.bold)

@@ -10,7 +10,8 @@ use Rattle.codespan_documents.specs.Glyphs.{after_glyph, cells_of, extent_from, 
 
 -- ---- characters
 
--- the character can not be in an XML document
+-- a character below U+0020, U+FFFE or U+FFFF: an XML document can hold none of them but tab,
+-- newline and carriage return, which are spelled otherwise
 abbrev pub is_forbidden_in_xml : ℕ → Bool
 is_forbidden_in_xml c = nat_lt c 32 || (c == 65534) || (c == 65535)
 
@@ -126,11 +127,11 @@ abbrev pub svg_element : CellPosition → List ℕ
 svg_element extent = size_element extent ++ font_attributes
 
 -- the content of the tag of the dark background
-unfoldable pub ground_element : List ℕ
-ground_element = codes "rect width=\"100%\" height=\"100%\" rx=\"6\" fill=\"#161b22\"/"
+unfoldable pub background_element : List ℕ
+background_element = codes "rect width=\"100%\" height=\"100%\" rx=\"6\" fill=\"#161b22\"/"
 
 -- the document that shows glyphs
 abbrev pub svg_document : List Glyph → List ℕ
 svg_document glyphs =
-    codes "<" ++ svg_element (extent_from start glyphs) ++ codes ">\n<" ++ ground_element
+    codes "<" ++ svg_element (extent_from start glyphs) ++ codes ">\n<" ++ background_element
     ++ codes ">\n" ++ texts_from first_pen glyphs ++ codes "</svg>\n"

@@ -9,7 +9,7 @@ use Rattle.codespan_documents.specs.declared.svg.Pen.{Pen}
 use Rattle.codespan_documents.specs.Glyphs.{after_glyph, cells_of, extent_from, follows, is_newline, joins, start}
 use Rattle.codespan_documents.specs.HtmlReading.{Part, Tag, TextByte}
 use Rattle.codespan_documents.specs.Runs.{StyledRun, characters_of}
-use Rattle.codespan_documents.specs.Svg.{first_pen, ground_element, is_forbidden_in_xml, next_pen, svg_element, text_element}
+use Rattle.codespan_documents.specs.Svg.{first_pen, background_element, is_forbidden_in_xml, next_pen, svg_element, text_element}
 
 -- ---- characters
 
@@ -74,8 +74,8 @@ piece_parts (Text position first others) =
 -- all of a document: no other tag, and no other text
 abbrev pub svg_parts : List Glyph → List Part
 svg_parts glyphs =
-    Tag (svg_element (extent_from start glyphs)) ∷ TextByte 10 ∷ Tag ground_element ∷ TextByte 10
-    ∷ flat_map piece_parts (pieces_from first_pen glyphs)
+    Tag (svg_element (extent_from start glyphs)) ∷ TextByte 10 ∷ Tag background_element
+    ∷ TextByte 10 ∷ flat_map piece_parts (pieces_from first_pen glyphs)
     ++ Tag (codes "/svg") ∷ TextByte 10 ∷ []
 
 -- ---- cells

@@ -29,7 +29,7 @@ pub struct Recorder {
     style: Style,
     /// The bytes of the last run.
     text: Vec<u8>,
-    /// Whether a call has failed.
+    /// Whether a style mark or a `put` has failed.
     failed: bool,
 }
 
@@ -49,7 +49,7 @@ impl Recorder {
         }
     }
 
-    /// Whether a call has failed.
+    /// Returns the flag: whether a style mark or a `put` has failed.
     pub fn has_failed(&self) -> bool
         ensures { result ≡ has_flag self.now }
     {
@@ -114,6 +114,7 @@ impl Recorder {
     }
 }
 
+/// A write that fails leaves the flag.
 impl Write for Recorder {
     ghost use Rattle.codespan_documents.specs.Recorded.{recorded};
 

@@ -44,7 +44,11 @@ const BACKGROUND: &str =
 /// The ink of a run is the color of its style in `styles`, on the dark background, and whether it
 /// is bold; a background is not rendered. A cell is nine pixels wide and a row eighteen high, and
 /// each `text` is at the cell where it begins and as long as its cells, so carets are under their
-/// characters in any font. A character that takes two cells or more is a `text` alone.
+/// characters in any font, except in a row with a control character, which takes no cell. A
+/// character that takes two cells or more is a `text` alone.
+///
+/// The text has to end with a newline, as each output does: a last row without one is below the
+/// document's end.
 ///
 /// A text can neither start nor end a tag or an entity: each of the characters `&`, `<` and `>`
 /// becomes an entity. The escape character, the character of the number 0, the carriage return and

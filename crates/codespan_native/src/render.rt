@@ -29,7 +29,8 @@ const INITIAL_CAPACITY: usize = 1024;
 ///
 /// # Errors
 ///
-/// [`OutOfMemory`] where an allocation fails.
+/// [`OutOfMemory`]: an allocation fails, or a label's file is none of `files`, which `emit` has
+/// excluded.
 pub fn render(
     alloc: Global,
     settings: &Settings<'_>,
@@ -108,8 +109,8 @@ fn render_style_marks(
 ///
 /// # Errors
 ///
-/// [`OutOfMemory`]. The vector fails only where an allocation fails, the names are texts, and no
-/// lookup of a file that exists fails.
+/// [`OutOfMemory`], as [`render`]: the vector fails only where an allocation fails, the names are
+/// texts, and no lookup of a file that is one of `files` fails.
 fn write_to<W: WriteStyle>(
     writer: &mut W,
     config: &Config<'_>,

@@ -1,5 +1,6 @@
 -- the definitions of the crates below: files, labels, streams, writers, tables
 pub use Rattle.codespan_base.specs.FileModel
+pub use Rattle.codespan_base.specs.LawfulFiles
 pub use Rattle.codespan_base.specs.SimpleModel
 pub use Rattle.codespan_base.specs.MappedModel
 pub use Rattle.codespan_picture.specs.Types
@@ -37,6 +38,7 @@ pub use Rattle.codespan_laws.specs.OrderLaws
 pub use Rattle.codespan_laws.specs.RowLaws
 pub use Rattle.codespan_laws.specs.SortLaws
 pub use Rattle.codespan_laws.specs.TextLaws
+pub use Rattle.codespan_laws.specs.TrailingLaws
 pub use Rattle.codespan_laws.specs.StatedNames
 pub use Rattle.codespan_laws.specs.RichLaws
 -- a renderer, as its contracts see it

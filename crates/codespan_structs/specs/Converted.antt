@@ -35,22 +35,27 @@ use Rattle.codespan_structs.specs.StyleMarkBytes.{style_mark_spelling}
 use Rattle.codespan_structs.specs.StatedLines.{locus_at}
 use Rattle.codespan_structs.specs.SourceTexts.{CutText, SourceView, database_of, lined_text, numbered_text}
 
--- ---- numbers
+-- ---- numbers of the header
 
+-- the severity of a number
 abbrev pub severity_of : ℕ → Severity
 severity_of n =
     if n == 0 then Help else if n == 1 then Note else if n == 2 then Warning
     else if n == 3 then Error else Bug
 
+-- the style of a label of a number
 abbrev pub label_style_of : ℕ → LabelStyle
 label_style_of n = if n == 0 then Primary else Secondary
 
+-- the display style of a number
 abbrev pub display_style_of : ℕ → DisplayStyle
 display_style_of n = if n == 0 then Rich else if n == 1 then Medium else Short
 
+-- the layout of a number
 abbrev pub layout_of : ℕ → Layout
 layout_of n = if n == 0 then Classic else Unbroken
 
+-- the color of a number; of 0 none
 abbrev pub color_of : ℕ → Option Color
 color_of n =
     if n == 0 then None else if n == 1 then Some Black else if n == 2 then Some Red

@@ -1,10 +1,9 @@
--- What the contracts of this crate cite.
+-- What the contracts of this crate cite, and lemmas.
 -- style marks in band
 pub mod StyleMarkBytes
 -- files
 pub mod StatedLines
 pub mod SourceTexts
-pub mod Lemmas
 pub mod SourceModel
 -- what the structs of C are converted to, which of their values are valid, and what a call leaves
 pub mod Converted
@@ -14,3 +13,5 @@ pub mod ValidParts
 pub mod Results
 -- texts of statuses
 pub mod StatusTexts
+-- lemmas, which a reader may skip
+pub mod Lemmas

@@ -42,6 +42,8 @@ source_of f = record { cut = cut_of f.text; set = locus_at f.first_byte f.loci.n
 abbrev pub sources_of : SourceFiles → List SourceView
 sources_of files = map source_of files.files.items
 
+-- ---- lemmas: a reader may skip the rest
+
 -- a text of given lines makes a lawful file, whatever its loci are
 lined_lawful_with : (t : LinedText) (set : ℕ → Option Location)
     → IsLawful (file_of (record { cut = lined_of t; set = set }))

@@ -1,5 +1,5 @@
 -- The texts of statuses and arguments, which are ASCII.
-use Rattle.std.specs.Prelude.{ℕ, ◌==◌, if◌then◌else◌, List, codes}
+use Rattle.std.specs.Prelude.{ℕ, ◌==◌, if◌then◌else◌, List, ◌++◌, codes}
 
 -- what a status means
 abbrev pub status_text : ℕ → List ℕ
@@ -13,7 +13,7 @@ status_text s =
 -- what an argument must be
 abbrev pub argument_text : ℕ → List ℕ
 argument_text a =
-    if a == 1 then codes "the number of the layouts must be that of the library" else
+    if a == 1 then codes "the ABI version must be that of the library" else
     if a == 2 then codes "the display style must be one of those of the header" else
     if a == 3 then codes "the layout must be one of those of the header" else
     if a == 4 then codes "the spelling must be one of those of the header" else
@@ -23,9 +23,9 @@ argument_text a =
     if a == 8 then codes "a color must be one of those of the header" else
     if a == 9 then codes "the name of a file must be UTF-8" else
     if a == 10 then codes "the source of a file must be UTF-8" else
-    if a == 11
-    then
-    codes "the lines of a file must ascend and lie inside its source, at boundaries of characters"
+    if a == 11 then
+    codes "the lines of a file must start with its source, ascend without overlap and end inside it,"
+    ++ codes " at boundaries of characters"
     else
     if a == 12 then codes "the loci of a file must ascend strictly" else
     if a == 13 then codes "the severity must be one of those of the header" else

@@ -35,7 +35,7 @@ color_specs_of s =
     ∷ s.primary_label_note ∷ s.primary_label_help ∷ s.secondary_label ∷ s.line_number
     ∷ s.source_border ∷ s.note_bullet ∷ []
 
--- the colors of a style
+-- both colors of a style are numbers of the header
 pub record IsColorSpec (s : RawColorSpec) : Type 0 where
   pub fg : s.fg ≤ 8
   pub bg : s.bg ≤ 8

@@ -1,12 +1,11 @@
 //! Arguments that are invalid, and failed allocations.
 
-use codespan_base::files::Error;
 use std::alloc::{AllocError, AllocFailed};
 
 /// An argument that can be invalid, by its number in the header.
 #[derive(Clone, Copy, Debug, PartialEq, Eq)]
 pub enum Argument {
-    /// The number of the layouts is another one.
+    /// The ABI version is another one.
     Abi = 1,
     /// The style of the output is invalid.
     DisplayStyle = 2,
@@ -61,13 +60,6 @@ impl Argument {
 /// An allocation failed.
 #[derive(Clone, Copy, Debug, PartialEq, Eq)]
 pub struct OutOfMemory;
-
-/// An error of a file database: all that the calls of this crate return are out of memory.
-impl From<Error> for OutOfMemory {
-    fn from(_error: Error) -> OutOfMemory {
-        OutOfMemory
-    }
-}
 
 impl From<AllocError> for OutOfMemory {
     fn from(_error: AllocError) -> OutOfMemory {

@@ -3,7 +3,7 @@
 //! Numbers stand for enumerations and bytes for texts, so any value can be passed.
 //! [`crate::validate`] checks them.
 
-/// The number of the layouts of these structs.
+/// The ABI version of the layouts of these structs.
 pub const ABI: u32 = 1;
 
 /// A tab width above this one is taken as this one, in cells.

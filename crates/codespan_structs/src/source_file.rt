@@ -30,6 +30,10 @@ impl<'a> SourceFile<'a> {
     ghost use Rattle.codespan_structs.specs.SourceModel.{cut_of, source_of};
 
     /// Returns the file of a text that starts at a byte of the file, with these loci.
+    ///
+    /// # Requires
+    ///
+    /// The bytes of the loci ascend strictly. One before `first_byte` counts as `first_byte`.
     pub fn new(text: SourceText<'a>, first_byte: usize, loci: &'a [RawLocus]) -> SourceFile<'a>
         requires { ascends first_byte loci.now ≡ true }
         ensures cut { (source_of result).cut ≡ cut_of text.entry }
@@ -71,6 +75,10 @@ impl<'a> SourceFile<'a> {
     }
 
     /// Returns the bytes of the line of this index.
+    ///
+    /// # Errors
+    ///
+    /// [`Error::LineTooLarge`] where there is no such line.
     pub fn line_range(&self, line_index: usize) -> Result<Range<usize>, Error>
         ensures value { IfOk result (IsRangeIn (source_of self.now).cut line_index) }
         ensures failed { FailsBy (past_last (source_of self.now).cut.starts line_index) result }
@@ -113,6 +121,11 @@ impl<'a> SourceFile<'a> {
     }
 
     /// Returns the location of a byte: that of the caller, or else the computed one.
+    ///
+    /// # Errors
+    ///
+    /// None but [`Error::OutOfMemory`], by the contract: the line of a byte is there. Nothing is
+    /// allocated, so that neither occurs.
     #[tactic(auto, using(crate::specs::SourceModel::byte_has_line))]
     pub fn location(&self, byte_index: usize) -> Result<Location, Error>
         ensures value { IfOk result (λ location.

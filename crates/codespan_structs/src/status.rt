@@ -75,7 +75,7 @@ fn argument_text(argument: u32) -> &'static str
     ensures short { length result.now ≤ 128 }
 {
     match argument {
-        1 => "the number of the layouts must be that of the library",
+        1 => "the ABI version must be that of the library",
         2 => "the display style must be one of those of the header",
         3 => "the layout must be one of those of the header",
         4 => "the spelling must be one of those of the header",
@@ -86,7 +86,7 @@ fn argument_text(argument: u32) -> &'static str
         9 => "the name of a file must be UTF-8",
         10 => "the source of a file must be UTF-8",
         11 =>
-            "the lines of a file must ascend and lie inside its source, at boundaries of characters",
+            "the lines of a file must start with its source, ascend without overlap and end inside it, at boundaries of characters",
         12 => "the loci of a file must ascend strictly",
         13 => "the severity must be one of those of the header",
         14 => "the code must be UTF-8",

@@ -44,6 +44,7 @@ pub fn styled_text<'files, F: Files<'files>>(
 ) -> Result<StyledText, Error>
     ensures { EmitsRuns config.now (F.database files.now) diagnostic.now styled_runs result }
 {
+    // Does nothing: shows the prover that the characters are Unicode scalar values.
     are_characters(&config.chars);
     let mut recorder = Recorder::new(alloc);
     match emit_to_write_style(&mut recorder, config, files, diagnostic) {

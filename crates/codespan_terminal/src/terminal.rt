@@ -19,8 +19,9 @@ use ucd_props::is_bidi_control;
 ///
 /// The sequences are those that `Ansi` writes for these styles, and the reset for plain text; a
 /// plain first run has none. Of the texts each character that is not safe to print is left out:
-/// see [`is_safe`]. So no source text, name or message can move the cursor, set a title or reorder
-/// text. Those characters take no cells, so each caret stays under its character.
+/// see [`is_safe`]. So no source text, name or message can start an escape sequence, lead back over
+/// text, or change its direction by a directional control; right-to-left letters stay. The
+/// characters left out take no cells, so each caret stays in its column.
 ///
 /// # Errors
 ///

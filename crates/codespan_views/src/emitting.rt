@@ -65,6 +65,7 @@ pub fn emit_into_string<'files, F: Files<'files>>(
 ) -> Result<String, Error>
     ensures { Emits config.now (F.database files.now) diagnostic.now string_bytes result }
 {
+    // Does nothing: shows the prover that the characters are Unicode scalar values.
     are_characters(&config.chars);
     let bytes = Vec::with_capacity(*diagnostic.labels.allocator(), INITIAL_CAPACITY)?;
     let mut plain = PlainWriter::new(bytes);

@@ -51,7 +51,8 @@ fn render_start<F, FileId, W: WriteStyle>(
 ///
 /// # Requires
 ///
-/// The lines are of the file, and the single-line labels of each are in the order of their starts.
+/// The lines are of the file, the single-line labels of each are in the order of their starts, and
+/// its lane marks ascend in the file's lanes.
 pub fn render_snippet<'files, 'd, F: Files<'files>, W: WriteStyle>(
     context: &SnippetContext<'files, F>,
     renderer: &mut Renderer<'_, '_, W>,

@@ -38,17 +38,17 @@ void __wrap_free(void *block) {
     __real_free(block);
 }
 
-enum { ROOM = 1 << 16 };
+enum { OUT_CAPACITY = 1 << 16 };
 
 /* Makes a call in which the allocations from `first` to `last` fail. */
 static struct outcome emit_failing(const struct call *call, size_t first, size_t last,
                                    uint8_t *out) {
-    memset(out, UNWRITTEN, ROOM);
+    memset(out, UNWRITTEN, OUT_CAPACITY);
     allocations = 0;
     blocks = 0;
     first_failed = first;
     last_failed = last;
-    struct outcome outcome = emit(call, out, ROOM);
+    struct outcome outcome = emit(call, out, OUT_CAPACITY);
     CHECK(blocks == 0);
     CHECK(outcome.detail.argument == CODESPAN_ARGUMENT_NONE && outcome.detail.index == 0);
     return outcome;
@@ -57,18 +57,18 @@ static struct outcome emit_failing(const struct call *call, size_t first, size_t
 /* Makes each allocation of a call fail, alone or with all after it. Returns how many calls ran out
  * of memory. */
 static size_t fail_each(const struct call *call, bool with_later) {
-    static uint8_t wanted[ROOM], out[ROOM];
+    static uint8_t wanted[OUT_CAPACITY], out[OUT_CAPACITY];
     struct outcome whole = emit_failing(call, SIZE_MAX, 0, wanted);
     CHECK(whole.status == CODESPAN_OK);
     size_t total = allocations, failed = 0;
     for (size_t first = 1; first <= total; first++) {
         struct outcome outcome = emit_failing(call, first, with_later ? SIZE_MAX : first, out);
         if (outcome.status == CODESPAN_OUT_OF_MEMORY) {
-            CHECK(outcome.written == 0 && is_unwritten(out, ROOM));
+            CHECK(outcome.written == 0 && is_unwritten(out, OUT_CAPACITY));
             failed++;
         } else {
             CHECK(outcome.status == CODESPAN_OK && outcome.written == whole.written);
-            CHECK(memcmp(out, wanted, ROOM) == 0);
+            CHECK(memcmp(out, wanted, OUT_CAPACITY) == 0);
         }
     }
     CHECK(failed > 0);

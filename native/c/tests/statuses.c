@@ -165,7 +165,7 @@ static const struct wrong WRONG[] = {
     {set_two_notes, CODESPAN_INVALID, {CODESPAN_ARGUMENT_NOTE, 0}},
 };
 
-enum { WRONG_LENGTH = sizeof WRONG / sizeof WRONG[0], ROOM = 4096 };
+enum { WRONG_LENGTH = sizeof WRONG / sizeof WRONG[0], OUT_CAPACITY = 4096 };
 
 /* ---- the tests ---- */
 
@@ -175,7 +175,7 @@ static void test_wrong(const struct wrong *wrong) {
     set_sample(&sample);
     wrong->set(&sample);
     struct call call = call_of(&sample);
-    uint8_t out[ROOM];
+    uint8_t out[OUT_CAPACITY];
     memset(out, UNWRITTEN, sizeof out);
     struct outcome outcome = emit(&call, out, sizeof out);
     if (outcome.status != wrong->status || outcome.detail.argument != wrong->detail.argument ||
@@ -190,12 +190,12 @@ static void test_wrong(const struct wrong *wrong) {
 
 /* With each room up to the length of the output, the call reports that length or fills it. */
 static void test_rooms(const struct call *call) {
-    uint8_t out[ROOM];
+    uint8_t out[OUT_CAPACITY];
     struct outcome whole = emit(call, out, sizeof out);
     CHECK(whole.status == CODESPAN_OK && whole.written > 0 && whole.written < sizeof out);
     CHECK(whole.detail.argument == CODESPAN_ARGUMENT_NONE && whole.detail.index == 0);
     for (size_t room = 0; room <= whole.written; room++) {
-        uint8_t again[ROOM];
+        uint8_t again[OUT_CAPACITY];
         memset(again, UNWRITTEN, sizeof again);
         struct outcome outcome = emit(call, again, room);
         CHECK(outcome.written == whole.written);
@@ -219,7 +219,7 @@ static void test_unread(void) {
     other.config.styles.header_note.fg = UINT32_MAX;
     other.files[1].first_line = SIZE_MAX;
     struct call call = call_of(&sample), same = call_of(&other);
-    uint8_t out[ROOM], again[ROOM];
+    uint8_t out[OUT_CAPACITY], again[OUT_CAPACITY];
     struct outcome first = emit(&call, out, sizeof out), second = emit(&same, again, sizeof again);
     CHECK(first.status == CODESPAN_OK && second.status == CODESPAN_OK);
     CHECK(first.written == second.written && memcmp(out, again, first.written) == 0);
@@ -231,7 +231,7 @@ static void test_empty(void) {
     codespan_diagnostic diagnostic =
         codespan_new_diagnostic(CODESPAN_NOTE, codespan_text_from("only this"));
     struct call call = {CODESPAN_NO_FILES, 0, &diagnostic, &config};
-    uint8_t out[ROOM];
+    uint8_t out[OUT_CAPACITY];
     struct outcome outcome = emit(&call, out, sizeof out);
     static const char wanted[] = "note: only this\n\n";
     CHECK(outcome.status == CODESPAN_OK && outcome.written == sizeof wanted - 1);

@@ -67,7 +67,7 @@ class Spelling(IntEnum):
     PLAIN = 0  #: not at all
     ANSI = 1  #: by escape sequences, in the default styles
     ANSI_STYLES = 2  #: by escape sequences, in those of `Config.styles`
-    MARKED = 3  #: by the character U+DCFF and then the one of the mark's number, as in codespan.h
+    MARKED = 3  #: by the character U+DCFF and that of the style mark's number, as in codespan.h
 
 
 class Color(IntEnum):
@@ -220,7 +220,8 @@ def emit(files: Sequence[File], diagnostic: Diagnostic, config: Config = Config(
     """Returns the rendered diagnostic over these files.
 
     Raises `InvalidArgument` where an argument is invalid, `ValueError` where a number is negative
-    or too large or a `str` has no UTF-8, and `MemoryError` where an allocation fails."""
+    or too large or a `str` has no UTF-8, `TypeError` where a field of `Chars` is not one character,
+    and `MemoryError` where an allocation fails."""
     outcome = _native.emit(files, diagnostic, config)
     if outcome.status == _native.OK:
         return outcome.output.decode(errors='surrogateescape')

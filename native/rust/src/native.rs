@@ -23,7 +23,7 @@ pub(crate) const OVERLAP: &str = "the lines of a file overlap, or do not ascend"
 pub(crate) enum Spelling {
     /// Not at all: the output is text.
     Plain = 0,
-    /// By marks, which [`replay`] understands.
+    /// By style marks, which [`replay`] understands.
     Marked = 3,
 }
 
@@ -48,7 +48,7 @@ impl Request<'_> {
     ///
     /// # Panics
     ///
-    /// Where the lines of a file overlap, or do not ascend.
+    /// Where the lines of a file overlap, or do not ascend, or where the archive has another ABI.
     pub(crate) fn render(&self) -> Vec<u8> {
         let notes: Vec<_> = self.notes.iter().map(|note| note.as_str().into()).collect();
         let diagnostic = layout::Diagnostic {
@@ -61,23 +61,23 @@ impl Request<'_> {
         match ffi::emit(self.files, &diagnostic, &self.config()) {
             Status::Ok(output) => output,
             Status::OutOfMemory => handle_alloc_error(Layout::new::<u8>()),
-            Status::Invalid(detail) => {
+            Status::Invalid(detail) if detail.argument == layout::FILE_LINES => {
                 panic!("{OVERLAP}: {detail:?}")
             }
+            Status::Invalid(detail) => panic!(
+                "the archive does not take these structs; is its ABI {}? {detail:?}",
+                layout::ABI
+            ),
         }
     }
 
     fn config(&self) -> layout::Config<'_> {
         layout::Config {
             abi: layout::ABI,
-            display_style: match self.display_style {
-                DisplayStyle::Rich => 0,
-                DisplayStyle::Medium => 1,
-                DisplayStyle::Short => 2,
-            },
-            layout: CLASSIC,
+            display_style: display_style_number(self.display_style),
+            layout: layout::CLASSIC,
             spelling: self.spelling as u32,
-            characters: OWN_CHARS,
+            characters: layout::OWN_CHARS,
             tab_width: self.characters.tab_width,
             start_context_lines: self.context.start_context_lines,
             end_context_lines: self.context.end_context_lines,
@@ -89,11 +89,14 @@ impl Request<'_> {
     }
 }
 
-/// The layout of the original.
-const CLASSIC: u32 = 0;
-
-/// Characters that are passed, not one of the archive's own sets.
-const OWN_CHARS: u32 = 2;
+/// Returns the number of a display style.
+fn display_style_number(style: &DisplayStyle) -> u32 {
+    match style {
+        DisplayStyle::Rich => 0,
+        DisplayStyle::Medium => 1,
+        DisplayStyle::Short => 2,
+    }
+}
 
 /// Returns the number of a severity.
 fn severity_number(severity: Severity) -> u32 {

@@ -1,4 +1,4 @@
-//! File databases of one's own: lines that end before their line breaks, locations that are not
+//! Custom file databases: lines that end before their line breaks, locations that are not
 //! computed, and lines that are no lines.
 
 use std::ops::Range;
@@ -193,7 +193,9 @@ fn the_location_is_that_of_the_first_primary_label() {
 fn a_line_that_is_no_part_of_the_source_is_an_error() {
     let past_end = Lines::new("ab", vec![0..9]);
     let off_boundary = Lines::new("é", vec![0..1]);
+    let inside_a_run = Lines::new("aéb", vec![0..2, 2..4]);
     let diagnostic = Diagnostic::error().with_label(Label::primary((), 0..1));
+    let over_two_lines = Diagnostic::error().with_label(Label::primary((), 0..3));
     let config = Config::default();
     assert!(matches!(
         emit_into_string(&config, &past_end, &diagnostic),
@@ -202,6 +204,10 @@ fn a_line_that_is_no_part_of_the_source_is_an_error() {
     assert!(matches!(
         emit_into_string(&config, &off_boundary, &diagnostic),
         Err(Error::InvalidCharBoundary { given: 1 })
+    ));
+    assert!(matches!(
+        emit_into_string(&config, &inside_a_run, &over_two_lines),
+        Err(Error::InvalidCharBoundary { given: 2 })
     ));
 }
 

@@ -11,7 +11,8 @@ use codespan_base::files::Error;
 use std::cmp::Ordering;
 use std::ops::Range;
 
-/// Compares two annotations: by file, by line, and by kind. Only equal annotations are `Equal`.
+/// Compares two annotations: by file, by line, and by kind. Of the annotations of one diagnostic,
+/// those that are `Equal` are the same, so an unstable sort is enough.
 fn compare<FileId>(left: &Annotation<'_, FileId>, right: &Annotation<'_, FileId>) -> Ordering
     ensures { result ≡ annotation_cmp (annotation_view left.now) (annotation_view right.now) }
 {
@@ -25,7 +26,7 @@ fn compare<FileId>(left: &Annotation<'_, FileId>, right: &Annotation<'_, FileId>
 }
 
 /// Compares two annotations of one line: first those that make it shown, then single-line labels by
-/// their ranges, of equal ranges the greater index first, then parts of multi-line labels by their
+/// their ranges, of equal ranges the greater index first, then multi-line label marks by their
 /// lanes.
 fn compare_kinds<FileId>(left: &Annotation<'_, FileId>, right: &Annotation<'_, FileId>) -> Ordering
     ensures { result ≡ kind_cmp (annotation_view left.now).kind (annotation_view right.now).kind }

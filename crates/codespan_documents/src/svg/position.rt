@@ -44,7 +44,7 @@ impl CellPosition {
     }
 }
 
-/// Returns the size of glyphs: the number of their rows, and the cells of the widest row.
+/// Returns the size of glyphs: the number of their newlines, and the cells of the widest row.
 pub(super) fn extent(glyphs: &[Glyph]) -> CellPosition
     ensures extent { result ≡ extent_from start glyphs.now }
     ensures row { result.row ≤ 2 ^ 64 }

@@ -30,7 +30,7 @@ pub enum SnippetLine<'e, 'd, FileId> {
         index: usize,
         /// The line's number, where it is known before the header.
         number: Option<usize>,
-        /// Its annotations, in order: parts of multi-line labels alone.
+        /// Its annotations, in order: multi-line label marks alone.
         annotations: &'e [Annotation<'d, FileId>],
     },
     /// A break: two lines or more are left out.
@@ -179,6 +179,10 @@ impl<'files, F: Files<'files>> LinePlanner<'files, F> {
     ///
     /// - `OutOfMemory`: an allocation fails, or a lookup fails with it.
     /// - Any other error: that of the first lookup that fails.
+    ///
+    /// # Requires
+    ///
+    /// The lines of the annotations are lines of the file.
     pub fn push_lines<'e, 'd>(
         &self,
         annotations: &'e [Annotation<'d, F::FileId>],

@@ -32,6 +32,10 @@ pub struct Settings<'a> {
 }
 
 /// Returns the settings of a configuration of C.
+///
+/// # Requires
+///
+/// [`first_invalid`](crate::validate::first_invalid) has found nothing.
 pub fn convert_config<'a>(raw: &RawConfig<'a>) -> Settings<'a>
     requires { AreValidChars raw.now }
     ensures config { IsConfig (config_of raw.now) result.config }

@@ -19,6 +19,10 @@ use std::alloc::{AllocError, Global};
 /// # Errors
 ///
 /// [`OutOfMemory`] where an allocation fails.
+///
+/// # Requires
+///
+/// [`first_invalid`](crate::validate::first_invalid) has found nothing.
 pub fn convert_diagnostic(
     alloc: Global,
     files: &[RawFile<'_>],

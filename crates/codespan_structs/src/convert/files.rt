@@ -17,13 +17,17 @@ use std::alloc::Global;
 /// # Errors
 ///
 /// [`OutOfMemory`] where an allocation fails.
+///
+/// # Requires
+///
+/// [`first_invalid`](crate::validate::first_invalid) has found nothing.
 pub fn convert_files<'a>(alloc: Global, raw: &[RawFile<'a>]) -> Result<SourceFiles<'a>, OutOfMemory>
     requires { All IsValidFile raw.now }
     ensures { IfOk result (λ files. sources_of files ≡ map source_in raw.now) }
 {
     let mut files = SourceFiles::new(alloc);
     for file in raw {
-        files.add(file_of(alloc, file)?)?;
+        files.add(file_of(alloc, file)?).map_err(|_| OutOfMemory)?;
     }
     Ok(files)
 }
@@ -45,7 +49,8 @@ fn source_text_of<'a>(alloc: Global, raw: &RawFile<'a>) -> Result<SourceText<'a>
     let name = text_of(raw.name);
     let source = text_of(raw.source);
     Ok(if raw.lines.is_empty() {
-        SourceText::Numbered(NumberedText::new(alloc, name, source, raw.first_line)?)
+        let text = NumberedText::new(alloc, name, source, raw.first_line);
+        SourceText::Numbered(text.map_err(|_| OutOfMemory)?)
     } else {
         SourceText::Lined(LinedText::new(name, source, raw.first_byte, raw.lines))
     })

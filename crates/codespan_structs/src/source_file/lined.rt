@@ -27,6 +27,11 @@ impl<'a> LinedText<'a> {
     ghost use Rattle.codespan_structs.specs.SourceModel.{lined_of};
 
     /// Returns the text of a name and a source, cut into these lines.
+    ///
+    /// # Requires
+    ///
+    /// The lines start with the source, ascend without overlap and end inside it, at boundaries of
+    /// characters. A byte before `first_byte` counts as `first_byte`.
     pub fn new(
         name: &'a str,
         source: &'a str,
@@ -79,6 +84,10 @@ impl<'a> LinedText<'a> {
     }
 
     /// Returns the bytes of the line of this index.
+    ///
+    /// # Errors
+    ///
+    /// [`Error::LineTooLarge`] where there is no such line.
     pub fn line_range(&self, line_index: usize) -> Result<Range<usize>, Error>
         ensures value { IfOk result (IsRangeIn (lined_of self.now) line_index) }
         ensures failed { FailsBy (past_last (lined_of self.now).starts line_index) result }

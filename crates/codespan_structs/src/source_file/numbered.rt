@@ -74,6 +74,10 @@ impl<'a> NumberedText<'a> {
     }
 
     /// Returns the bytes of the line of this index.
+    ///
+    /// # Errors
+    ///
+    /// [`Error::LineTooLarge`] where there is no such line.
     pub fn line_range(&self, line_index: usize) -> Result<Range<usize>, Error>
         ensures value { IfOk result (IsRangeIn (numbered_of self.now) line_index) }
         ensures failed { FailsBy (past_last (numbered_of self.now).starts line_index) result }

@@ -51,6 +51,11 @@ impl<'context, 'files, F: Files<'files>> Snippet<'context, 'files, F> {
     ///   is rendered.
     ///
     /// A prefix of the rows has then been written.
+    ///
+    /// # Requires
+    ///
+    /// The text is that of the file. The lines are of the file, the single-line labels of each are
+    /// in the order of their starts, and its lane marks ascend in the file's lanes.
     pub fn render_lines<'d, W: WriteStyle>(
         &self,
         renderer: &mut Renderer<'_, '_, W>,

@@ -14,15 +14,20 @@
 #include <signal.h>
 #include <time.h>
 
-enum { THREADS = 2, ROOM = 1 << 15, STATUSES = CODESPAN_INVALID + 1, AT_ONCE = 64 };
+enum {
+    THREADS = 2,
+    OUT_CAPACITY = 1 << 15,
+    STATUSES = CODESPAN_INVALID + 1,
+    CASES_PER_CLOCK_READ = 64
+};
 
 /* A thread, and what it found. */
 struct worker {
     uint64_t first, step, cases; /* its cases: first, first + step, .. */
     double seconds;              /* how long it runs */
     struct pages pages;
-    uint8_t *rooms[SPELLINGS]; /* of ROOM bytes each */
-    uint8_t *expected;         /* of ROOM bytes */
+    uint8_t *rooms[SPELLINGS]; /* of OUT_CAPACITY bytes each */
+    uint8_t *expected;         /* of OUT_CAPACITY bytes */
     size_t counts[STATUSES];
     uint8_t signal_stack[1 << 16];
 };
@@ -71,7 +76,7 @@ static void check_outcome(const struct fuzz_case *made, const struct call *call,
 static const uint8_t *try_call(struct worker *worker, const struct fuzz_case *made,
                                uint32_t spelling, size_t room, struct outcome *outcome) {
     const struct call *call = &made->calls[spelling];
-    uint8_t *out = worker->rooms[spelling] + ROOM - room;
+    uint8_t *out = worker->rooms[spelling] + OUT_CAPACITY - room;
     memset(out, UNWRITTEN, room);
     *outcome = emit(call, out, room);
     check_outcome(made, call, out, room, outcome);
@@ -83,7 +88,7 @@ static const uint8_t *try_call(struct worker *worker, const struct fuzz_case *ma
 static void check_styles(struct worker *worker, const uint8_t *marked, size_t marked_length,
                          const codespan_styles *styles, const uint8_t *out,
                          const struct outcome *outcome) {
-    size_t length = replay(marked, marked_length, styles, worker->expected, ROOM);
+    size_t length = replay(marked, marked_length, styles, worker->expected, OUT_CAPACITY);
     REQUIRE(outcome->written == length);
     if (outcome->status == CODESPAN_OK)
         REQUIRE(memcmp(out, worker->expected, length) == 0);
@@ -94,7 +99,7 @@ static void check_spellings(struct worker *worker, const struct fuzz_case *made)
     struct outcome outcomes[SPELLINGS];
     const uint8_t *outs[SPELLINGS];
     for (uint32_t spelling = 0; spelling < SPELLINGS; spelling++)
-        outs[spelling] = try_call(worker, made, spelling, ROOM, &outcomes[spelling]);
+        outs[spelling] = try_call(worker, made, spelling, OUT_CAPACITY, &outcomes[spelling]);
     if (!made->is_valid || outcomes[CODESPAN_MARKED].status != CODESPAN_OK)
         return;
     const uint8_t *marked = outs[CODESPAN_MARKED];
@@ -114,7 +119,7 @@ static void check_spellings(struct worker *worker, const struct fuzz_case *made)
 static void check_room(struct worker *worker, const struct fuzz_case *made, size_t room) {
     struct outcome first, second;
     try_call(worker, made, CODESPAN_PLAIN, room, &first);
-    if (first.status != CODESPAN_TOO_SMALL || first.written > ROOM)
+    if (first.status != CODESPAN_TOO_SMALL || first.written > OUT_CAPACITY)
         return;
     try_call(worker, made, CODESPAN_PLAIN, first.written, &second);
     REQUIRE(second.status == CODESPAN_OK && second.written == first.written);
@@ -160,7 +165,7 @@ static void *run(void *argument) {
     double end = now() + worker->seconds;
     uint64_t number = worker->first;
     do {
-        for (int i = 0; i < AT_ONCE; i++, number += worker->step)
+        for (int i = 0; i < CASES_PER_CLOCK_READ; i++, number += worker->step)
             run_case(worker, number);
     } while (now() < end);
     CHECK(sigaltstack(&before, NULL) == 0);
@@ -173,8 +178,8 @@ static void prepare(struct worker *worker, uint64_t first, double seconds) {
     worker->seconds = seconds;
     worker->pages = new_pages();
     for (uint32_t spelling = 0; spelling < SPELLINGS; spelling++)
-        worker->rooms[spelling] = new_room(ROOM);
-    worker->expected = new_room(ROOM);
+        worker->rooms[spelling] = new_room(OUT_CAPACITY);
+    worker->expected = new_room(OUT_CAPACITY);
 }
 
 /* What all threads found. */

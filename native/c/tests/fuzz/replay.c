@@ -2,7 +2,7 @@
 #include <stdio.h>
 #include <stdlib.h>
 
-/* Returns the style of a mark other than the reset. */
+/* Returns the style of a style mark other than the reset. */
 static codespan_color_spec style_of(const codespan_styles *styles, uint8_t mark) {
     const codespan_color_spec headers[] = {styles->header_help, styles->header_note,
                                            styles->header_warning, styles->header_error,
@@ -39,7 +39,7 @@ static int color_sequence(char *sequence, size_t capacity, int layer, uint32_t c
     return snprintf(sequence, capacity, "\033[%d%um", layer, number);
 }
 
-/* Writes the escape sequences of a mark, and returns their length. */
+/* Writes the escape sequences of a style mark, and returns their length. */
 static size_t mark_sequence(char *sequence, size_t capacity, const codespan_styles *styles,
                             uint8_t mark) {
     int length = snprintf(sequence, capacity, "\033[0m");

@@ -6,7 +6,7 @@
 use alloc::vec::Vec;
 use core::ptr;
 
-use super::layout::{Config, Detail, Diagnostic, File};
+use super::layout::{Config, Detail, Diagnostic, File, OK, OUT_OF_MEMORY, TOO_SMALL};
 
 /// What the archive returned, but for "too small", after which it is called again.
 #[derive(Debug)]
@@ -18,10 +18,6 @@ pub(crate) enum Status {
     /// An argument is invalid.
     Invalid(Detail),
 }
-
-const OK: u32 = 0;
-const TOO_SMALL: u32 = 1;
-const OUT_OF_MEMORY: u32 = 2;
 
 /// The bytes that an output is expected to have at most. A longer one takes a second call.
 const EXPECTED_LENGTH: usize = 4096;

@@ -1,13 +1,44 @@
-//! The structs of `native/include/codespan.h`, under the same names but for the prefix. Its
-//! comments apply.
+//! The structs and the numbers of `native/include/codespan.h`, under the same names but for the
+//! prefix. Its comments apply.
 
 use core::marker::PhantomData;
 
 #[cfg(all(test, feature = "std"))]
 mod header;
 
-/// The number of these layouts: `CODESPAN_ABI`.
+/// The ABI version of these layouts: `CODESPAN_ABI`.
 pub(crate) const ABI: u32 = 1;
+
+/// The layout of the original.
+pub(crate) const CLASSIC: u32 = 0;
+
+/// Characters that are passed, not one of the archive's own sets.
+pub(crate) const OWN_CHARS: u32 = 2;
+
+/// The status of a call that has written the output.
+pub(crate) const OK: u32 = 0;
+
+/// The status of a call whose output does not fit.
+pub(crate) const TOO_SMALL: u32 = 1;
+
+/// The status of a call in which an allocation failed.
+pub(crate) const OUT_OF_MEMORY: u32 = 2;
+
+/// `CODESPAN_ARGUMENT_FILE_LINES`.
+pub(crate) const FILE_LINES: u32 = 11;
+
+/// The byte before the number of a style mark.
+pub(crate) const MARK_BYTE: u8 = 255;
+
+// The numbers of style marks. To those of headers and labels the number of a severity is added.
+pub(crate) const MARK_HEADER: u8 = 0;
+pub(crate) const MARK_HEADER_MESSAGE: u8 = 5;
+pub(crate) const MARK_LINE_NUMBER: u8 = 6;
+pub(crate) const MARK_NOTE_BULLET: u8 = 7;
+pub(crate) const MARK_SOURCE_BORDER: u8 = 8;
+pub(crate) const MARK_PRIMARY_LABEL: u8 = 9;
+pub(crate) const MARK_SECONDARY_LABEL: u8 = 14;
+pub(crate) const MARK_RESET: u8 = 19;
 
 /// A borrowed slice: a pointer that is never null, then a number of items.
 #[repr(C)]

@@ -1,10 +1,11 @@
-//! Outputs with style marks: a byte that UTF-8 never has, and then the number of the mark.
+//! Outputs with style marks: a byte that UTF-8 never has, and then the number of the style mark.
 
+use super::layout::{
+    MARK_BYTE, MARK_HEADER, MARK_HEADER_MESSAGE, MARK_LINE_NUMBER, MARK_NOTE_BULLET,
+    MARK_PRIMARY_LABEL, MARK_RESET, MARK_SECONDARY_LABEL, MARK_SOURCE_BORDER,
+};
 use crate::diagnostic::{LabelStyle, Severity};
 use crate::term::{GeneralWrite, GeneralWriteResult, WriteStyle};
-
-/// The byte before the number of a mark.
-const MARK: u8 = 255;
 
 /// The severities, by their numbers.
 const SEVERITIES: [Severity; 5] = [
@@ -15,15 +16,15 @@ const SEVERITIES: [Severity; 5] = [
     Severity::Bug,
 ];
 
-/// Writes an output with style marks: its texts by writes, and its marks by the calls that set a
-/// style.
+/// Writes an output with style marks: its texts by writes, and its style marks by the calls that
+/// set a style.
 pub(crate) fn replay<W: WriteStyle + ?Sized>(output: &[u8], writer: &mut W) -> GeneralWriteResult {
-    let mut parts = output.split(|&byte| byte == MARK);
+    let mut parts = output.split(|&byte| byte == MARK_BYTE);
     if let Some(text) = parts.next() {
         write_text(writer, text)?;
     }
     for part in parts {
-        // A mark is never the last byte: its number follows.
+        // This byte is never the last one: the number of the style mark follows.
         set_style(writer, part[0])?;
         write_text(writer, &part[1..])?;
     }
@@ -44,17 +45,22 @@ pub(crate) fn write_text<W: GeneralWrite + ?Sized>(
     return writer.write_str(core::str::from_utf8(text).expect("the output is UTF-8"));
 }
 
-/// Sets the style of a mark.
+/// Sets the style of a style mark.
 fn set_style<W: WriteStyle + ?Sized>(writer: &mut W, mark: u8) -> GeneralWriteResult {
     let severity = |first: u8| SEVERITIES[usize::from(mark - first)];
     match mark {
-        0..=4 => writer.set_header(severity(0)),
-        5 => writer.set_header_message(),
-        6 => writer.set_line_number(),
-        7 => writer.set_note_bullet(),
-        8 => writer.set_source_border(),
-        9..=13 => writer.set_label(severity(9), LabelStyle::Primary),
-        14..=18 => writer.set_label(severity(14), LabelStyle::Secondary),
-        _ => writer.reset(),
+        MARK_HEADER..MARK_HEADER_MESSAGE => writer.set_header(severity(MARK_HEADER)),
+        MARK_HEADER_MESSAGE => writer.set_header_message(),
+        MARK_LINE_NUMBER => writer.set_line_number(),
+        MARK_NOTE_BULLET => writer.set_note_bullet(),
+        MARK_SOURCE_BORDER => writer.set_source_border(),
+        MARK_PRIMARY_LABEL..MARK_SECONDARY_LABEL => {
+            writer.set_label(severity(MARK_PRIMARY_LABEL), LabelStyle::Primary)
+        }
+        MARK_SECONDARY_LABEL..MARK_RESET => {
+            writer.set_label(severity(MARK_SECONDARY_LABEL), LabelStyle::Secondary)
+        }
+        MARK_RESET => writer.reset(),
+        _ => unreachable!("style mark {mark}"),
     }
 }

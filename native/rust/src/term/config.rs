@@ -86,7 +86,7 @@ pub enum DisplayStyle {
 /// given after them.
 #[derive(Clone, Debug)]
 pub struct Chars {
-    /// What stands before a snippet's location: `"┌─"`, or `"-->"`.
+    /// The text before a snippet's location: `"┌─"`, or `"-->"`.
     pub snippet_start: String,
     /// The left border of a line: `'│'`, or `'|'`.
     pub source_border_left: char,

@@ -74,6 +74,9 @@ impl<'source> Excerpt<'source> {
         run: &[(usize, &LineInfo)],
         source: &'source str,
     ) -> Result<usize, Error> {
+        for (_, line) in run {
+            slice(source, line.range.clone())?;
+        }
         let (first_line, first) = run[0];
         let (_, last) = run[run.len() - 1];
         let text = slice(source, first.range.start..last.range.end)?;

@@ -17,7 +17,7 @@ pub use core::fmt::Write as GeneralWrite;
 #[cfg(not(feature = "std"))]
 pub type GeneralWriteResult = core::fmt::Result;
 
-/// A writer that is told the style of each part of an output.
+/// A writer that receives the style of each part of an output.
 ///
 /// What is written after a call `set_..`, up to the next one or to [`reset`](WriteStyle::reset),
 /// has that style. With the feature `termcolor` each `WriteColor` is one, in the default

@@ -52,7 +52,7 @@ where
     ///
     /// # Panics
     ///
-    /// Where the lines of a file overlap, or do not ascend.
+    /// Where the lines of a file overlap, or do not ascend, or a byte is before its line.
     pub fn render<'files>(
         &self,
         files: &'files (impl Files<'files, FileId = FileId> + ?Sized),
@@ -163,34 +163,42 @@ where
             };
         }
         let show_notes = self.show_notes && result.is_ok();
+        Output {
+            bytes: self.render_headers(&headers, show_notes, characters, spelling),
+            result,
+        }
+    }
+
+    /// Renders headers, and then the notes if they are shown.
+    fn render_headers(
+        &self,
+        headers: &[Header],
+        show_notes: bool,
+        characters: &Config,
+        spelling: Spelling,
+    ) -> Vec<u8> {
+        let (display_style, notes): (_, &[String]) = if show_notes {
+            (&DisplayStyle::Medium, &self.diagnostic.notes)
+        } else {
+            (&DisplayStyle::Short, &[])
+        };
         // A header shows the name and the location of its label alone, so each has a file of its
         // own, without a text.
         let files: Vec<_> = headers.iter().map(Header::file).collect();
         let labels: Vec<_> = (0..headers.len()).map(label_at_start).collect();
-        let request = Request {
-            display_style: if show_notes {
-                &DisplayStyle::Medium
-            } else {
-                &DisplayStyle::Short
-            },
+        Request {
+            display_style,
             spelling,
             characters,
             context: characters,
             severity: self.diagnostic.severity,
             code: self.diagnostic.code.as_deref().unwrap_or_default(),
             message: &self.diagnostic.message,
-            notes: if show_notes {
-                &self.diagnostic.notes
-            } else {
-                &[]
-            },
+            notes,
             files: &files,
             labels: &labels,
-        };
-        Output {
-            bytes: request.render(),
-            result,
         }
+        .render()
     }
 
     /// Looks up what each header shows, up to the first lookup that fails.

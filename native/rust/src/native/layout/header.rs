@@ -1,9 +1,13 @@
-//! The structs here beside those of the header, whose layouts are computed from its text.
+//! The structs and the numbers here beside those of the header: the layouts of its structs are
+//! computed from its text.
 
 use core::mem::{align_of, offset_of, size_of};
 use std::collections::BTreeMap;
 
 use super::*;
+use crate::diagnostic::{LabelStyle, Severity};
+use crate::native::{display_style_number, label_style_number, severity_number, Spelling};
+use crate::term::DisplayStyle;
 
 const HEADER: &str = include_str!("../../../../include/codespan.h");
 
@@ -107,7 +111,62 @@ fn structs_are_those_of_the_header() {
     );
 }
 
+/// Returns the number of a constant of the header's enumerations.
+fn constant(name: &str) -> u32 {
+    let start = format!("CODESPAN_{name} = ");
+    let (_, rest) = HEADER.split_once(&start).expect(name);
+    let digits = rest.split(|c: char| !c.is_ascii_digit()).next();
+    digits.unwrap_or_default().parse().expect(name)
+}
+
 #[test]
 fn numbers_are_those_of_the_header() {
     assert!(HEADER.contains(&format!("#define CODESPAN_ABI {ABI}u\n")));
+    assert_eq!(OK, constant("OK"));
+    assert_eq!(TOO_SMALL, constant("TOO_SMALL"));
+    assert_eq!(OUT_OF_MEMORY, constant("OUT_OF_MEMORY"));
+    assert_eq!(FILE_LINES, constant("ARGUMENT_FILE_LINES"));
+    assert_eq!(CLASSIC, constant("CLASSIC"));
+    assert_eq!(OWN_CHARS, constant("OWN_CHARS"));
+    assert_eq!(Spelling::Plain as u32, constant("PLAIN"));
+    assert_eq!(Spelling::Marked as u32, constant("MARKED"));
+    for (style, name) in [
+        (DisplayStyle::Rich, "RICH"),
+        (DisplayStyle::Medium, "MEDIUM"),
+        (DisplayStyle::Short, "SHORT"),
+    ] {
+        assert_eq!(display_style_number(&style), constant(name), "{name}");
+    }
+    for (severity, name) in [
+        (Severity::Help, "HELP"),
+        (Severity::Note, "NOTE"),
+        (Severity::Warning, "WARNING"),
+        (Severity::Error, "ERROR"),
+        (Severity::Bug, "BUG"),
+    ] {
+        assert_eq!(severity_number(severity), constant(name), "{name}");
+    }
+    assert_eq!(label_style_number(LabelStyle::Primary), constant("PRIMARY"));
+    assert_eq!(
+        label_style_number(LabelStyle::Secondary),
+        constant("SECONDARY")
+    );
+}
+
+#[test]
+fn style_marks_are_those_of_the_header() {
+    assert!(HEADER.contains(&format!("#define CODESPAN_MARK_BYTE {MARK_BYTE}u\n")));
+    for (mark, name) in [
+        (MARK_HEADER, "HEADER"),
+        (MARK_HEADER_MESSAGE, "HEADER_MESSAGE"),
+        (MARK_LINE_NUMBER, "LINE_NUMBER"),
+        (MARK_NOTE_BULLET, "NOTE_BULLET"),
+        (MARK_SOURCE_BORDER, "SOURCE_BORDER"),
+        (MARK_PRIMARY_LABEL, "PRIMARY_LABEL"),
+        (MARK_SECONDARY_LABEL, "SECONDARY_LABEL"),
+        (MARK_RESET, "RESET"),
+    ] {
+        let number = constant(&format!("MARK_{name}"));
+        assert_eq!(u32::from(mark), number, "{name}");
+    }
 }
