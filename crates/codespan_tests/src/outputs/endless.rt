@@ -10,7 +10,7 @@ use std::process::Abort;
 use std::test::Fail;
 use test_writers::stopping::{Stop, Stopping};
 
-/// A configuration whose tabs have the greatest width.
+/// Returns a configuration whose tabs have the greatest width.
 fn widest_tabs() -> Config<'static> {
     Config {
         tab_width: usize::MAX,
@@ -18,7 +18,7 @@ fn widest_tabs() -> Config<'static> {
     }
 }
 
-/// A diagnostic with a label at the character after a tab.
+/// Returns a diagnostic with a label at the character after a tab.
 fn after_tab(alloc: Global) -> Result<Diagnostic<()>, Error> {
     let label = Label::primary(alloc, (), 1..2).with_message("m")?;
     Diagnostic::error(alloc).with_label(label)
