@@ -1,8 +1,9 @@
 //! The clones of a configuration, and of its parts, with an owned text.
 
+use crate::equality::{are_same_chars, is_same_config};
 use crate::outcome::{Outcome, judge_failure, judge_made};
 use codespan_base::files::Error;
-use codespan_base::term::{Chars, Config, SnippetStart};
+use codespan_base::term::{Chars, Config, DisplayStyle, Layout, SnippetStart};
 use std::alloc::Global;
 
 /// What is cloned.
@@ -29,24 +30,34 @@ fn is_start(start: &SnippetStart<'_>) -> bool {
 
 /// Returns whether they are the characters of the configuration.
 fn are_chars(chars: &Chars<'_>) -> bool {
-    is_start(&chars.snippet_start) && chars.multi_top_left == '/'
+    is_start(&chars.snippet_start) && are_same_chars(chars, &Chars::ascii())
 }
 
-/// Returns whether it is the configuration.
+/// Returns whether it is the configuration with this text before a locus.
 fn is_config(config: &Config<'_>) -> bool {
-    are_chars(&config.chars) && config.tab_width == 7
+    is_start(&config.chars.snippet_start) && is_same_config(config, &config_of(Chars::ascii()))
+}
+
+/// Returns the configuration that is cloned, with these characters. No other field is the default.
+fn config_of(chars: Chars<'_>) -> Config<'_> {
+    Config {
+        display_style: DisplayStyle::Short,
+        tab_width: 7,
+        chars,
+        start_context_lines: 8,
+        end_context_lines: 9,
+        before_label_lines: 10,
+        after_label_lines: 11,
+        layout: Layout::Unbroken,
+    }
 }
 
 /// Makes the clone of a configuration, or of a part of it, and judges it.
 pub fn judge_clone(alloc: Global, clone_call: CloneCall) -> Result<Outcome, Error> {
-    let config = Config {
-        tab_width: 7,
-        chars: Chars {
-            snippet_start: SnippetStart::Owned(String::from_str(alloc, START)?),
-            ..Chars::ascii()
-        },
-        ..Config::default()
-    };
+    let config = config_of(Chars {
+        snippet_start: SnippetStart::Owned(String::from_str(alloc, START)?),
+        ..Chars::ascii()
+    });
     Ok(match is_cloned(&config, clone_call) {
         Ok(is_equal) => judge_made(is_equal),
         Err(error) => judge_failure(&error, true),

@@ -10,8 +10,8 @@
 //!
 //! | status | meaning |
 //! |---|---|
-//! | 0 | no error |
-//! | 1 | a wrong outcome, or writing the output failed |
+//! | 0 | no error; without SUBJECT, each subject is done |
+//! | 1 | a wrong outcome, without SUBJECT any but `done`; or writing the output failed |
 //! | 2 | nothing: no subject has this name |
 #![tactic(auto)]
 
@@ -22,6 +22,7 @@ mod data;
 mod databases;
 mod diagnostics;
 mod documents;
+mod equality;
 mod native;
 mod outcome;
 mod recording;

@@ -67,7 +67,7 @@ impl fmt::Display for Wrong {
     fn fmt<W: Write>(&self, f: &mut fmt::Formatter<W>) -> fmt::Result {
         match self {
             Wrong::Preparation => write!(f, "not prepared, and memory is not why"),
-            Wrong::Value => write!(f, "another answer than is expected"),
+            Wrong::Value => write!(f, "another value than is expected"),
             Wrong::Failure => write!(f, "another error than may come"),
             Wrong::Changed => write!(f, "failed, and something did not stay unchanged"),
         }

@@ -223,6 +223,7 @@ fn judge_recording(returned: &Result<(), Error>, recording: &Recording, output: 
     match returned {
         Ok(()) => judge_made(!recording.has_failed && bytes == output.as_bytes()),
         Err(Error::Io(_)) if recording.has_failed && is_prefix => Outcome::Failed,
+        Err(Error::Io(_)) if recording.has_failed => Outcome::Wrong(Wrong::Changed),
         Err(_) if recording.has_failed => Outcome::Wrong(Wrong::Failure),
         Err(error) => judge_failure(error, is_prefix),
     }

@@ -1,6 +1,7 @@
 //! The calls that do not allocate.
 
 use crate::databases::has_text;
+use crate::equality::{are_same_chars, is_same_config};
 use crate::outcome::{Outcome, judge_made};
 use codespan_base::diagnostic::LabelStyle::{Primary, Secondary};
 use codespan_base::diagnostic::{Diagnostic, Label, LabelStyle, Severity};
@@ -9,12 +10,13 @@ use codespan_base::files::{
     default_column_number, default_line_number, default_location, line_starts,
 };
 use codespan_base::term::{
-    Ansi, Chars, Color, Config, PlainWriter, Styles, StylesWriter, WriteStyle,
+    Ansi, Chars, Color, Config, PlainWriter, SnippetStart, Styles, StylesWriter, WriteStyle,
 };
 use codespan_renderer::term::renderer::{Locus, MultiLabel, Renderer, lanes_in_order};
 use codespan_views::emitting::emit;
 use std::alloc::Global;
 use std::convert::AsStr;
+use std::ops::Range;
 
 /// How much of the subject is done.
 #[derive(Clone, Copy)]
@@ -69,7 +71,7 @@ fn prepare<'text>(alloc: Global) -> Result<Prepared<'text>, Error> {
     })
 }
 
-/// A location of a file: a line and a column.
+/// Returns the locus of a line and a column in a file of this name.
 fn locus_of(
     alloc: Global,
     name: &str,
@@ -111,24 +113,30 @@ fn are_written(needed: &Prepared<'_>) -> bool {
 
 /// Returns whether the lookups of the file databases return what is expected.
 fn are_looked_up(needed: &Prepared<'_>) -> bool {
-    looks_up(&needed.file, (), 2)
-        && looks_up(&needed.files, 0, 2)
-        && looks_up(&needed.mapped, (), 40)
+    looks_up(&needed.file, (), 2, 4..9)
+        && looks_up(&needed.files, 0, 2, 4..9)
+        && looks_up(&needed.mapped, (), 40, 4..8)
         && is_found(&needed.files)
         && are_defaults(&needed.files)
 }
 
-/// Returns whether the lookups of byte 7 of a file return what is expected.
-fn looks_up<'files, F: Files<'files>>(files: &'files F, id: F::FileId, number: usize) -> bool {
+/// Returns whether the lookups of byte 7 of a file return what is expected, where its line has this
+/// number and this range of bytes.
+fn looks_up<'files, 'text: 'files, F: Files<'files, Name = &'files &'text str>>(
+    files: &'files F,
+    id: F::FileId,
+    number: usize,
+    range: Range<usize>,
+) -> bool {
     let location = Location {
         line_number: number,
         column_number: 3,
     };
     has_text(files, id, TEXT)
-        && files.name(id).is_ok()
+        && files.name(id).ok() == Some(&"f")
         && files.line_index(id, 7).ok() == Some(1)
         && files.line_number(id, 1).ok() == Some(number)
-        && files.line_range(id, 1).unwrap_or(0..0).start == 4
+        && files.line_range(id, 1).ok() == Some(range)
         && files.column_number(id, 1, 7).ok() == Some(3)
         && files.location(id, 7).ok() == Some(location)
 }
@@ -184,15 +192,29 @@ fn are_starts() -> bool {
 fn are_made(alloc: Global) -> bool {
     let label = Label::primary(alloc, 3, 5..2);
     let diagnostic: Diagnostic<usize> = Diagnostic::help(alloc);
-    let is_config = match Config::default().clone() {
-        Ok(config) => config.tab_width == 4,
+    label.file_id == 3 && diagnostic.labels.is_empty() && is_config_cloned() && are_chars_cloned()
+}
+
+/// Returns whether the clone of the default configuration is equal.
+fn is_config_cloned() -> bool {
+    match Config::default().clone() {
+        Ok(config) => {
+            is_same_config(&config, &Config::default())
+                && matches!(config.chars.snippet_start, SnippetStart::Fixed("┌─"))
+        }
         Err(_) => false,
-    };
-    let are_chars = match Chars::ascii().clone() {
-        Ok(chars) => chars.multi_top_left == '/',
+    }
+}
+
+/// Returns whether the clone of the ASCII characters is equal.
+fn are_chars_cloned() -> bool {
+    match Chars::ascii().clone() {
+        Ok(chars) => {
+            are_same_chars(&chars, &Chars::ascii())
+                && matches!(chars.snippet_start, SnippetStart::Fixed("-->"))
+        }
         Err(_) => false,
-    };
-    label.file_id == 3 && diagnostic.labels.is_empty() && is_config && are_chars
+    }
 }
 
 /// Renders a diagnostic without a lookup.

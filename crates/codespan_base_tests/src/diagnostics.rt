@@ -22,7 +22,7 @@ impl Display for StopsAfterTwoBytes {
     }
 }
 
-/// What a chain of builders holds follows from their contracts alone.
+/// Returns what a chain of builders makes. What it holds follows from their contracts alone.
 fn chain(alloc: Global, file_id: usize) -> Result<Diagnostic<usize>, Error>
     ensures message { IfOk result (λ d. string_bytes d.message ≡ codes "m") }
     ensures notes { IfOk result (λ d. map string_bytes d.notes.items ≡ codes "n" ∷ []) }
@@ -34,14 +34,14 @@ fn chain(alloc: Global, file_id: usize) -> Result<Diagnostic<usize>, Error>
         .with_label(Label::primary(alloc, file_id, 0..1))
 }
 
-/// So it does where the labels come from a vector ..
+/// Returns a diagnostic with the labels of a vector. Their contract says so alone.
 fn with_vector(alloc: Global, labels: Vec<Label<usize>>) -> Result<Diagnostic<usize>, Error>
     ensures { IfOk result (λ d. d.labels.items ≡ labels.items) }
 {
     Diagnostic::error(alloc).with_labels_iter(labels)
 }
 
-/// .. or the notes from an iterator.
+/// Returns a diagnostic with the notes of an iterator. Their contract says so alone.
 fn with_iterator(alloc: Global, notes: Vec<String>) -> Result<Diagnostic<usize>, Error>
     ensures { IfOk result (λ d. d.notes.items ≡ notes.items) }
 {
@@ -97,12 +97,12 @@ fn constructors_of_labels(rt: HostRuntime) {
     assert_is_label(&rt, label, LabelStyle::Secondary);
 }
 
-/// A label in the file `'a'`.
+/// Returns a label in the file `'a'`.
 fn label(alloc: Global) -> Result<Label<char>, Error> {
     Label::primary(alloc, 'a', 0..1).with_message("here")
 }
 
-/// A diagnostic with a text of each kind: two notes, a label, and a code of digits.
+/// Returns a diagnostic with a text of each kind: two notes, a label, and a code of digits.
 fn with_texts(alloc: Global) -> Result<Diagnostic<char>, Error> {
     Diagnostic::error(alloc)
         .with_code(308)?
@@ -112,7 +112,7 @@ fn with_texts(alloc: Global) -> Result<Diagnostic<char>, Error> {
         .with_label(label(alloc)?)
 }
 
-/// The texts of a diagnostic's notes, each ended by a newline.
+/// Returns the texts of a diagnostic's notes, each ended by a newline.
 fn joined_notes<FileId>(
     alloc: Global,
     diagnostic: &Diagnostic<FileId>,
@@ -162,7 +162,7 @@ fn clone_of_label(rt: HostRuntime) -> Result<(), Fail> {
     Ok(())
 }
 
-/// The labels of a chain, of a vector and of an iterator, one after another.
+/// Returns a diagnostic with the labels of a chain, of a vector and of an iterator, one after another.
 fn with_labels_of_three(alloc: Global) -> Result<Diagnostic<usize>, Error> {
     let second = with_vector(alloc, chain(alloc, 8)?.labels)?.labels;
     let third = chain(alloc, 9)?.labels;
@@ -171,7 +171,7 @@ fn with_labels_of_three(alloc: Global) -> Result<Diagnostic<usize>, Error> {
         .with_labels_iter(third)
 }
 
-/// The notes of a chain, of a vector and of an iterator, one after another.
+/// Returns a diagnostic with the notes of a chain, of a vector and of an iterator, one after another.
 fn with_notes_of_three(alloc: Global) -> Result<Diagnostic<usize>, Error> {
     let second = with_iterator(alloc, chain(alloc, 9)?.notes)?.notes;
     let third = vec![in alloc; String::from_str(alloc, "last")?]?;

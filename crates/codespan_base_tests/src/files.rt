@@ -57,7 +57,7 @@ fn indices_of_lines(rt: HostRuntime) -> Result<(), Fail> {
 }
 
 #[test]
-fn missing_file(rt: HostRuntime) -> Result<(), Fail> {
+fn line_past_the_last(rt: HostRuntime) -> Result<(), Fail> {
     let file = SimpleFile::new(rt.alloc(), "f", "a\nb")?;
     assert!(rt; is_line_too_large(&file.line_range((), 2), (2, 1)));
     Ok(())
@@ -76,7 +76,7 @@ fn missing_lookups<'a, F: Files<'a>>(files: &'a F, id: F::FileId) -> usize {
     failures.iter().filter(|failed| **failed).count()
 }
 
-/// The files `f` of `"ab"` and `g` of `"c\nd"`.
+/// Returns the files `f` of `"ab"` and `g` of `"c\nd"`.
 fn two_files(alloc: Global) -> Result<SimpleFiles<&'static str, &'static str>, Error> {
     let mut files = SimpleFiles::new(alloc);
     files.add("f", "ab")?;
@@ -85,7 +85,7 @@ fn two_files(alloc: Global) -> Result<SimpleFiles<&'static str, &'static str>, E
 }
 
 #[test]
-fn file_table(rt: HostRuntime) -> Result<(), Fail> {
+fn file_database(rt: HostRuntime) -> Result<(), Fail> {
     let mut files = two_files(rt.alloc())?;
     assert_ok(&rt, files.add("h", ""), 2);
     for (id, missing) in [(0, 0), (2, 0), (3, 6), (7, 6)] {
@@ -96,7 +96,7 @@ fn file_table(rt: HostRuntime) -> Result<(), Fail> {
 }
 
 #[test]
-fn file_of_table(rt: HostRuntime) -> Result<(), Fail> {
+fn file_of_database(rt: HostRuntime) -> Result<(), Fail> {
     let files = two_files(rt.alloc())?;
     let file = files.get(1)?;
     assert_same(&rt, file.name(), &"g");

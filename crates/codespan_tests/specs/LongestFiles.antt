@@ -57,7 +57,7 @@ text_len : length longest_text ≡ greatest
 unfolding longest_text
 text_len = length-replicate greatest 10
 
--- it is one
+-- the text is UTF-8
 text_is : IsUtf8 longest_text
 unfolding longest_text
 text_is =

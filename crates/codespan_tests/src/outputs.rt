@@ -1,4 +1,4 @@
-//! Tests of the public calls whose texts are in no row of `writer_runs`.
+//! Tests of the views and of the calls that emit, beside the rows of `writer_runs`.
 
 mod endless;
 mod failures;

@@ -20,7 +20,7 @@ fn render(alloc: Global) -> Result<String, Error> {
     emit_into_string(&Config::default(), &files, &diagnostic)
 }
 
-/// The rows of a line with three labels.
+/// Returns the rows of a line with three labels.
 fn rows(alloc: Global) -> Result<Vec<u8>, Error> {
     let config = Config::default();
     let mut plain = PlainWriter::new(Vec::new(alloc));

@@ -82,7 +82,7 @@ fn coloured_header(rt: HostRuntime) -> Result<(), Fail> {
     render_header_and_marks(&mut colored)?;
     let expected = "\x1b[0m\x1b[1m\x1b[38;5;9merror\x1b[0m\x1b[1m: m\x1b[0m\n\
                 \x1b[0m\x1b[1m\x1b[38;5;9m\x1b[0m\x1b[1m\x1b[0m\x1b[36m\x1b[0m\x1b[36m\
-                \x1b[0m\x1b[36m\x1b[0m\x1b[31m\x1b[0mtext\n";
+                \x1b[0m\x1b[36m\x1b[0m\x1b[31m\x1b[0m\x1b[36m\x1b[0mtext\n";
     assert_bytes(&rt, colored.into_inner().into_inner().as_slice(), expected);
     Ok(())
 }

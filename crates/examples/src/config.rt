@@ -30,6 +30,7 @@ pub fn run(rt: &HostRuntime) -> Result<(), Error> {
         read_line(rt, &file, &line, &mut settings)?;
         line.clear();
     }
+    read_line(rt, &file, &line, &mut settings)?;
     print!(rt; "settings that were read: {}\n", settings.len())?;
     Ok(())
 }

@@ -25,6 +25,10 @@ fn append_all<'files, F: Files<'files>>(
 }
 
 /// Returns the output of each diagnostic over these files, in their order.
+///
+/// # Errors
+///
+/// Those of [`emit_to_string`].
 pub fn render_all<'files, 'text: 'files>(
     alloc: Global,
     config: &Config<'_>,

@@ -8,8 +8,8 @@
 //!
 //! | status | standard output | standard error |
 //! |---|---|---|
-//! | 0 | every case, or the case of the name | nothing |
-//! | 1 | nothing, or a prefix of the output if writing failed | one line: the error, and its line |
+//! | 0 | every case, the document of the named one, or the style sheet | nothing |
+//! | 1 | nothing, or a prefix if writing failed | the error, with its line if it is one of the input |
 //! | 2 | nothing: the arguments are wrong | one line: the usage |
 #![tactic(auto)]
 

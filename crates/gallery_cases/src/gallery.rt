@@ -14,6 +14,10 @@ use gallery_script::request::Format;
 use std::alloc::{AllocError, Global};
 
 /// Returns the sections of the cases, one after another.
+///
+/// # Errors
+///
+/// `AllocError` if an allocation fails.
 pub fn render_cases(alloc: Global, cases: &[Case<'_>]) -> Result<Vec<u8>, AllocError>
     ensures { IfOk result (λ gallery. IsGallery cases.now gallery.items) }
 {
@@ -86,7 +90,8 @@ fn add_failure(
     }
 }
 
-/// Appends an output, with its control characters but newlines as escapes.
+/// Appends an output as it is shown: the escape character, the character of the number 0, the
+/// carriage return and the tab by a backslash and a letter or digit, all else as it is.
 fn add_shown(gallery: &mut Vec<u8>, rendered: &[u8]) -> Result<(), AllocError>
     ensures { OnOk result (gallery.new.items ≡ gallery.old.items ++ shown rendered.now) }
 {

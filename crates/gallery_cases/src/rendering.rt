@@ -21,8 +21,7 @@ use std::alloc::Global;
 ///
 /// # Errors
 ///
-/// Those of rendering, and `FileMissing` if a database of one file has another number of files, or
-/// a label is in another file.
+/// Those of [`database_of`] and of rendering.
 pub fn render(alloc: Global, case: &Case<'_>, output: &mut Vec<u8>) -> Result<(), Error>
     ensures { case.now.colors ≡ Plain
         → OnOk result (AppendsOutput case.now output.old.items output.new.items) }

@@ -27,7 +27,8 @@ pub enum Database<'case> {
 /// # Errors
 ///
 /// `FileMissing` if a database of one file has another number of files, or a label is in another
-/// file; `OutOfMemory` if an allocation fails.
+/// file; `LineTooLarge` if the number of a line that the source lacks is set; `OutOfMemory` if an
+/// allocation fails.
 pub fn database_of<'case>(alloc: Global, case: &'case Case<'_>) -> Result<Database<'case>, Error>
     ensures { IfOk result (IsDatabaseOf case.now) }
 {

@@ -54,6 +54,10 @@ pub enum RunError {
 
 impl RunError {
     /// Writes the message of the error as one line.
+    ///
+    /// # Errors
+    ///
+    /// That of the first write that fails.
     pub fn write_line<W: Write>(&self, error_output: &mut W) -> io::Result<()> {
         writeln!(error_output, "{self}")
     }

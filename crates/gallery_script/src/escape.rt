@@ -18,6 +18,10 @@ use std::alloc::Global;
 /// | `\0` | the character of the number 0 |
 /// | `\\` | the backslash |
 /// | `\u{HEX}` | the character of a number in hexadecimal digits |
+///
+/// # Errors
+///
+/// `BadEscape` if a backslash begins no escape; `OutOfMemory` if an allocation fails.
 pub fn unescape(alloc: Global, text: &str) -> Result<String, LineError>
     ensures { MatchResult result (λ unescaped. Unescapes text.now (Some (string_bytes unescaped)))
         (λ line_error. (line_error ≡ OutOfMemory) ⊎

@@ -20,6 +20,10 @@ pub fn cut(text: &str) -> (&str, &str)
 }
 
 /// Parses a number of decimal digits, which may follow a plus sign.
+///
+/// # Errors
+///
+/// `BadNumber` if the text is no number or it does not fit.
 pub fn parse_number(text: &str) -> Result<usize, LineError>
     ensures value { ParsesUnsigned 64 10 text.now result }
     ensures failed { IfErr result (λ line_error. line_error ≡ BadNumber) }
@@ -31,6 +35,10 @@ pub fn parse_number(text: &str) -> Result<usize, LineError>
 }
 
 /// Parses the number before the first space of a text, and returns it with what follows that space.
+///
+/// # Errors
+///
+/// `BadNumber` if that is no number or it does not fit.
 pub fn cut_number(text: &str) -> Result<(usize, &str), LineError>
     ensures number { IfOk result (λ read. IsNumber (field_of text.now) read.0) }
     ensures left { IfOk result (λ read. read.1.now ≡ past_space text.now) }

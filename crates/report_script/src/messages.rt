@@ -14,6 +14,10 @@ use codespan_base::files::Error;
 use std::alloc::Global;
 
 /// Returns an error with the message, and with one primary label that has the same message.
+///
+/// # Errors
+///
+/// `OutOfMemory` if an allocation fails.
 pub fn of_request(alloc: Global, request: &Request<'_>) -> Result<Diagnostic<()>, Error>
     ensures { IfOk result (λ d. diagnostic_view d ≡ request_diagnostic (request_view request.now)) }
 {
@@ -25,6 +29,10 @@ pub fn of_request(alloc: Global, request: &Request<'_>) -> Result<Diagnostic<()>
 }
 
 /// Returns the diagnostic that a script states.
+///
+/// # Errors
+///
+/// `OutOfMemory` if an allocation fails.
 pub fn of_script(alloc: Global, script: &Script<'_>) -> Result<Diagnostic<()>, Error>
     ensures { IfOk result (λ d. diagnostic_view d ≡ (script_view script.now).diagnostic) }
 {
@@ -72,6 +80,10 @@ fn notes(alloc: Global, stated: &[&str]) -> Result<Vec<String>, Error>
 
 /// Returns the diagnostic of a script's error: its code and message, a primary label over its
 /// range, and a secondary one over the first occurrence of a repeated word.
+///
+/// # Errors
+///
+/// `OutOfMemory` if an allocation fails.
 pub fn of_fault(alloc: Global, fault: script::Fault) -> Result<Diagnostic<()>, Error>
     ensures { IfOk result (λ d. diagnostic_view d ≡ fault_diagnostic fault) }
 {

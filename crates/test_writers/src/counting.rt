@@ -6,6 +6,7 @@ use std::io::Write;
 /// A writer that takes all bytes, and counts how often it is flushed.
 #[derive(Drop, Default)]
 pub struct Counting {
+    /// How often it was flushed.
     pub flushes: usize,
 }
 

@@ -19,6 +19,7 @@ pub struct TagWriter<W> {
 }
 
 impl<W: Write> TagWriter<W> {
+    /// Returns a writer of tags over this one.
     pub fn new(writer: W) -> TagWriter<W>
         ensures inner { result.inner ≡ writer }
         ensures begins { result.failed ≡ false }
@@ -99,6 +100,7 @@ pub struct TagColor<W> {
 }
 
 impl<W: Write> TagColor<W> {
+    /// Returns a writer of colors over this one.
     pub fn new(writer: W) -> TagColor<W>
         ensures { result.inner ≡ writer }
     {

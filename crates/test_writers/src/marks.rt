@@ -16,5 +16,6 @@ pub fn set_styles<W: WriteStyle>(w: &mut W) -> io::Result<()> {
     w.set_note_bullet()?;
     w.set_source_border()?;
     w.set_label(Severity::Error, LabelStyle::Primary)?;
+    w.set_label(Severity::Error, LabelStyle::Secondary)?;
     w.reset()
 }

@@ -3,7 +3,11 @@
 use codespan_base::files::Error;
 use std::alloc::Global;
 
-/// The bytes without the escape sequences among them, each of which ends with its first `m`.
+/// Returns the bytes without the escape sequences among them, each of which ends with its first `m`.
+///
+/// # Errors
+///
+/// `OutOfMemory` if an allocation fails.
 pub fn without_sequences(alloc: Global, colored: &[u8]) -> Result<Vec<u8>, Error> {
     let mut text = Vec::new(alloc);
     let mut is_sequence = false;

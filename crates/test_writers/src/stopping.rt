@@ -33,7 +33,7 @@ pub struct Stopping {
 }
 
 impl Stopping {
-    /// A writer that takes `most` bytes at most at a time, and stops so after `writes` writes.
+    /// Returns a writer that takes `most` bytes at most at a time, and stops so after `writes` writes.
     pub fn new(alloc: Global, most: usize, writes: usize, stop: Stop) -> Stopping {
         Stopping {
             text: Vec::new(alloc),
@@ -45,13 +45,13 @@ impl Stopping {
         }
     }
 
-    /// Whether it has stopped.
+    /// Returns whether it has stopped.
     pub fn has_failed(&self) -> bool {
         self.has_failed
     }
 
-    /// Whether it holds what it should of the whole text: all of it, where it has not stopped, and
-    /// else a beginning, and no write has followed the failed one.
+    /// Returns whether it holds what it should of the whole text: all of it, where it has not
+    /// stopped, and else a prefix, and no write has followed the failed one.
     pub fn is_right(&self, succeeded: bool, whole: &[u8]) -> bool {
         let text = self.text.as_slice();
         succeeded != self.has_failed
@@ -105,8 +105,8 @@ impl Write for Stopping {
 }
 
 /// Returns whether rendering failed with `Io`; `None` if it failed otherwise.
-pub fn is_failed(answer: &Result<(), Error>) -> Option<bool> {
-    match answer {
+pub fn is_failed(returned: &Result<(), Error>) -> Option<bool> {
+    match returned {
         Ok(()) => Some(false),
         Err(Error::Io(_)) => Some(true),
         Err(_) => None,

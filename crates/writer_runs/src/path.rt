@@ -34,7 +34,7 @@ impl fmt::Display for Path {
             Path::Plain => "plain text",
             Path::Ansi => "Ansi",
             Path::NoColor => "NoColor",
-            Path::Custom => "a writer of one's own",
+            Path::Custom => "a custom writer",
         })
     }
 }

@@ -12,7 +12,7 @@ use std::test::Fail;
 
 /// What the lookups of one byte of a file return.
 #[derive(Drop)]
-struct Answers {
+struct Lookups {
     name: String,
     line_index: usize,
     line_number: usize,
@@ -34,18 +34,18 @@ fn line_at<'a, F: Files<'a>>(
 }
 
 /// Looks up all of a byte, through the trait.
-fn answers_at<'a, F: Files<'a>>(
+fn lookups_at<'a, F: Files<'a>>(
     alloc: Global,
     files: &'a F,
     id: F::FileId,
     byte_index: usize,
-) -> Result<Answers, Error> {
+) -> Result<Lookups, Error> {
     let line_index = files.line_index(id, byte_index)?;
     let line_number = files.line_number(id, line_index)?;
     let column_number = files.column_number(id, line_index, byte_index)?;
     let location = files.location(id, byte_index)?;
     let name = files.name(id)?.to_string(alloc)?;
-    Ok(Answers {
+    Ok(Lookups {
         name,
         line_index,
         line_number,
@@ -58,8 +58,8 @@ fn answers_at<'a, F: Files<'a>>(
 /// A text of three lines, the second of which has a character of two bytes.
 const THREE_LINES: &str = "foo\nbär\nbaz";
 
-impl Answers {
-    /// Returns whether these are the answers of byte 7 of `THREE_LINES`, in its second line, where
+impl Lookups {
+    /// Returns whether these are the lookups of byte 7 of `THREE_LINES`, in its second line, where
     /// that line has this text and this number.
     fn are_of_second_line(&self, line: &str, number: usize) -> bool {
         let location = Location {
@@ -72,14 +72,14 @@ impl Answers {
     }
 }
 
-/// The only file of a table, whose id is 0.
-fn table(alloc: Global) -> Result<SimpleFiles<&'static str, &'static str>, Error> {
-    let mut table = SimpleFiles::new(alloc);
-    table.add("f", THREE_LINES)?;
-    Ok(table)
+/// Returns a database of one file, whose id is 0.
+fn database(alloc: Global) -> Result<SimpleFiles<&'static str, &'static str>, Error> {
+    let mut database = SimpleFiles::new(alloc);
+    database.add("f", THREE_LINES)?;
+    Ok(database)
 }
 
-/// A file whose second line has the number 40.
+/// Returns a file whose second line has the number 40.
 fn mapped(alloc: Global) -> Result<MappedFile<&'static str, &'static str>, Error> {
     let mut mapped = MappedFile::new(alloc, "f", THREE_LINES)?;
     mapped.set_line(1, 40)?;
@@ -89,24 +89,24 @@ fn mapped(alloc: Global) -> Result<MappedFile<&'static str, &'static str>, Error
 #[test]
 fn generic_calls(rt: HostRuntime) -> Result<(), Fail> {
     let file = SimpleFile::new(rt.alloc(), "f", THREE_LINES)?;
-    let answers = answers_at(rt.alloc(), &file, (), 7)?;
-    assert!(rt; answers.are_of_second_line("bär\n", 2));
+    let lookups = lookups_at(rt.alloc(), &file, (), 7)?;
+    assert!(rt; lookups.are_of_second_line("bär\n", 2));
     Ok(())
 }
 
 #[test]
 fn generic_calls_of_listing(rt: HostRuntime) -> Result<(), Fail> {
     let listing = Listing::new(rt.alloc(), "f", THREE_LINES)?;
-    let answers = answers_at(rt.alloc(), &listing, (), 7)?;
-    assert!(rt; answers.are_of_second_line("bär\n", 1));
+    let lookups = lookups_at(rt.alloc(), &listing, (), 7)?;
+    assert!(rt; lookups.are_of_second_line("bär\n", 1));
     Ok(())
 }
 
 #[test]
 fn generic_calls_of_mapped_file(rt: HostRuntime) -> Result<(), Fail> {
     let mapped = mapped(rt.alloc())?;
-    let answers = answers_at(rt.alloc(), &mapped, (), 7)?;
-    assert!(rt; answers.are_of_second_line("bär", 40));
+    let lookups = lookups_at(rt.alloc(), &mapped, (), 7)?;
+    assert!(rt; lookups.are_of_second_line("bär", 40));
     let location = Location {
         line_number: 40,
         column_number: 3,
@@ -116,11 +116,11 @@ fn generic_calls_of_mapped_file(rt: HostRuntime) -> Result<(), Fail> {
 }
 
 #[test]
-fn generic_calls_of_table(rt: HostRuntime) -> Result<(), Fail> {
-    let table = table(rt.alloc())?;
-    let answers = answers_at(rt.alloc(), &table, 0, 7)?;
-    assert!(rt; answers.are_of_second_line("bär\n", 2));
-    assert_ok(&rt, default_column_number(&table, 0, 1, 7), 3);
-    assert!(rt; is_file_missing(&answers_at(rt.alloc(), &table, 7, 0)));
+fn generic_calls_of_database(rt: HostRuntime) -> Result<(), Fail> {
+    let database = database(rt.alloc())?;
+    let lookups = lookups_at(rt.alloc(), &database, 0, 7)?;
+    assert!(rt; lookups.are_of_second_line("bär\n", 2));
+    assert_ok(&rt, default_column_number(&database, 0, 1, 7), 3);
+    assert!(rt; is_file_missing(&lookups_at(rt.alloc(), &database, 7, 0)));
     Ok(())
 }

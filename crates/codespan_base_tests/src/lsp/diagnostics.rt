@@ -10,7 +10,7 @@ use codespan_lsp::{
 use std::alloc::Global;
 use std::test::Fail;
 
-/// A range on one line.
+/// Returns a range on one line.
 fn on_line(line: u32, start: u32, end: u32) -> Range {
     Range {
         start: Position {
@@ -24,7 +24,7 @@ fn on_line(line: u32, start: u32, end: u32) -> Range {
     }
 }
 
-/// The error of a call of `f` in one file, declared in another one, where `𐐀` is before it.
+/// Returns the error of a call of `f` in one file, declared in another one, where `𐐀` is before it.
 fn missing_argument(
     alloc: Global,
     caller: usize,

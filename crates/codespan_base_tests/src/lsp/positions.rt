@@ -10,7 +10,7 @@ use std::alloc::Global;
 use std::process::Abort;
 use std::test::Fail;
 
-/// A position from its numbers.
+/// Returns a position from its numbers.
 pub fn at(line: u32, character: u32) -> Position {
     Position { line, character }
 }
@@ -137,7 +137,7 @@ fn rust_crate_values(rt: HostRuntime) -> Result<(), Fail> {
     Ok(())
 }
 
-/// The files `åä t𐐀b`, and the same after a newline.
+/// Returns the files `åä t𐐀b`, and the same after a newline.
 pub fn unicode_files(alloc: Global) -> Result<SimpleFiles<&'static str, &'static str>, Error> {
     let mut files = SimpleFiles::new(alloc);
     files.add("unicode", "åä t𐐀b")?;
@@ -158,7 +158,7 @@ fn rust_crate_values_in_files(rt: HostRuntime) -> Result<(), Fail> {
     Ok(())
 }
 
-/// A file whose second line has the number 90.
+/// Returns a file whose second line has the number 90.
 fn numbered(alloc: Global) -> Result<MappedFile<&'static str, &'static str>, Error> {
     let mut file = MappedFile::new(alloc, "f", "a𐐀b\ncd")?;
     file.set_line(1, 90)?;

@@ -8,35 +8,35 @@ use std::io;
 use std::test::Fail;
 use test_writers::counting::Counting;
 
-/// How often a writer of plain text flushes.
+/// Returns how often a writer of plain text flushes.
 fn flushes_of_plain() -> io::Result<usize> {
     let mut inner = Counting::default();
     write_and_flush(&mut PlainWriter::new(&mut inner))?;
     Ok(inner.flushes)
 }
 
-/// How often a writer of plain text over a borrowed one flushes.
+/// Returns how often a writer of plain text over a borrowed one flushes.
 fn flushes_of_plain_ref() -> io::Result<usize> {
     let mut inner = Counting::default();
     write_and_flush(&mut PlainWriterRef::new(&mut inner))?;
     Ok(inner.flushes)
 }
 
-/// How often a writer in color flushes.
+/// Returns how often a writer in color flushes.
 fn flushes_of_ansi() -> io::Result<usize> {
     let mut inner = Counting::default();
     styled(Ansi::new(&mut inner), Part::Flushed)?;
     Ok(inner.flushes)
 }
 
-/// How often a writer without color flushes.
+/// Returns how often a writer without color flushes.
 fn flushes_of_no_color() -> io::Result<usize> {
     let mut inner = Counting::default();
     styled(NoColor::new(&mut inner), Part::Flushed)?;
     Ok(inner.flushes)
 }
 
-/// Each writer passes on a write and a flush, and nothing else flushes.
+/// Each writer passes on one flush; no style mark and no write flushes.
 #[test]
 fn only_flush_flushes(rt: HostRuntime) -> Result<(), Fail> {
     let flushes = [

@@ -2,8 +2,8 @@
 
 use crate::asserts::{assert_same, assert_text};
 use crate::writers::written::{
-    Part, ansi, assert_plain, color_sequences, no_color_style_marks, plain, tag_color_style_marks,
-    tag_style_marks,
+    Part, ansi, assert_plain, color_sequences, no_color_style_marks, plain, plain_ref_style_marks,
+    tag_color_style_marks, tag_style_marks,
 };
 use codespan_base::files::Error;
 use codespan_base::term::config::chars::SnippetStart;
@@ -31,6 +31,8 @@ const TAG_STYLE_MARKS: &str = "[header]\n[primary]\n[secondary]\n[header]\n[prim
 fn every_style_mark_of_every_writer(rt: HostRuntime) -> Result<(), Fail> {
     let alloc = rt.alloc();
     assert_plain(&rt, alloc, Part::EveryMark, NO_STYLE_MARKS)?;
+    let plain_ref = plain_ref_style_marks(alloc)?;
+    assert_text(&rt, plain_ref.as_slice(), NO_STYLE_MARKS);
     assert_text(
         &rt,
         ansi(alloc, Part::EveryMark)?.as_slice(),
@@ -146,7 +148,7 @@ fn clone_of_default_configuration(rt: HostRuntime) -> Result<(), Fail> {
     Ok(())
 }
 
-/// A configuration whose snippets start with `==>`, a text that it owns.
+/// Returns a configuration whose snippets start with `==>`, a text that it owns.
 fn with_own_start(alloc: Global) -> Result<Config<'static>, AllocError> {
     let chars = Chars {
         snippet_start: SnippetStart::Owned(String::from_str(alloc, "==>")?),

@@ -13,7 +13,7 @@ use std::test::Fail;
 use test_writers::example::TagWriter;
 use test_writers::stopping::{Stop, Stopping};
 
-/// A row with a part of each kind.
+/// Writes a row with a part of each kind.
 fn write_row<W: WriteStyle>(w: &mut W) -> io::Result<()> {
     put_number(w, 1024)?;
     put_all(w, "┌─".as_bytes())?;

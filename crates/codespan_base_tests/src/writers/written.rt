@@ -2,6 +2,7 @@
 
 use crate::asserts::assert_text;
 use codespan_base::diagnostic::{LabelStyle, Severity};
+use codespan_base::term::config::plain_ref::PlainWriterRef;
 use codespan_base::term::config::writing::{
     put_all, put_char, put_number, put_repeated, put_spaces,
 };
@@ -119,31 +120,38 @@ pub fn styled<C: WriteColor + Drop>(inner: C, part: Part) -> io::Result<C> {
     Ok(styled.into_inner())
 }
 
-/// A part, in color.
+/// Returns a part, in color.
 pub fn ansi(alloc: Global, part: Part) -> io::Result<Vec<u8>> {
     Ok(styled(Ansi::new(Vec::new(alloc)), part)?.into_inner())
 }
 
-/// The style marks of a writer without color.
+/// Returns every style mark of a writer of plain text over a borrowed one.
+pub fn plain_ref_style_marks(alloc: Global) -> io::Result<Vec<u8>> {
+    let mut text = Vec::new(alloc);
+    write_part(&mut PlainWriterRef::new(&mut text), Part::EveryMark)?;
+    Ok(text)
+}
+
+/// Returns every style mark of a writer without color.
 pub fn no_color_style_marks(alloc: Global) -> io::Result<Vec<u8>> {
     Ok(styled(NoColor::new(Vec::new(alloc)), Part::EveryMark)?.into_inner())
 }
 
-/// The style marks of a custom `WriteColor`.
+/// Returns every style mark of a custom `WriteColor`.
 pub fn tag_color_style_marks(alloc: Global) -> io::Result<Vec<u8>> {
     let mut text = Vec::new(alloc);
     styled(TagColor::new(&mut text), Part::EveryMark)?;
     Ok(text)
 }
 
-/// The style marks of a custom `WriteStyle`.
+/// Returns every style mark of a custom `WriteStyle`.
 pub fn tag_style_marks(alloc: Global) -> io::Result<Vec<u8>> {
     let mut text = Vec::new(alloc);
     write_style_marks(&mut TagWriter::new(&mut text))?;
     Ok(text)
 }
 
-/// The escape sequences of the colors of a text and of what is behind it.
+/// Returns the escape sequences of the colors of a text and of what is behind it.
 pub fn color_sequences(
     alloc: Global,
     fg: Option<Color>,

@@ -18,13 +18,13 @@ const NO_COLOR: RawColorSpec = RawColorSpec {
     intense: 0,
 };
 
-/// The configuration: characters of its own, no color.
+/// The configuration: the caller's characters, no color.
 static CONFIG: RawConfig<'static> = RawConfig {
     abi: 1,
     display_style: 0,
     layout: 0,
     spelling: 0,
-    characters: 1,
+    characters: 2,
     tab_width: 4,
     start_context_lines: 3,
     end_context_lines: 1,
@@ -49,21 +49,21 @@ static CONFIG: RawConfig<'static> = RawConfig {
         pointer_left: 0x2f,
     },
     styles: RawStyles {
-        header_bug: RawColorSpec { fg: 1, ..NO_COLOR },
-        header_error: RawColorSpec { fg: 2, ..NO_COLOR },
-        header_warning: RawColorSpec { fg: 3, ..NO_COLOR },
-        header_note: RawColorSpec { fg: 4, ..NO_COLOR },
-        header_help: RawColorSpec { fg: 5, ..NO_COLOR },
-        header_message: RawColorSpec { fg: 6, ..NO_COLOR },
-        primary_label_bug: RawColorSpec { fg: 7, ..NO_COLOR },
-        primary_label_error: RawColorSpec { fg: 8, ..NO_COLOR },
-        primary_label_warning: RawColorSpec { fg: 1, ..NO_COLOR },
-        primary_label_note: RawColorSpec { fg: 2, ..NO_COLOR },
-        primary_label_help: RawColorSpec { fg: 3, ..NO_COLOR },
-        secondary_label: RawColorSpec { fg: 4, ..NO_COLOR },
-        line_number: RawColorSpec { fg: 5, ..NO_COLOR },
-        source_border: RawColorSpec { fg: 6, ..NO_COLOR },
-        note_bullet: RawColorSpec { fg: 7, ..NO_COLOR },
+        header_bug: NO_COLOR,
+        header_error: NO_COLOR,
+        header_warning: NO_COLOR,
+        header_note: NO_COLOR,
+        header_help: NO_COLOR,
+        header_message: NO_COLOR,
+        primary_label_bug: NO_COLOR,
+        primary_label_error: NO_COLOR,
+        primary_label_warning: NO_COLOR,
+        primary_label_note: NO_COLOR,
+        primary_label_help: NO_COLOR,
+        secondary_label: NO_COLOR,
+        line_number: NO_COLOR,
+        source_border: NO_COLOR,
+        note_bullet: NO_COLOR,
     },
 };
 
@@ -171,7 +171,7 @@ static CUT_AT_NEWLINES: (&[RawFile<'_>], RawDiagnostic<'_>) = (
 #[test]
 fn a_file_cut_at_newlines(rt: HostRuntime) {
     let (files, diagnostic) = &CUT_AT_NEWLINES;
-    let output = "error[E1]: bad\n  --> f.txt:1:1\n  |\n1 | abc\n  | ^^^ here\n  |\n  = a note\n\n";
+    let output = "error[E1]: bad\n  @ f.txt:1:1\n  !\n1 ! abc\n  ! $$$ here\n  !\n  # a note\n\n";
     assert_emits(&rt, rt.alloc(), files, diagnostic, output);
 }
 
@@ -197,7 +197,7 @@ static WINDOW: (&[RawFile<'_>], RawDiagnostic<'_>) = (
 #[test]
 fn a_window_from_line_100(rt: HostRuntime) {
     let (files, diagnostic) = &WINDOW;
-    let output = "warning: bad\n    --> f.txt:101:1\n    |\n101 | two\n    | ^^^\n\n";
+    let output = "warning: bad\n    @ f.txt:101:1\n    !\n101 ! two\n    ! $$$\n\n";
     assert_emits(&rt, rt.alloc(), files, diagnostic, output);
 }
 
@@ -238,7 +238,7 @@ static LINES_AND_LOCI: (&[RawFile<'_>], RawDiagnostic<'_>) = (
 #[test]
 fn given_lines_and_loci(rt: HostRuntime) {
     let (files, diagnostic) = &LINES_AND_LOCI;
-    let output = "help: bad\n  --> f.txt:70:80\n  |\n9 | two\n  | ^^^\n\n";
+    let output = "help: bad\n  @ f.txt:70:80\n  !\n9 ! two\n  ! $$$\n\n";
     assert_emits(&rt, rt.alloc(), files, diagnostic, output);
 }
 

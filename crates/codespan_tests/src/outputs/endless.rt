@@ -1,7 +1,7 @@
-//! A tab width and contexts of the greatest `usize`.
+//! A tab of the greatest `usize`.
 
 use crate::asserts::assert_bytes;
-use crate::outputs::rendering::{assert_output, render_styled};
+use crate::outputs::rendering::render_styled;
 use codespan_reporting::diagnostic::{Diagnostic, Label};
 use codespan_reporting::files::{Error, SimpleFile};
 use codespan_reporting::term::{Config, NoColor, RichDiagnostic, emit_to_io_write};
@@ -10,7 +10,7 @@ use std::process::Abort;
 use std::test::Fail;
 use test_writers::stopping::{Stop, Stopping};
 
-/// A configuration whose tabs have the greatest width.
+/// Returns a configuration whose tabs have the greatest width.
 fn widest_tabs() -> Config<'static> {
     Config {
         tab_width: usize::MAX,
@@ -18,7 +18,7 @@ fn widest_tabs() -> Config<'static> {
     }
 }
 
-/// A diagnostic with a label at the character after a tab.
+/// Returns a diagnostic with a label at the character after a tab.
 fn after_tab(alloc: Global) -> Result<Diagnostic<()>, Error> {
     let label = Label::primary(alloc, (), 1..2).with_message("m")?;
     Diagnostic::error(alloc).with_label(label)
@@ -54,42 +54,5 @@ fn endless_tab_without_color(rt: HostRuntime) -> Result<(), Fail> {
     let inner = NoColor::new(Stopping::new(rt.alloc(), 1, 40, Stop::Fails));
     let (without_color, failed) = render_styled(inner, &config, view, &file);
     assert_stopped(&rt, &failed, without_color.into_inner().text.as_slice());
-    Ok(())
-}
-
-/// A diagnostic with a label in one line, and one over the next two.
-fn with_two_labels(alloc: Global) -> Result<Diagnostic<()>, Error> {
-    let single = Label::primary(alloc, (), 2..4).with_message("m")?;
-    let multi = Label::secondary(alloc, (), 5..8).with_message("n")?;
-    Diagnostic::error(alloc)
-        .with_label(single)?
-        .with_label(multi)
-}
-
-/// Context lines end with the file, however many the configuration has.
-#[test]
-fn endless_context(rt: HostRuntime) -> Result<(), Fail> {
-    let alloc = rt.alloc();
-    let file = SimpleFile::new(alloc, "f", "a\nbb\nc\nd\ne\n")?;
-    let diagnostic = with_two_labels(alloc)?;
-    let config = Config {
-        start_context_lines: usize::MAX,
-        end_context_lines: usize::MAX,
-        before_label_lines: usize::MAX,
-        after_label_lines: usize::MAX,
-        ..Config::default()
-    };
-    let output = "error: \n\
-                   \x20 ┌─ f:2:1\n\
-                   \x20 │  \n\
-                   1 │   a\n\
-                   2 │   bb\n\
-                   \x20 │   ^^ m\n\
-                   3 │ ╭ c\n\
-                   4 │ │ d\n\
-                   \x20 │ ╰─' n\n\
-                   5 │   e\n\
-                   6 │   \n\n";
-    assert_output(&rt, &config, &file, &diagnostic, output)?;
     Ok(())
 }

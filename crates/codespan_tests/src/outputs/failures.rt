@@ -164,7 +164,7 @@ fn written_before(lookup: &LookupCall, layout: Layout) -> &'static str {
     }
 }
 
-/// A diagnostic with labels of these two ranges, without messages.
+/// Returns a diagnostic with labels of these two ranges, without messages.
 fn with_two_labels(
     alloc: Global,
     first: Range<usize>,

@@ -1,7 +1,7 @@
 //! Tests of short and medium style, and of the calls that emit.
 
 use crate::asserts::{assert_bytes, assert_text};
-use crate::outputs::rendering::files_of;
+use crate::outputs::rendering::{assert_output, files_of};
 use codespan_reporting::diagnostic::{Diagnostic, Label};
 use codespan_reporting::files::{Error, SimpleFiles};
 use codespan_reporting::term::{
@@ -28,7 +28,7 @@ type Row<'text> = (DisplayStyle, &'text str, &'text str);
 /// The rows.
 static ROWS: [Row<'static>; 3] = [
     (DisplayStyle::Rich, "kept", "keptbug: \n\n"),
-    (DisplayStyle::Medium, "", "bug: \n"),
+    (DisplayStyle::Medium, "kept", "keptbug: \n"),
     (DisplayStyle::Short, "kept", "keptbug: \n"),
 ];
 
@@ -101,20 +101,11 @@ fn by_views(alloc: Global) -> Result<Vec<u8>, Error> {
     Ok(plain.into_inner())
 }
 
-/// The views render the same.
+/// Each view renders what the calls write in its style.
 #[test]
 fn bare_views(rt: HostRuntime) -> Result<(), Fail> {
     let bytes = by_views(rt.alloc())?;
     assert_bytes(&rt, bytes.as_slice(), "bug: \n\nbug: \nbug: \n");
-    Ok(())
-}
-
-/// What is taken out of colored text is its escape sequences.
-#[test]
-fn colours_change_no_text(rt: HostRuntime) -> Result<(), Fail> {
-    let colored = b"\x1b[0m\x1b[1m\x1b[38;5;9merror\x1b[0m\x1b[1m: m\x1b[0m\n";
-    let text = without_sequences(rt.alloc(), colored)?;
-    assert_bytes(&rt, text.as_slice(), "error: m\n");
     Ok(())
 }
 
@@ -124,6 +115,20 @@ fn with_note(alloc: Global) -> Result<Diagnostic<usize>, Error> {
         .with_message("m")?
         .with_label(Label::primary(alloc, 0, 1..2))?
         .with_note("n")
+}
+
+/// Over `NoColor` a diagnostic is written as in plain text, and over `Ansi` too, once the escape
+/// sequences are taken out.
+#[test]
+fn colours_change_no_text(rt: HostRuntime) -> Result<(), Fail> {
+    let colored = b"\x1b[0m\x1b[1m\x1b[38;5;9merror\x1b[0m\x1b[1m: m\x1b[0m\n";
+    let text = without_sequences(rt.alloc(), colored)?;
+    assert_bytes(&rt, text.as_slice(), "error: m\n");
+    let files = files_of(rt.alloc(), &[("f", "ab")])?;
+    let diagnostic = with_note(rt.alloc())?;
+    let output = "error: m\n  ┌─ f:1:2\n  │\n1 │ ab\n  │  ^\n  │\n  = n\n\n";
+    assert_output(&rt, &Config::default(), &files, &diagnostic, output)?;
+    Ok(())
 }
 
 /// A style, and the output in tags.

@@ -100,11 +100,7 @@ static SCRIPT_BAD_NUMBER_AND_END: [ScriptRun<'static>; 3] = [
             3,
         ),
     ),
-    (
-        "short",
-        "",
-        ("", "script:1:1: error[S5]: missing end of script\n", 3),
-    ),
+    ("short", "", ("", MISSING_END, 3)),
 ];
 
 #[test]
@@ -204,11 +200,14 @@ fn scripts_that_are_read_too(rt: HostRuntime) -> Result<(), Fail> {
     check(&rt, &SCRIPTS_THAT_ARE_READ_TOO)
 }
 
+/// What a run over an empty script writes to `error_output`, in short style.
+const MISSING_END: &str = "script:1:1: error[S5]: missing end of script\n";
+
 /// If writing the diagnostic of a script's error fails, the status is 1 and nothing more is
 /// written.
 #[test]
 fn script_fault_failed(rt: HostRuntime) -> Result<(), Fail> {
-    for write in 0..11 {
+    for write in 0..MISSING_END.len().div_ceil(4) {
         let failing = Failing {
             error_write: Some(write),
             ..NO_FAILURES

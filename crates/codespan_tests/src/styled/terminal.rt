@@ -145,7 +145,7 @@ fn header_has_its_sequences_alone(rt: HostRuntime) -> Result<(), Fail> {
     Ok(())
 }
 
-/// Each style, and a text in it.
+/// A style of each kind, and the output of an `a` in it.
 static SEQUENCES: [(Style, &str); 8] = [
     (Style::Plain, "a"),
     (
@@ -167,7 +167,7 @@ static SEQUENCES: [(Style, &str); 8] = [
 ];
 
 #[test]
-fn each_style_has_its_sequence(rt: HostRuntime) -> Result<(), Fail> {
+fn a_style_of_each_kind_has_its_sequence(rt: HostRuntime) -> Result<(), Fail> {
     for (style, want) in &SEQUENCES {
         assert_terminal(&rt, rt.alloc(), &[(*style, "a")], want)?;
     }

@@ -48,7 +48,6 @@ const WITH_TABS: Line<'static> = Line {
 
 /// The rows.
 pub static ROWS: [DirectRow<'static>; 26] = [
-    /// The rows.
     DirectRow {
         name: "report_short_and_medium",
         call: RowCall::LocatedHeader(None, "bad"),
