@@ -169,7 +169,7 @@ module _ {Id : Type 0} {database : FileDatabase Id} (lawful : AreFiles database)
     file-plan : IsSnippetPlan config (labeled f.id) plan own
     file-plan = record {
       lanes_are = ap (λ (g : RustFile Id). g.lane_count) is.file_is ∙ known.lanes_are;
-      index = subst (λ n. IsTextLocus (file f.id, n) (locus_view plan.locus)) (file_start-is known) is.index;
+      locus_is = subst (λ n. IsTextLocus (file f.id, n) (locus_view plan.locus)) (file_start-is known) is.locus_is;
       count_is = is.count_is;
       each = lines_of-file config.layout (file f.id) own is.each;
       fits = subst (DoFit (lane_count (labeled f.id))) (sym is.are) (snippet k f.id at).fits;

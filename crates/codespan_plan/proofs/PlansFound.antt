@@ -139,7 +139,7 @@ pub plan_found : {Id : Type 0} {files : List (RustFile Id)} {xs zs : List (RustA
     → IsTextLocus (snippet_start_of file f) (locus_view plan.locus) → plan.line_total ≡ count → IsPlan layout file (map annotation_view xs) k f plan added.more
 plan_found turn added zs_are counted same locus total = record {
   file_is = same;
-  index = locus;
+  locus_is = locus;
   count_is = total ∙ counted ∙ added-count added;
   are = added.are ∙ own_snippet_lines turn zs_are;
   each = added.each;
@@ -223,9 +223,9 @@ module _ {Id : Type 0} {files : List (RustFile Id)} {k : ℕ} {f : RustFile Id} 
       ∙ ap (λ (ls : List (Id × Lookup)). loci_lookups (take k files) ++ ls) (append-nil (locus_lookups_of f))
 
   -- they fail with what those of these are, or its own
-  index-fails : (failure : Failures Id)
+  locus-fails : (failure : Failures Id)
       → first_error failure (loci_lookups (take (k + 1) files)) ≡ or_failure (first_error failure (loci_lookups (take k files))) (first_error failure (locus_lookups_of f))
-  index-fails failure = ap (first_error failure) loci-more ∙ first_error-append failure (loci_lookups (take k files)) (locus_lookups_of f)
+  locus-fails failure = ap (first_error failure) loci-more ∙ first_error-append failure (loci_lookups (take k files)) (locus_lookups_of f)
 
   module _ {layout : Layout} {file : Id → FileModel} {es : List Annotation} {failure : Failures Id} {now : List (SnippetPlan Id)} {snippet_lines : List (RustLine Id)}
       {located : Result (Unit {0}) Error} (before : ArePlanned layout file es failure (take k files) now snippet_lines located) where
@@ -256,7 +256,7 @@ module _ {Id : Type 0} {files : List (RustFile Id)} {k : ℕ} {f : RustFile Id} 
       succeeded = lookups-more ∙ succeeded;
       located_fails =
           let others = first_error failure (loci_lookups (take k files)) in
-          subst (λ o. FailsByOrFormat o located) (sym (index-fails failure ∙ ap (or_failure others) there ∙ or_failure-none others)) before.located_fails;
+          subst (λ o. FailsByOrFormat o located) (sym (locus-fails failure ∙ ap (or_failure others) there ∙ or_failure-none others)) before.located_fails;
       plans =
           IfOk-weaker located (λ _. ArePlans layout file es 0 (take k files) now snippet_lines) (λ _. ArePlans layout file es 0 (take (k + 1) files) new all)
           (λ _ found. plans-with whole whole_steps is found) before.plans;
@@ -268,7 +268,7 @@ module _ {Id : Type 0} {files : List (RustFile Id)} {k : ℕ} {f : RustFile Id} 
         → ArePlanned layout file es failure (take (k + 1) files) now all (result_and located (Err e))
     planned-unlocated {all} {e} succeeded known = record {
       succeeded = lookups-more ∙ succeeded;
-      located_fails = subst (λ o. FailsByOrFormat {T = Unit {0}} o (result_and located (Err e))) (sym (index-fails failure)) (first-located_fails _ _ located e before.located_fails known);
+      located_fails = subst (λ o. FailsByOrFormat {T = Unit {0}} o (result_and located (Err e))) (sym (locus-fails failure)) (first-located_fails _ _ located e before.located_fails known);
       plans = some-located_fails located e (λ _. ArePlans layout file es 0 (take (k + 1) files) now all);
     }
 

@@ -29,7 +29,7 @@ ids_of {Id} files = map (λ (f : SnippetPlan Id). f.file.now.id) files
 pub record IsSnippetPlan {Id : Type 0} (config : Config) (s : LabeledFileModel) (f : SnippetPlan Id)
     (own : List (RustLine Id)) : Type 0 where
   pub lanes_are : f.file.now.lane_count ≡ lane_count s
-  pub index : IsLocusOfFile s (locus_view f.locus)
+  pub locus_is : IsLocusOfFile s (locus_view f.locus)
   pub count_is : f.line_total ≡ length own
   pub each : AllByRecursion (IsSnippetLineOf s.file) own
   pub fits : DoFit (lane_count s) (map line_view own)

@@ -40,7 +40,7 @@ module _ {Id : Type 0} (layout : Layout) (file : Id → FileModel) (es : List An
   pub record IsPlan (k : ℕ) (f : RustFile Id) (plan : SnippetPlan Id)
       (own : List (RustLine Id)) : Type 0 where
     pub file_is : plan.file.now ≡ f
-    pub index : IsTextLocus (file f.id, start_byte f.start) (locus_view plan.locus)
+    pub locus_is : IsTextLocus (file f.id, start_byte f.start) (locus_view plan.locus)
     pub count_is : plan.line_total ≡ length own
     pub are : map line_view own ≡ lines_at es k
     pub each : AllByRecursion (IsSnippetLineIn layout (file f.id)) own

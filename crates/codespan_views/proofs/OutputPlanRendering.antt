@@ -27,7 +27,7 @@ use Rattle.codespan_views.proofs.LookupRuns.{IsLookupRun, run_as, run_cut, run_o
 use Rattle.codespan_collect.proofs.FirstErrors.{first_error-append, or_failure-none}
 use Rattle.codespan_annotations.proofs.IndexedElements.{IsElementAt, drop-one}
 use Rattle.codespan_views.proofs.SnippetParts.{rows-two, write_at}
-use Rattle.codespan_views.proofs.PlannedFiles.{drop-end, followed-at, ids-count, id-inside, id-at, index-inside, index-at, rows-are}
+use Rattle.codespan_views.proofs.PlannedFiles.{drop-end, followed-at, ids-count, id-inside, id-at, locus-inside, locus-at, rows-are}
 
 -- ---- the files from an index on
 
@@ -147,7 +147,7 @@ module _ {Id : Type 0} {database : FileDatabase Id} {view : RichDiagnostic Id} {
 
     -- these rows come first among those that are left
     rows-next : rest k ≡ rows_here ++ rest (k + 1)
-    rows-next = ap (λ (ps : List Locus). rows_at ps (drop k ids)) (drop-one loci k (locus_view f.locus) (index-inside at) (index-at at))
+    rows-next = ap (λ (ps : List Locus). rows_at ps (drop k ids)) (drop-one loci k (locus_view f.locus) (locus-inside at) (locus-at at))
         ∙ ap (rows_at (locus_view f.locus ∷ drop (k + 1) loci)) (drop-one ids k f.file.now.id (id-inside at) (id-at at))
         ∙ ap (λ (b : Bool). (snippet (view_config_of view) (locus_view f.locus) own ++ row_after b own) ++ rest (k + 1)) (followed-mapped (drop (k + 1) ids))
       where

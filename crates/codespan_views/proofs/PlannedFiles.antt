@@ -57,11 +57,11 @@ module _ {Id : Type 0} {files : List (SnippetPlan Id)} {k : ℕ} {f : SnippetPla
   pub id-at : f.file.now.id ≡ get_or (ids_of files) k f.file.now.id
   id-at = ap (λ (g : SnippetPlan Id). g.file.now.id) at.is ∙ sym (get_or-map (λ (g : SnippetPlan Id). g.file.now.id) files k f f.file.now.id at.inside)
 
-  pub index-inside : k < length (loci_of files)
-  index-inside = omega (arith, at.inside, length-map files (λ (g : SnippetPlan Id). locus_view g.locus))
+  pub locus-inside : k < length (loci_of files)
+  locus-inside = omega (arith, at.inside, length-map files (λ (g : SnippetPlan Id). locus_view g.locus))
 
-  pub index-at : locus_view f.locus ≡ get_or (loci_of files) k (locus_view f.locus)
-  index-at = ap (λ (g : SnippetPlan Id). locus_view g.locus) at.is ∙ sym (get_or-map (λ (g : SnippetPlan Id). locus_view g.locus) files k f (locus_view f.locus) at.inside)
+  pub locus-at : locus_view f.locus ≡ get_or (loci_of files) k (locus_view f.locus)
+  locus-at = ap (λ (g : SnippetPlan Id). locus_view g.locus) at.is ∙ sym (get_or-map (λ (g : SnippetPlan Id). locus_view g.locus) files k f (locus_view f.locus) at.inside)
 
 module _ {Id : Type 0} (database : FileDatabase Id) (config : Config) (xs : List (InFile Id)) where
   -- the file is that of its labels, with the snippet lines that it counts in front, and the rest is

@@ -164,7 +164,7 @@ module _ {Id : Type 0} {view : Config} {database : FileDatabase Id} {d : Diagnos
       from : (fs : List (SnippetPlan Id)) (snippet_lines : List (RustLine Id)) → AreSnippetPlans database view (labels_of d) fs snippet_lines
           → AllZip IsLocusOfFile (map (labeled_file_model database.same database.file (labels_of d)) (ids_of fs)) (loci_of fs)
       from [] snippet_lines are = tt
-      from (f ∷ fs) snippet_lines are = (are.0.index, from fs (drop f.line_total snippet_lines) are.1)
+      from (f ∷ fs) snippet_lines are = (are.0.locus_is, from fs (drop f.line_total snippet_lines) are.1)
 
   -- the output with these loci is all of these
   output-is : (renderer : Config) → ByLoci renderer view database d (λ s. s ≡ whole renderer)

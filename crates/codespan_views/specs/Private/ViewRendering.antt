@@ -24,7 +24,7 @@ use Rattle.codespan_base.specs.FileModel.{FileDatabase}
 module _ {Id : Type 0} (d : Diagnostic Id) where
   -- the header, with this locus, if any, and with the end of its row
   abbrev pub header_line : Option Locus → Stream
-  header_line index = header_row d.severity index (heading_of d) ++ newline
+  header_line locus = header_row d.severity locus (heading_of d) ++ newline
 
   -- the last rows of a rich output: the notes, and an empty one
   abbrev pub closing_rows : List Row
