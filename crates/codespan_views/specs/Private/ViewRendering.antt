@@ -74,5 +74,6 @@ module _ {W Id : Type 0} (sink : W → Sink) (database : FileDatabase Id) where
     RendersSnippets output_plan =
         let d = diagnostic_of view in
         RendersRowsWithLookups sink snippets_failure d.severity output_plan.padding
-        (snippets (view_config_of view) (has_any (notes_of d)) (loci_of output_plan.files.items)
+        (snippets (view_config_of view) (has_any (notes_of d))
+        (loci_of output_plan.snippet_plans.items)
         (labeled_file_models database.same database.file (labels_of d)))
