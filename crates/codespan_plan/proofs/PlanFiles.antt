@@ -163,13 +163,13 @@ module _ {Id : Type 0} {database : FileDatabase Id} (lawful : AreFiles database)
   loci-are : loci_lookups collected.files.items ≡ file_locus_lookups database xs
   loci-are = loci-lookups collected.files.items all.files.labels_are ∙ ap (flat_map (λ id. lookups_of_file id (locus_lookups database xs id))) all.files.ids_are
 
-  module _ {k : ℕ} {f : RustFile Id} (at : IsIdAt (file_ids same xs) k f.id) (known : HasLabels same file xs f) {plan : SnippetPlan Id} {own : List (RustLine Id)}
-      (is : IsPlan config.layout file es k f plan own) where
+  module _ {k : ℕ} {f : RustFile Id} (at : IsIdAt (file_ids same xs) k f.id) (known : HasLabels same file xs f) {snippet_plan : SnippetPlan Id} {own : List (RustLine Id)}
+      (is : IsPlan config.layout file es k f snippet_plan own) where
     -- it is a file of the output
-    file-plan : IsSnippetPlan config (labeled f.id) plan own
+    file-plan : IsSnippetPlan config (labeled f.id) snippet_plan own
     file-plan = record {
       lanes_are = ap (λ (g : RustFile Id). g.lane_count) is.file_is ∙ known.lanes_are;
-      index = subst (λ n. IsTextLocus (file f.id, n) (locus_view plan.locus)) (file_start-is known) is.index;
+      locus_is = subst (λ n. IsTextLocus (file f.id, n) (locus_view snippet_plan.locus)) (file_start-is known) is.locus_is;
       count_is = is.count_is;
       each = lines_of-file config.layout (file f.id) own is.each;
       fits = subst (DoFit (lane_count (labeled f.id))) (sym is.are) (snippet k f.id at).fits;
@@ -202,50 +202,50 @@ module _ {Id : Type 0} {database : FileDatabase Id} (lawful : AreFiles database)
   all_at = λ i id h. let e : i ≡ 0 + i = omega arith in subst (λ n. IsIdAt (file_ids same xs) n id) e h
 
   -- the ids of plans
-  ids-from : (k : ℕ) (fs : List (RustFile Id)) (plans : List (SnippetPlan Id))
-      (snippet_lines : List (RustLine Id)) → ArePlans config.layout file es k fs plans snippet_lines
-      → ids_of plans ≡ ids_view fs
+  ids-from : (k : ℕ) (fs : List (RustFile Id)) (snippet_plans : List (SnippetPlan Id))
+      (snippet_lines : List (RustLine Id)) → ArePlans config.layout file es k fs snippet_plans snippet_lines
+      → ids_of snippet_plans ≡ ids_view fs
   ids-from k [] [] snippet_lines h = refl
-  ids-from k [] (p ∷ ps) snippet_lines h = absurd h
+  ids-from k [] (snippet_plan ∷ snippet_plans) snippet_lines h = absurd h
   ids-from k (f ∷ fs) [] snippet_lines h = absurd h
-  ids-from k (f ∷ fs) (p ∷ ps) snippet_lines h = λ i. (h.0.file_is i).id ∷ ids-from (k + 1) fs ps (drop p.line_total snippet_lines) h.1 i
+  ids-from k (f ∷ fs) (snippet_plan ∷ snippet_plans) snippet_lines h = λ i. (h.0.file_is i).id ∷ ids-from (k + 1) fs snippet_plans (drop snippet_plan.line_total snippet_lines) h.1 i
 
   -- plans are those of their files
-  plans-from : (k : ℕ) (fs : List (RustFile Id)) (plans : List (SnippetPlan Id)) (snippet_lines : List (RustLine Id)) → AreAt k (ids_view fs) → AllByRecursion (HasLabels same file xs) fs
-      → ArePlans config.layout file es k fs plans snippet_lines → AreSnippetPlans database config xs plans snippet_lines
+  plans-from : (k : ℕ) (fs : List (RustFile Id)) (snippet_plans : List (SnippetPlan Id)) (snippet_lines : List (RustLine Id)) → AreAt k (ids_view fs) → AllByRecursion (HasLabels same file xs) fs
+      → ArePlans config.layout file es k fs snippet_plans snippet_lines → AreSnippetPlans database config xs snippet_plans snippet_lines
   plans-from k [] [] snippet_lines at known h = tt
-  plans-from k [] (p ∷ ps) snippet_lines at known h = absurd h
+  plans-from k [] (snippet_plan ∷ snippet_plans) snippet_lines at known h = absurd h
   plans-from k (f ∷ fs) [] snippet_lines at known h = absurd h
-  plans-from k (f ∷ fs) (p ∷ ps) snippet_lines at known h = (
-    subst (λ (g : RustFile Id). IsSnippetPlan config (labeled g.id) p (take p.line_total snippet_lines)) (sym h.0.file_is) (file-plan (are_at-here k f.id (ids_view fs) at) known.0 h.0),
-    plans-from (k + 1) fs ps (drop p.line_total snippet_lines) (are_at-next k f.id (ids_view fs) at) known.1 h.1,
+  plans-from k (f ∷ fs) (snippet_plan ∷ snippet_plans) snippet_lines at known h = (
+    subst (λ (g : RustFile Id). IsSnippetPlan config (labeled g.id) snippet_plan (take snippet_plan.line_total snippet_lines)) (sym h.0.file_is) (file-plan (are_at-here k f.id (ids_view fs) at) known.0 h.0),
+    plans-from (k + 1) fs snippet_plans (drop snippet_plan.line_total snippet_lines) (are_at-next k f.id (ids_view fs) at) known.1 h.1,
   )
 
   -- in the unbroken layout the digits of their snippet lines are those that the padding fits
-  digits-from : config.layout ≡ Unbroken → (k : ℕ) (fs : List (RustFile Id)) (plans : List (SnippetPlan Id)) (snippet_lines : List (RustLine Id)) → AreAt k (ids_view fs)
-      → AllByRecursion (HasLabels same file xs) fs → ArePlans config.layout file es k fs plans snippet_lines
+  digits-from : config.layout ≡ Unbroken → (k : ℕ) (fs : List (RustFile Id)) (snippet_plans : List (SnippetPlan Id)) (snippet_lines : List (RustLine Id)) → AreAt k (ids_view fs)
+      → AllByRecursion (HasLabels same file xs) fs → ArePlans config.layout file es k fs snippet_plans snippet_lines
       → flat_map line_digits snippet_lines ≡ flat_map (λ id. digits_of (labeled id) (numbered_lines config (labeled id))) (ids_view fs)
   digits-from unbroken k [] [] snippet_lines at known h = ap (flat_map line_digits) h
-  digits-from unbroken k [] (p ∷ ps) snippet_lines at known h = absurd h
+  digits-from unbroken k [] (snippet_plan ∷ snippet_plans) snippet_lines at known h = absurd h
   digits-from unbroken k (f ∷ fs) [] snippet_lines at known h = absurd h
-  digits-from unbroken k (f ∷ fs) (p ∷ ps) snippet_lines at known h =
-      let own = take p.line_total snippet_lines in
-      let later = drop p.line_total snippet_lines in
-      ap (flat_map line_digits) (sym (take-append-drop p.line_total snippet_lines)) ∙ flat_map-append line_digits own later
-      ∙ (λ i. file-digits (are_at-here k f.id (ids_view fs) at) known.0 h.0 unbroken i ++ digits-from unbroken (k + 1) fs ps later (are_at-next k f.id (ids_view fs) at) known.1 h.1 i)
+  digits-from unbroken k (f ∷ fs) (snippet_plan ∷ snippet_plans) snippet_lines at known h =
+      let own = take snippet_plan.line_total snippet_lines in
+      let later = drop snippet_plan.line_total snippet_lines in
+      ap (flat_map line_digits) (sym (take-append-drop snippet_plan.line_total snippet_lines)) ∙ flat_map-append line_digits own later
+      ∙ (λ i. file-digits (are_at-here k f.id (ids_view fs) at) known.0 h.0 unbroken i ++ digits-from unbroken (k + 1) fs snippet_plans later (are_at-next k f.id (ids_view fs) at) known.1 h.1 i)
 
-  module _ (plans : List (SnippetPlan Id)) (snippet_lines : List (RustLine Id)) (found : ArePlans config.layout file es 0 collected.files.items plans snippet_lines) where
+  module _ (snippet_plans : List (SnippetPlan Id)) (snippet_lines : List (RustLine Id)) (found : ArePlans config.layout file es 0 collected.files.items snippet_plans snippet_lines) where
     -- the ids are at their indices
     ids_at : AreAt 0 (ids_view collected.files.items)
     ids_at = subst (λ (ids : List Id). AreAt 0 ids) (sym all.files.ids_are) all_at
 
     -- the ids of all plans
-    plan_ids : ids_of plans ≡ file_ids same xs
-    plan_ids = ids-from 0 collected.files.items plans snippet_lines found ∙ all.files.ids_are
+    plan_ids : ids_of snippet_plans ≡ file_ids same xs
+    plan_ids = ids-from 0 collected.files.items snippet_plans snippet_lines found ∙ all.files.ids_are
 
     -- all plans
-    file_plans : AreSnippetPlans database config xs plans snippet_lines
-    file_plans = plans-from 0 collected.files.items plans snippet_lines ids_at all.files.labels_are found
+    file_plans : AreSnippetPlans database config xs snippet_plans snippet_lines
+    file_plans = plans-from 0 collected.files.items snippet_plans snippet_lines ids_at all.files.labels_are found
 
     -- in the classic layout the labels determine the padding width
     spanned-padding : config.layout ≡ Classic → {padding : ℕ} → padding ≡ collected.padding → padding ≡ padding_of config (labeled_file_models same file xs)
@@ -254,7 +254,7 @@ module _ {Id : Type 0} {database : FileDatabase Id} (lawful : AreFiles database)
     -- in the unbroken layout the snippet lines do
     rendered-padding : config.layout ≡ Unbroken → {padding : ℕ} → padding ≡ fold max 0 (flat_map line_digits snippet_lines) → padding ≡ padding_of config (labeled_file_models same file xs)
     rendered-padding unbroken is =
-        is ∙ ap (fold max 0) (digits-from unbroken 0 collected.files.items plans snippet_lines ids_at all.files.labels_are found
+        is ∙ ap (fold max 0) (digits-from unbroken 0 collected.files.items snippet_plans snippet_lines ids_at all.files.labels_are found
         ∙ ap (flat_map (λ id. digits_of (labeled id) (numbered_lines config (labeled id)))) all.files.ids_are
         ∙ sym (flat_map-map (λ (s : LabeledFileModel). digits_of s (numbered_lines config s)) labeled (file_ids same xs)))
 
@@ -277,12 +277,12 @@ module _ {Id : Type 0} {database : FileDatabase Id} (lawful : AreFiles database)
 
   -- plans, and the padding width, are the output plan of the labels
   pub output_plan-planned : {output_plan : OutputPlan Id}
-      → ArePlansOf config.layout database.file collected output_plan.files.items
+      → ArePlansOf config.layout database.file collected output_plan.snippet_plans.items
       output_plan.snippet_lines.items → output_plan.padding
       ≡ padding_of config (labeled_file_models database.same database.file xs)
       → IsOutputPlan database config xs output_plan
   output_plan-planned {output_plan} found padding = record {
-    ids_are = plan_ids lawful all output_plan.files.items output_plan.snippet_lines.items found;
-    files_are = file_plans lawful all output_plan.files.items output_plan.snippet_lines.items found;
+    ids_are = plan_ids lawful all output_plan.snippet_plans.items output_plan.snippet_lines.items found;
+    snippet_plans_are = file_plans lawful all output_plan.snippet_plans.items output_plan.snippet_lines.items found;
     padding_is = padding;
   }

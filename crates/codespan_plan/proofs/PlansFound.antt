@@ -135,42 +135,42 @@ pub plan_found : {Id : Type 0} {files : List (RustFile Id)} {xs zs : List (RustA
     {at n k : ℕ} {f : RustFile Id} (turn : IsAtFile files xs at n k f) {layout : Layout}
     {file : Id → FileModel}
     {old new : List (RustLine Id)} (added : AddsLines layout (file f.id) old new (lines_of (map annotation_view (next_part zs at n)))) → zs ≡ xs
-    → {count : ℕ} → count ≡ length new - length old → {plan : SnippetPlan Id} → plan.file.now ≡ f
-    → IsTextLocus (snippet_start_of file f) (locus_view plan.locus) → plan.line_total ≡ count → IsPlan layout file (map annotation_view xs) k f plan added.more
+    → {count : ℕ} → count ≡ length new - length old → {snippet_plan : SnippetPlan Id} → snippet_plan.file.now ≡ f
+    → IsTextLocus (snippet_start_of file f) (locus_view snippet_plan.locus) → snippet_plan.line_total ≡ count → IsPlan layout file (map annotation_view xs) k f snippet_plan added.more
 plan_found turn added zs_are counted same locus total = record {
   file_is = same;
-  index = locus;
+  locus_is = locus;
   count_is = total ∙ counted ∙ added-count added;
   are = added.are ∙ own_snippet_lines turn zs_are;
   each = added.each;
 }
 
 -- there are at least as many snippet lines as a plan counts in front
-count-within : {Id : Type 0} {layout : Layout} {file : Id → FileModel} {es : List Annotation} {k : ℕ} {f : RustFile Id} {plan : SnippetPlan Id} (snippet_lines : List (RustLine Id))
-    → IsPlan layout file es k f plan (take plan.line_total snippet_lines) → plan.line_total ≤ length snippet_lines
-count-within {plan = plan} snippet_lines is = omega (arith, is.count_is, length-take plan.line_total snippet_lines)
+count-within : {Id : Type 0} {layout : Layout} {file : Id → FileModel} {es : List Annotation} {k : ℕ} {f : RustFile Id} {snippet_plan : SnippetPlan Id} (snippet_lines : List (RustLine Id))
+    → IsPlan layout file es k f snippet_plan (take snippet_plan.line_total snippet_lines) → snippet_plan.line_total ≤ length snippet_lines
+count-within {snippet_plan = snippet_plan} snippet_lines is = omega (arith, is.count_is, length-take snippet_plan.line_total snippet_lines)
 
-module _ {Id : Type 0} {layout : Layout} {file : Id → FileModel} {es : List Annotation} {f : RustFile Id} {plan : SnippetPlan Id} {own : List (RustLine Id)} where
+module _ {Id : Type 0} {layout : Layout} {file : Id → FileModel} {es : List Annotation} {f : RustFile Id} {snippet_plan : SnippetPlan Id} {own : List (RustLine Id)} where
   -- one plan, with its snippet lines
-  plan-alone : (k : ℕ) → IsPlan layout file es k f plan own → ArePlans layout file es k (f ∷ []) (plan ∷ []) own
+  plan-alone : (k : ℕ) → IsPlan layout file es k f snippet_plan own → ArePlans layout file es k (f ∷ []) (snippet_plan ∷ []) own
   plan-alone k is =
       let count = is.count_is in
-      (subst (IsPlan layout file es k f plan) (sym (take_all plan.line_total own (omega (arith, count)))) is, drop_all plan.line_total own (omega (arith, count)))
+      (subst (IsPlan layout file es k f snippet_plan) (sym (take_all snippet_plan.line_total own (omega (arith, count)))) is, drop_all snippet_plan.line_total own (omega (arith, count)))
 
   -- plans from an index on, and then one more
-  plans-more : (k : ℕ) (fs : List (RustFile Id)) (ps : List (SnippetPlan Id)) (snippet_lines : List (RustLine Id)) → ArePlans layout file es k fs ps snippet_lines
-      → IsPlan layout file es (k + length fs) f plan own → ArePlans layout file es k (fs ++ f ∷ []) (ps ++ plan ∷ []) (snippet_lines ++ own)
+  plans-more : (k : ℕ) (fs : List (RustFile Id)) (snippet_plans : List (SnippetPlan Id)) (snippet_lines : List (RustLine Id)) → ArePlans layout file es k fs snippet_plans snippet_lines
+      → IsPlan layout file es (k + length fs) f snippet_plan own → ArePlans layout file es k (fs ++ f ∷ []) (snippet_plans ++ snippet_plan ∷ []) (snippet_lines ++ own)
   plans-more k [] [] snippet_lines h is =
       let e : k + 0 ≡ k = omega arith in
-      subst (λ (front : List (RustLine Id)). ArePlans layout file es k (f ∷ []) (plan ∷ []) (front ++ own)) (sym h) (plan-alone k (subst (λ n. IsPlan layout file es n f plan own) e is))
-  plans-more k [] (p ∷ ps) snippet_lines h is = absurd h
+      subst (λ (front : List (RustLine Id)). ArePlans layout file es k (f ∷ []) (snippet_plan ∷ []) (front ++ own)) (sym h) (plan-alone k (subst (λ n. IsPlan layout file es n f snippet_plan own) e is))
+  plans-more k [] (first ∷ snippet_plans) snippet_lines h is = absurd h
   plans-more k (g ∷ fs) [] snippet_lines h is = absurd h
-  plans-more k (g ∷ fs) (p ∷ ps) snippet_lines h is =
+  plans-more k (g ∷ fs) (first ∷ snippet_plans) snippet_lines h is =
       let e : k + suc (length fs) ≡ k + 1 + length fs = omega arith in
       let within = count-within snippet_lines h.0 in (
-        subst (IsPlan layout file es k g p) (sym (take-append-le p.line_total snippet_lines own within)) h.0,
-        subst (ArePlans layout file es (k + 1) (fs ++ f ∷ []) (ps ++ plan ∷ [])) (sym (drop-append-le p.line_total snippet_lines own within))
-            (plans-more (k + 1) fs ps (drop p.line_total snippet_lines) h.1 (subst (λ n. IsPlan layout file es n f plan own) e is)),
+        subst (IsPlan layout file es k g first) (sym (take-append-le first.line_total snippet_lines own within)) h.0,
+        subst (ArePlans layout file es (k + 1) (fs ++ f ∷ []) (snippet_plans ++ snippet_plan ∷ [])) (sym (drop-append-le first.line_total snippet_lines own within))
+            (plans-more (k + 1) fs snippet_plans (drop first.line_total snippet_lines) h.1 (subst (λ n. IsPlan layout file es n f snippet_plan own) e is)),
       )
 
 -- of two errors the first is kept
@@ -223,9 +223,9 @@ module _ {Id : Type 0} {files : List (RustFile Id)} {k : ℕ} {f : RustFile Id} 
       ∙ ap (λ (ls : List (Id × Lookup)). loci_lookups (take k files) ++ ls) (append-nil (locus_lookups_of f))
 
   -- they fail with what those of these are, or its own
-  index-fails : (failure : Failures Id)
+  locus-fails : (failure : Failures Id)
       → first_error failure (loci_lookups (take (k + 1) files)) ≡ or_failure (first_error failure (loci_lookups (take k files))) (first_error failure (locus_lookups_of f))
-  index-fails failure = ap (first_error failure) loci-more ∙ first_error-append failure (loci_lookups (take k files)) (locus_lookups_of f)
+  locus-fails failure = ap (first_error failure) loci-more ∙ first_error-append failure (loci_lookups (take k files)) (locus_lookups_of f)
 
   module _ {layout : Layout} {file : Id → FileModel} {es : List Annotation} {failure : Failures Id} {now : List (SnippetPlan Id)} {snippet_lines : List (RustLine Id)}
       {located : Result (Unit {0}) Error} (before : ArePlanned layout file es failure (take k files) now snippet_lines located) where
@@ -240,23 +240,23 @@ module _ {Id : Type 0} {files : List (RustFile Id)} {k : ℕ} {f : RustFile Id} 
         ∙ first_error-none failure (number_lookups layout es (ids_view (take k files))) (lookups_at k f.id) before.succeeded
 
     -- the plans with this one
-    plans-with : {new : List (SnippetPlan Id)} {plan : SnippetPlan Id} {all own : List (RustLine Id)} → new ≡ now ++ plan ∷ [] → all ≡ snippet_lines ++ own → IsPlan layout file es k f plan own
+    plans-with : {new : List (SnippetPlan Id)} {snippet_plan : SnippetPlan Id} {all own : List (RustLine Id)} → new ≡ now ++ snippet_plan ∷ [] → all ≡ snippet_lines ++ own → IsPlan layout file es k f snippet_plan own
         → ArePlans layout file es 0 (take k files) now snippet_lines → ArePlans layout file es 0 (take (k + 1) files) new all
-    plans-with {new} {plan} {all} {own} whole whole_steps is found =
+    plans-with {new} {snippet_plan} {all} {own} whole whole_steps is found =
         let index : k ≡ 0 + length (take k files) = omega (arith, files_before) in
-        let planned = plans-more 0 (take k files) now snippet_lines found (subst (λ n. IsPlan layout file es n f plan own) index is) in
+        let planned = plans-more 0 (take k files) now snippet_lines found (subst (λ n. IsPlan layout file es n f snippet_plan own) index is) in
         subst (λ fs. ArePlans layout file es 0 fs new all) (sym (take-at here))
         (subst₂ (ArePlans layout file es 0 (take k files ++ f ∷ [])) (sym whole) (sym whole_steps) planned)
 
     -- it is planned too
-    pub planned-more : {new : List (SnippetPlan Id)} {plan : SnippetPlan Id} {all own : List (RustLine Id)} → new ≡ now ++ plan ∷ [] → all ≡ snippet_lines ++ own → IsPlan layout file es k f plan own
+    pub planned-more : {new : List (SnippetPlan Id)} {snippet_plan : SnippetPlan Id} {all own : List (RustLine Id)} → new ≡ now ++ snippet_plan ∷ [] → all ≡ snippet_lines ++ own → IsPlan layout file es k f snippet_plan own
         → first_error failure (lookups_at k f.id) ≡ None → first_error failure (locus_lookups_of f) ≡ None
         → ArePlanned layout file es failure (take (k + 1) files) new all located
     planned-more {new} {all = all} whole whole_steps is succeeded there = record {
       succeeded = lookups-more ∙ succeeded;
       located_fails =
           let others = first_error failure (loci_lookups (take k files)) in
-          subst (λ o. FailsByOrFormat o located) (sym (index-fails failure ∙ ap (or_failure others) there ∙ or_failure-none others)) before.located_fails;
+          subst (λ o. FailsByOrFormat o located) (sym (locus-fails failure ∙ ap (or_failure others) there ∙ or_failure-none others)) before.located_fails;
       plans =
           IfOk-weaker located (λ _. ArePlans layout file es 0 (take k files) now snippet_lines) (λ _. ArePlans layout file es 0 (take (k + 1) files) new all)
           (λ _ found. plans-with whole whole_steps is found) before.plans;
@@ -268,7 +268,7 @@ module _ {Id : Type 0} {files : List (RustFile Id)} {k : ℕ} {f : RustFile Id} 
         → ArePlanned layout file es failure (take (k + 1) files) now all (result_and located (Err e))
     planned-unlocated {all} {e} succeeded known = record {
       succeeded = lookups-more ∙ succeeded;
-      located_fails = subst (λ o. FailsByOrFormat {T = Unit {0}} o (result_and located (Err e))) (sym (index-fails failure)) (first-located_fails _ _ located e before.located_fails known);
+      located_fails = subst (λ o. FailsByOrFormat {T = Unit {0}} o (result_and located (Err e))) (sym (locus-fails failure)) (first-located_fails _ _ located e before.located_fails known);
       plans = some-located_fails located e (λ _. ArePlans layout file es 0 (take (k + 1) files) now all);
     }
 

@@ -18,19 +18,21 @@ use Rattle.codespan_annotations.specs.TextLoci.{IsLocusOfFile}
 
 -- where the snippet of each file starts
 abbrev pub loci_of : {Id : Type 0} → List (SnippetPlan Id) → List Locus
-loci_of {Id} files = map (λ (f : SnippetPlan Id). locus_view f.locus) files
+loci_of {Id} snippet_plans = map (λ (snippet_plan : SnippetPlan Id). locus_view snippet_plan.locus)
+    snippet_plans
 
 -- the id of each file
 abbrev pub ids_of : {Id : Type 0} → List (SnippetPlan Id) → List Id
-ids_of {Id} files = map (λ (f : SnippetPlan Id). f.file.now.id) files
+ids_of {Id} snippet_plans = map (λ (snippet_plan : SnippetPlan Id). snippet_plan.file.now.id)
+    snippet_plans
 
 -- the plan is that of a file with its labels: its lanes, its locus, the rows of its lines, and
 -- their lookups
-pub record IsSnippetPlan {Id : Type 0} (config : Config) (s : LabeledFileModel) (f : SnippetPlan Id)
-    (own : List (RustLine Id)) : Type 0 where
-  pub lanes_are : f.file.now.lane_count ≡ lane_count s
-  pub index : IsLocusOfFile s (locus_view f.locus)
-  pub count_is : f.line_total ≡ length own
+pub record IsSnippetPlan {Id : Type 0} (config : Config) (s : LabeledFileModel)
+    (snippet_plan : SnippetPlan Id) (own : List (RustLine Id)) : Type 0 where
+  pub lanes_are : snippet_plan.file.now.lane_count ≡ lane_count s
+  pub locus_is : IsLocusOfFile s (locus_view snippet_plan.locus)
+  pub count_is : snippet_plan.line_total ≡ length own
   pub each : AllByRecursion (IsSnippetLineOf s.file) own
   pub fits : DoFit (lane_count s) (map line_view own)
   pub rows : rows_of_lines s.file (lane_count s) (map line_view own)
@@ -45,16 +47,17 @@ module _ {Id : Type 0} (database : FileDatabase Id) where
       → List (RustLine Id)
       → Type 0
   AreSnippetPlans config xs [] snippet_lines = Unit {0}
-  AreSnippetPlans config xs (f ∷ fs) snippet_lines =
-      IsSnippetPlan config (labeled_file_model database.same database.file xs f.file.now.id) f
-      (take f.line_total snippet_lines)
-      × AreSnippetPlans config xs fs (drop f.line_total snippet_lines)
+  AreSnippetPlans config xs (snippet_plan ∷ snippet_plans) snippet_lines =
+      IsSnippetPlan config
+      (labeled_file_model database.same database.file xs snippet_plan.file.now.id)
+      snippet_plan (take snippet_plan.line_total snippet_lines)
+      × AreSnippetPlans config xs snippet_plans (drop snippet_plan.line_total snippet_lines)
 
   -- the plan is that of these labels
   pub record IsOutputPlan (config : Config) (xs : List (InFile Id)) (output_plan : OutputPlan Id)
       : Type 0 where
-    pub ids_are : ids_of output_plan.files.items ≡ file_ids database.same xs
-    pub files_are : AreSnippetPlans config xs output_plan.files.items
+    pub ids_are : ids_of output_plan.snippet_plans.items ≡ file_ids database.same xs
+    pub snippet_plans_are : AreSnippetPlans config xs output_plan.snippet_plans.items
         output_plan.snippet_lines.items
     pub padding_is : output_plan.padding
         ≡ padding_of config (labeled_file_models database.same database.file xs)

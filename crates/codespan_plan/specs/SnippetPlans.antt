@@ -37,11 +37,11 @@ number_lookups layout es ids =
 
 module _ {Id : Type 0} (layout : Layout) (file : Id → FileModel) (es : List Annotation) where
   -- the plan is that of this file, which is at an index: its locus and its lines
-  pub record IsPlan (k : ℕ) (f : RustFile Id) (plan : SnippetPlan Id)
+  pub record IsPlan (k : ℕ) (f : RustFile Id) (snippet_plan : SnippetPlan Id)
       (own : List (RustLine Id)) : Type 0 where
-    pub file_is : plan.file.now ≡ f
-    pub index : IsTextLocus (file f.id, start_byte f.start) (locus_view plan.locus)
-    pub count_is : plan.line_total ≡ length own
+    pub file_is : snippet_plan.file.now ≡ f
+    pub locus_is : IsTextLocus (file f.id, start_byte f.start) (locus_view snippet_plan.locus)
+    pub count_is : snippet_plan.line_total ≡ length own
     pub are : map line_view own ≡ lines_at es k
     pub each : AllByRecursion (IsSnippetLineIn layout (file f.id)) own
 
@@ -49,18 +49,18 @@ module _ {Id : Type 0} (layout : Layout) (file : Id → FileModel) (es : List An
   -- first file in front
   abbrev pub ArePlans : ℕ → List (RustFile Id) → List (SnippetPlan Id) → List (RustLine Id) → Type 0
   ArePlans k [] [] snippet_lines = snippet_lines ≡ []
-  ArePlans k [] (p ∷ ps) snippet_lines = ⊥
+  ArePlans k [] (snippet_plan ∷ snippet_plans) snippet_lines = ⊥
   ArePlans k (f ∷ fs) [] snippet_lines = ⊥
-  ArePlans k (f ∷ fs) (p ∷ ps) snippet_lines =
-      IsPlan k f p (take p.line_total snippet_lines)
-      × ArePlans (k + 1) fs ps (drop p.line_total snippet_lines)
+  ArePlans k (f ∷ fs) (snippet_plan ∷ snippet_plans) snippet_lines =
+      IsPlan k f snippet_plan (take snippet_plan.line_total snippet_lines)
+      × ArePlans (k + 1) fs snippet_plans (drop snippet_plan.line_total snippet_lines)
 
 -- the plans are those of the files that were collected, with all their lines
 abbrev pub ArePlansOf : {Id : Type 0} → Layout → (Id → FileModel) → Collected Id
     → List (SnippetPlan Id) → List (RustLine Id) → Type 0
-ArePlansOf layout file collected plans snippet_lines =
+ArePlansOf layout file collected snippet_plans snippet_lines =
     ArePlans layout file (map annotation_view collected.annotations.items) 0 collected.files.items
-    plans snippet_lines
+    snippet_plans snippet_lines
 
 -- the lookups of the plans: first the numbers of filled lines, of all files, and then the loci of
 -- all files

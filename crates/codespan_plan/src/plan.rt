@@ -26,7 +26,7 @@ const LINES_OF_LABEL: usize = 6;
 #[derive(Drop)]
 pub struct OutputPlan<'e, 'd, FileId> {
     /// The plans of the files' snippets, in the order of the files' first labels.
-    pub files: Vec<SnippetPlan<'e, FileId>>,
+    pub snippet_plans: Vec<SnippetPlan<'e, FileId>>,
     /// The lines of all snippets: those of the first file, then those of the next.
     pub snippet_lines: Vec<SnippetLine<'e, 'd, FileId>>,
     /// The padding width, in characters.
@@ -64,10 +64,10 @@ pub fn plan_output<'files, 'e, 'd, F: Files<'files>>(
         (map label_of collected.now.labels.now)) result }
 {
     let mut snippet_lines = Vec::with_capacity(alloc, line_capacity(collected))?;
-    let files = plan_snippets(alloc, files, config.layout, collected, &mut snippet_lines)?;
+    let snippet_plans = plan_snippets(alloc, files, config.layout, collected, &mut snippet_lines)?;
     let padding = padding_width(config.layout, collected.padding, &snippet_lines);
     Ok(OutputPlan {
-        files,
+        snippet_plans,
         snippet_lines,
         padding,
     })

@@ -27,7 +27,7 @@ use Rattle.codespan_views.proofs.LookupRuns.{IsLookupRun, run_as, run_cut, run_o
 use Rattle.codespan_collect.proofs.FirstErrors.{first_error-append, or_failure-none}
 use Rattle.codespan_annotations.proofs.IndexedElements.{IsElementAt, drop-one}
 use Rattle.codespan_views.proofs.SnippetParts.{rows-two, write_at}
-use Rattle.codespan_views.proofs.PlannedFiles.{drop-end, followed-at, ids-count, id-inside, id-at, index-inside, index-at, rows-are}
+use Rattle.codespan_views.proofs.PlannedFiles.{drop-end, followed-at, ids-count, id-inside, id-at, locus-inside, locus-at, rows-are}
 
 -- ---- the files from an index on
 
@@ -43,11 +43,11 @@ module _ {Id : Type 0} (database : FileDatabase Id) (view : RichDiagnostic Id) w
   module _ (output_plan : OutputPlan Id) where
     -- the rows of the files from an index on
     abbrev pub rows_left : ℕ → List Row
-    rows_left k = snippets (view_config_of view) (has_any (notes_of (diagnostic_of view))) (drop k (loci_of output_plan.files.items)) (map labeled (drop k (ids_of output_plan.files.items)))
+    rows_left k = snippets (view_config_of view) (has_any (notes_of (diagnostic_of view))) (drop k (loci_of output_plan.snippet_plans.items)) (map labeled (drop k (ids_of output_plan.snippet_plans.items)))
 
     -- their lookups
     abbrev pub lookups_left : ℕ → List (Id × Lookup)
-    lookups_left k = flat_map snippet_lookups_of (drop k (ids_of output_plan.files.items))
+    lookups_left k = flat_map snippet_lookups_of (drop k (ids_of output_plan.snippet_plans.items))
 
     -- the files before this index are rendered, and all lookups with them succeeded
     pub record SnippetsLeft (renderer : Config) (k : ℕ) (old now : Sink) : Type 0 where
@@ -79,10 +79,10 @@ module _ {Id : Type 0} {database : FileDatabase Id} {view : RichDiagnostic Id} {
 
   -- what names the files, and where they start
   abbrev ids : List Id
-  ids = ids_of output_plan.files.items
+  ids = ids_of output_plan.snippet_plans.items
 
   abbrev loci : List Locus
-  loci = loci_of output_plan.files.items
+  loci = loci_of output_plan.snippet_plans.items
 
   -- the rows of these files, whose snippets have these loci
   abbrev rows_at : List Locus → List Id → List Row
@@ -111,10 +111,10 @@ module _ {Id : Type 0} {database : FileDatabase Id} {view : RichDiagnostic Id} {
   failure-all = ap (λ js. first_error database.failure (flat_map (snippet_lookups_of database view) js)) planned.ids_are
 
   -- all files are rendered
-  pub left-end : {gs : List (SnippetPlan Id)} → gs ≡ output_plan.files.items → length gs ≤ k → WritesWithLookups all_failure old (stream_of_rows context all_rows) (Ok tt) mid
+  pub left-end : {snippet_plans : List (SnippetPlan Id)} → snippet_plans ≡ output_plan.snippet_plans.items → length snippet_plans ≤ k → WritesWithLookups all_failure old (stream_of_rows context all_rows) (Ok tt) mid
   left-end equal past =
       let none : drop k ids ≡ [] =
-      drop-end ids k (omega (arith, ids-count output_plan.files.items, subst (λ (hs : List (SnippetPlan Id)). length hs ≤ k) equal past)) in
+      drop-end ids k (omega (arith, ids-count output_plan.snippet_plans.items, subst (λ (snippet_plans : List (SnippetPlan Id)). length snippet_plans ≤ k) equal past)) in
       subst₂ (λ (o : Option Error) (s : Stream). WritesWithLookups o old s (Ok tt) mid)
       (sym left.succeeded ∙ ap (first_error database.failure)
       (sym (append-nil left.lookups) ∙ ap
@@ -128,28 +128,28 @@ module _ {Id : Type 0} {database : FileDatabase Id} {view : RichDiagnostic Id} {
       no-rows [] = refl
       no-rows (p ∷ ps) = refl
 
-  module _ {f : SnippetPlan Id} {snippet_lines : List (RustLine Id)} {notes next : Bool} {now : Config} (at : IsElementAt output_plan.files.items k f)
-      (is : IsSnippetPlan (view_config_of view) (labeled database view f.file.now.id) f
+  module _ {snippet_plan : SnippetPlan Id} {snippet_lines : List (RustLine Id)} {notes next : Bool} {now : Config} (at : IsElementAt output_plan.snippet_plans.items k snippet_plan)
+      (is : IsSnippetPlan (view_config_of view) (labeled database view snippet_plan.file.now.id) snippet_plan
       snippet_lines) (notes_are : notes ≡ has_notes)
-      (next_is : next ≡ nat_lt (k + 1) (length output_plan.files.items))
+      (next_is : next ≡ nat_lt (k + 1) (length output_plan.snippet_plans.items))
       (equal : now ≡ renderer) where
     -- the file with its labels
     abbrev own : LabeledFileModel
-    own = labeled database view f.file.now.id
+    own = labeled database view snippet_plan.file.now.id
 
     -- the rows of the file at the index
     abbrev rows_here : List Row
-    rows_here = snippet (view_config_of view) (locus_view f.locus) own ++ row_after (has_any (drop (k + 1) ids) || has_notes) own
+    rows_here = snippet (view_config_of view) (locus_view snippet_plan.locus) own ++ row_after (has_any (drop (k + 1) ids) || has_notes) own
 
     -- its lookups
     abbrev lookups_here : List (Id × Lookup)
-    lookups_here = snippet_lookups_of database view f.file.now.id
+    lookups_here = snippet_lookups_of database view snippet_plan.file.now.id
 
     -- these rows come first among those that are left
     rows-next : rest k ≡ rows_here ++ rest (k + 1)
-    rows-next = ap (λ (ps : List Locus). rows_at ps (drop k ids)) (drop-one loci k (locus_view f.locus) (index-inside at) (index-at at))
-        ∙ ap (rows_at (locus_view f.locus ∷ drop (k + 1) loci)) (drop-one ids k f.file.now.id (id-inside at) (id-at at))
-        ∙ ap (λ (b : Bool). (snippet (view_config_of view) (locus_view f.locus) own ++ row_after b own) ++ rest (k + 1)) (followed-mapped (drop (k + 1) ids))
+    rows-next = ap (λ (ps : List Locus). rows_at ps (drop k ids)) (drop-one loci k (locus_view snippet_plan.locus) (locus-inside at) (locus-at at))
+        ∙ ap (rows_at (locus_view snippet_plan.locus ∷ drop (k + 1) loci)) (drop-one ids k snippet_plan.file.now.id (id-inside at) (id-at at))
+        ∙ ap (λ (b : Bool). (snippet (view_config_of view) (locus_view snippet_plan.locus) own ++ row_after b own) ++ rest (k + 1)) (followed-mapped (drop (k + 1) ids))
       where
         followed-mapped : (js : List Id) → (has_any (map (labeled database view) js) || has_notes) ≡ (has_any js || has_notes)
         followed-mapped [] = refl
@@ -157,7 +157,7 @@ module _ {Id : Type 0} {database : FileDatabase Id} {view : RichDiagnostic Id} {
 
     -- and so do its lookups
     lookups-next : lookups_from k ≡ lookups_here ++ lookups_from (k + 1)
-    lookups-next = ap (flat_map (snippet_lookups_of database view)) (drop-one ids k f.file.now.id (id-inside at) (id-at at))
+    lookups-next = ap (flat_map (snippet_lookups_of database view)) (drop-one ids k snippet_plan.file.now.id (id-inside at) (id-at at))
 
     -- something follows the file
     abbrev follows : Bool
@@ -165,33 +165,33 @@ module _ {Id : Type 0} {database : FileDatabase Id} {view : RichDiagnostic Id} {
 
     -- the rows of its snippet, and the row after it
     abbrev snippet_stream : Stream
-    snippet_stream = stream_of_rows context (rows_in f (database.file f.file.now.id) snippet_lines)
+    snippet_stream = stream_of_rows context (rows_in snippet_plan (database.file snippet_plan.file.now.id) snippet_lines)
 
     abbrev end_stream : Stream
-    end_stream = stream_of_rows context (trailing_border_rows f follows)
+    end_stream = stream_of_rows context (trailing_border_rows snippet_plan follows)
 
     -- its lookups, as its snippet lines make them
     abbrev snippet_lines_failure : Option Error
-    snippet_lines_failure = first_error database.failure (lookups_of_file f.file.now.id (lookups_with snippet_lines))
+    snippet_lines_failure = first_error database.failure (lookups_of_file snippet_plan.file.now.id (lookups_with snippet_lines))
 
     -- the snippet is rendered, by an equal configuration
     snippet-here : {r : Result (Unit {0}) Error} {new : Sink}
         → WritesWithLookups snippet_lines_failure mid
-        (stream_of_rows (context_by now) (rows_in f (database.file f.file.now.id) snippet_lines)) r
+        (stream_of_rows (context_by now) (rows_in snippet_plan (database.file snippet_plan.file.now.id) snippet_lines)) r
         new
         → IsLookupRun snippet_lines_failure mid snippet_stream r new
-    snippet-here renders = run_as refl (λ i. stream_of_rows (context_by (equal i)) (rows_in f (database.file f.file.now.id) snippet_lines)) (record { renders = renders })
+    snippet-here renders = run_as refl (λ i. stream_of_rows (context_by (equal i)) (rows_in snippet_plan (database.file snippet_plan.file.now.id) snippet_lines)) (record { renders = renders })
 
     -- both are the rows and the lookups at the index
     rendered-here : {r : Result (Unit {0}) Error} {new : Sink} → IsLookupRun (or_failure snippet_lines_failure None) mid (snippet_stream ++ end_stream) r new
         → IsLookupRun (first_error database.failure lookups_here) mid (stream_of_rows context rows_here) r new
     rendered-here both =
         let followed : follows ≡ (has_any (drop (k + 1) ids) || has_notes) =
-        (λ i. notes_are i || (next_is ∙ ap (nat_lt (k + 1)) (sym (ids-count output_plan.files.items))) i) ∙ sym (followed-at has_notes ids k) in
-        run_as (or_failure-none snippet_lines_failure ∙ ap (λ (ls : List Lookup). first_error database.failure (lookups_of_file f.file.now.id (Source ∷ ls))) is.lookups)
-        (sym (rows-two context (rows_in f (database.file f.file.now.id) snippet_lines) (trailing_border_rows f follows))
+        (λ i. notes_are i || (next_is ∙ ap (nat_lt (k + 1)) (sym (ids-count output_plan.snippet_plans.items))) i) ∙ sym (followed-at has_notes ids k) in
+        run_as (or_failure-none snippet_lines_failure ∙ ap (λ (ls : List Lookup). first_error database.failure (lookups_of_file snippet_plan.file.now.id (Source ∷ ls))) is.lookups)
+        (sym (rows-two context (rows_in snippet_plan (database.file snippet_plan.file.now.id) snippet_lines) (trailing_border_rows snippet_plan follows))
         ∙ ap (stream_of_rows context) (rows-are is follows)
-        ∙ ap (λ (b : Bool). stream_of_rows context (snippet (view_config_of view) (locus_view f.locus) own ++ row_after b own)) followed)
+        ∙ ap (λ (b : Bool). stream_of_rows context (snippet (view_config_of view) (locus_view snippet_plan.locus) own ++ row_after b own)) followed)
         both
 
     -- the file is rendered
@@ -227,26 +227,26 @@ module _ {Id : Type 0} {database : FileDatabase Id} {view : RichDiagnostic Id} {
         (run_then left.rendered (run_cut after (stream_of_rows context (rest (k + 1))) rendered))).renders
 
     -- the snippet was cut short
-    pub cut-in_snippet : {new : Sink} {e : Error} → WritesWithLookups snippet_lines_failure mid (stream_of_rows (context_by now) (rows_in f (database.file f.file.now.id) snippet_lines)) (Err e) new
+    pub cut-in_snippet : {new : Sink} {e : Error} → WritesWithLookups snippet_lines_failure mid (stream_of_rows (context_by now) (rows_in snippet_plan (database.file snippet_plan.file.now.id) snippet_lines)) (Err e) new
         → WritesWithLookups all_failure old (stream_of_rows context all_rows) (Err e) new
     cut-in_snippet renders = left-cut (rendered-here (run_cut None end_stream (snippet-here renders)))
 
-    module _ {inner : Sink} (renders : WritesWithLookups snippet_lines_failure mid (stream_of_rows (context_by now) (rows_in f (database.file f.file.now.id) snippet_lines)) (Ok tt) inner)
+    module _ {inner : Sink} (renders : WritesWithLookups snippet_lines_failure mid (stream_of_rows (context_by now) (rows_in snippet_plan (database.file snippet_plan.file.now.id) snippet_lines)) (Ok tt) inner)
         {after : Config} (equal_after : after ≡ now) where
       -- then the row after it was rendered, by an equal configuration, however that ends
-      end-here : {r : Result (Unit {0}) Error} {new : Sink} → Writes inner (stream_of_rows (context_by after) (trailing_border_rows f follows)) r new → IfErr r IsIo
+      end-here : {r : Result (Unit {0}) Error} {new : Sink} → Writes inner (stream_of_rows (context_by after) (trailing_border_rows snippet_plan follows)) r new → IfErr r IsIo
           → IsLookupRun (first_error database.failure lookups_here) mid (stream_of_rows context rows_here) r new
       end-here {r} {new} writes io =
           rendered-here (run_then (snippet-here renders)
           (run_of_writes r (write_at (λ (c : Config).
-          stream_of_rows (context_by c) (trailing_border_rows f follows)) (equal_after ∙ equal)
+          stream_of_rows (context_by c) (trailing_border_rows snippet_plan follows)) (equal_after ∙ equal)
           inner new r writes) io))
 
       -- it was written
-      pub next-file : {new : Sink} → WroteStream inner (stream_of_rows (context_by after) (trailing_border_rows f follows)) new → SnippetsLeft database view output_plan renderer (k + 1) old new
+      pub next-file : {new : Sink} → WroteStream inner (stream_of_rows (context_by after) (trailing_border_rows snippet_plan follows)) new → SnippetsLeft database view output_plan renderer (k + 1) old new
       next-file written = left-next (end-here written tt)
 
       -- it was cut short
-      pub cut-after_snippet : {new : Sink} {e : Error} → Writes inner (stream_of_rows (context_by after) (trailing_border_rows f follows)) (Err e) new → IsIo e
+      pub cut-after_snippet : {new : Sink} {e : Error} → Writes inner (stream_of_rows (context_by after) (trailing_border_rows snippet_plan follows)) (Err e) new → IsIo e
           → WritesWithLookups all_failure old (stream_of_rows context all_rows) (Err e) new
       cut-after_snippet writes io = left-cut (end-here writes io)

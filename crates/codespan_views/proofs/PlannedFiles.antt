@@ -46,68 +46,68 @@ followed-at has_notes xs k =
 -- ---- the file at an index
 
 -- each file has one name
-pub ids-count : {Id : Type 0} (files : List (SnippetPlan Id)) → length (ids_of files) ≡ length files
-ids-count {Id} files = length-map files (λ (g : SnippetPlan Id). g.file.now.id)
+pub ids-count : {Id : Type 0} (snippet_plans : List (SnippetPlan Id)) → length (ids_of snippet_plans) ≡ length snippet_plans
+ids-count {Id} snippet_plans = length-map snippet_plans (λ (snippet_plan : SnippetPlan Id). snippet_plan.file.now.id)
 
-module _ {Id : Type 0} {files : List (SnippetPlan Id)} {k : ℕ} {f : SnippetPlan Id} (at : IsElementAt files k f) where
+module _ {Id : Type 0} {snippet_plans : List (SnippetPlan Id)} {k : ℕ} {snippet_plan : SnippetPlan Id} (at : IsElementAt snippet_plans k snippet_plan) where
   -- its id and its locus are at the same index
-  pub id-inside : k < length (ids_of files)
-  id-inside = omega (arith, at.inside, ids-count files)
+  pub id-inside : k < length (ids_of snippet_plans)
+  id-inside = omega (arith, at.inside, ids-count snippet_plans)
 
-  pub id-at : f.file.now.id ≡ get_or (ids_of files) k f.file.now.id
-  id-at = ap (λ (g : SnippetPlan Id). g.file.now.id) at.is ∙ sym (get_or-map (λ (g : SnippetPlan Id). g.file.now.id) files k f f.file.now.id at.inside)
+  pub id-at : snippet_plan.file.now.id ≡ get_or (ids_of snippet_plans) k snippet_plan.file.now.id
+  id-at = ap (λ (snippet_plan : SnippetPlan Id). snippet_plan.file.now.id) at.is ∙ sym (get_or-map (λ (snippet_plan : SnippetPlan Id). snippet_plan.file.now.id) snippet_plans k snippet_plan snippet_plan.file.now.id at.inside)
 
-  pub index-inside : k < length (loci_of files)
-  index-inside = omega (arith, at.inside, length-map files (λ (g : SnippetPlan Id). locus_view g.locus))
+  pub locus-inside : k < length (loci_of snippet_plans)
+  locus-inside = omega (arith, at.inside, length-map snippet_plans (λ (snippet_plan : SnippetPlan Id). locus_view snippet_plan.locus))
 
-  pub index-at : locus_view f.locus ≡ get_or (loci_of files) k (locus_view f.locus)
-  index-at = ap (λ (g : SnippetPlan Id). locus_view g.locus) at.is ∙ sym (get_or-map (λ (g : SnippetPlan Id). locus_view g.locus) files k f (locus_view f.locus) at.inside)
+  pub locus-at : locus_view snippet_plan.locus ≡ get_or (loci_of snippet_plans) k (locus_view snippet_plan.locus)
+  locus-at = ap (λ (snippet_plan : SnippetPlan Id). locus_view snippet_plan.locus) at.is ∙ sym (get_or-map (λ (snippet_plan : SnippetPlan Id). locus_view snippet_plan.locus) snippet_plans k snippet_plan (locus_view snippet_plan.locus) at.inside)
 
 module _ {Id : Type 0} (database : FileDatabase Id) (config : Config) (xs : List (InFile Id)) where
   -- the file is that of its labels, with the snippet lines that it counts in front, and the rest is
   -- of the files after it
   abbrev pub IsFirstFile : List (SnippetPlan Id) → SnippetPlan Id → List (RustLine Id) → Type 0
-  IsFirstFile later f snippet_lines =
-      IsSnippetPlan config (labeled_file_model database.same database.file xs f.file.now.id) f
-      (take f.line_total snippet_lines)
-      × AreSnippetPlans database config xs later (drop f.line_total snippet_lines)
+  IsFirstFile later snippet_plan snippet_lines =
+      IsSnippetPlan config (labeled_file_model database.same database.file xs snippet_plan.file.now.id) snippet_plan
+      (take snippet_plan.line_total snippet_lines)
+      × AreSnippetPlans database config xs later (drop snippet_plan.line_total snippet_lines)
 
   -- the files from an index on are those of their labels, with the snippet lines from an index on
-  pub record AreFilesFrom (files : List (SnippetPlan Id)) (k : ℕ) (snippet_lines : List (RustLine Id)) (start : ℕ) : Type 0 where
+  pub record AreFilesFrom (snippet_plans : List (SnippetPlan Id)) (k : ℕ) (snippet_lines : List (RustLine Id)) (start : ℕ) : Type 0 where
     pub inside : start ≤ length snippet_lines
-    pub are : AreSnippetPlans database config xs (drop k files) (drop start snippet_lines)
+    pub are : AreSnippetPlans database config xs (drop k snippet_plans) (drop start snippet_lines)
 
 module _ {Id : Type 0} {database : FileDatabase Id} {config : Config} {xs : List (InFile Id)}
-    {files : List (SnippetPlan Id)} {k : ℕ} {f : SnippetPlan Id}
+    {snippet_plans : List (SnippetPlan Id)} {k : ℕ} {snippet_plan : SnippetPlan Id}
     {snippet_lines : List (RustLine Id)} {start : ℕ}
-    (at : IsElementAt files k f) (from : AreFilesFrom database config xs files k snippet_lines start) where
+    (at : IsElementAt snippet_plans k snippet_plan) (from : AreFilesFrom database config xs snippet_plans k snippet_lines start) where
   -- from the file at an index on they are that file, and those after it
-  files-at : IsFirstFile database config xs (drop (k + 1) files) f (drop start snippet_lines)
-  files-at = subst (λ (fs : List (SnippetPlan Id)). AreSnippetPlans database config xs fs (drop start snippet_lines)) (drop-one files k f at.inside at.is) from.are
+  files-at : IsFirstFile database config xs (drop (k + 1) snippet_plans) snippet_plan (drop start snippet_lines)
+  files-at = subst (λ (snippet_plans : List (SnippetPlan Id)). AreSnippetPlans database config xs snippet_plans (drop start snippet_lines)) (drop-one snippet_plans k snippet_plan at.inside at.is) from.are
 
   -- there are as many snippet lines as it counts
-  pub own-inside : start + f.line_total ≤ length snippet_lines
+  pub own-inside : start + snippet_plan.line_total ≤ length snippet_lines
   own-inside =
       let count = files-at.0.count_is in
       let inside = from.inside in
-      omega (arith, count, inside, length-take f.line_total (drop start snippet_lines), length-drop start snippet_lines)
+      omega (arith, count, inside, length-take snippet_plan.line_total (drop start snippet_lines), length-drop start snippet_lines)
 
   -- it is the file of its labels, with these snippet lines
-  pub own-snippet_lines : {own : List (RustLine Id)} → own ≡ take f.line_total (drop start snippet_lines)
-      → IsSnippetPlan config (labeled_file_model database.same database.file xs f.file.now.id) f own
-  own-snippet_lines is = subst (IsSnippetPlan config (labeled_file_model database.same database.file xs f.file.now.id) f) (sym is) files-at.0
+  pub own-snippet_lines : {own : List (RustLine Id)} → own ≡ take snippet_plan.line_total (drop start snippet_lines)
+      → IsSnippetPlan config (labeled_file_model database.same database.file xs snippet_plan.file.now.id) snippet_plan own
+  own-snippet_lines is = subst (IsSnippetPlan config (labeled_file_model database.same database.file xs snippet_plan.file.now.id) snippet_plan) (sym is) files-at.0
 
   -- the later files are those of their labels, with the snippet lines after these
-  pub later-files : AreFilesFrom database config xs files (k + 1) snippet_lines (start + f.line_total)
+  pub later-files : AreFilesFrom database config xs snippet_plans (k + 1) snippet_lines (start + snippet_plan.line_total)
   later-files = record {
     inside = own-inside;
-    are = subst (AreSnippetPlans database config xs (drop (k + 1) files)) (drop-drop f.line_total start snippet_lines) files-at.1;
+    are = subst (AreSnippetPlans database config xs (drop (k + 1) snippet_plans)) (drop-drop snippet_plan.line_total start snippet_lines) files-at.1;
   }
 
-module _ {Id : Type 0} {config : Config} {own : LabeledFileModel} {f : SnippetPlan Id} {snippet_lines : List (RustLine Id)} (is : IsSnippetPlan config own f snippet_lines) where
+module _ {Id : Type 0} {config : Config} {own : LabeledFileModel} {snippet_plan : SnippetPlan Id} {snippet_lines : List (RustLine Id)} (is : IsSnippetPlan config own snippet_plan snippet_lines) where
   -- its rows
-  pub rows-are : (followed : Bool) → rows_in f own.file snippet_lines ++ trailing_border_rows f followed ≡ snippet config (locus_view f.locus) own ++ row_after followed own
+  pub rows-are : (followed : Bool) → rows_in snippet_plan own.file snippet_lines ++ trailing_border_rows snippet_plan followed ≡ snippet config (locus_view snippet_plan.locus) own ++ row_after followed own
   rows-are followed =
-      (λ i. (SnippetStartRow (locus_view f.locus) ∷ EmptyRow (record { count = is.lanes_are i; marks = [] }) ∷ []) ++ rows_of_lines own.file (is.lanes_are i) (map line_view snippet_lines)
+      (λ i. (SnippetStartRow (locus_view snippet_plan.locus) ∷ EmptyRow (record { count = is.lanes_are i; marks = [] }) ∷ []) ++ rows_of_lines own.file (is.lanes_are i) (map line_view snippet_lines)
       ++ (if followed then EmptyRow (record { count = is.lanes_are i; marks = [] }) ∷ [] else []))
-      ∙ ap (λ (r : List Row). (SnippetStartRow (locus_view f.locus) ∷ EmptyRow (empty_lanes own) ∷ []) ++ r ++ (if followed then EmptyRow (empty_lanes own) ∷ [] else [])) is.rows
+      ∙ ap (λ (r : List Row). (SnippetStartRow (locus_view snippet_plan.locus) ∷ EmptyRow (empty_lanes own) ∷ []) ++ r ++ (if followed then EmptyRow (empty_lanes own) ∷ [] else [])) is.rows

@@ -138,7 +138,7 @@ module _ {Id : Type 0} {view : Config} {database : FileDatabase Id} {d : Diagnos
   -- the snippets, as a configuration renders them
   abbrev middle : Config → Stream
   middle k = stream_of_rows (context_of k d.severity output_plan.padding)
-      (snippets view (has_any (notes_of d)) (loci_of output_plan.files.items)
+      (snippets view (has_any (notes_of d)) (loci_of output_plan.snippet_plans.items)
       (labeled_file_models database.same database.file (labels_of d)))
 
   -- the notes and the empty line
@@ -154,26 +154,26 @@ module _ {Id : Type 0} {view : Config} {database : FileDatabase Id} {d : Diagnos
   RendersAllSnippets k old r new = WritesWithLookups (late_failure view database d) old (middle k) r new
 
   -- the snippets start at loci of the files
-  loci-are : AllZip IsLocusOfFile (labeled_file_models database.same database.file (labels_of d)) (loci_of output_plan.files.items)
+  loci-are : AllZip IsLocusOfFile (labeled_file_models database.same database.file (labels_of d)) (loci_of output_plan.snippet_plans.items)
   loci-are =
       subst (λ (ids : List Id). AllZip IsLocusOfFile
       (map (labeled_file_model database.same database.file (labels_of d)) ids)
-      (loci_of output_plan.files.items)) ready.planned.ids_are
-      (from output_plan.files.items output_plan.snippet_lines.items ready.planned.files_are)
+      (loci_of output_plan.snippet_plans.items)) ready.planned.ids_are
+      (from output_plan.snippet_plans.items output_plan.snippet_lines.items ready.planned.snippet_plans_are)
     where
-      from : (fs : List (SnippetPlan Id)) (snippet_lines : List (RustLine Id)) → AreSnippetPlans database view (labels_of d) fs snippet_lines
-          → AllZip IsLocusOfFile (map (labeled_file_model database.same database.file (labels_of d)) (ids_of fs)) (loci_of fs)
+      from : (snippet_plans : List (SnippetPlan Id)) (snippet_lines : List (RustLine Id)) → AreSnippetPlans database view (labels_of d) snippet_plans snippet_lines
+          → AllZip IsLocusOfFile (map (labeled_file_model database.same database.file (labels_of d)) (ids_of snippet_plans)) (loci_of snippet_plans)
       from [] snippet_lines are = tt
-      from (f ∷ fs) snippet_lines are = (are.0.index, from fs (drop f.line_total snippet_lines) are.1)
+      from (snippet_plan ∷ snippet_plans) snippet_lines are = (are.0.locus_is, from snippet_plans (drop snippet_plan.line_total snippet_lines) are.1)
 
   -- the output with these loci is all of these
   output-is : (renderer : Config) → ByLoci renderer view database d (λ s. s ≡ whole renderer)
   output-is renderer =
-      let rows = snippets view (has_any (notes_of d)) (loci_of output_plan.files.items) (labeled_file_models database.same database.file (labels_of d)) in
+      let rows = snippets view (has_any (notes_of d)) (loci_of output_plan.snippet_plans.items) (labeled_file_models database.same database.file (labels_of d)) in
       let context = context_of renderer d.severity output_plan.padding in
       let ended : Row → Stream = λ row. stream_of context row ++ newline in
       record {
-        loci = loci_of output_plan.files.items;
+        loci = loci_of output_plan.snippet_plans.items;
         are = loci-are;
         holds = ap (λ n. stream_of_rows (context_of renderer d.severity n) ((HeaderRow None (heading_of d) ∷ rows) ++ note_rows (notes_of d) ++ (FinalRow ∷ []))) (sym ready.planned.padding_is)
             ∙ ap (stream_of_rows context) (append_assoc (HeaderRow None (heading_of d) ∷ rows) (note_rows (notes_of d)) (FinalRow ∷ []))

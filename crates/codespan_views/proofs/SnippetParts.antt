@@ -31,13 +31,13 @@ write_at f same s t r writes = subst (λ (x : _). Writes s (f x) r t) same write
 
 -- ---- the snippet of a file
 
-module _ {F Id : Type 0} (database : F → FileDatabase Id) (context : SnippetContext F) (snippet : SnippetPlan Id) (own : List (SnippetLine Id)) (config : Config) where
+module _ {F Id : Type 0} (database : F → FileDatabase Id) (context : SnippetContext F) (snippet_plan : SnippetPlan Id) (own : List (SnippetLine Id)) (config : Config) where
   -- the source of its file was looked up, and so it is rendered
   pub record IsOpen : Type 0 where
-    pub succeeded : (database context.files.now).failure snippet.file.now.id Source ≡ None
+    pub succeeded : (database context.files.now).failure snippet_plan.file.now.id Source ≡ None
 
-module _ {F Id : Type 0} {database : F → FileDatabase Id} {context : SnippetContext F} {snippet : SnippetPlan Id} {own : List (SnippetLine Id)} {config : Config}
-    (opened : IsOpen database context snippet own config) where
+module _ {F Id : Type 0} {database : F → FileDatabase Id} {context : SnippetContext F} {snippet_plan : SnippetPlan Id} {own : List (SnippetLine Id)} {config : Config}
+    (opened : IsOpen database context snippet_plan own config) where
   -- what rows share, as a configuration renders them
   abbrev context_by : Config → RowContext
   context_by by = context_of by context.severity context.padding
@@ -48,15 +48,15 @@ module _ {F Id : Type 0} {database : F → FileDatabase Id} {context : SnippetCo
 
   -- the rows of its lines
   abbrev line_rows : List Row
-  line_rows = rows_of_lines ((database context.files.now).file snippet.file.now.id) snippet.file.now.lane_count (map line_view own)
+  line_rows = rows_of_lines ((database context.files.now).file snippet_plan.file.now.id) snippet_plan.file.now.lane_count (map line_view own)
 
   -- the error of the lookups of these snippet lines
   abbrev lookups_failure : List (SnippetLine Id) → Option Error
-  lookups_failure snippet_lines = first_error (database context.files.now).failure (lookups_of_file snippet.file.now.id (lookups_of_lines snippet_lines))
+  lookups_failure snippet_lines = first_error (database context.files.now).failure (lookups_of_file snippet_plan.file.now.id (lookups_of_lines snippet_lines))
 
   -- the streams of its first rows, and of its lines
   abbrev at_start : Stream
-  at_start = stream (start_rows snippet)
+  at_start = stream (start_rows snippet_plan)
 
   abbrev in_lines : Stream
   in_lines = stream line_rows
@@ -64,7 +64,7 @@ module _ {F Id : Type 0} {database : F → FileDatabase Id} {context : SnippetCo
   -- a call renders all of it, and makes all its lookups
   abbrev RendersWhole : Sink → Result (Unit {0}) Error → Sink → Type 0
   RendersWhole s r t =
-      WritesWithLookups (or_failure ((database context.files.now).failure snippet.file.now.id Source) (lookups_failure own)) s (stream (start_rows snippet ++ line_rows)) r t
+      WritesWithLookups (or_failure ((database context.files.now).failure snippet_plan.file.now.id Source) (lookups_failure own)) s (stream (start_rows snippet_plan ++ line_rows)) r t
 
   -- a call renders its lines, and makes their lookups
   abbrev RendersItsLines : Sink → Result (Unit {0}) Error → Sink → Type 0
@@ -72,7 +72,7 @@ module _ {F Id : Type 0} {database : F → FileDatabase Id} {context : SnippetCo
 
   -- its first rows and its lines, one after the other
   whole-rendered : {s t : Sink} {r : Result (Unit {0}) Error} → IsLookupRun (lookups_failure own) s (at_start ++ in_lines) r t → RendersWhole s r t
-  whole-rendered parts = (run_after opened.succeeded (run_as refl (sym (rows-two (context_by config) (start_rows snippet) line_rows)) parts)).renders
+  whole-rendered parts = (run_after opened.succeeded (run_as refl (sym (rows-two (context_by config) (start_rows snippet_plan) line_rows)) parts)).renders
 
   -- the lines were rendered, by an equal configuration
   pub lines-rendered : {by : Config} {s t : Sink} {r : Result (Unit {0}) Error} → by ≡ config

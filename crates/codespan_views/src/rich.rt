@@ -157,12 +157,12 @@ impl<'diagnostic, 'config, FileId: Copy + Eq> RichDiagnostic<'diagnostic, 'confi
         let mut labels = LineLabels::new(*diagnostic.labels.allocator());
         let notes_follow = has_notes(diagnostic);
         let mut start = 0;
-        for (index, file) in output_plan.files.iter().enumerate() {
-            let snippet_lines = lines_of_file(output_plan, file, start);
-            start += file.line_total;
+        for (index, snippet_plan) in output_plan.snippet_plans.iter().enumerate() {
+            let snippet_lines = lines_of_file(output_plan, snippet_plan, start);
+            start += snippet_plan.line_total;
             let is_followed = notes_follow | has_next_file(output_plan, index);
-            render_snippet(&context, renderer, &mut labels, file, snippet_lines)?;
-            render_trailing_border(&context, renderer, file, is_followed)?;
+            render_snippet(&context, renderer, &mut labels, snippet_plan, snippet_lines)?;
+            render_trailing_border(&context, renderer, snippet_plan, is_followed)?;
         }
         Ok(())
     }
@@ -172,23 +172,23 @@ impl<'diagnostic, 'config, FileId: Copy + Eq> RichDiagnostic<'diagnostic, 'confi
 #[inline(always)]
 fn lines_of_file<'p, 'e, 'd, FileId>(
     output_plan: &'p OutputPlan<'e, 'd, FileId>,
-    file: &SnippetPlan<'_, FileId>,
+    snippet_plan: &SnippetPlan<'_, FileId>,
     start: usize,
 ) -> &'p [SnippetLine<'e, 'd, FileId>]
-    requires { start + file.now.line_total ≤ length output_plan.now.snippet_lines.items }
+    requires { start + snippet_plan.now.line_total ≤ length output_plan.now.snippet_lines.items }
     ensures { result.now
-        ≡ take file.now.line_total (drop start output_plan.now.snippet_lines.items) }
+        ≡ take snippet_plan.now.line_total (drop start output_plan.now.snippet_lines.items) }
 {
-    &output_plan.snippet_lines[start..start + file.line_total]
+    &output_plan.snippet_lines[start..start + snippet_plan.line_total]
 }
 
 /// Returns whether another file follows the one at this index.
 #[inline(always)]
 fn has_next_file<FileId>(output_plan: &OutputPlan<'_, '_, FileId>, index: usize) -> bool
-    requires { index < length output_plan.now.files.items }
-    ensures { result ≡ nat_lt (index + 1) (length output_plan.now.files.items) }
+    requires { index < length output_plan.now.snippet_plans.items }
+    ensures { result ≡ nat_lt (index + 1) (length output_plan.now.snippet_plans.items) }
 {
-    index + 1 < output_plan.files.len()
+    index + 1 < output_plan.snippet_plans.len()
 }
 
 /// Returns whether the diagnostic has a note.

@@ -25,16 +25,16 @@ pub mod lines;
 fn render_start<F, FileId, W: WriteStyle>(
     context: &SnippetContext<'_, F>,
     renderer: &mut Renderer<'_, '_, W>,
-    snippet: &SnippetPlan<'_, FileId>,
+    snippet_plan: &SnippetPlan<'_, FileId>,
 ) -> Result<(), Error>
     ensures { RendersRows W.sink context.now.severity context.now.padding
-        (start_rows snippet.now) renderer.old result renderer.new }
+        (start_rows snippet_plan.now) renderer.old result renderer.new }
 {
-    renderer.render_snippet_start(context.padding, &snippet.locus)?;
+    renderer.render_snippet_start(context.padding, &snippet_plan.locus)?;
     renderer.render_snippet_empty(
         context.padding,
         context.severity,
-        snippet.file.lane_count,
+        snippet_plan.file.lane_count,
         &[],
     )
 }
@@ -57,27 +57,27 @@ pub fn render_snippet<'files, 'd, F: Files<'files>, W: WriteStyle>(
     context: &SnippetContext<'files, F>,
     renderer: &mut Renderer<'_, '_, W>,
     labels: &mut LineLabels<'d>,
-    snippet: &SnippetPlan<'_, F::FileId>,
+    snippet_plan: &SnippetPlan<'_, F::FileId>,
     snippet_lines: &[SnippetLine<'_, 'd, F::FileId>],
 ) -> Result<(), Error>
-    requires { AreLinesOf ((F.database context.now.files.now).file snippet.now.file.now.id)
-        snippet.now.file.now.lane_count snippet_lines.now }
-    ensures { RendersSnippet W.sink F.database context.now snippet.now snippet_lines.now
+    requires { AreLinesOf ((F.database context.now.files.now).file snippet_plan.now.file.now.id)
+        snippet_plan.now.file.now.lane_count snippet_lines.now }
+    ensures { RendersSnippet W.sink F.database context.now snippet_plan.now snippet_lines.now
         renderer.old
         result renderer.new }
 {
-    let source = context.files.source(snippet.file.id)?;
-    render_start(context, renderer, snippet)?;
-    let lines = Snippet {
+    let source = context.files.source(snippet_plan.file.id)?;
+    render_start(context, renderer, snippet_plan)?;
+    let snippet = Snippet {
         context,
         file: SourceFile {
             files: context.files,
-            id: snippet.file.id,
+            id: snippet_plan.file.id,
         },
         text: source.as_str(),
-        lane_count: snippet.file.lane_count,
+        lane_count: snippet_plan.file.lane_count,
     };
-    lines.render_lines(renderer, labels, snippet_lines)
+    snippet.render_lines(renderer, labels, snippet_lines)
 }
 
 /// Renders the row after a snippet, where something follows.
@@ -88,17 +88,17 @@ pub fn render_snippet<'files, 'd, F: Files<'files>, W: WriteStyle>(
 pub fn render_trailing_border<F, FileId, W: WriteStyle>(
     context: &SnippetContext<'_, F>,
     renderer: &mut Renderer<'_, '_, W>,
-    snippet: &SnippetPlan<'_, FileId>,
+    snippet_plan: &SnippetPlan<'_, FileId>,
     is_followed: bool,
 ) -> Result<(), Error>
     ensures { RendersRows W.sink context.now.severity context.now.padding
-        (trailing_border_rows snippet.now is_followed) renderer.old result renderer.new }
+        (trailing_border_rows snippet_plan.now is_followed) renderer.old result renderer.new }
 {
     if is_followed {
         renderer.render_snippet_empty(
             context.padding,
             context.severity,
-            snippet.file.lane_count,
+            snippet_plan.file.lane_count,
             &[],
         )
     } else {

@@ -84,10 +84,10 @@ fn plan_snippet<'files, 'e, F: Files<'files>>(
     file: &'e LabeledFile<F::FileId>,
     line_total: usize,
 ) -> Result<SnippetPlan<'e, F::FileId>, Error>
-    ensures file { IfOk result (λ plan. plan.file.now ≡ file.now) }
-    ensures locus { IfOk result (λ plan. IsTextLocus
-        (snippet_start_of (F.database files.now).file file.now) (locus_view plan.locus)) }
-    ensures line_total { IfOk result (λ plan. plan.line_total ≡ line_total) }
+    ensures file { IfOk result (λ snippet_plan. snippet_plan.file.now ≡ file.now) }
+    ensures locus { IfOk result (λ snippet_plan. IsTextLocus
+        (snippet_start_of (F.database files.now).file file.now) (locus_view snippet_plan.locus)) }
+    ensures line_total { IfOk result (λ snippet_plan. snippet_plan.line_total ≡ line_total) }
     ensures failed { FailsByOrFormat (locus_failure (F.database files.now).failure file.now)
         result }
 {
@@ -137,12 +137,12 @@ pub fn plan_snippets<'files, 'e, 'd, F: Files<'files>>(
     requires lines { AllByRecursion (IsOfFiles (F.database files.now).file
         (ids_view collected.now.files.items)) collected.now.annotations.items }
     ensures plans { IfOk result
-        (λ plans. ArePlansOf layout (F.database files.now).file collected.now
-        plans.items snippet_lines.new.items) }
+        (λ snippet_plans. ArePlansOf layout (F.database files.now).file collected.now
+        snippet_plans.items snippet_lines.new.items) }
     ensures failed { FailsByOrFormat
         (plans_failure layout (F.database files.now).failure collected.now) result }
 {
-    let mut plans = Vec::with_capacity(alloc, collected.files.len())?;
+    let mut snippet_plans = Vec::with_capacity(alloc, collected.files.len())?;
     let mut located = Ok(());
     let mut start = 0;
     for (index, file) in collected.files.iter().enumerate() {
@@ -151,10 +151,10 @@ pub fn plan_snippets<'files, 'e, 'd, F: Files<'files>>(
         let line_total = push_snippet(files, file.id, layout, own, snippet_lines)?;
         start += len;
         match plan_snippet(alloc, files, file, line_total) {
-            Ok(plan) => plans.push(plan)?,
+            Ok(snippet_plan) => snippet_plans.push(snippet_plan)?,
             Err(failed) => located = first_failed(located, failed),
         }
     }
     located?;
-    Ok(plans)
+    Ok(snippet_plans)
 }

@@ -21,37 +21,37 @@ pub record AreLinesOf {Id : Type 0} (f : FileModel) (lane_count : ℕ)
 
 -- the snippet has the text of its file, and these are lines of it
 pub record HasLines {F Id Name Source : Type 0} (database : F → FileDatabase Id)
-    (lines : Snippet F Id Name Source) (snippet_lines : List (RustLine Id)) : Type 0 where
-  pub text : lines.text.now ≡ (model_of database lines.file).text
-  pub are : AreLinesOf (model_of database lines.file) lines.lane_count snippet_lines
+    (snippet : Snippet F Id Name Source) (snippet_lines : List (RustLine Id)) : Type 0 where
+  pub text : snippet.text.now ≡ (model_of database snippet.file).text
+  pub are : AreLinesOf (model_of database snippet.file) snippet.lane_count snippet_lines
 
 -- the snippet has the text of its file, and this is a line of it
 pub record HasLine {F Id Name Source : Type 0} (database : F → FileDatabase Id)
-    (lines : Snippet F Id Name Source) (snippet_line : RustLine Id) : Type 0 where
-  pub text : lines.text.now ≡ (model_of database lines.file).text
-  pub is : IsSnippetLineOf (model_of database lines.file) snippet_line
-  pub fits : IsTrue (does_line_fit lines.lane_count (line_view snippet_line))
+    (snippet : Snippet F Id Name Source) (snippet_line : RustLine Id) : Type 0 where
+  pub text : snippet.text.now ≡ (model_of database snippet.file).text
+  pub is : IsSnippetLineOf (model_of database snippet.file) snippet_line
+  pub fits : IsTrue (does_line_fit snippet.lane_count (line_view snippet_line))
 
 module _ {W F Id Name Source : Type 0} (sink : W → Sink) (database : F → FileDatabase Id)
-    (lines : Snippet F Id Name Source) where
+    (snippet : Snippet F Id Name Source) where
   -- the call renders rows of the file, and makes these lookups
   abbrev pub RendersFileRows : List Lookup → (FileModel → List Row) → Renderer W
       → Result (Unit {0}) Error → Renderer W → Type 0
   RendersFileRows lookups rows =
-      let context = lines.context.now in
-      RendersRowsWithLookups sink (failure_of database lines.file lookups) context.severity
-      context.padding (rows (model_of database lines.file))
+      let context = snippet.context.now in
+      RendersRowsWithLookups sink (failure_of database snippet.file lookups) context.severity
+      context.padding (rows (model_of database snippet.file))
 
   -- the call renders a line of the snippet, and makes these lookups
   abbrev pub RendersLine : List Lookup → SnippetLine → Renderer W → Result (Unit {0}) Error
       → Renderer W
       → Type 0
   RendersLine lookups snippet_line =
-      RendersFileRows lookups (λ f. rows_of_line f lines.lane_count snippet_line)
+      RendersFileRows lookups (λ f. rows_of_line f snippet.lane_count snippet_line)
 
   -- the call renders these lines, one after another, and makes their lookups
   abbrev pub RendersLines : List (RustLine Id) → Renderer W → Result (Unit {0}) Error → Renderer W
       → Type 0
   RendersLines snippet_lines =
       RendersFileRows (lookups_of_lines snippet_lines)
-      (λ f. rows_of_lines f lines.lane_count (map line_view snippet_lines))
+      (λ f. rows_of_lines f snippet.lane_count (map line_view snippet_lines))

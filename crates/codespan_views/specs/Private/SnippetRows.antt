@@ -15,14 +15,14 @@ use Rattle.codespan_plan.specs.SnippetLineViews.{lookups_of_lines, line_view}
 use Rattle.codespan_views.specs.Private.Rendering.{RendersRowsWithLookups}
 use Rattle.codespan_plan.specs.SnippetLines.{rows_of_lines}
 
-module _ {Id : Type 0} (file : SnippetPlan Id) where
+module _ {Id : Type 0} (snippet_plan : SnippetPlan Id) where
   -- a row with its lanes and nothing else
   abbrev pub empty_row : Row
-  empty_row = EmptyRow (record { count = file.file.now.lane_count; marks = [] })
+  empty_row = EmptyRow (record { count = snippet_plan.file.now.lane_count; marks = [] })
 
   -- its first rows
   abbrev pub start_rows : List Row
-  start_rows = SnippetStartRow (locus_view file.locus) ∷ empty_row ∷ []
+  start_rows = SnippetStartRow (locus_view snippet_plan.locus) ∷ empty_row ∷ []
 
   -- the row after it, where something follows
   abbrev pub trailing_border_rows : Bool → List Row
@@ -31,7 +31,7 @@ module _ {Id : Type 0} (file : SnippetPlan Id) where
   -- its rows before that one, where these are its lines
   abbrev pub rows_in : FileModel → List (RustLine Id) → List Row
   rows_in f snippet_lines =
-      start_rows ++ rows_of_lines f file.file.now.lane_count (map line_view snippet_lines)
+      start_rows ++ rows_of_lines f snippet_plan.file.now.lane_count (map line_view snippet_lines)
 
 -- the lookups of a snippet of these lines
 abbrev pub lookups_with : {Id : Type 0} → List (RustLine Id) → List Lookup
@@ -42,9 +42,9 @@ module _ {W F Id : Type 0} (sink : W → Sink) (database : F → FileDatabase Id
   -- the call renders the snippet of a file by these lines, and makes its lookups
   abbrev pub RendersSnippet : SnippetPlan Id → List (RustLine Id) → Renderer W
       → Result (Unit {0}) Error → Renderer W → Type 0
-  RendersSnippet f snippet_lines =
+  RendersSnippet snippet_plan snippet_lines =
       let t = database context.files.now in
-      let id = f.file.now.id in
+      let id = snippet_plan.file.now.id in
       RendersRowsWithLookups sink (failure_in t.failure id (lookups_with snippet_lines))
       context.severity context.padding
-      (rows_in f (t.file id) snippet_lines)
+      (rows_in snippet_plan (t.file id) snippet_lines)

@@ -24,7 +24,7 @@ use Rattle.codespan_base.specs.FileModel.{FileDatabase}
 module _ {Id : Type 0} (d : Diagnostic Id) where
   -- the header, with this locus, if any, and with the end of its row
   abbrev pub header_line : Option Locus → Stream
-  header_line index = header_row d.severity index (heading_of d) ++ newline
+  header_line locus = header_row d.severity locus (heading_of d) ++ newline
 
   -- the last rows of a rich output: the notes, and an empty one
   abbrev pub closing_rows : List Row
@@ -74,5 +74,6 @@ module _ {W Id : Type 0} (sink : W → Sink) (database : FileDatabase Id) where
     RendersSnippets output_plan =
         let d = diagnostic_of view in
         RendersRowsWithLookups sink snippets_failure d.severity output_plan.padding
-        (snippets (view_config_of view) (has_any (notes_of d)) (loci_of output_plan.files.items)
+        (snippets (view_config_of view) (has_any (notes_of d))
+        (loci_of output_plan.snippet_plans.items)
         (labeled_file_models database.same database.file (labels_of d)))

@@ -16,19 +16,19 @@ are_files g κs claim files =
 pub plan_snippets-requires : goal.plan_snippets-requires
 plan_snippets-requires g c κs = ((refl, tt), (c.in_ok-snippet_lines.ensures.items, (c.requires.sorted, c.requires.lines)))
 
-pub returns-in_err-files-clause-failed : goal.returns-in_err-files-clause-failed
-returns-in_err-files-clause-failed g c =
+pub returns-in_err-snippet_plans-clause-failed : goal.returns-in_err-snippet_plans-clause-failed
+returns-in_err-snippet_plans-clause-failed g c =
     let same = failure-is (are_files g c.lifetimes (search rules) c.args.files.now) c.requires in
-    let p = err_from_is_err_and c.from_residual-in_err-files.result c.from_residual-in_err-files.ensures.1 in
-    rw (p.1 ∙ ap Err p.2) (λ memory display. sym same ∙ c.in_err-files.ensures.failed memory display)
+    let p = err_from_is_err_and c.from_residual-in_err-snippet_plans.result c.from_residual-in_err-snippet_plans.ensures.1 in
+    rw (p.1 ∙ ap Err p.2) (λ memory display. sym same ∙ c.in_err-snippet_plans.ensures.failed memory display)
 
 pub returns-clause-planned : goal.returns-clause-planned
 returns-clause-planned g c =
     let lawful = are_files g c.lifetimes (search rules) c.args.files.now in
-    let plans = c.in_ok-files.files.items in
+    let snippet_plans = c.in_ok-snippet_plans.snippet_plans.items in
     let snippet_lines = c.plan_snippets.new.snippet_lines.items in
-    let found = c.in_ok-files.ensures.plans in
-    let padding = chosen-padding lawful c.requires plans snippet_lines found
+    let found = c.in_ok-snippet_plans.ensures.plans in
+    let padding = chosen-padding lawful c.requires snippet_plans snippet_lines found
     (c.padding_width-padding.ensures ∙ ap
     (width_in c.args.config.now.layout c.args.collected.now.padding) c.deref.ensures.value) in
     output_plan-planned lawful c.requires found padding
@@ -36,4 +36,4 @@ returns-clause-planned g c =
 pub returns-clause-failed : goal.returns-clause-failed
 returns-clause-failed g c =
     let same = failure-is (are_files g c.lifetimes (search rules) c.args.files.now) c.requires in
-    sym same ∙ c.in_ok-files.ensures.failed
+    sym same ∙ c.in_ok-snippet_plans.ensures.failed

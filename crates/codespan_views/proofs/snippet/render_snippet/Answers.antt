@@ -18,7 +18,7 @@ returns-in_err-source g c =
 
 -- the source of the file has been looked up
 open_at : (g : Over) (c : In_ok-source g)
-    → IsOpen g.F.Files.database c.args.context.now c.args.snippet.now c.args.snippet_lines.now (config_of c.args.renderer.now)
+    → IsOpen g.F.Files.database c.args.context.now c.args.snippet_plan.now c.args.snippet_lines.now (config_of c.args.renderer.now)
 open_at g c = record { succeeded = c.in_ok-source.ensures.failed }
 
 pub returns-in_err-render_start : goal.returns-in_err-render_start

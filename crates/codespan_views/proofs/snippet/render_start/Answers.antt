@@ -14,7 +14,7 @@ returns-in_err-render_snippet_start g c =
 pub returns : goal.returns
 returns g c =
     let context = c.args.context.now in
-    let snippet = c.args.snippet.now in
-    let start = rendered_start (config_of c.args.renderer.now) context.padding snippet.locus in
-    let empty = λ (k : Config). rendered_empty k context.severity context.padding snippet.file.now.lane_count [] in
+    let snippet_plan = c.args.snippet_plan.now in
+    let start = rendered_start (config_of c.args.renderer.now) context.padding snippet_plan.locus in
+    let empty = λ (k : Config). rendered_empty k context.severity context.padding snippet_plan.file.now.lane_count [] in
     renders_as (ap (λ s. start ++ s) (sym (append-nil (empty (config_of c.args.renderer.now))))) (renders_then empty c.in_ok-render_snippet_start.ensures c.render_snippet_empty.ensures)

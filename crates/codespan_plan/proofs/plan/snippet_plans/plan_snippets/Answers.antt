@@ -16,8 +16,8 @@ loop-index-init g c = record {
   left = from_file-first (map annotation_view c.args.collected.now.annotations.items);
   planned = record {
     plans =
-        subst (λ plans. ArePlans c.args.layout (((g.F.Files.database c.args.files.now).file)) (map annotation_view c.args.collected.now.annotations.items) 0 [] plans c.args.snippet_lines.now.items)
-        (sym c.in_ok-plans.ensures.items) c.requires.empty;
+        subst (λ snippet_plans. ArePlans c.args.layout (((g.F.Files.database c.args.files.now).file)) (map annotation_view c.args.collected.now.annotations.items) 0 [] snippet_plans c.args.snippet_lines.now.items)
+        (sym c.in_ok-snippet_plans.ensures.items) c.requires.empty;
     succeeded = refl;
     located_fails = refl;
   };
@@ -72,10 +72,10 @@ loop-index-preserved g c =
       left = next_left at;
       planned = elim c.match-plan_snippet.branch [
         | in-Ok+in_ok-push-in-Ok w ↦
-            rw w.located-is (planned-more at.here before (ap (λ plans. plans.items) w.plans-is ∙ w.in_ok-push-in-Ok.ensures.items) added.whole
+            rw w.located-is (planned-more at.here before (ap (λ snippet_plans. snippet_plans.items) w.snippet_plans-is ∙ w.in_ok-push-in-Ok.ensures.items) added.whole
             (plan_found at added zs_are c.in_ok-line_total.ensures.count w.in-Ok.ensures.file w.in-Ok.ensures.locus w.in-Ok.ensures.line_total)
             numbers w.in-Ok.ensures.failed)
-        | in-Err w ↦ rw (w.plans-is, w.located-is ∙ w.first_failed-located.ensures) (planned-unlocated at.here before numbers w.in-Err.ensures.failed)
+        | in-Err w ↦ rw (w.snippet_plans-is, w.located-is ∙ w.first_failed-located.ensures) (planned-unlocated at.here before numbers w.in-Err.ensures.failed)
       ];
     }
 

@@ -12,5 +12,5 @@ invariant-loop-index g l = record {
   left : drop l.start (map annotation_view l.collected.annotations.items) ≡ from_file l.index (map annotation_view l.collected.annotations.items);
   planned : ArePlanned l.layout (((g.F.Files.database l.files).file))
       (map annotation_view l.collected.annotations.items) (((g.F.Files.database l.files).failure))
-      (take l.index l.collected.files.items) l.plans.items l.snippet_lines.items l.located;
+      (take l.index l.collected.files.items) l.snippet_plans.items l.snippet_lines.items l.located;
 }

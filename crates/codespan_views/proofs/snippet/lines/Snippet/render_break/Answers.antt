@@ -25,7 +25,7 @@ render_snippet_break-requires g c = lanes_fit c.args.self.now.lane_count
 
 pub returns : goal.returns
 returns g c =
-    let lines = c.args.self.now in
-    let context = context_of (config_of c.args.renderer.now) lines.context.now.severity lines.context.now.padding in
+    let snippet = c.args.self.now in
+    let context = context_of (config_of c.args.renderer.now) snippet.context.now.severity snippet.context.now.padding in
     let marks = ap (map lane_mark_view) c.as_slice.ensures.value ∙ c.in_ok-fill_multi_labels.ensures.multi_labels in
-    renders_alone (renders_as (ap (λ (ms : List LaneMark). break_row context (record { count = lines.lane_count; marks = ms }) ++ newline) marks ∙ sym (append-nil _)) c.render_snippet_break.ensures)
+    renders_alone (renders_as (ap (λ (ms : List LaneMark). break_row context (record { count = snippet.lane_count; marks = ms }) ++ newline) marks ∙ sym (append-nil _)) c.render_snippet_break.ensures)

@@ -24,17 +24,17 @@ turn g c = record { inside = c.loop-snippet_line-test.true; is = c.snippet_line-
 
 pub render_snippet_line-requires : goal.render_snippet_line-requires
 render_snippet_line-requires g c κs =
-    let lines = c.args.self.now in
+    let snippet = c.args.self.now in
     let snippet_lines = c.args.snippet_lines.now in
-    let f = model_of g.F.Files.database lines.file in
+    let f = model_of g.F.Files.database snippet.file in
     let i = c.loop-snippet_line.snippet_line-index in (
       (refl, (refl, tt)),
       record {
         text = c.requires.text;
         is = subst (IsSnippetLineOf f) (sym c.snippet_line-item.is) (All-from_recursion (IsSnippetLineOf f) snippet_lines c.requires.are.each i _ c.loop-snippet_line-test.true);
-        fits = ap (λ snippet_line. does_line_fit lines.lane_count (line_view snippet_line)) c.snippet_line-item.is
-            ∙ All-from_recursion (λ snippet_line. does_line_fit lines.lane_count (line_view snippet_line) ≡ true) snippet_lines
-            (all-mapped line_view (λ snippet_line. does_line_fit lines.lane_count snippet_line ≡ true) snippet_lines c.requires.are.fit) i _ c.loop-snippet_line-test.true;
+        fits = ap (λ snippet_line. does_line_fit snippet.lane_count (line_view snippet_line)) c.snippet_line-item.is
+            ∙ All-from_recursion (λ snippet_line. does_line_fit snippet.lane_count (line_view snippet_line) ≡ true) snippet_lines
+            (all-mapped line_view (λ snippet_line. does_line_fit snippet.lane_count snippet_line ≡ true) snippet_lines c.requires.are.fit) i _ c.loop-snippet_line-test.true;
       },
     )
 
