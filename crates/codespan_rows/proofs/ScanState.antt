@@ -55,7 +55,7 @@ consecutive_within-then after more top tab byte_index column (c ∷ cs) last h =
     let some = len_utf8_bounds c in
     (record { here = refl; at = refl; some = some.0; room = omega arith }, consecutive_within-then after more top tab (byte_index + len_utf8 c) (column + width_at tab column c) cs last (omega arith))
 
--- the characters of a line, and the position after the last one
+-- the characters of a line, and the placeholder after the last one
 pub scan_state-to_end : (tab : ℕ) (text : List ℕ) → IsUtf8 text → ScanState (length text + 1) 0 (char_metrics_to_end tab text)
 scan_state-to_end tab text u = record {
   byte_index = 0;

@@ -87,7 +87,7 @@ scan_state-past top run (c ∷ cs) left narrow l =
     subst (λ n. ScanState top n left) (omega (arith, sum_by-cons (λ (x : Metrics). x.width) c cs))
     (scan_state-past top (run + c.width) cs left narrow.1 (scan_state-more top run (run + c.width) c (cs ++ left) narrow.0 (omega arith) l))
 
--- a walk over those that are left of a line and the position after the last one
+-- a walk over those that are left of a line and the placeholder after the last one
 pub scan_state-left : (tab : ℕ) (text : List ℕ) (byte_index column top : ℕ) (left : List Metrics) → tab < 2 ^ 64 → ScanState top 0 (char_metrics_to_end tab text)
     → LeavesOut byte_index (char_metrics_to_end tab text) column left → ScanState top column left
 scan_state-left tab text byte_index column top left h scan_state out =
