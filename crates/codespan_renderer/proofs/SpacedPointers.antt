@@ -211,7 +211,8 @@ left-consecutive top byte_index column [] within = tt
 left-consecutive top byte_index column (c ∷ cs) within =
     let here = within.0 in (here.here, here.at, omega (arith, here.some), left-consecutive top (byte_index + c.bytes) (column + c.width) cs within.1)
 
--- where the next character does not begin before the byte index, or begins past the greatest start, only the pending spaces are still to be written
+-- where the next character does not begin before the byte index, or begins past the greatest
+-- start, only the pending spaces are still to be written
 pub spaces_rest : (context : RowContext) (labels : List LabelModel) (before reach top run : ℕ) (cs left : List Metrics) (c : Metrics) (pending : ℕ) → reach ≡ max_label_start labels → cs ≡ c ∷ left → ScanState top run cs
     → (before ≤ c.byte_index) ⊎ ((c.byte_index < before) × (reach < c.byte_index)) → spaces pending ++ pointers context labels (metrics_before before cs) ≡ spaces pending
 spaces_rest context labels before reach top run cs left c pending far step state either =
