@@ -49,7 +49,7 @@ def built(folder):
 
 
 def answers(text):
-    """What the program `compare` prints of each case of an input: its name, `drawn`, `failed` or `panicked`, and a text."""
+    """What the program `compare` prints of each case of an input: its name, `rendered`, `failed` or `panicked`, and a text."""
     said = subprocess.run([built(pathlib.Path(__file__).resolve().parent)], input=text.encode(), stdout=subprocess.PIPE, check=True).stdout
     while said:
         head, _, rest = said.partition(b'\n')

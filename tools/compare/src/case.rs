@@ -18,7 +18,7 @@ pub struct Source {
 }
 
 /// A label of a case.
-pub struct Mark {
+pub struct CaseLabel {
     pub style: LabelStyle,
     pub file: usize,
     pub start: usize,
@@ -26,7 +26,7 @@ pub struct Mark {
     pub message: String,
 }
 
-/// A case: a diagnostic, its files, and how it is drawn.
+/// A case: a diagnostic, its files, and how it is rendered.
 pub struct Case {
     pub name: String,
     pub table: Table,
@@ -37,7 +37,7 @@ pub struct Case {
     pub severity: Severity,
     pub code: Option<String>,
     pub message: String,
-    pub labels: Vec<Mark>,
+    pub labels: Vec<CaseLabel>,
     pub notes: Vec<String>,
 }
 
@@ -58,90 +58,109 @@ impl Case {
         }
     }
 
-    /// Takes in a line; none where it says nothing that a case may say.
+    /// Takes in a line. Returns `None` where it is no line of a case.
     fn take(&mut self, word: &str, rest: &str) -> Option<()> {
         match word {
-            "table" => {
-                self.table = match rest {
-                    "one" => Table::One,
-                    "several" => Table::Several,
-                    "mapped" => Table::Mapped,
-                    _ => return None,
-                }
-            }
+            "table" => self.table = table_of(rest)?,
             "file" => self.files.push(Source { name: unescaped(rest)?, text: String::new() }),
             "|" => self.files.last_mut()?.text += &unescaped(rest)?,
             "number" => match numbers(rest)?.as_slice() {
                 &[line, number] => self.numbers.push((line, number)),
                 _ => return None,
             },
-            "style" => {
-                self.config.display_style = match rest {
-                    "rich" => DisplayStyle::Rich,
-                    "medium" => DisplayStyle::Medium,
-                    "short" => DisplayStyle::Short,
-                    _ => return None,
-                }
-            }
+            "style" => self.config.display_style = style_of(rest)?,
             // The crate has one layout, the classic one, which is rendered for the other too.
             "layout" => return matches!(rest, "classic" | "unbroken").then_some(()),
             "tab" => self.config.tab_width = rest.parse().ok()?,
-            "context" => match numbers(rest)?.as_slice() {
-                &[start, end, before, after] => {
-                    self.config.start_context_lines = start;
-                    self.config.end_context_lines = end;
-                    self.config.before_label_lines = before;
-                    self.config.after_label_lines = after;
-                }
-                _ => return None,
-            },
-            "characters" => {
-                self.config.chars = match rest {
-                    "box" => Chars::box_drawing(),
-                    "ascii" => Chars::ascii(),
-                    _ => return None,
-                }
-            }
+            "context" => set_context(&mut self.config, rest)?,
+            "characters" => self.config.chars = chars_of(rest)?,
             // A word more than the gallery's, for the rows of `compare-rows`.
             "character" => {
                 let (name, character) = rest.split_once(' ')?;
                 *character_of(&mut self.config.chars, name)? = character.parse().ok()?;
             }
-            "colours" => {
-                self.in_colours = match rest {
-                    "none" => false,
-                    "ansi" | "svg" => true,
-                    _ => return None,
-                }
-            }
-            "severity" => {
-                self.severity = match rest {
-                    "bug" => Severity::Bug,
-                    "error" => Severity::Error,
-                    "warning" => Severity::Warning,
-                    "note" => Severity::Note,
-                    "help" => Severity::Help,
-                    _ => return None,
-                }
-            }
+            "colours" => self.in_colours = has_colours(rest)?,
+            "severity" => self.severity = severity_of(rest)?,
             "code" => self.code = Some(unescaped(rest)?),
             "message" => self.message = unescaped(rest)?,
-            "primary" => self.labels.push(mark(LabelStyle::Primary, rest)?),
-            "secondary" => self.labels.push(mark(LabelStyle::Secondary, rest)?),
+            "primary" => self.labels.push(label(LabelStyle::Primary, rest)?),
+            "secondary" => self.labels.push(label(LabelStyle::Secondary, rest)?),
             "note" => self.notes.push(unescaped(rest)?),
             _ => return None,
         }
         Some(())
     }
 
-    /// Whether a table of one file has this file alone.
+    /// Returns whether a database of one file has this file alone.
     fn is_whole(&self) -> bool {
         let is_one = self.files.len() == 1 && self.labels.iter().all(|label| label.file == 0);
         self.table == Table::Several || is_one
     }
 }
 
-/// The character of a name, where a row has another.
+/// Returns the file database of a name.
+fn table_of(name: &str) -> Option<Table> {
+    match name {
+        "one" => Some(Table::One),
+        "several" => Some(Table::Several),
+        "mapped" => Some(Table::Mapped),
+        _ => None,
+    }
+}
+
+/// Returns the display style of a name.
+fn style_of(name: &str) -> Option<DisplayStyle> {
+    match name {
+        "rich" => Some(DisplayStyle::Rich),
+        "medium" => Some(DisplayStyle::Medium),
+        "short" => Some(DisplayStyle::Short),
+        _ => None,
+    }
+}
+
+/// Sets the numbers of lines shown around labels: start, end, before and after.
+fn set_context(config: &mut Config, rest: &str) -> Option<()> {
+    let &[start, end, before, after] = numbers(rest)?.as_slice() else {
+        return None;
+    };
+    config.start_context_lines = start;
+    config.end_context_lines = end;
+    config.before_label_lines = before;
+    config.after_label_lines = after;
+    Some(())
+}
+
+/// Returns the characters of a name.
+fn chars_of(name: &str) -> Option<Chars> {
+    match name {
+        "box" => Some(Chars::box_drawing()),
+        "ascii" => Some(Chars::ascii()),
+        _ => None,
+    }
+}
+
+/// Returns whether the output is in colors, by the name of how these are written.
+fn has_colours(name: &str) -> Option<bool> {
+    match name {
+        "none" => Some(false),
+        "ansi" | "svg" => Some(true),
+        _ => None,
+    }
+}
+
+/// Returns the severity of a name.
+fn severity_of(name: &str) -> Option<Severity> {
+    match name {
+        "bug" => Some(Severity::Bug),
+        "error" => Some(Severity::Error),
+        "warning" => Some(Severity::Warning),
+        "note" => Some(Severity::Note),
+        "help" => Some(Severity::Help),
+        _ => None,
+    }
+}
+
+/// Returns the character of a name, where a row has another.
 fn character_of<'chars>(chars: &'chars mut Chars, name: &str) -> Option<&'chars mut char> {
     match name {
         "multi_top" => Some(&mut chars.multi_top),
@@ -152,21 +171,21 @@ fn character_of<'chars>(chars: &'chars mut Chars, name: &str) -> Option<&'chars 
     }
 }
 
-/// The numbers of a line, separated by spaces.
+/// Returns the numbers of a line, separated by spaces.
 fn numbers(rest: &str) -> Option<Vec<usize>> {
     rest.split(' ').map(|number| number.parse().ok()).collect()
 }
 
-/// A label: its file, its start, its end and its message.
-fn mark(style: LabelStyle, rest: &str) -> Option<Mark> {
+/// Returns a label: its file, its start, its end and its message.
+fn label(style: LabelStyle, rest: &str) -> Option<CaseLabel> {
     let mut fields = rest.splitn(4, ' ');
     let mut number = || fields.next()?.parse().ok();
     let (file, start, end) = (number()?, number()?, number()?);
     let message = unescaped(fields.next().unwrap_or(""))?;
-    Some(Mark { style, file, start, end, message })
+    Some(CaseLabel { style, file, start, end, message })
 }
 
-/// The text that a field stands for.
+/// Returns the text that a field stands for.
 fn unescaped(field: &str) -> Option<String> {
     let mut text = String::new();
     let mut rest = field.chars();
@@ -176,7 +195,7 @@ fn unescaped(field: &str) -> Option<String> {
     Some(text)
 }
 
-/// The character of an escape, after its backslash.
+/// Returns the character of an escape, after its backslash.
 fn escape(rest: &mut impl Iterator<Item = char>) -> Option<char> {
     match rest.next()? {
         'n' => Some('\n'),
@@ -192,7 +211,7 @@ fn escape(rest: &mut impl Iterator<Item = char>) -> Option<char> {
     }
 }
 
-/// The cases of an input, or what is wrong with it.
+/// Returns the cases of an input, or its error.
 pub fn read(input: &str) -> Result<Vec<Case>, String> {
     let mut cases: Vec<Case> = Vec::new();
     for (index, line) in input.lines().enumerate() {
@@ -205,7 +224,7 @@ pub fn read(input: &str) -> Result<Vec<Case>, String> {
         taken.ok_or_else(|| format!("line {}: not understood", index + 1))?;
     }
     match cases.iter().find(|case| !case.is_whole()) {
-        Some(case) => Err(format!("{}: a table of one file has not just this file", case.name)),
+        Some(case) => Err(format!("{}: a database of one file has not just this file", case.name)),
         None => Ok(cases),
     }
 }

@@ -1,8 +1,7 @@
 //! `compare < CASES` renders cases of the gallery by the Rust crate, and writes for each `NAME KIND
-//! LENGTH`, and then a text of that many bytes and a newline. KIND is `drawn`, and the text is the
-//! output; or `failed`, and the text is the error, a newline, and what was written before it; or
-//! `panicked`, with an empty text. A case in
-//! colors is rendered with escape sequences.
+//! LENGTH`, and then a text of that many bytes and a newline. KIND is `rendered`, and the text is
+//! the output; or `failed`, and the text is the error, a newline, and what was written before it; or
+//! `panicked`, with an empty text. A case in colors is rendered with escape sequences.
 
 mod case;
 mod mapped;
@@ -19,7 +18,7 @@ use std::panic;
 type Outcome = Result<Vec<u8>, (String, Vec<u8>)>;
 
 /// Renders a case.
-fn draw(case: &Case) -> Outcome {
+fn render(case: &Case) -> Outcome {
     let mut files = case.files.iter().map(|file| (file.name.as_str(), file.text.as_str()));
     match case.table {
         Table::Several => {
@@ -27,21 +26,21 @@ fn draw(case: &Case) -> Outcome {
             for (name, text) in files {
                 table.add(name, text);
             }
-            draw_over(case, &table, |file| file)
+            render_over(case, &table, |file| file)
         }
         Table::One => {
             let (name, text) = files.next().expect("one file");
-            draw_over(case, &SimpleFile::new(name, text), |_| ())
+            render_over(case, &SimpleFile::new(name, text), |_| ())
         }
         Table::Mapped => {
             let (name, text) = files.next().expect("one file");
-            draw_over(case, &MappedFile::new(name, text, &case.numbers), |_| ())
+            render_over(case, &MappedFile::new(name, text, &case.numbers), |_| ())
         }
     }
 }
 
 /// Renders a case over its file database, in which each file has an id.
-fn draw_over<'files, F: Files<'files>>(
+fn render_over<'files, F: Files<'files>>(
     case: &Case,
     files: &'files F,
     id: impl Fn(usize) -> F::FileId,
@@ -55,16 +54,16 @@ fn draw_over<'files, F: Files<'files>>(
     let styles = Styles::default();
     let mut colours = Ansi::new(Vec::new());
     let mut writer = StylesWriter::new(&mut colours, &styles);
-    let answer = term::emit_to_write_style(&mut writer, &case.config, files, &diagnostic);
+    let returned = term::emit_to_write_style(&mut writer, &case.config, files, &diagnostic);
     drop(writer);
-    let drawn = colours.into_inner();
-    match answer {
-        Ok(()) => Ok(drawn),
-        Err(error) => Err((error.to_string(), drawn)),
+    let output = colours.into_inner();
+    match returned {
+        Ok(()) => Ok(output),
+        Err(error) => Err((error.to_string(), output)),
     }
 }
 
-/// The diagnostic of a case.
+/// Returns the diagnostic of a case.
 fn diagnostic<Id>(case: &Case, id: impl Fn(usize) -> Id) -> Diagnostic<Id> {
     let labels = case.labels.iter().map(|label| {
         Label::new(label.style, id(label.file), label.start..label.end).with_message(&label.message)
@@ -93,10 +92,10 @@ fn main() -> io::Result<()> {
     panic::set_hook(Box::new(|_| ()));
     let mut output = io::stdout().lock();
     for case in &cases {
-        match panic::catch_unwind(|| draw(case)) {
-            Ok(Ok(picture)) => write(&mut output, &case.name, "drawn", &picture)?,
-            Ok(Err((error, drawn))) => {
-                let text = [error.as_bytes(), b"\n", &drawn].concat();
+        match panic::catch_unwind(|| render(case)) {
+            Ok(Ok(text)) => write(&mut output, &case.name, "rendered", &text)?,
+            Ok(Err((error, written))) => {
+                let text = [error.as_bytes(), b"\n", &written].concat();
                 write(&mut output, &case.name, "failed", &text)?
             }
             Err(_) => write(&mut output, &case.name, "panicked", b"")?,
