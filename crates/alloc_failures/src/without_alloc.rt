@@ -116,13 +116,21 @@ fn are_looked_up(needed: &Prepared<'_>) -> bool {
     looks_up(&needed.file, (), 2, 4..9)
         && looks_up(&needed.files, 0, 2, 4..9)
         && looks_up(&needed.mapped, (), 40, 4..8)
+        && are_named(needed)
         && is_found(&needed.files)
         && are_defaults(&needed.files)
 }
 
+/// Returns whether the file of each database has the name that is expected.
+fn are_named(needed: &Prepared<'_>) -> bool {
+    Files::name(&needed.file, ()).ok() == Some(&"f")
+        && needed.files.name(0).ok() == Some(&"f")
+        && needed.mapped.name(()).ok() == Some(&"f")
+}
+
 /// Returns whether the lookups of byte 7 of a file return what is expected, where its line has this
 /// number and this range of bytes.
-fn looks_up<'files, 'text: 'files, F: Files<'files, Name = &'files &'text str>>(
+fn looks_up<'files, F: Files<'files>>(
     files: &'files F,
     id: F::FileId,
     number: usize,
@@ -133,7 +141,7 @@ fn looks_up<'files, 'text: 'files, F: Files<'files, Name = &'files &'text str>>(
         column_number: 3,
     };
     has_text(files, id, TEXT)
-        && files.name(id).ok() == Some(&"f")
+        && files.name(id).is_ok()
         && files.line_index(id, 7).ok() == Some(1)
         && files.line_number(id, 1).ok() == Some(number)
         && files.line_range(id, 1).ok() == Some(range)
