@@ -102,8 +102,10 @@ fn argument_text(argument: u32) -> &'static str
         8 => "a color must be one of those of the header",
         9 => "the name of a file must be UTF-8",
         10 => "the source of a file must be UTF-8",
-        11 =>
-            "the lines of a file must start with its source, ascend without overlap and end inside it, at boundaries of characters",
+        11 => {
+            "the lines of a file must start with its source, ascend without overlap and end \
+             inside it, at boundaries of characters"
+        }
         12 => "the loci of a file must ascend strictly",
         13 => "the severity must be one of those of the header",
         14 => "the code must be UTF-8",
