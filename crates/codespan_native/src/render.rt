@@ -13,7 +13,6 @@ ghost use Rattle.codespan_structs.specs.Spellings.{spelling_by_kind};
 ghost use Rattle.codespan_native.specs.RenderedStreams.{stream_of_output};
 
 use codespan_base::diagnostic::Diagnostic;
-use codespan_base::files::Error;
 use codespan_base::term::{Ansi, Config, PlainWriter, Styles, StylesWriter, WriteStyle};
 use codespan_structs::convert::{Settings, Spelling};
 use codespan_structs::error::OutOfMemory;

@@ -32,7 +32,24 @@ pub fn status_for(argument: Argument) -> u32
 {
     match argument {
         Argument::LabelFile => FILE_MISSING,
-        _ => INVALID,
+        Argument::Abi
+        | Argument::DisplayStyle
+        | Argument::Layout
+        | Argument::Spelling
+        | Argument::Characters
+        | Argument::SnippetStart
+        | Argument::Character
+        | Argument::Color
+        | Argument::FileName
+        | Argument::FileSource
+        | Argument::FileLines
+        | Argument::FileLoci
+        | Argument::Severity
+        | Argument::Code
+        | Argument::Message
+        | Argument::LabelStyle
+        | Argument::LabelMessage
+        | Argument::Note => INVALID,
     }
 }
 

@@ -18,7 +18,8 @@ pub fn convert_chars<'a>(raw: &RawConfig<'a>) -> Chars<'a>
     match raw.characters {
         0 => Chars::box_drawing(),
         1 => Chars::ascii(),
-        _ => custom_chars(&raw.chars),
+        2 => custom_chars(&raw.chars),
+        _ => unreachable!(),
     }
 }
 

@@ -1,12 +1,12 @@
 //! The diagnostic.
 
-ghost use Rattle.std.specs.Prelude.{◌≡◌, All, IfOk, map, string_bytes};
+ghost use Rattle.std.specs.Prelude.{◌≡◌, ◌≤◌, All, IfOk, map, string_bytes};
 ghost use Rattle.std.specs.Str.{IsUtf8};
 ghost use Rattle.std.specs.Option.{option_map};
 ghost use Rattle.codespan_base.specs.Diagnostics.{diagnostic_view, label_view};
 ghost use Rattle.codespan_structs.specs.Converted.{bytes_of, code_of, label_of, label_style_of, first_byte_of, severity_of, view_of};
-ghost use Rattle.codespan_structs.specs.Validity.{HasTextMessage, IsValidText};
-ghost use Rattle.codespan_structs.specs.ValidParts.{IsValidDiagnostic};
+ghost use Rattle.codespan_structs.specs.Validity.{IsValidText};
+ghost use Rattle.codespan_structs.specs.ValidParts.{IsValidDiagnostic, IsValidLabel};
 
 use crate::convert::text::string_of;
 use crate::error::OutOfMemory;
@@ -42,6 +42,7 @@ pub fn convert_diagnostic(
 
 /// Returns the severity of this number.
 fn severity_of(number: u32) -> Severity
+    requires { number ≤ 4 }
     ensures { result ≡ severity_of number }
 {
     match number {
@@ -49,7 +50,8 @@ fn severity_of(number: u32) -> Severity
         1 => Severity::Note,
         2 => Severity::Warning,
         3 => Severity::Error,
-        _ => Severity::Bug,
+        4 => Severity::Bug,
+        _ => unreachable!(),
     }
 }
 
@@ -70,7 +72,7 @@ fn labels_of(
     files: &[RawFile<'_>],
     raw: &[RawLabel<'_>],
 ) -> Result<Vec<Label<usize>>, OutOfMemory>
-    requires { All HasTextMessage raw.now }
+    requires { All IsValidLabel raw.now }
     ensures { IfOk result (λ labels.
         map label_view labels.items ≡ map (label_of files.now) raw.now) }
 {
@@ -87,7 +89,7 @@ fn label_of(
     files: &[RawFile<'_>],
     raw: &RawLabel<'_>,
 ) -> Result<Label<usize>, AllocError>
-    requires { HasTextMessage raw.now }
+    requires { IsValidLabel raw.now }
     ensures { IfOk result (λ label. label_view label ≡ label_of files.now raw.now) }
 {
     let first_byte = first_byte_of(files, raw.file);
@@ -111,11 +113,13 @@ fn first_byte_of(files: &[RawFile<'_>], id: usize) -> usize
 
 /// Returns the label style of this number.
 fn label_style_of(number: u32) -> LabelStyle
+    requires { number ≤ 1 }
     ensures { result ≡ label_style_of number }
 {
     match number {
         0 => LabelStyle::Primary,
-        _ => LabelStyle::Secondary,
+        1 => LabelStyle::Secondary,
+        _ => unreachable!(),
     }
 }
 

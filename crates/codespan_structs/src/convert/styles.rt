@@ -1,13 +1,16 @@
 //! The caller's styles.
 
-ghost use Rattle.std.specs.Prelude.{◌≡◌};
+ghost use Rattle.std.specs.Prelude.{◌≡◌, ◌≤◌};
 ghost use Rattle.codespan_structs.specs.Converted.{color_of, color_spec_of, custom_styles};
+ghost use Rattle.codespan_structs.specs.Validity.{IsColorSpec};
+ghost use Rattle.codespan_structs.specs.ValidParts.{AreColorSpecs};
 
 use crate::raw::{RawColorSpec, RawStyles};
 use codespan_base::term::{Color, ColorSpec, Styles};
 
 /// Returns the caller's styles.
 pub fn convert_styles(raw: &RawStyles) -> Styles
+    requires { AreColorSpecs raw.now }
     ensures { result ≡ custom_styles raw.now }
 {
     Styles {
@@ -31,6 +34,7 @@ pub fn convert_styles(raw: &RawStyles) -> Styles
 
 /// Returns the style of these numbers.
 fn color_spec_of(raw: &RawColorSpec) -> ColorSpec
+    requires { IsColorSpec raw.now }
     ensures { result ≡ color_spec_of raw.now }
 {
     ColorSpec {
@@ -43,6 +47,7 @@ fn color_spec_of(raw: &RawColorSpec) -> ColorSpec
 
 /// Returns the color of this number.
 fn color_of(number: u32) -> Option<Color>
+    requires { number ≤ 8 }
     ensures { result ≡ color_of number }
 {
     match number {
@@ -54,6 +59,7 @@ fn color_of(number: u32) -> Option<Color>
         5 => Some(Color::Blue),
         6 => Some(Color::Magenta),
         7 => Some(Color::Cyan),
-        _ => Some(Color::White),
+        8 => Some(Color::White),
+        _ => unreachable!(),
     }
 }

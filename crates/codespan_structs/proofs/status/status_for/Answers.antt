@@ -5,6 +5,6 @@ use Rattle.codespan_structs.proofs.status.status_for.Goals as goal
 pub returns-in-LabelFile : goal.returns-in-LabelFile
 returns-in-LabelFile c = rw c.in-LabelFile.is refl
 
--- the other arguments share one
-pub returns-in_default : goal.returns-in_default
-returns-in_default c = search rules
+-- each other argument is invalid by the one status
+pub returns-in-Abi : goal.returns-in-Abi
+returns-in-Abi c = search rules
