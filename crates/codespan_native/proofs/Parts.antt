@@ -30,21 +30,21 @@ module _ (files : List RawFile) (d : RawDiagnostic) (c : RawConfig) (valid : Are
 
   custom_styles : c.spelling ≡ 2 → AreColorSpecs c.styles
   custom_styles chosen = record {
-    header_bug = valid Color 0 chosen _ (omega arith);
-    header_error = valid Color 1 chosen _ (omega arith);
-    header_warning = valid Color 2 chosen _ (omega arith);
-    header_note = valid Color 3 chosen _ (omega arith);
-    header_help = valid Color 4 chosen _ (omega arith);
-    header_message = valid Color 5 chosen _ (omega arith);
-    primary_label_bug = valid Color 6 chosen _ (omega arith);
-    primary_label_error = valid Color 7 chosen _ (omega arith);
-    primary_label_warning = valid Color 8 chosen _ (omega arith);
-    primary_label_note = valid Color 9 chosen _ (omega arith);
-    primary_label_help = valid Color 10 chosen _ (omega arith);
-    secondary_label = valid Color 11 chosen _ (omega arith);
-    line_number = valid Color 12 chosen _ (omega arith);
-    source_border = valid Color 13 chosen _ (omega arith);
-    note_bullet = valid Color 14 chosen _ (omega arith);
+    header_bug = valid Color 0 chosen c.styles.header_bug (omega arith);
+    header_error = valid Color 1 chosen c.styles.header_bug (omega arith);
+    header_warning = valid Color 2 chosen c.styles.header_bug (omega arith);
+    header_note = valid Color 3 chosen c.styles.header_bug (omega arith);
+    header_help = valid Color 4 chosen c.styles.header_bug (omega arith);
+    header_message = valid Color 5 chosen c.styles.header_bug (omega arith);
+    primary_label_bug = valid Color 6 chosen c.styles.header_bug (omega arith);
+    primary_label_error = valid Color 7 chosen c.styles.header_bug (omega arith);
+    primary_label_warning = valid Color 8 chosen c.styles.header_bug (omega arith);
+    primary_label_note = valid Color 9 chosen c.styles.header_bug (omega arith);
+    primary_label_help = valid Color 10 chosen c.styles.header_bug (omega arith);
+    secondary_label = valid Color 11 chosen c.styles.header_bug (omega arith);
+    line_number = valid Color 12 chosen c.styles.header_bug (omega arith);
+    source_border = valid Color 13 chosen c.styles.header_bug (omega arith);
+    note_bullet = valid Color 14 chosen c.styles.header_bug (omega arith);
   }
 
   pub valid_config : IsValidConfig c
