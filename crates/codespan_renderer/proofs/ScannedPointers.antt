@@ -15,10 +15,10 @@ use Rattle.codespan_picture.specs.Lanes.{label_glyph}
 use Rattle.codespan_picture.specs.Rows.{RowContext, hanging}
 use Rattle.codespan_picture.specs.RowParts.{starts_in, pointer_style, max_label_start, spaces_up_to, pointer_at, pointers, metrics_before}
 use Rattle.codespan_renderer.specs.Private.BestStyles.{primary_first, best_from, pointer_found}
-use Rattle.codespan_rows.specs.Runs.{AreHanging}
+use Rattle.codespan_row_parts.specs.Runs.{AreHanging}
 use Rattle.codespan_renderer.proofs.Best.{best-cons, best-primary}
-use Rattle.codespan_rows.proofs.RowEquations.{spaces-add}
-use Rattle.codespan_rows.proofs.Hanging.{hanging_parts, spaces_is}
+use Rattle.codespan_row_parts.proofs.RowEquations.{spaces-add}
+use Rattle.codespan_row_parts.proofs.Hanging.{hanging_parts, spaces_is}
 
 -- ---- the style of a pointer
 

@@ -18,8 +18,8 @@ use Rattle.std.specs.List.{list_any}
 use Rattle.codespan_renderer.proofs.ScannedPointers.{spaces_none, spaces_due, spaces_past, spaces_last, pointer_none, pointer_some}
 use Rattle.codespan_picture.proofs.HangingStarts.{any-below, any-hanging, starts_in-low}
 use Rattle.codespan_picture.proofs.Consecutive.{AreConsecutive, none-before}
-use Rattle.codespan_rows.proofs.UnderlineRows.{width-in, width-out}
-use Rattle.codespan_rows.proofs.ScanState.{ConsecutiveWithin, ScanState}
+use Rattle.codespan_row_parts.proofs.Widths.{width-in, width-out}
+use Rattle.codespan_row_parts.proofs.ScanState.{ConsecutiveWithin, ScanState}
 
 -- ---- a loop over the pointers
 

@@ -16,7 +16,7 @@ use Rattle.codespan_picture.proofs.Consecutive.{AreConsecutive, char_metrics-con
 use Rattle.codespan_renderer.specs.declared.term.renderer.char_metrics.CharMetrics.{CharMetrics}
 use Rattle.codespan_renderer.specs.Private.MetricsLeft.{metrics_from, no_more}
 use Rattle.codespan_renderer.specs.Private.CachedMetrics.{AreCached}
-use Rattle.codespan_rows.proofs.UnderlineRows.{width-in}
+use Rattle.codespan_row_parts.proofs.Widths.{width-in}
 
 -- any cell, for an index past the end of the list
 abbrev pub space_column : Metrics

@@ -1,11 +1,1 @@
-pub mod CharSteps
-pub mod RowEquations
-pub mod ScanState
-pub mod CaretRuns
-pub mod LaneCursor
-pub mod Hanging
-pub mod Pieces
-pub mod TextRuns
-pub mod PlainText
 pub mod UnderlineRows
-pub mod SkippedCells

@@ -16,16 +16,16 @@ use Rattle.codespan_base.specs.WriterLaw.{Sink}
 use Rattle.codespan_base.proofs.Loops.{StillToWrite}
 use Rattle.codespan_picture.specs.declared.char_metrics.Metrics.{Metrics}
 use Rattle.codespan_picture.specs.declared.arguments.MultiLabel as rust_multi_label
-use Rattle.codespan_rows.specs.declared.lanes.LaneRow.TheVariants.{Underline}
+use Rattle.codespan_row_parts.specs.declared.lanes.LaneRow.TheVariants.{Underline}
 use Rattle.codespan_picture.specs.CharMetrics.{width_of, leading_whitespace}
 use Rattle.codespan_picture.specs.Arguments.{LaneMarkTuple, lane_mark_view, multi_label_view}
-use Rattle.codespan_rows.specs.LineViews.{row_lanes_view}
+use Rattle.codespan_row_parts.specs.LineViews.{row_lanes_view}
 use Rattle.codespan_picture.specs.Rows.{RowContext, Lanes, Line, UnderlineRow, has_underline}
 use Rattle.codespan_picture.specs.Lanes as kind
 use Rattle.codespan_picture.specs.RowParts.{row_lanes, underline, underline_message, metrics_before, metrics_up_to}
 use Rattle.codespan_rows.specs.Underlines.{underline_by_width, underline_width}
 use Rattle.codespan_picture.specs.RowStreams.{underline_row, stream_of_rows}
-use Rattle.codespan_rows.specs.RenderedRows.{later_notes}
+use Rattle.codespan_row_parts.specs.RenderedRows.{later_notes}
 
 -- ---- the lanes of an underline row
 
@@ -60,39 +60,6 @@ unfolding underline underline_by_width
 underline-runs chars style width cs (Top start) e = rw e refl
 underline-runs chars style width cs Left e = refl
 underline-runs chars style width cs (Bottom end message) e = rw e refl
-
--- ---- the width up to a byte index
-
--- a character that begins at the byte index or before it is counted
-pub width-in : (byte_index : ℕ) (x : Metrics) (cs : List Metrics) → x.byte_index ≤ byte_index → width_of (metrics_up_to byte_index (x ∷ cs)) ≡ x.width + width_of (metrics_up_to byte_index cs)
-width-in byte_index x cs h = let e : nat_le x.byte_index byte_index ≡ true = le-leb x.byte_index byte_index h in rw e (sum_by-cons (λ (c : Metrics). c.width) x (metrics_up_to byte_index cs))
-
--- a later one is not
-pub width-out : (byte_index : ℕ) (x : Metrics) (cs : List Metrics) → byte_index < x.byte_index → width_of (metrics_up_to byte_index (x ∷ cs)) ≡ width_of (metrics_up_to byte_index cs)
-width-out byte_index x cs h = let e : nat_le x.byte_index byte_index ≡ false = lt-leb x.byte_index byte_index h in rw e refl
-
--- no cell begins before the line
-pub width-before-first : (byte_index : ℕ) (cs : List Metrics) → byte_index ≡ 0 → 0 ≡ width_of (metrics_before byte_index cs)
-width-before-first byte_index [] e = refl
-width-before-first byte_index (x ∷ cs) e =
-    let k : nat_lt x.byte_index byte_index ≡ false = le-ltb x.byte_index byte_index (omega (arith, e)) in
-    rw k (width-before-first byte_index cs e)
-
--- a byte index is at most the last one where it is before the next
-same-test : (last byte_index k : ℕ) → byte_index ≡ last + 1 → nat_le k last ≡ nat_lt k byte_index
-same-test last byte_index k e = grind (arith, nat_tests)
-
--- the cells up to a byte index are those before the next one
-pub before-next : (last byte_index : ℕ) (cs : List Metrics) → byte_index ≡ last + 1 → metrics_up_to last cs ≡ metrics_before byte_index cs
-before-next last byte_index [] e = refl
-before-next last byte_index (x ∷ cs) e = ap (λ (b : Bool). cond b (x ∷ metrics_up_to last cs) (metrics_up_to last cs)) (same-test last byte_index x.byte_index e)
-    ∙ ap (λ (ys : List Metrics). cond (nat_lt x.byte_index byte_index) (x ∷ ys) ys) (before-next last byte_index cs e)
-
--- and are as wide
-pub width-before-next : (last byte_index : ℕ) (cs : List Metrics) → byte_index ≡ last + 1 → width_of (metrics_up_to last cs) ≡ width_of (metrics_before byte_index cs)
-width-before-next last byte_index cs e = ap width_of (before-next last byte_index cs e)
-
-pub ruleset widths_before = (width-before-first, width-before-next)
 
 -- ---- the underlines of a line
 

@@ -1,11 +1,2 @@
--- what each call of a renderer renders
-pub mod RenderedRows
--- definitions that the calls of this crate and proofs use
-pub mod LineViews
-pub mod RowViews
-pub mod CharCursors
-pub mod LineSources
-pub mod LaneMarksLeft
-pub mod PrimaryLaneMarks
-pub mod Runs
+-- the underlines of multi-line labels
 pub mod Underlines

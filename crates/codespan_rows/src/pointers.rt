@@ -1,28 +1,26 @@
 //! The pointers under the carets of a line, and the messages that hang from them.
 
 ghost use Rattle.std.specs.Prelude.{◌≡◌, ◌≤◌, ◌++◌};
-ghost use Rattle.std.specs.List.{list_any};
-ghost use Rattle.codespan_base.specs.Labels.{has_message};
 ghost use Rattle.codespan_base.specs.Streams.{newline, spaces};
 ghost use Rattle.codespan_base.specs.WriterLaw.{Writes};
 ghost use Rattle.codespan_picture.specs.Arguments.{single_label_view, single_label_views};
-ghost use Rattle.codespan_rows.specs.LineViews.{context_view, line_view};
-ghost use Rattle.codespan_rows.specs.RowViews.{hanging_stream_view, hanging_rows_view, messages_view};
+ghost use Rattle.codespan_row_parts.specs.LineViews.{context_view, line_view};
+ghost use Rattle.codespan_row_parts.specs.RowViews.{hanging_stream_view, hanging_rows_view, messages_view};
 ghost use Rattle.codespan_picture.specs.Lanes.{label_glyph};
 ghost use Rattle.codespan_picture.specs.RowParts.{max_label_start};
 ghost use Rattle.codespan_picture.specs.RowStreams.{pointer_row, hanging_row};
-ghost use Rattle.codespan_rows.specs.Runs.{AreHanging, ArePieces};
-ghost use Rattle.codespan_rows.specs.LineSources.{char_input};
+ghost use Rattle.codespan_row_parts.specs.Runs.{AreHanging, ArePieces};
+ghost use Rattle.codespan_row_parts.specs.LineSources.{char_input};
 
-use crate::carets::write_message;
-use crate::line::{Line, RowContext};
-use crate::line_source::LineSource;
-use crate::messages::Messages;
-use crate::parts::{write_label_glyph, write_newline, write_row_start};
-use crate::runs::write_spaces;
 use codespan_base::diagnostic::LabelStyle;
 use codespan_base::term::config::put_style::PutStyle;
 use codespan_picture::arguments::SingleLabel;
+use codespan_row_parts::carets::write_message;
+use codespan_row_parts::line::{Line, RowContext};
+use codespan_row_parts::line_source::LineSource;
+use codespan_row_parts::messages::{Messages, has_any_message};
+use codespan_row_parts::parts::{write_label_glyph, write_newline, write_row_start};
+use codespan_row_parts::runs::write_spaces;
 
 /// Returns the greatest start of the labels, or 0 where there is none.
 pub fn max_label_start(labels: &[SingleLabel<'_>]) -> usize
@@ -145,18 +143,6 @@ fn write_pointers_and_messages<W: PutStyle, S: LineSource>(
     write_pointer_row(w, rows)?;
     write_hanging_rows(w, rows, rows.messages.after)?;
     write_hanging_rows(w, rows, rows.messages.before)
-}
-
-/// Returns whether one of the labels has a message.
-pub fn has_any_message(labels: &[SingleLabel<'_>]) -> bool
-    ensures { result ≡ list_any has_message (single_label_views labels.now) }
-{
-    for label in labels {
-        if !label.2.is_empty() {
-            return true;
-        }
-    }
-    false
 }
 
 /// Writes the pointers and a row for each hanging message, where there is one.

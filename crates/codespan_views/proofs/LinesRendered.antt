@@ -19,7 +19,7 @@ use Rattle.codespan_plan.specs.SnippetLines.{SnippetLine, Filled, Labeled, lane_
 use Rattle.codespan_annotations.specs.Annotations.{Annotation}
 use Rattle.codespan_renderer.specs.declared.term.renderer.Renderer.{Renderer}
 use Rattle.codespan_renderer.specs.Renderers.{Renders, config_of}
-use Rattle.codespan_rows.specs.RenderedRows.{source_line}
+use Rattle.codespan_row_parts.specs.RenderedRows.{source_line}
 use Rattle.codespan_picture.specs.Arguments.{LaneMarkTuple, SingleLabelTuple, lane_mark_view, single_label_views}
 use Rattle.codespan_annotations.specs.declared.annotation.LineInfo.{LineInfo}
 use Rattle.codespan_annotations.specs.AnnotationViews.{IsLineOf}

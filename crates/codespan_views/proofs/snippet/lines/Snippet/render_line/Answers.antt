@@ -1,7 +1,7 @@
 use Rattle.std.proofs.Common.{map, ap, ◌∙◌}
 use Rattle.std.proofs.lemmas.Result.{err_from_is_err_and}
 use Rattle.codespan_picture.specs.Arguments.{lane_mark_view, single_label_views, starts_in_order}
-use Rattle.codespan_rows.specs.LineViews.{line_view}
+use Rattle.codespan_row_parts.specs.LineViews.{line_view}
 use Rattle.codespan_views.proofs.LinesRendered.{line-rendered, line-shown}
 use Rattle.codespan_annotations.specs.AnnotationViews.{annotation_view}
 use Rattle.codespan_plan.specs.SnippetLines.{single_labels_in}

@@ -1,0 +1,271 @@
+//! The lanes of a row, left of the text.
+
+ghost use Rattle.std.specs.Prelude.{◌≡◌, ◌+◌, ◌<◌, ◌≤◌, ℕ, None, drop, max};
+ghost use Rattle.std.specs.Option.{option_map};
+ghost use Rattle.codespan_base.specs.WriterLaw.{Writes};
+ghost use Rattle.codespan_picture.specs.Arguments.{lane_mark_view, multi_label_view};
+ghost use Rattle.codespan_row_parts.specs.LineViews.{context_view, lanes_view, lane_row_view, lane_of_view, row_lanes_view};
+ghost use Rattle.codespan_row_parts.specs.RowViews.{lane_glyph_view};
+ghost use Rattle.codespan_row_parts.specs.LaneMarksLeft.{lane_mark_here, lane_marks_after};
+ghost use Rattle.codespan_picture.specs.Lanes.{crossing_cells, lane_cells, corner_line, row_crossing};
+
+use crate::lanes::shapes::shape_in;
+use crate::line::{Lanes, RowContext};
+use crate::parts::write_label_glyph;
+use codespan_base::diagnostic::LabelStyle;
+use codespan_base::term::Chars;
+use codespan_base::term::config::put_style::PutStyle;
+use codespan_base::term::config::writing::{put_repeated, put_spaces};
+use codespan_picture::arguments::MultiLabel;
+pub use codespan_picture::lanes::Shape;
+
+mod shapes;
+
+/// The kind of a row, as far as its lanes go.
+#[derive(Clone, Copy)]
+pub enum LaneRow<'d> {
+    /// A source row.
+    Source,
+    /// An empty row or a break row.
+    Plain,
+    /// A caret, pointer or hanging row.
+    Below,
+    /// The underline row of a lane mark: its lane, its style, and its part.
+    Underline(usize, LabelStyle, MultiLabel<'d>),
+}
+
+/// A lane of a row.
+#[derive(Drop)]
+struct Lane<'d> {
+    /// Its index, from the left.
+    index: usize,
+    /// The lane mark in it, if any.
+    mark: Option<(usize, LabelStyle, MultiLabel<'d>)>,
+}
+
+/// Returns the lane mark of an underline row whose corner is left of the lane.
+fn crossing<'d>(row: LaneRow<'d>, lane: usize) -> Option<(usize, LabelStyle, MultiLabel<'d>)>
+    ensures { option_map lane_mark_view result ≡ row_crossing (lane_row_view row.entry) lane }
+{
+    match row {
+        LaneRow::Underline(corner_lane, style, part) if corner_lane < lane => Some((
+            corner_lane,
+            style,
+            part,
+        )),
+        LaneRow::Source | LaneRow::Plain | LaneRow::Below | LaneRow::Underline(_, _, _) => None,
+    }
+}
+
+/// Returns the character of the line that runs right from a corner.
+fn corner_line(chars: &Chars<'_>, part: MultiLabel<'_>) -> char
+    ensures { result ≡ corner_line chars.now (multi_label_view part.entry) }
+{
+    match part {
+        MultiLabel::Top(_) => chars.multi_top,
+        MultiLabel::Left | MultiLabel::Bottom(_, _) => chars.multi_bottom,
+    }
+}
+
+/// Writes so many characters of a lane: the line of a corner to the left, or spaces.
+#[inline(always)]
+fn write_crossing_cells<W: PutStyle>(
+    w: &mut W,
+    context: RowContext<'_>,
+    crossing: Option<(usize, LabelStyle, MultiLabel<'_>)>,
+    count: usize,
+) -> Result<(), W::Error>
+    ensures { Writes (W.sink w.old)
+        (crossing_cells context.entry.severity context.entry.chars.now
+        (option_map lane_mark_view crossing.entry)
+        count) result (W.sink w.new) }
+{
+    match crossing {
+        None => put_spaces(w, count),
+        Some((_, style, part)) => {
+            w.set_label(context.severity, style)?;
+            put_repeated(w, corner_line(context.chars, part), count)?;
+            w.reset()
+        }
+    }
+}
+
+/// Writes the two characters of a lane that is not empty: the line that crosses it, if one does,
+/// or a space, and its own character.
+#[inline(always)]
+fn write_lane_glyph<W: PutStyle>(
+    w: &mut W,
+    context: RowContext<'_>,
+    crossing: Option<(usize, LabelStyle, MultiLabel<'_>)>,
+    style: LabelStyle,
+    own: char,
+) -> Result<(), W::Error>
+    ensures { Writes (W.sink w.old) (lane_glyph_view context.entry crossing.entry style own)
+        result (W.sink w.new) }
+{
+    write_crossing_cells(w, context, crossing, 1)?;
+    write_label_glyph(w, context.severity, style, own)
+}
+
+/// Writes the two characters of a lane.
+#[tactic(auto, unfolding(codespan_picture::specs::Lanes::lane_cells))]
+#[inline(always)]
+fn write_lane_cells<W: PutStyle>(
+    w: &mut W,
+    context: RowContext<'_>,
+    crossing: Option<(usize, LabelStyle, MultiLabel<'_>)>,
+    style: LabelStyle,
+    shape: Shape,
+) -> Result<(), W::Error>
+    ensures { Writes (W.sink w.old)
+        (lane_cells context.entry.severity context.entry.chars.now
+        (option_map lane_mark_view crossing.entry)
+        style shape) result (W.sink w.new) }
+{
+    match shape {
+        Shape::Space => write_crossing_cells(w, context, crossing, 2),
+        Shape::Bar => write_lane_glyph(w, context, crossing, style, context.chars.multi_left),
+        Shape::TopCorner => write_lane_glyph(
+            w,
+            context,
+            crossing,
+            style,
+            context.chars.multi_top_left,
+        ),
+        Shape::BottomCorner => write_lane_glyph(
+            w,
+            context,
+            crossing,
+            style,
+            context.chars.multi_bottom_left,
+        ),
+    }
+}
+
+/// Writes one lane, from the lane mark in it.
+#[tactic(auto, unfolding(codespan_picture::specs::RowParts::lane_of, crate::specs::LineViews::lane_of_view))]
+fn inner_gutter_column<W: PutStyle>(
+    w: &mut W,
+    context: RowContext<'_>,
+    leading: usize,
+    row: LaneRow<'_>,
+    lane: Lane<'_>,
+) -> Result<(), W::Error>
+    ensures { Writes (W.sink w.old)
+        (lane_of_view (context_view context.entry) leading row.entry lane.entry.index
+        lane.entry.mark)
+        result (W.sink w.new) }
+{
+    let crossing = crossing(row, lane.index);
+    match lane.mark {
+        None => write_lane_cells(w, context, crossing, LabelStyle::Primary, Shape::Space),
+        Some((_, style, part)) => {
+            let shape = shape_in(context.layout, leading, row, lane.index, part);
+            write_lane_cells(w, context, crossing, style, shape)
+        }
+    }
+}
+
+/// Returns the next lane mark, if it is in the lane, and the index of the one after it.
+#[tactic(auto, using(crate::proofs::LaneCursor::taking))]
+fn take_lane_mark<'d>(
+    marks: &[(usize, LabelStyle, MultiLabel<'d>)],
+    next: usize,
+    lane: usize,
+) -> (Option<(usize, LabelStyle, MultiLabel<'d>)>, usize)
+    ensures lane_mark { result.0 ≡ lane_mark_here (drop next marks.now) lane }
+    ensures after { drop result.1 marks.now ≡ lane_marks_after (drop next marks.now) lane }
+{
+    if next < marks.len() {
+        let lane_mark = marks[next];
+        if lane_mark.0 == lane {
+            return (Some(lane_mark), next + 1);
+        }
+    }
+    (None, next)
+}
+
+/// Returns the lane of the next lane mark, or the number of lanes where none is left.
+fn next_lane(lanes: Lanes<'_, '_>, next: usize) -> usize
+    ensures bare { (lane : ℕ) → lane < result
+        → lane_mark_here (drop next lanes.entry.marks.now) lane ≡ None }
+    ensures within { result ≤ lanes.entry.count }
+{
+    if next < lanes.marks.len() {
+        lanes.marks[next].0.min(lanes.count)
+    } else {
+        lanes.count
+    }
+}
+
+/// The greatest number of empty lanes that are written at once.
+const MAX_EMPTY_LANES: usize = 32;
+
+/// Returns how many lanes from this one on, up to that of the next lane mark, are empty: no line
+/// runs through them from a corner. At most as many as are written at once.
+fn num_empty_lanes(row: LaneRow<'_>, lane: usize, until: usize) -> usize
+    ensures bare { (other : ℕ) → lane ≤ other → other < lane + result
+        → row_crossing (lane_row_view row.entry) other ≡ None }
+    ensures within { lane + result ≤ max lane until }
+    ensures few { result ≤ MAX_EMPTY_LANES }
+{
+    let end = match row {
+        LaneRow::Underline(corner_lane, _, _) => until.min(corner_lane.saturating_add(1)),
+        LaneRow::Source | LaneRow::Plain | LaneRow::Below => until,
+    };
+    end.saturating_sub(lane).min(MAX_EMPTY_LANES)
+}
+
+/// Writes the lanes of a row, from left to right. Most rows have none, which is tested before any
+/// call.
+///
+/// # Errors
+///
+/// The writer's error; a prefix has then been written.
+#[inline(always)]
+pub fn inner_gutter<W: PutStyle>(
+    w: &mut W,
+    context: RowContext<'_>,
+    leading: usize,
+    row: LaneRow<'_>,
+    lanes: Lanes<'_, '_>,
+) -> Result<(), W::Error>
+    ensures { Writes (W.sink w.old)
+        (row_lanes_view (context_view context.entry) leading row.entry (lanes_view lanes.entry))
+        result (W.sink w.new) }
+{
+    if lanes.count == 0 {
+        Ok(())
+    } else {
+        inner_gutter_columns(w, context, leading, row, lanes)
+    }
+}
+
+/// Writes each lane of a row.
+fn inner_gutter_columns<W: PutStyle>(
+    w: &mut W,
+    context: RowContext<'_>,
+    leading: usize,
+    row: LaneRow<'_>,
+    lanes: Lanes<'_, '_>,
+) -> Result<(), W::Error>
+    ensures { Writes (W.sink w.old)
+        (row_lanes_view (context_view context.entry) leading row.entry (lanes_view lanes.entry))
+        result (W.sink w.new) }
+{
+    let mut next = 0;
+    let mut lane = 0;
+    while lane < lanes.count {
+        let empty = num_empty_lanes(row, lane, next_lane(lanes, next));
+        if empty > 0 {
+            put_spaces(w, empty + empty)?;
+            lane += empty;
+        } else {
+            let (mark, after) = take_lane_mark(lanes.marks, next, lane);
+            inner_gutter_column(w, context, leading, row, Lane { index: lane, mark })?;
+            next = after;
+            lane += 1;
+        }
+    }
+    Ok(())
+}

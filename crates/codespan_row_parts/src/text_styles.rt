@@ -1,0 +1,105 @@
+//! Which characters of a line have a style in its source row, and which are written unchanged.
+
+ghost use Rattle.std.specs.Prelude.{◌≡◌, ◌<◌, ◌≤◌, ◌==◌, None, drop, false, length, map, true};
+ghost use Rattle.std.specs.List.{list_any};
+ghost use Rattle.codespan_base.specs.Labels.{LaneMark, is_primary, is_primary_style};
+ghost use Rattle.codespan_base.specs.Streams.{bytes};
+ghost use Rattle.codespan_picture.specs.declared.char_metrics.Metrics as metrics;
+ghost use Rattle.codespan_picture.specs.Arguments.{single_label_views, lane_mark_view};
+ghost use Rattle.codespan_row_parts.specs.LineViews.{line_view};
+ghost use Rattle.codespan_row_parts.specs.PrimaryLaneMarks.{CoversAsMarks};
+ghost use Rattle.codespan_picture.specs.Rows.{RowContext as RowContextSpec};
+ghost use Rattle.codespan_picture.specs.RowParts.{colored_text, source_style};
+
+use crate::carets::max_label_end;
+use crate::char_cursor::CharCursor;
+use crate::line::Line;
+use crate::primary_lane_marks::PrimaryLaneMarks;
+use codespan_base::diagnostic::LabelStyle;
+use codespan_picture::arguments::{MultiLabel, SingleLabel};
+use codespan_picture::char_metrics::Metrics;
+
+/// Returns the style of a character of the source: primary where a primary label covers it, inside
+/// the line or by these lane marks.
+pub fn text_style<C: CharCursor>(
+    characters: &mut C,
+    marks: PrimaryLaneMarks,
+    line: Line<'_, '_>,
+    metrics: Metrics,
+) -> Option<LabelStyle>
+    requires some { 1 ≤ metrics.bytes }
+    requires returned { C.has_returned metrics characters.old }
+    requires labels { C.labels characters.old ≡ line.labels.now }
+    requires marks { CoversAsMarks (map lane_mark_view line.lanes.marks.now) marks }
+    ensures left { C.left characters.new ≡ C.left characters.old }
+    ensures labels { C.labels characters.new ≡ C.labels characters.old }
+    ensures style { result ≡ source_style (line_view line.entry) metrics }
+{
+    if characters.has_primary(metrics) || marks.covers_char(metrics) {
+        Some(LabelStyle::Primary)
+    } else {
+        None
+    }
+}
+
+/// Returns whether one of these labels is primary.
+fn has_primary(labels: &[SingleLabel<'_>]) -> bool
+    ensures { result ≡ list_any is_primary (single_label_views labels.now) }
+{
+    for label in labels {
+        if label.0 == LabelStyle::Primary {
+            return true;
+        }
+    }
+    false
+}
+
+/// Returns whether one of these lane marks is primary.
+fn has_primary_lane_mark(marks: &[(usize, LabelStyle, MultiLabel<'_>)]) -> bool
+    ensures { result
+        ≡ list_any (λ (m : LaneMark). is_primary_style m.style) (map lane_mark_view marks.now) }
+{
+    for lane_mark in marks {
+        if lane_mark.1 == LabelStyle::Primary {
+            return true;
+        }
+    }
+    false
+}
+
+/// Returns whether the text has a tab.
+fn has_tab(text: &str) -> bool
+    ensures { result ≡ list_any (λ b. b == 9) text.now }
+{
+    text.as_bytes().contains(&b'\t')
+}
+
+/// Returns whether the text of a line is written unchanged: it has no tab, and no label of the line
+/// is primary.
+#[inline(always)]
+pub fn is_plain(line: Line<'_, '_>) -> bool
+    ensures { result ≡ true → (context : RowContextSpec)
+        → colored_text context (line_view line.entry) ≡ bytes line.entry.text.now }
+{
+    !has_primary(line.labels) && !has_primary_lane_mark(line.lanes.marks) && !has_tab(line.text)
+}
+
+/// Returns the byte index from which on the text of a line is written unchanged: no primary label
+/// covers it, inside the line or by these lane marks, and it has no tab. It is the end of the text
+/// where there is no other.
+#[inline(always)]
+pub fn plain_from(line: Line<'_, '_>, marks: PrimaryLaneMarks) -> usize
+    requires marks { CoversAsMarks (map lane_mark_view line.lanes.marks.now) marks }
+    ensures style { (c : metrics.Metrics) → result ≤ c.byte_index
+        → c.byte_index < length line.entry.text.now
+        → 1 ≤ c.bytes → source_style (line_view line.entry) c ≡ None }
+    ensures tab { list_any (λ b. b == 9) (drop result line.entry.text.now) ≡ false }
+{
+    let text = line.text.as_bytes();
+    let end = marks.end().max(max_label_end(line.labels)).min(text.len());
+    if text[end..].contains(&b'\t') {
+        text.len()
+    } else {
+        end
+    }
+}
