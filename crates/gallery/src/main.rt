@@ -9,7 +9,7 @@
 //! | status | standard output | standard error |
 //! |---|---|---|
 //! | 0 | every case, the document of the named one, or the style sheet | nothing |
-//! | 1 | nothing, or a prefix if writing failed | the error, with its line if it is one of the input |
+//! | 1 | nothing, or a prefix if writing failed | the error, with its line if the input has it |
 //! | 2 | nothing: the arguments are wrong | one line: the usage |
 #![tactic(auto)]
 

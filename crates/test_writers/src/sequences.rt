@@ -3,7 +3,8 @@
 use codespan_base::files::Error;
 use std::alloc::Global;
 
-/// Returns the bytes without the escape sequences among them, each of which ends with its first `m`.
+/// Returns the bytes without the escape sequences among them, each of which ends with its first
+/// `m`.
 ///
 /// # Errors
 ///

@@ -33,7 +33,8 @@ pub struct Stopping {
 }
 
 impl Stopping {
-    /// Returns a writer that takes `most` bytes at most at a time, and stops so after `writes` writes.
+    /// Returns a writer that takes `most` bytes at most at a time, and stops so after `writes`
+    /// writes.
     pub fn new(alloc: Global, most: usize, writes: usize, stop: Stop) -> Stopping {
         Stopping {
             text: Vec::new(alloc),
