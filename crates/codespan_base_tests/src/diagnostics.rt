@@ -162,7 +162,7 @@ fn clone_of_label(rt: HostRuntime) -> Result<(), Fail> {
     Ok(())
 }
 
-/// Returns a diagnostic with the labels of a chain, of a vector and of an iterator, one after another.
+/// Returns a diagnostic with the labels of a chain, of a vector and of an iterator, in this order.
 fn with_labels_of_three(alloc: Global) -> Result<Diagnostic<usize>, Error> {
     let second = with_vector(alloc, chain(alloc, 8)?.labels)?.labels;
     let third = chain(alloc, 9)?.labels;
@@ -171,7 +171,7 @@ fn with_labels_of_three(alloc: Global) -> Result<Diagnostic<usize>, Error> {
         .with_labels_iter(third)
 }
 
-/// Returns a diagnostic with the notes of a chain, of a vector and of an iterator, one after another.
+/// Returns a diagnostic with the notes of a chain, of a vector and of an iterator, in this order.
 fn with_notes_of_three(alloc: Global) -> Result<Diagnostic<usize>, Error> {
     let second = with_iterator(alloc, chain(alloc, 9)?.notes)?.notes;
     let third = vec![in alloc; String::from_str(alloc, "last")?]?;

@@ -24,8 +24,8 @@ argument_text a =
     if a == 9 then codes "the name of a file must be UTF-8" else
     if a == 10 then codes "the source of a file must be UTF-8" else
     if a == 11 then
-    codes "the lines of a file must start with its source, ascend without overlap and end inside it,"
-    ++ codes " at boundaries of characters"
+    codes "the lines of a file must start with its source, ascend without overlap and end inside"
+    ++ codes " it, at boundaries of characters"
     else
     if a == 12 then codes "the loci of a file must ascend strictly" else
     if a == 13 then codes "the severity must be one of those of the header" else

@@ -50,8 +50,8 @@ fn output(alloc: Global) -> Result<String, Error> {
     Ok(text)
 }
 
-/// Returns the position of an index in an order: 0 for that of the indices, 1 for the reverse one, and
-/// else odd indices before even ones.
+/// Returns the position of an index in an order: 0 for that of the indices, 1 for the reverse one,
+/// and else odd indices before even ones.
 fn position_at(order: usize, index: usize) -> usize {
     match order {
         0 => index,
