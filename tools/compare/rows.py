@@ -26,15 +26,15 @@ class Row:
             self.lines.append(line)
 
     def texts(self):
-        """The texts of the row: the style and the colours of each, the text, and whether it is just the end."""
+        """The texts of the row: the style and the colors of each, the text, and whether it is just the end."""
         for style in STYLES:
             if style in self.stated:
                 yield style, 'none', self.stated[style], False
                 yield from ((style, 'ansi', self.stated[word], word == 'ansi-end') for word in COLOURED if word in self.stated)
 
-    def case(self, style, colours):
+    def case(self, style, colors):
         """The lines of the case that the row is in a style."""
-        return ['case ' + self.name, *self.lines, 'style ' + style, 'colours ' + colours]
+        return ['case ' + self.name, *self.lines, 'style ' + style, 'colors ' + colors]
 
 
 def rows():

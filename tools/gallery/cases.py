@@ -58,15 +58,15 @@ class Case:
     """A case as it is read."""
 
     def __init__(self, name):
-        self.name, self.table, self.files, self.numbers = name, 'several', [], []
-        self.looks = {'style': 'rich', 'layout': 'classic', 'colours': 'none'}
+        self.name, self.database, self.files, self.numbers = name, 'several', [], []
+        self.looks = {'style': 'rich', 'layout': 'classic', 'colors': 'none'}
         self.config = {'tab': 4, 'chars': 'box', 'start': 3, 'end': 1, 'before': 0, 'after': 0}
         self.severity, self.code, self.message, self.labels, self.notes = 'error', None, '', [], []
 
     def take(self, word, rest):
         """Takes in a line."""
-        if word == 'table':
-            self.table = rest
+        if word == 'database':
+            self.database = rest
         elif word == 'file':
             self.files.append([unescaped(rest), ''])
         elif word == '|':
@@ -97,14 +97,14 @@ class Case:
 
     def rows(self):
         """The case as the comparison program reads it."""
-        if self.table != 'several':
+        if self.database != 'several':
             assert len(self.files) == 1 and all(label[1] == 0 for label in self.labels), self.name
         config = ' '.join('%s=%s' % setting for setting in self.config.items())
         yield from ('case ' + self.name, 'style ' + self.looks['style'], 'layout ' + self.looks['layout'])
-        yield from ('config ' + config, 'color ' + ('none' if self.looks['colours'] == 'none' else 'ansi'))
+        yield from ('config ' + config, 'color ' + ('none' if self.looks['colors'] == 'none' else 'ansi'))
         for name, source in self.files:
             yield 'file %s %s' % (field(name), field(source))
-        if self.table == 'mapped':
+        if self.database == 'mapped':
             yield 'mapped 0'
             yield from ('number 0 %d %d' % tuple(number) for number in self.numbers)
         yield 'severity ' + self.severity
@@ -142,9 +142,9 @@ def outcomes(oracle, cases):
 
 def written(case, kind, texts):
     """An output under its name, as the gallery writes it: of `ok` and the output, or of `err`, the error and what was written before it."""
-    colours = case.looks['colours']
-    drawn = texts[0] if kind == 'ok' else texts[1] if colours == 'ansi' else ''
-    if colours == 'svg' and kind == 'ok':
+    colors = case.looks['colors']
+    drawn = texts[0] if kind == 'ok' else texts[1] if colors == 'ansi' else ''
+    if colors == 'svg' and kind == 'ok':
         drawn = document(list(glyphs(drawn)))
     shown = ''.join(SHOWN.get(c, c) for c in drawn)
     return '== %s\n%s%s' % (case.name, shown, 'failed: %s\n' % texts[0] if kind == 'err' else '')
@@ -157,5 +157,5 @@ def section(name):
 
 
 def svg_cases():
-    """The cases whose colours are `svg`."""
-    return [case for case in read_cases((GALLERY / 'stdin').read_bytes().decode()) if case.looks['colours'] == 'svg']
+    """The cases whose colors are `svg`."""
+    return [case for case in read_cases((GALLERY / 'stdin').read_bytes().decode()) if case.looks['colors'] == 'svg']

@@ -1,4 +1,4 @@
-"""Pictures in colours: read from escape sequences, written as SVG documents, and read back from these."""
+"""Pictures in colors: read from escape sequences, written as SVG documents, and read back from these."""
 import re
 import unicodedata
 import xml.etree.ElementTree

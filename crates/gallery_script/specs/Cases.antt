@@ -8,7 +8,7 @@ use Rattle.codespan_base.specs.ConfigEquality.{IsChars, IsConfig}
 use Rattle.gallery_script.specs.declared.case.Case.{Case}
 use Rattle.gallery_script.specs.declared.case.Colors.TheVariants.{Plain}
 use Rattle.gallery_script.specs.declared.case.File.{File}
-use Rattle.gallery_script.specs.declared.case.Table.TheVariants.{Several}
+use Rattle.gallery_script.specs.declared.case.DatabaseKind.TheVariants.{Several}
 use Rattle.gallery_script.specs.declared.errors.RunError.{RunError}
 use Rattle.gallery_script.specs.declared.errors.RunError.TheVariants as run_error
 use Rattle.gallery_script.specs.declared.errors.LineError.{LineError}
@@ -29,7 +29,7 @@ file_view file = (string_bytes file.name, string_bytes file.source)
 -- a case of this name alone
 pub record IsNew (name : List ℕ) (case : Case) : Type 0 where
   pub called : case.name.now ≡ name
-  pub table : case.table ≡ Several
+  pub database_kind : case.database_kind ≡ Several
   pub files : case.files.items ≡ []
   pub numbers : case.numbers.items ≡ []
   pub config : IsConfig default_config case.config
@@ -47,7 +47,7 @@ pub record ContinuesSource (text : List ℕ) (old new : List (List ℕ × List �
 
 -- the new case is the old one, with the statement applied
 abbrev pub Applies : Statement → Case → Case → Type 0
-Applies (statements.Table table) old new = new ≡ record old { table = table }
+Applies (statements.Database kind) old new = new ≡ record old { database_kind = kind }
 Applies (statements.File name) old new =
     (new ≡ record old { files = new.files })
     × (map file_view new.files.items

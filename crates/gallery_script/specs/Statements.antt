@@ -11,10 +11,10 @@ use Rattle.gallery_script.specs.declared.statement.Line.TheVariants.{Ignored, Ti
 use Rattle.gallery_script.specs.declared.statement.Statement.{Statement}
 use Rattle.gallery_script.specs.declared.statement.Statement.TheVariants as statements
 use Rattle.gallery_script.specs.declared.words.Word.{Word}
-use Rattle.gallery_script.specs.declared.words.Word.TheVariants.{Table, File, Source, Number, Style, Layout, Tab, Context, Characters, Colors, Severity, Code, Message, Primary, Secondary, Note}
+use Rattle.gallery_script.specs.declared.words.Word.TheVariants.{Database, File, Source, Number, Style, Layout, Tab, Context, Characters, Colors, Severity, Code, Message, Primary, Secondary, Note}
 use Rattle.gallery_script.specs.Escapes.{Unescapes}
 use Rattle.gallery_script.specs.Fields.{field_of, past_space, IsNumber, IsNoNumber, is_ignored}
-use Rattle.gallery_script.specs.Words.{word_named, table_named, style_named, layout_named, characters_named, colors_named, severity_named}
+use Rattle.gallery_script.specs.Words.{word_named, database_kind_named, style_named, layout_named, characters_named, colors_named, severity_named}
 
 -- ---- what a line describes
 
@@ -51,7 +51,8 @@ pub record IsLabel (rest : List ℕ) (label : Label ℕ) : Type 0 where
 
 -- what the word and the rest of a line state of a case
 abbrev pub Describes : Option Word → List ℕ → Statement → Type 0
-Describes word rest (statements.Table table) = (word ≡ Some Table) × (table_named rest ≡ Some table)
+Describes word rest (statements.Database kind) =
+    (word ≡ Some Database) × (database_kind_named rest ≡ Some kind)
 Describes word rest (statements.File name) =
     (word ≡ Some File) × UnescapesTo rest (string_bytes name)
 Describes word rest (statements.Source text) =
@@ -90,7 +91,7 @@ ParsesTo line (Description statement) =
 
 -- the rest is none of the names that may follow its word
 abbrev pub IsUnnamed : List ℕ → Word → Type 0
-IsUnnamed rest Table = table_named rest ≡ None
+IsUnnamed rest Database = database_kind_named rest ≡ None
 IsUnnamed rest Style = style_named rest ≡ None
 IsUnnamed rest Layout = layout_named rest ≡ None
 IsUnnamed rest Characters = characters_named rest ≡ None

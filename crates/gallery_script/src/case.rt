@@ -14,7 +14,7 @@ use std::alloc::Global;
 
 /// The type of the file database of a case.
 #[derive(Clone, Copy)]
-pub enum Table {
+pub enum DatabaseKind {
     /// A `SimpleFile`.
     One,
     /// `SimpleFiles`.
@@ -70,7 +70,7 @@ pub struct Case<'input> {
     /// The name of the case, its heading.
     pub name: &'input str,
     /// The type of the file database.
-    pub table: Table,
+    pub database_kind: DatabaseKind,
     /// The files in their order.
     pub files: Vec<File>,
     /// The lines whose numbers are set, by their indices from 0, with these numbers. Only a
@@ -92,7 +92,7 @@ impl<'input> Case<'input> {
     {
         Case {
             name,
-            table: Table::Several,
+            database_kind: DatabaseKind::Several,
             files: Vec::new(alloc),
             numbers: Vec::new(alloc),
             config: Config::default(),
@@ -114,7 +114,7 @@ impl<'input> Case<'input> {
             ⊎ ((line_error ≡ NoFile) × IsSource statement × (self.old.files.items ≡ []))) }
     {
         match statement {
-            Statement::Table(table) => self.table = table,
+            Statement::Database(kind) => self.database_kind = kind,
             Statement::File(name) => self.add_file(name)?,
             Statement::Source(text) => self.add_source(text.as_str())?,
             Statement::Number(line, number) => self.numbers.push((line, number))?,

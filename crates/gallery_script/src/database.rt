@@ -6,7 +6,7 @@ ghost use Rattle.codespan_base.specs.DatabaseViews.{entries, mapped_name_of, map
 ghost use Rattle.gallery_script.specs.Cases.{file_view};
 ghost use Rattle.gallery_script.specs.Database.{IsDatabaseOf, by_unit_id, label_by_unit_id, borrowed_view, with_numbers};
 
-use crate::case::{Case, File, Table};
+use crate::case::{Case, DatabaseKind, File};
 use codespan_base::diagnostic::{Diagnostic, Label};
 use codespan_base::files::{Error, MappedFile, SimpleFile, SimpleFiles};
 use std::alloc::Global;
@@ -32,14 +32,14 @@ pub enum Database<'case> {
 pub fn database_of<'case>(alloc: Global, case: &'case Case<'_>) -> Result<Database<'case>, Error>
     ensures { IfOk result (IsDatabaseOf case.now) }
 {
-    match case.table {
-        Table::One => {
+    match case.database_kind {
+        DatabaseKind::One => {
             let file = only_file(case.files.as_slice())?;
             let files = SimpleFile::new(alloc, file.name.as_str(), file.source.as_str())?;
             Ok(Database::One(files, in_one_file(alloc, &case.diagnostic)?))
         }
-        Table::Several => Ok(Database::Several(several_files(alloc, case.files.as_slice())?)),
-        Table::Mapped => {
+        DatabaseKind::Several => Ok(Database::Several(several_files(alloc, case.files.as_slice())?)),
+        DatabaseKind::Mapped => {
             let file = only_file(case.files.as_slice())?;
             let files = mapped_file(alloc, file, case.numbers.as_slice())?;
             Ok(Database::Mapped(files, in_one_file(alloc, &case.diagnostic)?))
@@ -59,13 +59,13 @@ fn only_file(files: &[File]) -> Result<&File, Error>
 
 /// Returns a database of the files.
 fn several_files(alloc: Global, files: &[File]) -> Result<SimpleFiles<&str, &str>, Error>
-    ensures { IfOk result (λ table. map borrowed_view (entries table) ≡ map file_view files.now) }
+    ensures { IfOk result (λ database. map borrowed_view (entries database) ≡ map file_view files.now) }
 {
-    let mut table = SimpleFiles::new(alloc);
+    let mut database = SimpleFiles::new(alloc);
     for file in files {
-        table.add(file.name.as_str(), file.source.as_str())?;
+        database.add(file.name.as_str(), file.source.as_str())?;
     }
-    Ok(table)
+    Ok(database)
 }
 
 /// Returns the file, with the line numbers that are set.

@@ -6,12 +6,12 @@ ghost use Rattle.gallery_script.specs.Statements.{ParsesTo, Describes, IsWrong, 
 ghost use Rattle.gallery_script.specs.declared.errors.LineError.TheVariants.{UnknownName};
 ghost use Rattle.gallery_script.specs.declared.words.Word.TheVariants as words;
 
-use crate::case::{CharacterSet, Colors, Table};
+use crate::case::{CharacterSet, Colors, DatabaseKind};
 use crate::errors::LineError;
 use crate::escape::unescape;
 use crate::fields::{cut, cut_number, is_ignored, parse_number};
 use crate::words::{
-    Word, parse_characters, parse_colors, parse_layout, parse_severity, parse_style, parse_table,
+    Word, parse_characters, parse_colors, parse_database_kind, parse_layout, parse_severity, parse_style,
     parse_word,
 };
 use codespan_base::diagnostic::{Label, LabelStyle, Severity};
@@ -32,8 +32,8 @@ pub enum Line<'input> {
 /// A part of the description of a case.
 #[derive(Drop)]
 pub enum Statement {
-    /// `table KIND`: the type of its file database.
-    Table(Table),
+    /// `database KIND`: the type of its file database.
+    Database(DatabaseKind),
     /// `file NAME`: one more file.
     File(String),
     /// `| TEXT`: the continuation of the source of the last file.
@@ -50,7 +50,7 @@ pub enum Statement {
     Context(Context),
     /// `characters NAME`: the characters of borders, carets and lanes.
     Characters(CharacterSet),
-    /// `colours NAME`: how colors are written.
+    /// `colors NAME`: how colors are written.
     Colors(Colors),
     /// `severity NAME`: the severity.
     Severity(Severity),
@@ -103,7 +103,7 @@ fn parse_statement(alloc: Global, word: Word, rest: &str) -> Result<Statement, L
     ensures wrong { IfErr result (IsWrong (Some word) rest.now) }
 {
     match word {
-        Word::Table => Ok(Statement::Table(known(parse_table(rest))?)),
+        Word::Database => Ok(Statement::Database(known(parse_database_kind(rest))?)),
         Word::File => Ok(Statement::File(unescape(alloc, rest)?)),
         Word::Source => Ok(Statement::Source(unescape(alloc, rest)?)),
         Word::Number => parse_line_number(rest),

@@ -10,7 +10,7 @@ use crate::convert::text::text_of;
 use crate::raw::{RawChars, RawConfig};
 use codespan_base::term::{Chars, SnippetStart};
 
-/// Returns the characters that a configuration chooses.
+/// Returns the characters that a configuration chooses; by a number past the last, the caller's.
 pub fn convert_chars<'a>(raw: &RawConfig<'a>) -> Chars<'a>
     requires { AreValidChars raw.now }
     ensures { IsChars (chars_of raw.now) result }
@@ -18,8 +18,7 @@ pub fn convert_chars<'a>(raw: &RawConfig<'a>) -> Chars<'a>
     match raw.characters {
         0 => Chars::box_drawing(),
         1 => Chars::ascii(),
-        2 => custom_chars(&raw.chars),
-        _ => unreachable!(),
+        _ => custom_chars(&raw.chars),
     }
 }
 

@@ -5,7 +5,7 @@ use crate::outputs::rendering::{assert_output, files_of};
 use codespan_reporting::diagnostic::{Diagnostic, Label};
 use codespan_reporting::files::{Error, SimpleFiles};
 use codespan_reporting::term::{
-    Config, DisplayStyle, PlainWriter, Renderer, RichDiagnostic, ShortDiagnostic, emit,
+    Config, DisplayStyle, PlainWriter, Renderer, RichDiagnostic, ShortDiagnostic, WriteStyle, emit,
     emit_to_io_write, emit_to_string, emit_to_write_style,
 };
 use std::alloc::Global;
@@ -88,23 +88,30 @@ fn bare_bug(rt: HostRuntime) -> Result<(), Fail> {
     Ok(())
 }
 
-/// Renders a bug by each view, in one text.
-fn by_views(alloc: Global) -> Result<Vec<u8>, Error> {
-    let files: SimpleFiles<&str, &str> = SimpleFiles::new(alloc);
-    let bug = Diagnostic::bug(alloc);
+/// Renders a diagnostic by each view, one after another.
+fn render_views<W: WriteStyle>(
+    writer: &mut W,
+    files: &SimpleFiles<&str, &str>,
+    diagnostic: &Diagnostic<usize>,
+) -> Result<(), Error> {
     let config = Config::default();
+    let mut renderer = Renderer::new(writer, &config);
+    RichDiagnostic::new(diagnostic, &config).render(files, &mut renderer)?;
+    ShortDiagnostic::new(diagnostic, true).render(files, &mut renderer)?;
+    ShortDiagnostic::new(diagnostic, false).render(files, &mut renderer)
+}
+
+/// Returns a bug by each view, in one text.
+fn bug_by_views(alloc: Global) -> Result<Vec<u8>, Error> {
     let mut plain = PlainWriter::new(Vec::new(alloc));
-    let mut renderer = Renderer::new(&mut plain, &config);
-    RichDiagnostic::new(&bug, &config).render(&files, &mut renderer)?;
-    ShortDiagnostic::new(&bug, true).render(&files, &mut renderer)?;
-    ShortDiagnostic::new(&bug, false).render(&files, &mut renderer)?;
+    render_views(&mut plain, &SimpleFiles::new(alloc), &Diagnostic::bug(alloc))?;
     Ok(plain.into_inner())
 }
 
 /// Each view renders what the calls write in its style.
 #[test]
 fn bare_views(rt: HostRuntime) -> Result<(), Fail> {
-    let bytes = by_views(rt.alloc())?;
+    let bytes = bug_by_views(rt.alloc())?;
     assert_bytes(&rt, bytes.as_slice(), "bug: \n\nbug: \nbug: \n");
     Ok(())
 }
@@ -189,6 +196,32 @@ fn assert_unchanged(
     Ok(())
 }
 
+/// Asserts that a file is missing by [`emit_to_write_style`], and that its writer has this text.
+fn assert_write_style_stops(
+    rt: &impl Abort,
+    config: &Config<'_>,
+    files: &SimpleFiles<&str, &str>,
+    diagnostic: &Diagnostic<usize>,
+    written: &str,
+) {
+    let mut plain = PlainWriter::new(Vec::new(*diagnostic.labels.allocator()));
+    let failed = emit_to_write_style(&mut plain, config, files, diagnostic);
+    assert_missing(rt, &failed, plain.into_inner().as_slice(), written);
+}
+
+/// Asserts that a file is missing by [`emit_to_io_write`], and that its writer has this text.
+fn assert_io_write_stops(
+    rt: &impl Abort,
+    config: &Config<'_>,
+    files: &SimpleFiles<&str, &str>,
+    diagnostic: &Diagnostic<usize>,
+    written: &str,
+) {
+    let mut bytes = Vec::new(*diagnostic.labels.allocator());
+    let failed = emit_to_io_write(&mut bytes, config, files, diagnostic);
+    assert_missing(rt, &failed, bytes.as_slice(), written);
+}
+
 /// Asserts that a file is missing by each call that emits to a writer, which then has this text, or
 /// to a string, which is unchanged.
 fn assert_half_missing(
@@ -200,12 +233,8 @@ fn assert_half_missing(
     let files = files_of(alloc, &[("f", "ab")])?;
     let diagnostic = half_missing(alloc)?;
     assert_unchanged(rt, alloc, config, &files, &diagnostic)?;
-    let mut plain = PlainWriter::new(Vec::new(alloc));
-    let failed = emit_to_write_style(&mut plain, config, &files, &diagnostic);
-    assert_missing(rt, &failed, plain.into_inner().as_slice(), written);
-    let mut bytes = Vec::new(alloc);
-    let failed = emit_to_io_write(&mut bytes, config, &files, &diagnostic);
-    assert_missing(rt, &failed, bytes.as_slice(), written);
+    assert_write_style_stops(rt, config, &files, &diagnostic, written);
+    assert_io_write_stops(rt, config, &files, &diagnostic, written);
     Ok(())
 }
 
