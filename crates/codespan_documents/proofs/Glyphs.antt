@@ -1,5 +1,5 @@
--- Glyphs one by one: whose they are, which cells they take, and of which texts they are: for the
--- clause `document` of `to_svg`.
+-- Glyphs one by one: of which run they are, which cells they take, and in which text they are: for
+-- the clause `document` of `to_svg`.
 use Rattle.std.proofs.Common.{◌≡◌, ◌+◌, ◌-◌, ◌≤◌, ◌<◌, ℕ, List, [], ◌∷◌, ◌++◌, length, length-drop, map, max, take, drop, get_or, codes, false, Some, sym, ◌∙◌, ap, append_assoc, append-nil, arith}
 use Rattle.std.specs.Prelude.{if◌then◌else◌}
 use Rattle.std.proofs.lemmas.Grind.{flat_map-append}
@@ -26,9 +26,9 @@ next_glyphs styles runs i run old new inside at before is =
     ∙ sym (flat_map-append (glyphs_of_run styles) (map run_view (take i runs)) (run_view run ∷ []))
     ∙ ap (glyphs_of styles) (sym more)
 
--- ---- room
+-- ---- extent
 
--- a picture is at least as wide as its position
+-- the extent of glyphs is at least as wide as the position from which they go on
 as_wide : (position : CellPosition) (glyphs : List Glyph) → position.column ≤ (extent_from position glyphs).column
 as_wide position [] = omega arith
 as_wide position (glyph ∷ glyphs) = omega arith

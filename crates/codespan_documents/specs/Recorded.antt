@@ -68,9 +68,9 @@ recorded r =
     recorded_runs (ended_runs r)
     ++ recorded_run (record { style = r.style; text = r.text.items })
 
--- a call of the writer has failed
-abbrev pub has_flag : Recorder → Bool
-has_flag r = r.failed
+-- a style mark or a `put` of the writer has failed
+abbrev pub has_failed : Recorder → Bool
+has_failed r = r.failed
 
 -- the writer, as the law of writers sees it
 abbrev pub recorder_sink : Recorder → Sink

@@ -32,7 +32,7 @@ xml_character c =
 
 -- ---- tags
 
--- what a terminal color is on the dark background
+-- the CSS color of a terminal color, chosen to be read on the dark background
 abbrev pub shade : Color → List ℕ
 shade Black = codes "#6e7681"
 shade Red = codes "#ff7b72"
@@ -75,11 +75,11 @@ text_tag position cells ink = codes "<" ++ text_element position cells ink ++ co
 
 -- ---- texts
 
--- the position of the first glyph
+-- the pen before the first glyph
 abbrev pub first_pen : Pen
 first_pen = record { position = start; before = None }
 
--- the position of the next glyph
+-- the pen after a glyph
 abbrev pub next_pen : Pen → Glyph → Pen
 next_pen pen glyph = record { position = after_glyph pen.position glyph; before = Some glyph }
 

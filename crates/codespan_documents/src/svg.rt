@@ -42,10 +42,10 @@ const BACKGROUND: &str =
 /// in a row in one ink, on a dark background.
 ///
 /// The ink of a run is the color of its style in `styles`, on the dark background, and whether it
-/// is bold; a background is not rendered. A cell is nine pixels wide and a row eighteen high, and
-/// each `text` is at the cell where it begins and as long as its cells, so carets are under their
-/// characters in any font, except in a row with a control character, which takes no cell. A
-/// character that takes two cells or more is a `text` alone.
+/// is bold; `bg` and `intense` have no effect. A cell is nine pixels wide and a row eighteen high,
+/// and each `text` is at the cell where it begins and as long as its cells, so that carets are
+/// under their characters in any font of one width, except in a row with a control character, which
+/// takes no cell. A character that takes two cells or more is a `text` alone.
 ///
 /// The text has to end with a newline, as each output does: a last row without one is below the
 /// document's end.
@@ -211,7 +211,7 @@ fn push_weight(document: &mut String, bold: bool) -> Result<(), AllocError>
     Ok(())
 }
 
-/// Returns what a terminal color is on the dark background.
+/// Returns the CSS color of a terminal color, chosen to be read on the dark background.
 fn shade(color: Color) -> &'static str
     ensures { result.now ≡ shade color }
 {

@@ -121,7 +121,7 @@ impl PositionEncoding {
 }
 
 /// Returns the diagnostics that a language server sends for a diagnostic: one for each primary
-/// label, in the order of the labels. Their positions are in UTF-16 code units.
+/// label, in the order of the labels. Their positions count UTF-16 code units.
 ///
 /// - The range is the label's. Severity and code are the diagnostic's.
 /// - The message is the diagnostic's, then the label's, if it is not empty, and the notes, each

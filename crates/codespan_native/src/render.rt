@@ -87,7 +87,7 @@ fn render_ansi(
     Ok(writer.into_inner().into_inner())
 }
 
-/// Appends the output with its style marks in band.
+/// Appends the output with its style marks in band, each as the byte 255 and its number.
 fn render_style_marks(
     buffer: Vec<u8>,
     config: &Config<'_>,

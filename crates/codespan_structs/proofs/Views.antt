@@ -1,4 +1,4 @@
--- Views of files by their parts, for the clause `value` of `file_of`.
+-- Views of files by their parts, for the clause of `convert::files::file_of`.
 use Rattle.std.proofs.Common.{◌≡◌, ◌∙◌, ap, ℕ, Option}
 use Rattle.codespan_base.specs.declared.files.Location.{Location}
 use Rattle.codespan_structs.specs.SourceTexts.{CutText, SourceView}

@@ -182,7 +182,7 @@ spelling_of c =
 
 -- ---- the files
 
--- a text cut into the lines that are given, or at newlines where there are none
+-- a text cut into the lines that the caller states, or at newlines where there are none
 abbrev pub cut_by : List ℕ → List ℕ → ℕ → ℕ → List RawLine → CutText
 cut_by name text first_byte first_line [] = numbered_text name text first_line
 cut_by name text first_byte first_line (l ∷ ls) = lined_text name text first_byte (l ∷ ls)

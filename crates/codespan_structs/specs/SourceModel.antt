@@ -25,7 +25,7 @@ use Rattle.codespan_structs.specs.Lemmas.{lined_lawful, numbered_lawful}
 abbrev pub numbered_of : NumberedText → CutText
 numbered_of t = numbered_text (name_of t.file).now (simple_source_of t.file).now t.first_line
 
--- a text of given lines
+-- a text of stated lines
 abbrev pub lined_of : LinedText → CutText
 lined_of t = lined_text t.name.now t.source.now t.first_byte t.lines.now
 
@@ -44,7 +44,7 @@ sources_of files = map source_of files.files.items
 
 -- ---- lemmas: a reader may skip the rest
 
--- a text of given lines makes a lawful file, whatever its loci are
+-- a text of stated lines makes a lawful file, whatever its loci are
 lined_lawful_with : (t : LinedText) (set : ℕ → Option Location)
     → IsLawful (file_of (record { cut = lined_of t; set = set }))
 lined_lawful_with t set =

@@ -34,7 +34,7 @@ numbered_text name text first_line = record {
   number = λ i. min (first_line + i + 1) (2 ^ 64 - 1);
 }
 
--- a text of given lines
+-- a text of stated lines
 abbrev pub lined_text : List ℕ → List ℕ → ℕ → List RawLine → CutText
 lined_text name text first lines = record {
   name = name;

@@ -29,7 +29,7 @@ pub struct RawLine {
     pub number: usize,
 }
 
-/// The line and column number that are shown for a byte.
+/// The line and column number that are shown for a byte at which a label starts.
 #[derive(Drop)]
 #[repr(C)]
 pub struct RawLocus {
@@ -51,7 +51,7 @@ pub struct RawFile<'a> {
     pub source: &'a [u8],
     /// Byte index in the file of the first byte of `source`.
     pub first_byte: usize,
-    /// The lines of the file before `source`; not read where there are `lines`.
+    /// The number of lines of the file before `source`; not read where there are `lines`.
     pub first_line: usize,
     /// The lines of `source`; where there are none, a line starts after each newline.
     pub lines: &'a [RawLine],
@@ -65,7 +65,7 @@ pub struct RawFile<'a> {
 pub struct RawLabel<'a> {
     /// 0: primary, 1: secondary.
     pub style: u32,
-    /// The index of its file.
+    /// The index of its file, from 0.
     pub file: usize,
     /// Byte index in the file.
     pub start: usize,
@@ -190,7 +190,7 @@ pub struct RawConfig<'a> {
     /// 0: classic, 1: unbroken.
     pub layout: u32,
     /// How style marks are spelled. 0: as nothing, 1: as escape sequences of the default styles, 2:
-    /// as those of `styles`, 3: in band.
+    /// as those of `styles`, 3: in band, each as the byte 255 and its number.
     pub spelling: u32,
     /// 0: box drawing, 1: ASCII, 2: those of `chars`.
     pub characters: u32,
@@ -210,12 +210,13 @@ pub struct RawConfig<'a> {
     pub styles: RawStyles,
 }
 
-/// What was wrong.
+/// The first invalid argument, or none.
 #[derive(Drop)]
 #[repr(C)]
 pub struct Detail {
-    /// The number of an [`Argument`](crate::error::Argument), 0 where none is wrong.
+    /// The number of an [`Argument`](crate::error::Argument), 0 where none is invalid.
     pub argument: u32,
-    /// Which of several it is.
+    /// The index, from 0, of the character, style, file, label or note; 0 of an argument of which
+    /// there is only one.
     pub index: usize,
 }

@@ -20,8 +20,11 @@ pub use text::SourceText;
 /// A file: a text cut into lines, and loci of the caller.
 #[derive(Drop)]
 pub struct SourceFile<'a> {
+    /// The text, with its name and its lines.
     text: SourceText<'a>,
+    /// Byte index in the file of the first byte of the text.
     first_byte: usize,
+    /// The loci of the caller, in ascending order of their bytes.
     loci: &'a [RawLocus],
     ghost ascending: { ascends first_byte loci.now ≡ true },
 }
@@ -29,7 +32,8 @@ pub struct SourceFile<'a> {
 impl<'a> SourceFile<'a> {
     ghost use Rattle.codespan_structs.specs.SourceModel.{cut_of, source_of};
 
-    /// Returns the file of a text that starts at a byte of the file, with these loci.
+    /// Returns the file of a text, which starts at the byte `first_byte` of the file, with these
+    /// loci.
     ///
     /// # Requires
     ///

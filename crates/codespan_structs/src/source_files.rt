@@ -47,7 +47,7 @@ impl<'a> SourceFiles<'a> {
         Ok(())
     }
 
-    /// Borrows the file of an id.
+    /// Returns the file of an id.
     ///
     /// # Errors
     ///

@@ -22,7 +22,8 @@ use crate::validate::values::is_text;
 pub struct Invalid {
     /// Which one it is.
     pub argument: Argument,
-    /// Its index, where there are several.
+    /// The index, from 0, of the character, style, file, label or note; 0 of an argument of which
+    /// there is only one.
     pub index: usize,
 }
 

@@ -10,7 +10,7 @@ use crate::convert::text::text_of;
 use crate::raw::{RawChars, RawConfig};
 use codespan_base::term::{Chars, SnippetStart};
 
-/// Returns the characters that a configuration chooses; by a number past the last, the caller's.
+/// Returns the characters that a configuration chooses. A number above 2 counts as 2.
 pub fn convert_chars<'a>(raw: &RawConfig<'a>) -> Chars<'a>
     requires { AreValidChars raw.now }
     ensures { IsChars (chars_of raw.now) result }

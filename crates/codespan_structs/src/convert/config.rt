@@ -64,7 +64,7 @@ fn config_of<'a>(raw: &RawConfig<'a>) -> Config<'a>
     }
 }
 
-/// Returns the style of the output of this number; of one past the last, the last.
+/// Returns the display style of a number. A number above 2 counts as 2.
 fn display_style_of(number: u32) -> DisplayStyle
     ensures { result ≡ display_style_of number }
 {
@@ -75,7 +75,7 @@ fn display_style_of(number: u32) -> DisplayStyle
     }
 }
 
-/// Returns the layout of this number; of one past the last, the last.
+/// Returns the layout of a number. A number above 1 counts as 1.
 fn layout_of(number: u32) -> Layout
     ensures { result ≡ layout_of number }
 {
@@ -85,7 +85,7 @@ fn layout_of(number: u32) -> Layout
     }
 }
 
-/// Returns how a configuration spells style marks; of a number past the last, as the last.
+/// Returns how a configuration spells style marks. A number above 3 counts as 3.
 fn spelling_of(raw: &RawConfig<'_>) -> Spelling
     ensures { spelling_by_kind result ≡ spelling_of raw.now }
 {

@@ -40,7 +40,7 @@ pub fn convert_diagnostic(
     })
 }
 
-/// Returns the severity of this number; of one past the last, the last.
+/// Returns the severity of a number. A number above 4 counts as 4.
 fn severity_of(number: u32) -> Severity
     ensures { result ≡ severity_of number }
 {
@@ -99,7 +99,7 @@ fn label_of(
     })
 }
 
-/// Returns the byte of a file at which its source starts; 0 of none.
+/// Returns the byte index in a file of the first byte of its source; 0 where there is no such file.
 fn first_byte_of(files: &[RawFile<'_>], id: usize) -> usize
     ensures { result ≡ first_byte_of files.now id }
 {
@@ -109,7 +109,7 @@ fn first_byte_of(files: &[RawFile<'_>], id: usize) -> usize
     }
 }
 
-/// Returns the label style of this number; of one past the last, the last.
+/// Returns the label style of a number. A number above 1 counts as 1.
 fn label_style_of(number: u32) -> LabelStyle
     ensures { result ≡ label_style_of number }
 {

@@ -41,7 +41,7 @@ fn color_spec_of(raw: &RawColorSpec) -> ColorSpec
     }
 }
 
-/// Returns the color of this number; of one past the last, the last.
+/// Returns the color of a number, none of 0. A number above 8 counts as 8.
 fn color_of(number: u32) -> Option<Color>
     ensures { result ≡ color_of number }
 {

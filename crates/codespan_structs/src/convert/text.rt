@@ -10,7 +10,7 @@ pub fn text_of(bytes: &[u8]) -> &str
     requires { IsUtf8 bytes.now }
     ensures { result.now ≡ bytes.now }
 {
-    // SAFETY: the bytes are UTF-8, as the contract requires: `first_invalid` has looked at them.
+    // SAFETY: the bytes are UTF-8, as the contract requires: `first_invalid` has checked them.
     unsafe { std::str::from_utf8_unchecked(bytes) }
 }
 

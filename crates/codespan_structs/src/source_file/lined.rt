@@ -1,4 +1,4 @@
-//! Texts of given lines.
+//! Texts of stated lines.
 
 ghost use Rattle.std.specs.Prelude.{◌≡◌, ◌^◌, ◌<◌, true, length, IfOk};
 ghost use Rattle.std.specs.Str.{IsUtf8};
@@ -11,12 +11,16 @@ use crate::raw::RawLine;
 use codespan_base::files::Error;
 use std::ops::Range;
 
-/// A text of given lines, which is a window of a file from a byte on.
+/// A text of lines that the caller states, which is a window of a file from a byte on.
 #[derive(Drop)]
 pub struct LinedText<'a> {
+    /// The name of the file.
     name: &'a str,
+    /// The text itself.
     source: &'a str,
+    /// Byte index in the file of the first byte of `source`.
     first_byte: usize,
+    /// The lines, with byte indices in the file.
     lines: &'a [RawLine],
     ghost utf8: { ∥ IsUtf8 source.now ∥₁ },
     ghost fits: { length source.now < 2 ^ 64 },

@@ -14,7 +14,9 @@ use std::ops::Range;
 /// before it.
 #[derive(Drop)]
 pub struct NumberedText<'a> {
+    /// The name, the text and its lines.
     file: SimpleFile<&'a str, &'a str>,
+    /// The number of lines of the file before the text.
     first_line: usize,
 }
 

@@ -14,7 +14,7 @@ use std::ops::Range;
 pub enum SourceText<'a> {
     /// Cut at newlines.
     Numbered(NumberedText<'a>),
-    /// Cut into given lines.
+    /// Cut into lines that the caller states.
     Lined(LinedText<'a>),
 }
 
