@@ -25,13 +25,13 @@ AllBytes runs = AllByRecursion (λ (run : StyledRun). AreBytes run.text) runs
 
 -- ---- numbers of styles
 
--- the number of a severity
-abbrev pub severity_number : Severity → ℕ
-severity_number Bug = 0
-severity_number Error = 1
-severity_number Warning = 2
-severity_number Note = 3
-severity_number Help = 4
+-- the number of a severity among the styles that have one
+abbrev pub severity_offset : Severity → ℕ
+severity_offset Bug = 0
+severity_offset Error = 1
+severity_offset Warning = 2
+severity_offset Note = 3
+severity_offset Help = 4
 
 -- the number of a style, which is no byte
 abbrev pub style_number : Style → ℕ
@@ -40,9 +40,9 @@ style_number HeaderMessage = 257
 style_number LineNumber = 258
 style_number NoteBullet = 259
 style_number SourceBorder = 260
-style_number (Header severity) = 261 + severity_number severity
-style_number (Label severity Primary) = 266 + severity_number severity
-style_number (Label severity Secondary) = 271 + severity_number severity
+style_number (Header severity) = 261 + severity_offset severity
+style_number (Label severity Primary) = 266 + severity_offset severity
+style_number (Label severity Secondary) = 271 + severity_offset severity
 
 -- each style mark is recorded as the number of the style that it starts
 abbrev pub style_spelling : Spelling

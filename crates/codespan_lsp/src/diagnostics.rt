@@ -3,7 +3,7 @@
 ghost use Rattle.std.specs.Prelude.{◌≡◌, IfOk, map};
 ghost use Rattle.codespan_base.specs.LawfulFiles.{FailsBy};
 ghost use Rattle.codespan_base.specs.Labels.{is_primary_style};
-ghost use Rattle.codespan_lsp.specs.LspDiagnostics.{lsp_view, lsp_views, lsp_view_of, lsp_failure, views_failure, related_view, related_views, related_failure};
+ghost use Rattle.codespan_lsp.specs.LspDiagnostics.{lsp_view, lsp_views, lsp_view_for, lsp_failure, views_failure, related_view, related_views, related_failure};
 ghost use Rattle.codespan_lsp.specs.declared.encoding.PositionEncoding.TheVariants.{Utf16};
 
 use crate::encoding::PositionEncoding;
@@ -75,7 +75,7 @@ impl PositionEncoding {
         label: &Label<F::FileId>,
     ) -> Result<LspDiagnostic<F::FileId>, Error>
         ensures value { IfOk result (λ found. lsp_view found
-            ≡ lsp_view_of self (F.database files.now) diagnostic.now label.now) }
+            ≡ lsp_view_for self (F.database files.now) diagnostic.now label.now) }
         ensures failed { FailsBy (lsp_failure self (F.database files.now) diagnostic.now label.now)
             result }
     {

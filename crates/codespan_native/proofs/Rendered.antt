@@ -83,19 +83,19 @@ rendered_of style config files d xs =
     (labeled_file_models files.same files.file xs) (notes_of d)
 
 -- the output of a configuration, of files and of a diagnostic is that of what they stand for
-pub output_is : (table config : Config) (ss ts : List SourceView) (d : Diagnostic ℕ)
-    (v : DiagnosticView ℕ) → IsConfig table config → ss ≡ ts → diagnostic_view d ≡ v
-    → stream_of_output config ss d ≡ output_in table (database_of ts) v
-output_is table config ss ts d v alike same viewed =
+pub output_is : (expected config : Config) (ss ts : List SourceView) (d : Diagnostic ℕ)
+    (v : DiagnosticView ℕ) → IsConfig expected config → ss ≡ ts → diagnostic_view d ≡ v
+    → stream_of_output config ss d ≡ output_in expected (database_of ts) v
+output_is expected config ss ts d v alike same viewed =
     let files = database_of ss in
     ap (λ (style : DisplayStyle). rendered_of style config files d (labels_of d))
     (ap (λ (c : Config). c.display_style) alike.others)
-    ∙ rendered_equal table config alike d.severity (heading_of d)
-    (map stated_locus (starts files.same files.file (labels_of d) table.display_style))
-    (labeled_file_models files.same files.file (labels_of d)) (notes_of d) table.display_style
-    ∙ ap (λ xs. rendered_of table.display_style table files d xs) (labels_equal d.labels.items)
-    ∙ ap (λ ss. output_in table (database_of ss) (diagnostic_view d)) same
-    ∙ ap (λ v. output_in table (database_of ts) v) viewed
+    ∙ rendered_equal expected config alike d.severity (heading_of d)
+    (map stated_locus (starts files.same files.file (labels_of d) expected.display_style))
+    (labeled_file_models files.same files.file (labels_of d)) (notes_of d) expected.display_style
+    ∙ ap (λ xs. rendered_of expected.display_style expected files d xs) (labels_equal d.labels.items)
+    ∙ ap (λ ss. output_in expected (database_of ss) (diagnostic_view d)) same
+    ∙ ap (λ v. output_in expected (database_of ts) v) viewed
 
 -- the bytes that are rendered are those that the structs describe
 pub bytes_are : (spelling : Spelling) (config : Config) (ss : List SourceView) (d : Diagnostic ℕ)

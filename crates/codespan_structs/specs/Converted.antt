@@ -191,7 +191,7 @@ cut_by name text first_byte first_line (l ∷ ls) = lined_text name text first_b
 abbrev pub source_in : RawFile → SourceView
 source_in f = record {
   cut = cut_by f.name.now f.source.now f.first_byte f.first_line f.lines.now;
-  set = locus_at f.first_byte f.loci.now;
+  stated_location = locus_at f.first_byte f.loci.now;
 }
 
 -- the files

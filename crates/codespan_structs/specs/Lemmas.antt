@@ -17,11 +17,13 @@ use Rattle.codespan_structs.specs.StatedLines.{are_lines, ends_of, follow, start
 use Rattle.codespan_structs.specs.SourceTexts.{file_of, lined_text, numbered_text}
 
 -- a text cut at newlines makes a lawful file
-pub numbered_lawful : (name text : List ℕ) (first_line : ℕ) (set : ℕ → Option Location)
+pub numbered_lawful : (name text : List ℕ) (first_line : ℕ) (stated : ℕ → Option Location)
     → IsUtf8 text → length text < 2 ^ 64
-    → IsLawful (file_of (record { cut = numbered_text name text first_line; set = set }))
-numbered_lawful name text first_line set u fits =
-    let f : FileModel = file_of (record { cut = numbered_text name text first_line; set = set }) in
+    → IsLawful (file_of
+    (record { cut = numbered_text name text first_line; stated_location = stated }))
+numbered_lawful name text first_line stated u fits =
+    let f : FileModel =
+        file_of (record { cut = numbered_text name text first_line; stated_location = stated }) in
     renumbered_lawful (simple_file (Some name) text) f.number f.column f.location
     (simple_lawful (Some name) text u fits)
 
@@ -151,11 +153,12 @@ module _ (text : List ℕ) (first : ℕ) where
 
 -- a text of lines that the test passes makes a lawful file
 pub lined_lawful : (name text : List ℕ) (first : ℕ) (lines : List RawLine)
-    (set : ℕ → Option Location) → IsUtf8 text → length text < 2 ^ 64
+    (stated : ℕ → Option Location) → IsUtf8 text → length text < 2 ^ 64
     → are_lines text first lines ≡ true
-    → IsLawful (file_of (record { cut = lined_text name text first lines; set = set }))
-lined_lawful name text first [] set u fits t = absurd (cc)
-lined_lawful name text first (l ∷ ls) set u fits t =
+    → IsLawful (file_of
+    (record { cut = lined_text name text first lines; stated_location = stated }))
+lined_lawful name text first [] stated u fits t = absurd (cc)
+lined_lawful name text first (l ∷ ls) stated u fits t =
     let a = both text first (eqb (l.start - first) 0) _ t in
     let b = both text first (is_char_boundary text (l.end - first)) _ a.1 in
     let zero_start : l.start - first ≡ 0 = grind (arith, nat_tests, a.0) in

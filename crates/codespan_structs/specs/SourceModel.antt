@@ -36,7 +36,7 @@ cut_of (Lined t) = lined_of t
 
 -- a file
 abbrev pub source_of : SourceFile → SourceView
-source_of f = record { cut = cut_of f.text; set = locus_at f.first_byte f.loci.now }
+source_of f = record { cut = cut_of f.text; stated_location = locus_at f.first_byte f.loci.now }
 
 -- the files of a database
 abbrev pub sources_of : SourceFiles → List SourceView
@@ -45,21 +45,21 @@ sources_of files = map source_of files.files.items
 -- ---- lemmas: a reader may skip the rest
 
 -- a text of stated lines makes a lawful file, whatever its loci are
-lined_lawful_with : (t : LinedText) (set : ℕ → Option Location)
-    → IsLawful (file_of (record { cut = lined_of t; set = set }))
-lined_lawful_with t set =
-    lined_lawful _ _ t.first_byte t.lines.now set (IsUtf8-had _ t.utf8) t.fits t.cut
+lined_lawful_with : (t : LinedText) (stated : ℕ → Option Location)
+    → IsLawful (file_of (record { cut = lined_of t; stated_location = stated }))
+lined_lawful_with t stated =
+    lined_lawful _ _ t.first_byte t.lines.now stated (IsUtf8-had _ t.utf8) t.fits t.cut
 
 pub lined_is_lawful : (t : LinedText)
-    → IsLawful (file_of (record { cut = lined_of t; set = λ _. None }))
+    → IsLawful (file_of (record { cut = lined_of t; stated_location = λ _. None }))
 lined_is_lawful t = lined_lawful_with t (λ _. None)
 
 -- a text makes a lawful file
-text_is_lawful : (t : SourceText) (set : ℕ → Option Location)
-    → IsLawful (file_of (record { cut = cut_of t; set = set }))
-text_is_lawful (Numbered t) set =
-    numbered_lawful _ _ t.first_line set (text_is_utf8 t.file) (text_fits t.file)
-text_is_lawful (Lined t) set = lined_lawful_with t set
+text_is_lawful : (t : SourceText) (stated : ℕ → Option Location)
+    → IsLawful (file_of (record { cut = cut_of t; stated_location = stated }))
+text_is_lawful (Numbered t) stated =
+    numbered_lawful _ _ t.first_line stated (text_is_utf8 t.file) (text_fits t.file)
+text_is_lawful (Lined t) stated = lined_lawful_with t stated
 
 -- the line of a byte is there
 pub byte_has_line : (f : SourceFile) (byte : ℕ)

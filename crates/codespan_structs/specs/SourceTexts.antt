@@ -57,12 +57,12 @@ cut_location t byte =
     let i = line_of t.starts byte in
     record { line_number = t.number i; column_number = cut_column t i byte }
 
--- a text with the locations that are set for some of its bytes
+-- a text with the locations that are stated for some of its bytes
 pub record SourceView : Type 0 where
   pub cut : CutText
-  pub set : ℕ → Option Location
+  pub stated_location : ℕ → Option Location
 
--- the file of it; a location that is set comes before the computed one
+-- the file of it; a location that is stated comes before the computed one
 abbrev pub file_of : SourceView → FileModel
 file_of s = record {
   exists = true;
@@ -72,7 +72,7 @@ file_of s = record {
   ends = s.cut.ends;
   number = s.cut.number;
   column = cut_column s.cut;
-  location = λ byte. unwrap_or (s.set byte) (cut_location s.cut byte);
+  location = λ byte. unwrap_or (s.stated_location byte) (cut_location s.cut byte);
 }
 
 -- the range of line i

@@ -41,7 +41,7 @@ impl<'a> SourceFile<'a> {
     pub fn new(text: SourceText<'a>, first_byte: usize, loci: &'a [RawLocus]) -> SourceFile<'a>
         requires { ascends first_byte loci.now ≡ true }
         ensures cut { (source_of result).cut ≡ cut_of text.entry }
-        ensures set { (source_of result).set ≡ locus_at first_byte loci.now }
+        ensures stated { (source_of result).stated_location ≡ locus_at first_byte loci.now }
     {
         SourceFile {
             text,
@@ -106,7 +106,7 @@ impl<'a> SourceFile<'a> {
 
     /// Returns the caller's location of a byte, by binary search.
     fn stated_location(&self, byte_index: usize) -> Option<Location>
-        ensures { result ≡ (source_of self.now).set byte_index }
+        ensures { result ≡ (source_of self.now).stated_location byte_index }
     {
         let first_byte = self.first_byte;
         match self

@@ -61,8 +61,8 @@ impl<W: Write> StyleMarkWriter<W> {
     }
 }
 
-/// Returns the number of a severity, from help to bug.
-fn severity_number(severity: Severity) -> u8
+/// Returns the rank of a severity, from 0 of help to 4 of bug.
+fn severity_rank(severity: Severity) -> u8
     ensures { result ≡ severity_rank severity }
 {
     match severity {
@@ -93,7 +93,7 @@ impl<W: Write> WriteStyle for StyleMarkWriter<W> {
     ghost sink = { λ w. style_mark_writer_sink W.contents w };
 
     fn set_header(&mut self, severity: Severity) -> io::Result<()> {
-        let number = severity_number(severity);
+        let number = severity_rank(severity);
         self.write_style_mark(number)
     }
 
@@ -114,7 +114,7 @@ impl<W: Write> WriteStyle for StyleMarkWriter<W> {
     }
 
     fn set_label(&mut self, severity: Severity, label_style: LabelStyle) -> io::Result<()> {
-        let number = severity_number(severity);
+        let number = severity_rank(severity);
         match label_style {
             LabelStyle::Primary => self.write_style_mark(9 + number),
             LabelStyle::Secondary => self.write_style_mark(14 + number),

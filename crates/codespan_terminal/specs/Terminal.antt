@@ -52,15 +52,15 @@ abbrev pub runs_bytes : Styles → List StyledRun → List ℕ
 runs_bytes styles runs = flat_map (run_bytes styles) runs
 
 -- the sequences before the first run: a terminal is in the style of plain text already
-abbrev pub opening : Styles → Style → List ℕ
-opening styles Kinds.Plain = []
-opening styles style = ansi_spelling styles (style_mark_of style)
+abbrev pub first_sequences : Styles → Style → List ℕ
+first_sequences styles Kinds.Plain = []
+first_sequences styles style = ansi_spelling styles (style_mark_of style)
 
 -- the text for a terminal
 abbrev pub terminal_text : Styles → List StyledRun → List ℕ
 terminal_text styles [] = []
 terminal_text styles (first ∷ rest) =
-    opening styles first.style ++ safe_text first.text ++ runs_bytes styles rest
+    first_sequences styles first.style ++ safe_text first.text ++ runs_bytes styles rest
 
 -- ---- what a terminal shows
 
@@ -117,8 +117,8 @@ safe_columns tab column cs = filter (λ (p : InColumn). is_safe p.0) (columns ta
 -- what a terminal makes of a text for these runs
 pub record ShowsSafe (text : List ℕ) (runs : List StyledRun) : Type 0 where
   -- no sequence but those of styles, no other control character but tab and newline, and no
-  -- directional control
-  pub after : reading_after Text (chars text) ≡ Text
+  -- directional control: after any of them a reader would not be in text again
+  pub ends_in_text : reading_after Text (chars text) ≡ Text
   -- it shows the safe characters of the runs
   pub shows : shown Text (chars text) ≡ safe_characters (characters_of runs)
   -- each has the column that it has among all characters of the runs
