@@ -1,4 +1,4 @@
--- What the binary searches of lines and loci find, for `LinedText::line_index` and
+-- What the binary searches of lines and loci find, for `StatedText::line_index` and
 -- `SourceFile::stated_location`, and the loci of which `ascend` looks at one.
 use Rattle.std.proofs.Common.{◌≡◌, ◌≢◌, ℕ, zero, suc, ◌+◌, ◌-◌, ◌<◌, ◌≤◌, Bool, true, false, List, [], ◌∷◌, length, Some, None, Result, Ok, Err, drop, get_or, refl, sym, ap, ◌∙◌, arith, inl, inr, lt-ltb, le-leb}
 use Rattle.std.specs.Prelude.{◌&&◌, ◌==◌, nat_lt, nat_le, slice_index, MatchResult}

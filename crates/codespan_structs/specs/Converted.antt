@@ -33,7 +33,7 @@ use Rattle.codespan_structs.specs.declared.raw.RawStyles.{RawStyles}
 use Rattle.codespan_structs.specs.declared.raw.RawText.{RawText}
 use Rattle.codespan_structs.specs.StyleMarkBytes.{style_mark_spelling}
 use Rattle.codespan_structs.specs.StatedLines.{locus_at}
-use Rattle.codespan_structs.specs.SourceTexts.{CutText, SourceView, database_of, lined_text, numbered_text}
+use Rattle.codespan_structs.specs.SourceTexts.{CutText, SourceView, database_of, stated_text, newline_text}
 
 -- ---- numbers of the header
 
@@ -184,8 +184,8 @@ spelling_of c =
 
 -- a text cut into the lines that the caller states, or at newlines where there are none
 abbrev pub cut_by : List ℕ → List ℕ → ℕ → ℕ → List RawLine → CutText
-cut_by name text first_byte first_line [] = numbered_text name text first_line
-cut_by name text first_byte first_line (l ∷ ls) = lined_text name text first_byte (l ∷ ls)
+cut_by name text first_byte first_line [] = newline_text name text first_line
+cut_by name text first_byte first_line (l ∷ ls) = stated_text name text first_byte (l ∷ ls)
 
 -- a file
 abbrev pub source_in : RawFile → SourceView

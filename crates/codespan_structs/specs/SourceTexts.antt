@@ -25,8 +25,8 @@ pub record CutText : Type 0 where
 
 -- a text whose lines start after newlines, and whose numbers count on from the lines before it, up
 -- to the greatest usize
-abbrev pub numbered_text : List ℕ → List ℕ → ℕ → CutText
-numbered_text name text first_line = record {
+abbrev pub newline_text : List ℕ → List ℕ → ℕ → CutText
+newline_text name text first_line = record {
   name = name;
   text = text;
   starts = line_starts_of text;
@@ -35,8 +35,8 @@ numbered_text name text first_line = record {
 }
 
 -- a text of stated lines
-abbrev pub lined_text : List ℕ → List ℕ → ℕ → List RawLine → CutText
-lined_text name text first lines = record {
+abbrev pub stated_text : List ℕ → List ℕ → ℕ → List RawLine → CutText
+stated_text name text first lines = record {
   name = name;
   text = text;
   starts = starts_of first lines;

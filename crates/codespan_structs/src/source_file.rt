@@ -6,14 +6,14 @@ ghost use Rattle.codespan_base.specs.LawfulFiles.{FailsBy};
 ghost use Rattle.codespan_structs.specs.StatedLines.{ascends, locus_at};
 ghost use Rattle.codespan_structs.specs.SourceTexts.{IsRangeIn, cut_column, file_of, past_last};
 
-mod lined;
-mod numbered;
+mod newline;
+mod stated;
 mod text;
 
 use crate::raw::RawLocus;
 use codespan_base::files::{Error, Location, column_index};
-pub use lined::LinedText;
-pub use numbered::NumberedText;
+pub use newline::NewlineText;
+pub use stated::StatedText;
 use std::ops::Range;
 pub use text::SourceText;
 

@@ -5,7 +5,7 @@ ghost use Rattle.std.specs.Str.{IsUtf8};
 ghost use Rattle.codespan_base.specs.FileModel.{line_of};
 ghost use Rattle.codespan_base.specs.LawfulFiles.{FailsBy};
 ghost use Rattle.codespan_structs.specs.StatedLines.{are_lines};
-ghost use Rattle.codespan_structs.specs.SourceTexts.{IsRangeIn, lined_text, past_last};
+ghost use Rattle.codespan_structs.specs.SourceTexts.{IsRangeIn, stated_text, past_last};
 
 use crate::raw::RawLine;
 use codespan_base::files::Error;
@@ -13,7 +13,7 @@ use std::ops::Range;
 
 /// A text of lines that the caller states, which is a window of a file from a byte on.
 #[derive(Drop)]
-pub struct LinedText<'a> {
+pub struct StatedText<'a> {
     /// The name of the file.
     name: &'a str,
     /// The text itself.
@@ -27,8 +27,8 @@ pub struct LinedText<'a> {
     ghost cut: { are_lines source.now first_byte lines.now ≡ true },
 }
 
-impl<'a> LinedText<'a> {
-    ghost use Rattle.codespan_structs.specs.SourceModel.{lined_of};
+impl<'a> StatedText<'a> {
+    ghost use Rattle.codespan_structs.specs.SourceModel.{stated_of};
 
     /// Returns the text of a name and a source, cut into these lines.
     ///
@@ -41,11 +41,11 @@ impl<'a> LinedText<'a> {
         source: &'a str,
         first_byte: usize,
         lines: &'a [RawLine],
-    ) -> LinedText<'a>
+    ) -> StatedText<'a>
         requires { are_lines source.now first_byte lines.now ≡ true }
-        ensures { lined_of result ≡ lined_text name.now source.now first_byte lines.now }
+        ensures { stated_of result ≡ stated_text name.now source.now first_byte lines.now }
     {
-        LinedText {
+        StatedText {
             name,
             source,
             first_byte,
@@ -55,21 +55,21 @@ impl<'a> LinedText<'a> {
 
     /// Returns the name.
     pub fn name(&self) -> &'a str
-        ensures { result.now ≡ (lined_of self.now).name }
+        ensures { result.now ≡ (stated_of self.now).name }
     {
         self.name
     }
 
     /// Returns the source.
     pub fn source(&self) -> &'a str
-        ensures { result.now ≡ (lined_of self.now).text }
+        ensures { result.now ≡ (stated_of self.now).text }
     {
         self.source
     }
 
     /// Returns the index of the byte's line, by binary search.
     pub fn line_index(&self, byte_index: usize) -> usize
-        ensures { result ≡ line_of (lined_of self.now).starts byte_index }
+        ensures { result ≡ line_of (stated_of self.now).starts byte_index }
     {
         let first_byte = self.first_byte;
         self.lines
@@ -79,7 +79,7 @@ impl<'a> LinedText<'a> {
 
     /// Returns the number of the line of this index; 0 where there is none.
     pub fn line_number(&self, line_index: usize) -> usize
-        ensures { result ≡ (lined_of self.now).number line_index }
+        ensures { result ≡ (stated_of self.now).number line_index }
     {
         match self.lines.get(line_index) {
             Some(line) => line.number,
@@ -93,8 +93,8 @@ impl<'a> LinedText<'a> {
     ///
     /// [`Error::LineTooLarge`] where there is no such line.
     pub fn line_range(&self, line_index: usize) -> Result<Range<usize>, Error>
-        ensures value { IfOk result (IsRangeIn (lined_of self.now) line_index) }
-        ensures failed { FailsBy (past_last (lined_of self.now).starts line_index) result }
+        ensures value { IfOk result (IsRangeIn (stated_of self.now) line_index) }
+        ensures failed { FailsBy (past_last (stated_of self.now).starts line_index) result }
     {
         match self.lines.get(line_index) {
             Some(line) => {
