@@ -15,9 +15,9 @@ use Rattle.codespan_base.specs.declared.diagnostic.Severity.TheVariants.{Bug, Er
 use Rattle.codespan_documents.specs.declared.style.Style.{Style}
 use Rattle.codespan_documents.specs.declared.style.Style.TheVariants.{Plain, Header, HeaderMessage, LineNumber, NoteBullet, SourceBorder, Label}
 use Rattle.codespan_documents.specs.declared.text.Run.{Run}
-use Rattle.codespan_documents.specs.Html.{html_character, html_document, html_run, html_text, is_forbidden_control, is_noncharacter, is_plain, shown, shown_text, span_tag_content}
+use Rattle.codespan_documents.specs.Html.{html_character, html_document, html_run, html_text, is_forbidden_control, is_noncharacter, shown, shown_text, span_tag_content}
 use Rattle.codespan_documents.specs.HtmlReading.{InEntity, InTag, InText, Part, Tag, TextByte, document_parts, html_parts, parts_from, run_parts, text_of_html, text_of_parts, text_parts, without_newline}
-use Rattle.codespan_documents.specs.Runs.{StyledRun, joined, run_view}
+use Rattle.codespan_documents.specs.Runs.{StyledRun, is_plain, joined, run_view}
 
 -- ---- bytes of text
 

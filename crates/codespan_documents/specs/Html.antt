@@ -1,5 +1,5 @@
 -- HTML documents of styled text.
-use Rattle.std.specs.Prelude.{ℕ, ◌%◌, ◌==◌, Bool, true, false, not, nat_lt, nat_le, ◌&&◌, ◌||◌, List, ◌++◌, codes, encode_utf8, if◌then◌else◌}
+use Rattle.std.specs.Prelude.{ℕ, ◌%◌, ◌==◌, Bool, not, nat_lt, nat_le, ◌&&◌, ◌||◌, List, ◌++◌, codes, encode_utf8, if◌then◌else◌}
 use Rattle.std.specs.List.{flat_map}
 use Rattle.std.specs.Str.{chars}
 use Rattle.codespan_base.specs.declared.diagnostic.LabelStyle.TheVariants.{Primary, Secondary}
@@ -7,7 +7,7 @@ use Rattle.codespan_base.specs.declared.diagnostic.Severity.{Severity}
 use Rattle.codespan_base.specs.declared.diagnostic.Severity.TheVariants.{Bug, Error, Warning, Note, Help}
 use Rattle.codespan_documents.specs.declared.style.Style.{Style}
 use Rattle.codespan_documents.specs.declared.style.Style.TheVariants.{Plain, Header, HeaderMessage, LineNumber, NoteBullet, SourceBorder, Label}
-use Rattle.codespan_documents.specs.Runs.{StyledRun}
+use Rattle.codespan_documents.specs.Runs.{StyledRun, is_plain}
 
 -- ---- characters
 
@@ -64,11 +64,6 @@ style_class NoteBullet = codes "note-bullet"
 style_class SourceBorder = codes "source-border"
 style_class (Label severity Primary) = codes "primary-label-" ++ severity_suffix severity
 style_class (Label severity Secondary) = codes "secondary-label"
-
--- the style is that of plain text
-abbrev pub is_plain : Style → Bool
-is_plain Plain = true
-is_plain _ = false
 
 -- ---- documents
 

@@ -2,8 +2,8 @@
 use Rattle.std.specs.Prelude.{ℕ, ◌==◌, List, [], ◌∷◌, ◌++◌, map, codes, if◌then◌else◌}
 use Rattle.std.specs.List.{flat_map}
 use Rattle.std.specs.Str.{bytes_eq}
-use Rattle.codespan_documents.specs.Html.{is_plain, shown_text, span_tag_content}
-use Rattle.codespan_documents.specs.Runs.{StyledRun}
+use Rattle.codespan_documents.specs.Html.{shown_text, span_tag_content}
+use Rattle.codespan_documents.specs.Runs.{StyledRun, is_plain}
 
 -- a part of a document: a byte of text, or what is between `<` and `>`
 pub data Part : Type 0 where

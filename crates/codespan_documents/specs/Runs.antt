@@ -1,5 +1,5 @@
 -- Styled text: the runs of a stream, which is its text cut at its style marks.
-use Rattle.std.specs.Prelude.{ℕ, List, [], ◌∷◌, ◌++◌, map, string_bytes}
+use Rattle.std.specs.Prelude.{ℕ, Bool, true, false, List, [], ◌∷◌, ◌++◌, map, string_bytes}
 use Rattle.std.specs.List.{AllByRecursion, flat_map}
 use Rattle.std.specs.Str.{IsUtf8, chars}
 use Rattle.codespan_base.specs.Streams.{Stream, StyleMark, Byte, Mark, Slot}
@@ -13,6 +13,11 @@ use Rattle.codespan_documents.specs.declared.text.StyledText.{StyledText}
 pub record StyledRun : Type 0 where
   pub style : Style
   pub text : List ℕ
+
+-- the style is that of plain text
+abbrev pub is_plain : Style → Bool
+is_plain Kinds.Plain = true
+is_plain _ = false
 
 -- the style that a style mark starts; a reset starts plain text
 abbrev pub style_after : StyleMark → Style

@@ -67,7 +67,8 @@ impl PositionEncoding {
         Ok(found)
     }
 
-    /// Returns the diagnostic for a primary label.
+    /// Returns the diagnostic for a primary label. The labels that are not primary are its related
+    /// information.
     fn lsp_diagnostic<'files, F: Files<'files>>(
         self,
         files: &'files F,

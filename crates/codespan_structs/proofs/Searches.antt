@@ -120,7 +120,7 @@ module _ (first : ℕ) where
   rest_ascends byte [] e = refl
   rest_ascends byte (l ∷ ls) e = (both (nat_lt byte (l.byte - first)) _ e).1
 
-  -- a locus that stands before another is of a lower byte
+  -- a locus before another is of a lower byte
   sorted : (ls : List RawLocus) → ascends first ls ≡ true → (i j : ℕ) → i < j → j < length ls
       → byte_at ls i < byte_at ls j
   sorted [] e i j h k = absurd (omega (arith, k))

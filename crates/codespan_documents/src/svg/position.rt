@@ -23,6 +23,10 @@ impl CellPosition {
     }
 
     /// Returns the position after a character.
+    ///
+    /// # Requires
+    ///
+    /// The row is at most 2^64 and the column at most 2^66, so that no number overflows.
     pub fn after(self, glyph: Glyph) -> CellPosition
         requires row { self.row ≤ 2 ^ 64 }
         requires column { self.column ≤ 2 ^ 66 }

@@ -11,6 +11,11 @@ use crate::raw::{RawChars, RawConfig};
 use codespan_base::term::{Chars, SnippetStart};
 
 /// Returns the characters that a configuration chooses. A number above 2 counts as 2.
+///
+/// # Requires
+///
+/// [`first_invalid`](crate::validate::first_invalid) has found neither the choice of characters nor
+/// one of the caller's characters.
 pub fn convert_chars<'a>(raw: &RawConfig<'a>) -> Chars<'a>
     requires { AreValidChars raw.now }
     ensures { IsChars (chars_of raw.now) result }
