@@ -32,8 +32,8 @@ const CLASSED_STYLES: [Style; 15] = [
 /// Returns a style sheet for the documents of [`to_html`](crate::to_html): a rule for each class,
 /// with the colors and the weight that `styles` has for it.
 ///
-/// The colors are those of a terminal, on a background that is the page's: `Styles::default` is
-/// meant for a dark one.
+/// The colors are those that xterm shows by default, the bright one where a style is `intense`, on
+/// a background that is the page's: `Styles::default` is meant for a dark one.
 ///
 /// # Errors
 ///
