@@ -114,7 +114,7 @@ impl Recorder {
     }
 }
 
-/// A `write` that fails does not change [`has_failed`](Recorder::has_failed).
+/// Leaves [`has_failed`](Recorder::has_failed) unchanged where a `write` fails.
 impl Write for Recorder {
     ghost use Rattle.codespan_documents.specs.Recorded.{recorded};
 

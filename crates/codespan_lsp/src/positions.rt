@@ -14,7 +14,7 @@ use std::convert::AsStr;
 pub struct Position {
     /// The index of the line, from 0.
     pub line: u32,
-    /// The code units of the line before the position.
+    /// The number of code units of the line before the position.
     pub character: u32,
 }
 

@@ -6,7 +6,7 @@
 /// The ABI version of the layouts of these structs.
 pub const ABI: u32 = 1;
 
-/// A tab width above this one is taken as this one, in cells.
+/// The greatest tab width, in cells: one above it is taken as this one.
 pub const TAB_WIDTH_MAX: usize = 1024;
 
 /// A text, in UTF-8.
@@ -194,15 +194,15 @@ pub struct RawConfig<'a> {
     pub spelling: u32,
     /// 0: box drawing, 1: ASCII, 2: those of `chars`.
     pub characters: u32,
-    /// The cells between tab stops, up to [`TAB_WIDTH_MAX`].
+    /// The number of cells between tab stops; one above [`TAB_WIDTH_MAX`] is taken as that one.
     pub tab_width: usize,
-    /// The lines shown after the first line of a multi-line label.
+    /// The number of lines shown after the first line of a multi-line label.
     pub start_context_lines: usize,
-    /// The lines shown before its last line.
+    /// The number of lines shown before its last line.
     pub end_context_lines: usize,
-    /// The lines shown before a label.
+    /// The number of lines shown before a label.
     pub before_label_lines: usize,
-    /// The lines shown after a label.
+    /// The number of lines shown after a label.
     pub after_label_lines: usize,
     /// The caller's characters.
     pub chars: RawChars<'a>,

@@ -15,7 +15,7 @@ use std::io::Write;
 /// The byte before the number of a style mark. UTF-8 never has it.
 const STYLE_MARK_BYTE: u8 = 255;
 
-/// A writer that spells each style mark as the byte 255 and the number of the mark.
+/// A writer that spells each style mark as the byte 255 and its number.
 #[derive(Drop)]
 pub struct StyleMarkWriter<W> {
     /// The writer to which it writes.
