@@ -46,7 +46,7 @@ style_number (Label severity Secondary) = 271 + severity_offset severity
 
 -- each style mark is recorded as the number of the style that it starts
 abbrev pub style_spelling : Spelling
-style_spelling mark = style_number (style_after mark) ∷ []
+style_spelling style_mark = style_number (style_after style_mark) ∷ []
 
 -- ---- runs
 

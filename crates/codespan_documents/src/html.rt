@@ -86,7 +86,7 @@ fn push_text(html: &mut String, text: &str) -> Result<(), AllocError>
     Ok(())
 }
 
-/// Appends a character, as an entity where HTML gives it a meaning.
+/// Appends a character, as an entity where it can begin or end a tag, an attribute or an entity.
 fn push_character(html: &mut String, c: char) -> Result<(), AllocError>
     ensures { OnOk result (string_bytes html.new ≡ string_bytes html.old ++ html_character c) }
 {
