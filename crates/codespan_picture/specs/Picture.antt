@@ -75,7 +75,7 @@ module _ {Id : Type 0} (files : FileDatabase Id) (d : Diagnostic Id) (style : Di
 
 -- ---- the output
 
--- what the rows of an output share
+-- what all rows of an output are rendered by
 abbrev pub context_of : Config → Severity → ℕ → RowContext
 context_of config severity padding = record {
   chars = config.chars;

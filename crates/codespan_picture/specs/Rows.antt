@@ -18,7 +18,7 @@ pub record HeaderText : Type 0 where
   pub code : Option (List ℕ)
   pub message : List ℕ
 
--- what all rows of an output share
+-- what all rows of an output are rendered by
 pub record RowContext : Type 0 where
   pub chars : Chars
   pub tab_width : ℕ
