@@ -37,8 +37,7 @@ abbrev pub break_lanes : Row → Option Lanes
 break_lanes (BreakRow lanes) = Some lanes
 break_lanes _ = None
 
--- the snippet has one break row for each two consecutive shown lines that are three or more apart,
--- in their order, with the lanes of the later line
+-- the snippet has one break row for each line of `broken_before`, in order, with that line's lanes
 abbrev pub BreaksAreGaps : Config → LabeledFileModel → Type 0
 BreaksAreGaps config s = (locus : Locus)
     → filter_map break_lanes (snippet config locus s)

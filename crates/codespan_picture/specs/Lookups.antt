@@ -35,9 +35,8 @@ abbrev pub ends_context : Option Error → Bool
 ends_context (Some (LineTooLarge given max)) = true
 ends_context _ = false
 
--- the range of the line past the file's last one, where the context reaches it and its lookup does
--- not fail with `LineTooLarge`; one that fails with it is made too, and is not listed, since it is
--- no error of the output
+-- the range of the line past the file's last one, where the context reaches it; a lookup of it that
+-- fails with `LineTooLarge` is made too, and is not listed, since it is no error of the output
 abbrev pub lookup_past_end : Config → FileModel → (Lookup → Option Error) → LabelModel → List Lookup
 lookup_past_end config f failure x =
     if nat_le (line_count f) (last_line f x + config.after_label_lines)
