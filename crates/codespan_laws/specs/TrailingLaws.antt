@@ -8,7 +8,7 @@ abbrev pub weight_of : (LabelModel → ℕ) → Option LabelModel → ℕ
 weight_of weight None = 0
 weight_of weight (Some x) = weight x
 
--- whatever weights labels have, those of the trailing label and the hanging ones sum to those of all
+-- whatever labels weigh, the weights of the trailing label and the hanging ones sum to those of all
 -- labels, if labels without a message weigh nothing; so each label with a message trails or hangs,
 -- and none does both
 abbrev pub EachTrailsOrHangs : Type 0
