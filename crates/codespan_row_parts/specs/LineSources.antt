@@ -12,7 +12,7 @@ pub record CharInput : Type 0 where
   pub text : List ℕ
   pub labels : List SingleLabelTuple
 
--- those of a rendered line
+-- those of a drawn line
 abbrev pub char_input : context.RowContext → line.Line → CharInput
 char_input x row = record {
   tab_width = x.tab_width;

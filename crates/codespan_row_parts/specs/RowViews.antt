@@ -38,7 +38,7 @@ source_lanes_view x row =
     ++ row_lanes (context_view x) (leading_of (line_view row)) Source (lanes_view row.lanes)
     ++ space
 
--- the start of an underline row: up to its lanes
+-- the start of an underline row: up to the end of its lanes
 abbrev pub underline_lanes_view : context.RowContext → line.Line → LaneMarkTuple → Stream
 underline_lanes_view x row lane_mark =
     gutter x.padding ++ border x.chars.now

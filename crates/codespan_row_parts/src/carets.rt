@@ -152,14 +152,14 @@ fn write_trailing<W: PutStyle>(
 
 /// Writes the carets under a line, and the message that trails them.
 ///
+/// # Errors
+///
+/// The writer's error; a prefix has then been written.
+///
 /// # Requires
 ///
 /// - `source` has the context's tab width, and the text and labels of `line`.
 /// - `messages.trailing` is the label of `line` whose message trails, where there is one.
-///
-/// # Errors
-///
-/// The writer's error; a prefix has then been written.
 pub fn write_caret_row<W: PutStyle, S: LineSource>(
     w: &mut W,
     context: RowContext<'_>,

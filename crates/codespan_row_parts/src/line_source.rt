@@ -31,9 +31,9 @@ pub trait LineSource {
         ensures left { Self.Cursor.left result ≡ characters_of (of self.now) }
         ensures labels { Self.Cursor.labels result ≡ (of self.now).labels };
 
-    /// Returns a cursor over the characters of the line and the placeholder after the last one, and
-    /// the column at which it begins. It may leave out characters that end before all labels start
-    /// and before the byte index `end`.
+    /// Returns a column, in cells from the line's start, and a cursor over the characters of the
+    /// line from there on and the placeholder after the last one. The characters that are left out
+    /// end at or before the byte index `end`, and at or before the start of each label.
     fn characters_from_labels(&self, end: usize) -> (u128, Self::Cursor)
         ensures left { LeavesOut (least_start end (single_label_views (of self.now).labels))
             (characters_to_end_of (of self.now)) result.0 (Self.Cursor.left result.1) }
@@ -56,15 +56,15 @@ pub trait LineSource {
 
     /// Writes all pointers of the line.
     ///
+    /// # Errors
+    ///
+    /// The writer's error; a prefix has then been written.
+    ///
     /// # Requires
     ///
     /// - This has the context's tab width, and the text and labels of `line`.
     /// - The labels with a message in `messages.before` and `messages.after` are those of `line`
     ///   that hang.
-    ///
-    /// # Errors
-    ///
-    /// The writer's error; a prefix has then been written.
     fn caret_pointers<W: PutStyle>(
         &self,
         w: &mut W,
@@ -80,16 +80,16 @@ pub trait LineSource {
 
     /// Writes the pointers of the characters that begin before this byte index.
     ///
+    /// # Errors
+    ///
+    /// The writer's error; a prefix has then been written.
+    ///
     /// # Requires
     ///
     /// - This has the context's tab width, and the text and labels of `line`.
     /// - The labels with a message in `messages.before` and `messages.after` are those of `line`
     ///   that hang.
     /// - `before` is at most the greatest start of a label of `line`.
-    ///
-    /// # Errors
-    ///
-    /// The writer's error; a prefix has then been written.
     fn caret_pointers_before<W: PutStyle>(
         &self,
         w: &mut W,

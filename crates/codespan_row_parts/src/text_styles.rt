@@ -21,6 +21,12 @@ use codespan_picture::char_metrics::Metrics;
 
 /// Returns the style of a character of the source: primary where a primary label covers it, inside
 /// the line or by these lane marks.
+///
+/// # Requires
+///
+/// - The character has a byte, and `characters` has just returned it.
+/// - `characters` has the labels of `line`.
+/// - `marks` is [`PrimaryLaneMarks::of`] the lane marks of `line`.
 pub fn text_style<C: CharCursor>(
     characters: &mut C,
     marks: PrimaryLaneMarks,
@@ -87,6 +93,10 @@ pub fn is_plain(line: Line<'_, '_>) -> bool
 /// Returns the byte index from which on the text of a line is written unchanged: no primary label
 /// covers it, inside the line or by these lane marks, and it has no tab. It is the end of the text
 /// where there is no other.
+///
+/// # Requires
+///
+/// `marks` is [`PrimaryLaneMarks::of`] the lane marks of `line`.
 #[inline(always)]
 pub fn plain_from(line: Line<'_, '_>, marks: PrimaryLaneMarks) -> usize
     requires marks { CoversAsMarks (map lane_mark_view line.lanes.marks.now) marks }

@@ -43,13 +43,13 @@ fn write_caret_rows<W: PutStyle, S: LineSource>(
 /// Writes all rows of a line: its source, its carets, pointers and hanging messages, and its
 /// underlines.
 ///
-/// # Requires
-///
-/// `source` has the context's tab width, and the text and labels of `line`.
-///
 /// # Errors
 ///
 /// The writer's error; a prefix has then been written.
+///
+/// # Requires
+///
+/// `source` has the context's tab width, and the text and labels of `line`.
 pub fn write_line<W: PutStyle, S: LineSource>(
     w: &mut W,
     context: RowContext<'_>,

@@ -33,7 +33,7 @@ pub fn max_label_start(labels: &[SingleLabel<'_>]) -> usize
     greatest
 }
 
-/// Writes the spaces before a pointer, and the pointer.
+/// Writes `pending` spaces, and then a pointer.
 ///
 /// # Errors
 ///
@@ -57,9 +57,13 @@ pub fn caret_pointer<W: PutStyle>(
 /// What the rows under the carets of a line are written from.
 #[derive(Drop)]
 struct RowsUnder<'row, 'd, S> {
+    /// What all rows of the line are rendered by.
     context: RowContext<'row>,
+    /// The line.
     line: Line<'row, 'd>,
+    /// Its characters, their widths and its pointers.
     source: &'row S,
+    /// Which of its labels trails, and which may hang.
     messages: Messages<'row, 'd>,
 }
 
@@ -147,15 +151,15 @@ fn write_pointers_and_messages<W: PutStyle, S: LineSource>(
 
 /// Writes the pointers and a row for each hanging message, where there is one.
 ///
+/// # Errors
+///
+/// The writer's error; a prefix has then been written.
+///
 /// # Requires
 ///
 /// - `source` has the context's tab width, and the text and labels of `line`.
 /// - The labels with a message in `messages.before` and `messages.after` are those of `line` that
 ///   hang, and the two are a prefix and a suffix of its labels.
-///
-/// # Errors
-///
-/// The writer's error; a prefix has then been written.
 pub fn write_hanging<W: PutStyle, S: LineSource>(
     w: &mut W,
     context: RowContext<'_>,

@@ -118,13 +118,13 @@ fn write_source_lanes<W: PutStyle>(
 
 /// Writes the source row of a line.
 ///
-/// # Requires
-///
-/// `source` has the context's tab width, and the text and labels of `line`.
-///
 /// # Errors
 ///
 /// The writer's error; a prefix has then been written.
+///
+/// # Requires
+///
+/// `source` has the context's tab width, and the text and labels of `line`.
 pub fn write_source_row<W: PutStyle, S: LineSource>(
     w: &mut W,
     context: RowContext<'_>,

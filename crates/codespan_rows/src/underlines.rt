@@ -95,7 +95,7 @@ fn label_multi_caret<W: PutStyle>(
     }
 }
 
-/// Writes the start of an underline row: up to its lanes.
+/// Writes the start of an underline row: up to the end of its lanes.
 fn write_underline_lanes<W: PutStyle>(
     w: &mut W,
     context: RowContext<'_>,
@@ -154,13 +154,13 @@ fn has_underline(leading: usize, part: MultiLabel<'_>) -> bool
 
 /// Writes the underline rows of a line, in the order of the lanes.
 ///
-/// # Requires
-///
-/// `source` has the context's tab width, and the text and labels of `line`.
-///
 /// # Errors
 ///
 /// The writer's error; a prefix has then been written.
+///
+/// # Requires
+///
+/// `source` has the context's tab width, and the text and labels of `line`.
 pub fn write_underlines<W: PutStyle, S: LineSource>(
     w: &mut W,
     context: RowContext<'_>,

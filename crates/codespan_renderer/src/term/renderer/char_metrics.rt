@@ -1,4 +1,4 @@
-//! The characters of a rendered line and the cells that they own.
+//! The characters of a drawn line and the cells that they own.
 
 ghost use Rattle.std.specs.Prelude.{◌≡◌, ◌+◌, ◌*◌, ◌^◌, ◌<◌, ◌≤◌, length, drop, unwrap_or, false};
 ghost use Rattle.std.specs.Str.{IsUtf8};
@@ -128,8 +128,9 @@ impl<'text> CharMetrics<'text> {
 }
 
 /// Returns how many cells a character takes at a column, counted from 0: a tab as many as there are
-/// up to the next tab stop, any other character its width by `unicode_width`, or 0 where that is
-/// `None`. Printable ASCII takes one cell each, and is tested first, since most text is of it.
+/// up to the next tab stop, none where the tab width is 0; any other character its width by
+/// `unicode_width`, or 0 where that is `None`. Printable ASCII takes one cell each, and is tested
+/// first, since most text is of it.
 #[inline(always)]
 fn width_at(tab_width: usize, column: u128, c: char) -> usize
     ensures { result ≡ width_at tab_width column c }

@@ -44,6 +44,10 @@ pub fn no_write() -> io::Error {
 }
 
 /// Returns what a call that writes rows returned, with the saved error where it failed.
+///
+/// # Errors
+///
+/// `Io` alone: the saved error, where `written` is `Err`.
 #[inline(always)]
 pub fn with_error(written: Result<(), Failed>, saved: &Cell<io::Error>) -> Result<(), Error>
     ensures same { SameOutcome written result }

@@ -55,7 +55,7 @@ impl<'row, 'd> CharCursor for ScanCursor<'row, 'd> {
 /// allocated.
 #[derive(Clone, Copy)]
 pub struct ScannedLine<'row, 'd> {
-    /// The number of cells from one tab stop to the next.
+    /// The number of cells from one tab stop to the next; where it is 0, a tab takes no cell.
     pub tab_width: usize,
     /// The text of the line.
     pub text: &'row str,

@@ -65,7 +65,7 @@ impl<'cache, 'row, 'd> CharCursor for CachedCursor<'cache, 'row, 'd> {
 /// A line with a cache of its characters and pointers.
 #[derive(Drop)]
 pub struct CachedLine<'cache, 'row, 'd> {
-    /// The number of cells from one tab stop to the next.
+    /// The number of cells from one tab stop to the next; where it is 0, a tab takes no cell.
     pub tab_width: usize,
     /// The line, whose labels are in the order of their starts.
     pub line: Line<'row, 'd>,
@@ -91,13 +91,13 @@ impl<'cache, 'row, 'd> CachedLine<'cache, 'row, 'd> {
     /// Renders the line with its carets, its messages and its underlines. `outer_padding` is the
     /// padding width, in characters.
     ///
-    /// # Requires
-    ///
-    /// The renderer's tab width is that of the cache.
-    ///
     /// # Errors
     ///
     /// `Io` alone: the writer fails or takes no bytes. A prefix of the rows has then been written.
+    ///
+    /// # Requires
+    ///
+    /// The renderer's tab width is that of the cache.
     pub fn render<W: WriteStyle>(
         &self,
         renderer: &mut Renderer<'_, '_, W>,

@@ -15,7 +15,8 @@ use crate::term::renderer::char_metrics::Metrics;
 use crate::term::renderer::label_styles::primary_first;
 use codespan_base::diagnostic::LabelStyle;
 
-/// A cursor over the labels of a line, which passes a label once a character is under it.
+/// A cursor over the labels of a line, which passes a label at the character in which it starts, or
+/// at the first one after.
 #[derive(Clone, Copy)]
 pub struct LabelCursor<'row, 'd> {
     /// The labels of the line, in the order of their starts.
@@ -128,8 +129,8 @@ impl<'row, 'd> LabelCursor<'row, 'd> {
     }
 }
 
-/// A cursor over labels of a line that have messages or none, which passes a label once a character
-/// is under its start.
+/// A cursor over labels of a line, with or without messages, which passes a label at the character
+/// in which it starts.
 #[derive(Clone, Copy)]
 pub struct StartCursor<'row, 'd> {
     /// The labels, in the order of their starts.
@@ -152,8 +153,8 @@ impl<'row, 'd> StartCursor<'row, 'd> {
         StartCursor { labels, next: 0 }
     }
 
-    /// Passes the labels that start before the character's end, and returns the best style of
-    /// `found` and of those with a message that start in it.
+    /// Passes the labels that start before the character's end, and returns which style takes
+    /// precedence: of `found` and those of the labels with a message that start in it.
     ///
     /// # Requires
     ///
