@@ -1,4 +1,5 @@
--- The underlines of multi-line labels, and the rows of a note.
+-- For `write_underlines` and `write_note`: the underlines of multi-line labels, and the rows of a
+-- note.
 use Rattle.std.proofs.Common.{◌≡◌, ℕ, ◌+◌, ◌≤◌, ◌<◌, Bool, true, false, cond, List, [], ◌∷◌, ◌++◌, length, drop, None, Some, refl, sym, ap, ◌∙◌, arith, get_or, add-one, drop-cons}
 use Rattle.std.specs.Prelude.{nat_lt, nat_le, filter, map}
 use Rattle.std.specs.Borrow.{Bor}
