@@ -20,7 +20,7 @@ use codespan_row_parts::parts::write_newline;
 use codespan_rows::header::{write_header, write_snippet_start};
 use codespan_rows::line_rows::write_line;
 use codespan_rows::notes::{write_break, write_empty, write_note};
-use row_writer::{RowWriter, no_write, with_error};
+use row_writer::{RowWriter, with_error, write_zero_error};
 use scanned_line::ScannedLine;
 use std::cell::Cell;
 use std::io;
@@ -81,7 +81,7 @@ impl<'writer, 'config, W: WriteStyle> Renderer<'writer, 'config, W> {
     {
         Renderer {
             writer,
-            saved: Cell::new(no_write()),
+            saved: Cell::new(write_zero_error()),
             config,
         }
     }

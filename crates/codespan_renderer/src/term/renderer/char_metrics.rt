@@ -9,9 +9,9 @@ pub use codespan_picture::char_metrics::Metrics;
 use std::str::Chars;
 use unicode_width::UnicodeWidthChar;
 
-/// An iterator over the characters of a line, from left to right; by [`CharMetrics::to_end`] also
-/// over the placeholder after the last one, which counts as one more character of one byte and one
-/// cell.
+/// An iterator over the characters of a line, from left to right; by
+/// [`CharMetrics::with_placeholder`] also over the placeholder after the last one, which counts as
+/// one more character of one byte and one cell.
 #[derive(Drop)]
 pub struct CharMetrics<'text> {
     text: &'text str,
@@ -53,7 +53,7 @@ impl<'text> CharMetrics<'text> {
     }
 
     /// Returns a scan of the characters of the line, and the placeholder after the last one.
-    pub fn to_end(text: &'text str, tab_width: usize) -> CharMetrics<'text>
+    pub fn with_placeholder(text: &'text str, tab_width: usize) -> CharMetrics<'text>
         ensures char_metrics { metrics_left result ≡ char_metrics_to_end tab_width text.now }
         ensures utf8 { ∥ IsUtf8 text.now ∥₁ }
     {
@@ -88,7 +88,7 @@ impl<'text> CharMetrics<'text> {
 
     /// Returns the next character, or `None` after the last one.
     #[inline(always)]
-    pub fn next_character(&mut self) -> Option<Metrics>
+    pub fn next_metrics(&mut self) -> Option<Metrics>
         ensures yields { YieldsCharacter self.old result self.new }
         ensures end { self.new.to_end ≡ self.old.to_end }
     {
@@ -118,7 +118,7 @@ impl<'text> CharMetrics<'text> {
             (metrics_up_to byte_index (metrics_from no_more self.now)) }
     {
         let mut scan = self.fork(false);
-        while let Some(metrics) = scan.next_character() {
+        while let Some(metrics) = scan.next_metrics() {
             if metrics.byte_index > byte_index {
                 return metrics.column;
             }
@@ -159,7 +159,7 @@ impl<'text> Iterator for CharMetrics<'text> {
 
     #[inline(always)]
     fn next(&mut self) -> Option<Metrics> {
-        match self.next_character() {
+        match self.next_metrics() {
             Some(metrics) => Some(metrics),
             None if self.to_end => {
                 self.to_end = false;

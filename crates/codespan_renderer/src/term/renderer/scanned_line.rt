@@ -80,7 +80,7 @@ impl<'row, 'd> LineSource for ScannedLine<'row, 'd> {
     #[inline(always)]
     fn characters_from_labels(&self, _end: usize) -> (u128, ScanCursor<'row, 'd>) {
         let cursor = ScanCursor {
-            char_metrics: CharMetrics::to_end(self.text, self.tab_width),
+            char_metrics: CharMetrics::with_placeholder(self.text, self.tab_width),
             labels: self.labels,
         };
         (0, cursor)

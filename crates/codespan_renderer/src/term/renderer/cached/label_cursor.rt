@@ -4,7 +4,7 @@ ghost use Rattle.std.specs.Prelude.{◌≡◌, ◌+◌, ◌<◌, ◌≤◌, ◌&
 ghost use Rattle.codespan_base.specs.Labels.{has_message, is_primary};
 ghost use Rattle.codespan_picture.specs.Carets.{style_under};
 ghost use Rattle.codespan_picture.specs.Arguments.{single_label_view, single_label_views, starts_in_order};
-ghost use Rattle.codespan_renderer.specs.Private.PointerLists.{HasPassed};
+ghost use Rattle.codespan_renderer.specs.Private.PointerLists.{HasPassedStarts};
 ghost use Rattle.codespan_picture.specs.RowParts.{starts_in};
 ghost use Rattle.codespan_renderer.specs.Private.BestStyles.{best_from};
 ghost use Rattle.codespan_row_parts.specs.CharCursors.{is_covered};
@@ -147,7 +147,7 @@ impl<'row, 'd> StartCursor<'row, 'd> {
     /// The labels are in the order of their starts.
     pub fn new(labels: &'row [SingleLabel<'d>]) -> StartCursor<'row, 'd>
         requires { IsTrue (starts_in_order (single_label_views labels.now)) }
-        ensures passed { HasPassed 0 result }
+        ensures passed { HasPassedStarts 0 result }
         ensures labels { result.labels.now ≡ labels.now }
     {
         StartCursor { labels, next: 0 }
@@ -161,8 +161,8 @@ impl<'row, 'd> StartCursor<'row, 'd> {
     /// The character has a byte, and the cursor has passed the labels that start before it.
     pub fn best_start(&mut self, found: Option<LabelStyle>, metrics: Metrics) -> Option<LabelStyle>
         requires some { 1 ≤ metrics.bytes }
-        requires passed { HasPassed metrics.byte_index self.old }
-        ensures passed { HasPassed (metrics.byte_index + metrics.bytes) self.new }
+        requires passed { HasPassedStarts metrics.byte_index self.old }
+        ensures passed { HasPassedStarts (metrics.byte_index + metrics.bytes) self.new }
         ensures labels { self.new.labels.now ≡ self.old.labels.now }
         ensures best { result ≡ best_from (starts_in metrics) found
             (filter has_message (single_label_views self.old.labels.now)) }

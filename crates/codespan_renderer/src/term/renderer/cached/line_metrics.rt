@@ -99,7 +99,7 @@ fn cache_metrics<'row>(
     if let Some(reach) = reach {
         // the characters that begin at 0 to `reach`, and one past it: each has a byte
         cached.reserve(reach.saturating_add(2).min(text.len()))?;
-        while let Some(metrics) = rest.next_character() {
+        while let Some(metrics) = rest.next_metrics() {
             cached.push(metrics)?;
             if metrics.byte_index > reach {
                 return Ok(rest);
