@@ -27,7 +27,7 @@ fn write_caret_rows<W: PutStyle, S: LineSource>(
     source: &S,
     messages: Messages<'_, '_>,
 ) -> Result<(), W::Error>
-    requires of { S.of source.now ≡ char_input context line }
+    requires input { S.input source.now ≡ char_input context line }
     requires trailing { optional_label_view messages.trailing
         ≡ trailing (single_label_views line.labels.now) }
     ensures { Writes (W.sink w.old) (caret_rows_view context.entry line.entry) result
@@ -56,7 +56,7 @@ pub fn write_line<W: PutStyle, S: LineSource>(
     line: Line<'_, '_>,
     source: &S,
 ) -> Result<(), W::Error>
-    requires of { S.of source.now ≡ char_input context line }
+    requires input { S.input source.now ≡ char_input context line }
     ensures { Writes (W.sink w.old)
         (stream_of_rows (context_view context.entry) (rows_of (line_view line.entry)))
         result (W.sink w.new) }

@@ -72,7 +72,7 @@ fn write_pointer_row<W: PutStyle, S: LineSource>(
     w: &mut W,
     rows: &RowsUnder<'_, '_, S>,
 ) -> Result<(), W::Error>
-    requires of { S.of rows.now.source.now ≡ char_input rows.now.context rows.now.line }
+    requires input { S.input rows.now.source.now ≡ char_input rows.now.context rows.now.line }
     requires hanging { AreHanging rows.now.line.labels.now
         rows.now.messages.before.now rows.now.messages.after.now }
     ensures { Writes (W.sink w.old)
@@ -91,7 +91,7 @@ fn write_hanging_row<W: PutStyle, S: LineSource>(
     rows: &RowsUnder<'_, '_, S>,
     label: &SingleLabel<'_>,
 ) -> Result<(), W::Error>
-    requires of { S.of rows.now.source.now ≡ char_input rows.now.context rows.now.line }
+    requires input { S.input rows.now.source.now ≡ char_input rows.now.context rows.now.line }
     requires hanging { AreHanging rows.now.line.labels.now
         rows.now.messages.before.now rows.now.messages.after.now }
     requires near { (single_label_view label.now).start
@@ -114,7 +114,7 @@ fn write_hanging_rows<W: PutStyle, S: LineSource>(
     rows: &RowsUnder<'_, '_, S>,
     labels: &[SingleLabel<'_>],
 ) -> Result<(), W::Error>
-    requires of { S.of rows.now.source.now ≡ char_input rows.now.context rows.now.line }
+    requires input { S.input rows.now.source.now ≡ char_input rows.now.context rows.now.line }
     requires hanging { AreHanging rows.now.line.labels.now
         rows.now.messages.before.now rows.now.messages.after.now }
     requires near { max_label_start (single_label_views labels.now)
@@ -136,7 +136,7 @@ fn write_pointers_and_messages<W: PutStyle, S: LineSource>(
     w: &mut W,
     rows: &RowsUnder<'_, '_, S>,
 ) -> Result<(), W::Error>
-    requires of { S.of rows.now.source.now ≡ char_input rows.now.context rows.now.line }
+    requires input { S.input rows.now.source.now ≡ char_input rows.now.context rows.now.line }
     requires hanging { AreHanging rows.now.line.labels.now
         rows.now.messages.before.now rows.now.messages.after.now }
     requires pieces { ArePieces rows.now.line.labels.now
@@ -167,7 +167,7 @@ pub fn write_hanging<W: PutStyle, S: LineSource>(
     source: &S,
     messages: Messages<'_, '_>,
 ) -> Result<(), W::Error>
-    requires of { S.of source.now ≡ char_input context line }
+    requires input { S.input source.now ≡ char_input context line }
     requires hanging { AreHanging line.labels.now messages.before.now messages.after.now }
     requires pieces { ArePieces line.labels.now messages.before.now messages.after.now }
     ensures { Writes (W.sink w.old) (hanging_rows_view context.entry line.entry)

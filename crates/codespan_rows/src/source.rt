@@ -72,7 +72,7 @@ fn write_text<W: PutStyle, S: LineSource>(
     line: Line<'_, '_>,
     source: &S,
 ) -> Result<(), W::Error>
-    requires of { S.of source.now ≡ char_input context line }
+    requires input { S.input source.now ≡ char_input context line }
     ensures { Writes (W.sink w.old)
         (colored_text (context_view context.entry) (line_view line.entry))
         result (W.sink w.new) }
@@ -131,7 +131,7 @@ pub fn write_source_row<W: PutStyle, S: LineSource>(
     line: Line<'_, '_>,
     source: &S,
 ) -> Result<(), W::Error>
-    requires of { S.of source.now ≡ char_input context line }
+    requires input { S.input source.now ≡ char_input context line }
     ensures { Writes (W.sink w.old)
         (source_row (context_view context.entry) (line_view line.entry) ++ newline)
         result (W.sink w.new) }

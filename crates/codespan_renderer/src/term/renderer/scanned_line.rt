@@ -66,7 +66,7 @@ pub struct ScannedLine<'row, 'd> {
 impl<'row, 'd> LineSource for ScannedLine<'row, 'd> {
     type Cursor = ScanCursor<'row, 'd>;
 
-    ghost of = { λ s.
+    ghost input = { λ s.
         record { tab_width = s.tab_width; text = s.text.now; labels = s.labels.now } };
 
     #[inline(always)]

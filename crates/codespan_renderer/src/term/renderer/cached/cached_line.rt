@@ -162,7 +162,7 @@ impl<'cache, 'row, 'd> CachedLine<'cache, 'row, 'd> {
 impl<'cache, 'row, 'd> LineSource for CachedLine<'cache, 'row, 'd> {
     type Cursor = CachedCursor<'cache, 'row, 'd>;
 
-    ghost of = { λ s. record {
+    ghost input = { λ s. record {
       tab_width = s.tab_width;
       text = s.line.text.now;
       labels = s.line.labels.now;
