@@ -38,8 +38,8 @@ fn write_colored_text<W: PutStyle, C: CharCursor>(
         result (W.sink w.new) }
 {
     let text = line.text.as_bytes();
-    let marks = PrimaryLaneMarks::of(line.lanes.marks);
-    let plain = plain_from(line, marks);
+    let primary = PrimaryLaneMarks::of(line.lanes.marks);
+    let plain = plain_from(line, primary);
     let mut previous = None;
     let mut start = 0;
     let mut end = 0;
@@ -47,7 +47,7 @@ fn write_colored_text<W: PutStyle, C: CharCursor>(
         if end >= plain {
             break;
         }
-        let style = text_style(&mut characters, marks, line, metrics);
+        let style = text_style(&mut characters, primary, line, metrics);
         let next = end + metrics.bytes;
         if metrics.code == '\t' {
             end_text_run(w, context, &text[start..end], previous, style)?;
