@@ -33,7 +33,7 @@ impl<'text> CharMetrics<'text> {
     ghost use Rattle.codespan_renderer.specs.Private.MetricsLeft.{Afters, YieldsCharacter, metrics_from, metrics_left, no_more};
     ghost use Rattle.std.specs.Str.{chars};
 
-    /// Returns a scan of the characters of the line alone.
+    /// Returns an iterator over the characters of the line alone.
     pub fn new(text: &'text str, tab_width: usize) -> CharMetrics<'text>
         ensures whole { (after : Afters) → metrics_from after result
             ≡ metrics_then after tab_width 0 0 (chars text.now) }
@@ -52,7 +52,7 @@ impl<'text> CharMetrics<'text> {
         }
     }
 
-    /// Returns a scan of the characters of the line, and the placeholder after the last one.
+    /// Returns an iterator over the characters of the line and the placeholder after the last one.
     pub fn with_placeholder(text: &'text str, tab_width: usize) -> CharMetrics<'text>
         ensures char_metrics { metrics_left result ≡ char_metrics_to_end tab_width text.now }
         ensures utf8 { ∥ IsUtf8 text.now ∥₁ }
@@ -67,8 +67,8 @@ impl<'text> CharMetrics<'text> {
         }
     }
 
-    /// Returns another scan that goes on where this one is. After the last character it yields the
-    /// placeholder where `to_end` is set.
+    /// Returns another iterator that goes on where this one is. After the last character it yields
+    /// the placeholder where `to_end` is set.
     #[inline(always)]
     pub fn fork(&self, to_end: bool) -> CharMetrics<'text>
         ensures same { (after : Afters) → metrics_from after result ≡ metrics_from after self.now }

@@ -71,7 +71,7 @@ pub struct CachedLine<'cache, 'row, 'd> {
     pub line: Line<'row, 'd>,
     /// Its first characters, up to the first one past the reach of the rows under it.
     pub cached: &'cache [Metrics],
-    /// The scan of those after them.
+    /// The iterator over those after them.
     pub rest: CharMetrics<'row>,
     /// The pointers under its characters.
     pub pointers: &'cache [Pointer],

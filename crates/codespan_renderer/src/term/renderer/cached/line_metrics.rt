@@ -78,7 +78,7 @@ impl LineMetrics {
 }
 
 /// Replaces the cached characters by those of a text, up to the first one that begins past the
-/// reach, and returns the scan of those after it. Without a reach none is cached.
+/// reach, and returns an iterator over those after it. Without a reach none is cached.
 ///
 /// # Errors
 ///
