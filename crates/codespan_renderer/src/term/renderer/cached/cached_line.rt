@@ -16,7 +16,7 @@ ghost use Rattle.codespan_row_parts.specs.Runs.{least_start};
 use crate::term::renderer::Renderer;
 use crate::term::renderer::cached::cached_metrics::CachedMetrics;
 use crate::term::renderer::cached::label_cursor::LabelCursor;
-use crate::term::renderer::cached::pointers::{Pointer, write_spaced};
+use crate::term::renderer::cached::pointers::{Pointer, write_pointers};
 use crate::term::renderer::char_metrics::{CharMetrics, Metrics};
 use crate::term::renderer::row_writer::{RowWriter, with_error};
 use codespan_base::diagnostic::{LabelStyle, Severity};
@@ -199,7 +199,7 @@ impl<'cache, 'row, 'd> LineSource for CachedLine<'cache, 'row, 'd> {
         _messages: Messages<'_, '_>,
     ) -> Result<(), W::Error> {
         let edge = self.width_up_to(max_label_start(self.line.labels));
-        write_spaced(w, context, self.pointers, usize::MAX, edge)
+        write_pointers(w, context, self.pointers, usize::MAX, edge)
     }
 
     #[inline(always)]
@@ -212,6 +212,6 @@ impl<'cache, 'row, 'd> LineSource for CachedLine<'cache, 'row, 'd> {
         before: usize,
     ) -> Result<(), W::Error> {
         let edge = self.width_before(before);
-        write_spaced(w, context, self.pointers, before, edge)
+        write_pointers(w, context, self.pointers, before, edge)
     }
 }

@@ -41,19 +41,19 @@ pub struct Pointer {
 ///
 /// The writer's error; a prefix has then been written.
 #[inline(always)]
-pub fn write_spaced<W: PutStyle>(
+pub fn write_pointers<W: PutStyle>(
     w: &mut W,
     context: RowContext<'_>,
-    found: &[Pointer],
+    pointers: &[Pointer],
     before: usize,
     edge: u128,
 ) -> Result<(), W::Error>
     ensures { Writes (W.sink w.old)
-        (spaced (context_view context.entry) edge 0 (pointers_before before found.now))
+        (spaced (context_view context.entry) edge 0 (pointers_before before pointers.now))
         result (W.sink w.new) }
 {
     let mut column = 0u128;
-    for pointer in found {
+    for pointer in pointers {
         if pointer.byte_index < before {
             let pending = pointer.column.saturating_sub(column);
             caret_pointer(w, context, pending, pointer.style)?;

@@ -20,4 +20,4 @@ returns g c =
     let tab = ap (λ (x : CharInput). x.tab_width) c.requires.input in
     let text = ap (λ (x : CharInput). x.text) c.requires.input in
     let labels = ap (λ (x : CharInput). x.labels) c.requires.input in
-    rw (rw (tab, text, labels) at drawn) at c.write_spaced.ensures
+    rw (rw (tab, text, labels) at drawn) at c.write_pointers.ensures
