@@ -72,10 +72,10 @@ typedef struct codespan_file {
      * of `source`. Not read where there are `lines`. */
     size_t first_line;
     /* The lines of `source`, in ascending order; none: a line starts after each '\n', and line
-     * numbers count on from first_line + 1, up to SIZE_MAX. Of given lines the first one starts at
-     * first_byte, each later one starts after the start of the one before it and not before its
-     * end, none ends before its start or past the end of `source`, and all starts and ends are
-     * boundaries of characters. */
+     * numbers count on from first_line + 1, up to SIZE_MAX. Where there are lines, the first one
+     * starts at first_byte, each later one starts after the start of the one before it and not
+     * before its end, none ends before its start or past the end of `source`, and all starts and
+     * ends are boundaries of characters. */
     const codespan_line *lines;
     size_t lines_length;
     /* Loci that are shown in place of those that are computed, in strictly ascending order of their
