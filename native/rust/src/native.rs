@@ -2,7 +2,7 @@
 
 mod ffi;
 mod layout;
-mod marks;
+mod style_marks;
 
 use alloc::alloc::{handle_alloc_error, Layout};
 use alloc::string::String;
@@ -13,7 +13,7 @@ use crate::term::{Chars, Config, DisplayStyle};
 
 use ffi::EmitError;
 pub(crate) use layout::{File, Label, Line, Locus, Slice};
-pub(crate) use marks::{replay, write_text};
+pub(crate) use style_marks::{replay, write_text};
 
 /// What a panic says of a file database whose lines the archive does not accept.
 pub(crate) const OVERLAP: &str = "the lines of a file overlap, or do not ascend";
