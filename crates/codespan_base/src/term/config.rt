@@ -74,7 +74,7 @@ impl<'chars> Config<'chars> {
         ensures kind { IfOk result (λ c.
             is_fixed c.chars.snippet_start ≡ is_fixed self.now.chars.snippet_start) }
         ensures fixed { IsTrue (is_fixed self.now.chars.snippet_start) → result ≡ Ok self.now }
-        ensures memory { OnErr result (IsErrOf result Error.OutOfMemory) }
+        ensures failed { OnErr result (IsErrOf result Error.OutOfMemory) }
     {
         Ok(Config {
             chars: self.chars.clone()?,

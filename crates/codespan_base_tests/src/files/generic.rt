@@ -22,7 +22,7 @@ struct Lookups {
 }
 
 /// Returns the text of a line, through the trait. The law keeps the line inside the source.
-fn line_at<'a, F: Files<'a>>(
+fn line_text<'a, F: Files<'a>>(
     alloc: Global,
     files: &'a F,
     id: F::FileId,
@@ -51,7 +51,7 @@ fn lookups_at<'a, F: Files<'a>>(
         line_number,
         column_number,
         location,
-        line: line_at(alloc, files, id, line_index)?,
+        line: line_text(alloc, files, id, line_index)?,
     })
 }
 

@@ -1,4 +1,5 @@
-//! The tables of styles and characters, and every style mark of every writer.
+//! Every style mark of every writer; the bytes of colors, characters, spaces and numbers; clones of
+//! configurations.
 
 use crate::asserts::{assert_same, assert_text};
 use crate::writers::written::{
@@ -7,12 +8,16 @@ use crate::writers::written::{
 };
 use codespan_base::files::Error;
 use codespan_base::term::config::chars::SnippetStart;
-use codespan_base::term::{Chars, Color, Config};
+use codespan_base::term::{Chars, Color, Config, Layout};
 use std::alloc::{AllocError, Global};
 use std::test::Fail;
 
+/// The style marks of `write_style_marks` where each is spelled as nothing: a newline for each but
+/// the reset.
 const NO_STYLE_MARKS: &str = "\n\n\n\n\n\n\n\n\n\n\n\n\n\n\n\n\n\n\n";
 
+/// The style marks of `write_style_marks` in color: for each severity those of a header, a primary
+/// label and a secondary label, and then those without a severity.
 const ANSI_STYLE_MARKS: &str = "\x1b[0m\x1b[1m\x1b[38;5;9m\n\x1b[0m\x1b[31m\n\x1b[0m\x1b[36m\n\
     \x1b[0m\x1b[1m\x1b[38;5;9m\n\x1b[0m\x1b[31m\n\x1b[0m\x1b[36m\n\
     \x1b[0m\x1b[1m\x1b[38;5;11m\n\x1b[0m\x1b[33m\n\x1b[0m\x1b[36m\n\
@@ -20,9 +25,11 @@ const ANSI_STYLE_MARKS: &str = "\x1b[0m\x1b[1m\x1b[38;5;9m\n\x1b[0m\x1b[31m\n\x1
     \x1b[0m\x1b[1m\x1b[38;5;14m\n\x1b[0m\x1b[36m\n\x1b[0m\x1b[36m\n\
     \x1b[0m\x1b[1m\n\x1b[0m\x1b[36m\n\x1b[0m\x1b[36m\n\x1b[0m\x1b[36m\n\x1b[0m";
 
+/// The style marks of `write_style_marks` by a `WriteColor` that writes a tag for a bold style.
 const BOLD_STYLE_MARKS: &str =
     "[bold]\n\n\n[bold]\n\n\n[bold]\n\n\n[bold]\n\n\n[bold]\n\n\n[bold]\n\n\n\n[/]";
 
+/// The style marks of `write_style_marks` in tags.
 const TAG_STYLE_MARKS: &str = "[header]\n[primary]\n[secondary]\n[header]\n[primary]\n[secondary]\n\
     [header]\n[primary]\n[secondary]\n[header]\n[primary]\n[secondary]\n\
     [header]\n[primary]\n[secondary]\n[message]\n[number]\n[bullet]\n[border]\n[/]";
@@ -30,12 +37,12 @@ const TAG_STYLE_MARKS: &str = "[header]\n[primary]\n[secondary]\n[header]\n[prim
 #[test]
 fn every_style_mark_of_every_writer(rt: HostRuntime) -> Result<(), Fail> {
     let alloc = rt.alloc();
-    assert_plain(&rt, alloc, Part::EveryMark, NO_STYLE_MARKS)?;
+    assert_plain(&rt, alloc, Part::EveryStyleMark, NO_STYLE_MARKS)?;
     let plain_ref = plain_ref_style_marks(alloc)?;
     assert_text(&rt, plain_ref.as_slice(), NO_STYLE_MARKS);
     assert_text(
         &rt,
-        ansi(alloc, Part::EveryMark)?.as_slice(),
+        ansi(alloc, Part::EveryStyleMark)?.as_slice(),
         ANSI_STYLE_MARKS,
     );
     assert_text(&rt, no_color_style_marks(alloc)?.as_slice(), NO_STYLE_MARKS);
@@ -49,8 +56,8 @@ fn every_style_mark_of_every_writer(rt: HostRuntime) -> Result<(), Fail> {
 }
 
 #[test]
-fn style_marks_do_not_fail(rt: HostRuntime) -> Result<(), Fail> {
-    assert!(rt; !plain(rt.alloc(), Part::EveryMark)?.has_failed());
+fn plain_style_marks_set_no_flag(rt: HostRuntime) -> Result<(), Fail> {
+    assert!(rt; !plain(rt.alloc(), Part::EveryStyleMark)?.has_failed());
     Ok(())
 }
 
@@ -65,7 +72,7 @@ fn coloured_header(rt: HostRuntime) -> Result<(), Fail> {
 }
 
 #[test]
-fn colors_in_both_planes(rt: HostRuntime) -> Result<(), Fail> {
+fn foreground_and_background_colors(rt: HostRuntime) -> Result<(), Fail> {
     let table = [
         (None, Some(Color::Black), false, "\x1b[0m\x1b[40m"),
         (
@@ -109,7 +116,7 @@ fn characters(rt: HostRuntime) -> Result<(), Fail> {
 #[test]
 fn repeated_characters(rt: HostRuntime) -> Result<(), Fail> {
     for (c, expected) in CHARACTERS {
-        for count in [0, 1, 16, 21, 64, 65, 200] {
+        for count in [0, 1, 2, 3, 16, 21, 64, 65, 200] {
             let whole = expected.repeat(rt.alloc(), count)?;
             assert_plain(&rt, rt.alloc(), Part::Repeated(c, count), whole.as_str())?;
         }
@@ -144,12 +151,16 @@ fn numbers(rt: HostRuntime) -> Result<(), Fail> {
 #[test]
 fn clone_of_default_configuration(rt: HostRuntime) -> Result<(), Fail> {
     let fixed = Config::default().clone()?;
+    assert_same(&rt, &fixed.tab_width, &4);
+    assert_same(&rt, &fixed.start_context_lines, &3);
+    assert_same(&rt, &fixed.layout, &Layout::Classic);
+    assert_same(&rt, &fixed.chars.multi_left, &'│');
     assert!(rt; matches!(fixed.chars.snippet_start, SnippetStart::Fixed("┌─")));
     Ok(())
 }
 
 /// Returns a configuration whose snippets start with `==>`, a text that it owns.
-fn with_own_start(alloc: Global) -> Result<Config<'static>, AllocError> {
+fn with_owned_start(alloc: Global) -> Result<Config<'static>, AllocError> {
     let chars = Chars {
         snippet_start: SnippetStart::Owned(String::from_str(alloc, "==>")?),
         ..Chars::ascii()
@@ -162,7 +173,7 @@ fn with_own_start(alloc: Global) -> Result<Config<'static>, AllocError> {
 }
 
 /// Returns whether snippets start with a text that is owned, and is `==>`.
-fn has_own_start(start: &SnippetStart<'_>) -> bool {
+fn has_owned_start(start: &SnippetStart<'_>) -> bool {
     match start {
         SnippetStart::Owned(text) => text.as_str() == "==>",
         SnippetStart::Fixed(_) => false,
@@ -170,28 +181,28 @@ fn has_own_start(start: &SnippetStart<'_>) -> bool {
 }
 
 /// Returns whether the clone of a start is owned, and is `==>`.
-fn start_clone_is_own(start: &SnippetStart<'_>) -> Result<bool, Error> {
-    Ok(has_own_start(&start.clone()?))
+fn start_clone_is_owned(start: &SnippetStart<'_>) -> Result<bool, Error> {
+    Ok(has_owned_start(&start.clone()?))
 }
 
 /// Returns whether the clone of these characters has such a start.
-fn chars_clone_is_own(chars: &Chars<'_>) -> Result<bool, Error> {
-    Ok(has_own_start(&chars.clone()?.snippet_start))
+fn chars_clone_is_owned(chars: &Chars<'_>) -> Result<bool, Error> {
+    Ok(has_owned_start(&chars.clone()?.snippet_start))
 }
 
 #[test]
 fn clones(rt: HostRuntime) -> Result<(), Fail> {
-    let config = with_own_start(rt.alloc())?;
-    assert!(rt; start_clone_is_own(&config.chars.snippet_start)?);
-    assert!(rt; chars_clone_is_own(&config.chars)?);
+    let config = with_owned_start(rt.alloc())?;
+    assert!(rt; start_clone_is_owned(&config.chars.snippet_start)?);
+    assert!(rt; chars_clone_is_owned(&config.chars)?);
     Ok(())
 }
 
 #[test]
 fn clone_of_configuration(rt: HostRuntime) -> Result<(), Fail> {
-    let copy = with_own_start(rt.alloc())?.clone()?;
+    let copy = with_owned_start(rt.alloc())?.clone()?;
     assert_same(&rt, &copy.tab_width, &8);
     assert_same(&rt, &copy.chars.pointer_left, &'|');
-    assert!(rt; has_own_start(&copy.chars.snippet_start));
+    assert!(rt; has_owned_start(&copy.chars.snippet_start));
     Ok(())
 }

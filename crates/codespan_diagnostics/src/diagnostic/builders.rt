@@ -1,4 +1,4 @@
-//! The builders of a diagnostic: the calls that add to it.
+//! The builders of a diagnostic: its `with_` calls.
 
 ghost use Rattle.std.specs.Prelude.{◌≡◌, ◌++◌, ◌∷◌, [], IfOk, IfSome, IfErr, OnErr, IsErrOf, IsSome, String, string_bytes, map, Some};
 ghost use Rattle.std.specs.Global.{Global};

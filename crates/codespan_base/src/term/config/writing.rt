@@ -1,5 +1,5 @@
-//! Writing whole texts, characters, spaces and numbers, to a [`WriteStyle`] or to the inner writer
-//! of one.
+//! Writing whole texts, characters, spaces and numbers to a [`PutStyle`], and whole texts to an
+//! [`io::Write`](Write).
 //!
 //! These functions are this project's own. They do not allocate.
 
