@@ -2,7 +2,7 @@
 
 mod example;
 mod generic;
-mod keys;
+mod ids;
 
 use crate::asserts::{assert_ok, assert_same, assert_same_at, is_file_missing, is_line_too_large};
 use codespan_base::files::{

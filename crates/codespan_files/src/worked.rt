@@ -1,4 +1,5 @@
-//! Worked files: each function does nothing, and its contract is what the definitions compute to.
+//! Lookups and columns of small texts: each function does nothing, and its contract is what the
+//! definitions compute to.
 #![tactic(auto, unfolding(crate::specs::Worked::file_definitions))]
 
 ghost use Rattle.std.specs.Prelude.{◌≡◌, ◌^◌, ◌-◌, [], ◌∷◌, map, codes, encode_utf8_all, Some, None};

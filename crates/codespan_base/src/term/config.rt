@@ -137,7 +137,7 @@ pub enum DisplayStyle {
     Short,
 }
 
-/// How wide the padding is, and how the lanes of multi-line labels are rendered.
+/// Which line numbers the padding width fits, and how the lanes of multi-line labels are rendered.
 #[derive(Clone, Copy, Debug, PartialEq, Eq)]
 pub enum Layout {
     /// The Rust crate's layout: the padding width fits the numbers of the lines from the start to

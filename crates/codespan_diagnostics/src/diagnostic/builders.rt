@@ -83,7 +83,7 @@ impl<FileId: Drop> Diagnostic<FileId> {
     ///
     /// # Requires
     ///
-    /// Whichever iterator `into_iter` returns: its `next` may be called, and its items come to an
+    /// Of each iterator that `into_iter` may return, `next` may be called, and its items come to an
     /// end.
     pub fn with_labels_iter<I: IntoIterator<Item = Label<FileId>>>(
         self,
@@ -147,7 +147,7 @@ impl<FileId: Drop> Diagnostic<FileId> {
     ///
     /// # Requires
     ///
-    /// Whichever iterator `into_iter` returns: its `next` may be called, and its items come to an
+    /// Of each iterator that `into_iter` may return, `next` may be called, and its items come to an
     /// end.
     pub fn with_notes_iter<I: IntoIterator<Item = String>>(self, notes: I) -> Result<Self, Error>
     where
