@@ -13,8 +13,8 @@ use crate::diagnostic::{LabelStyle, Severity};
 use std::hash::Hash;
 
 /// States that severities are ordered `Help` < `Note` < `Warning` < `Error` < `Bug`, that `Ord` and
-/// `PartialOrd` agree, that two are `==` exactly where they are the same, and that equal ones give a
-/// hasher the same input.
+/// `PartialOrd` agree, that two are `==` exactly where they are the same, and that equal ones give
+/// a hasher the same input.
 pub fn severities_agree()
     ensures order { (x y : Severity) →
         ⟦<Severity as Ord>⟧.cmp x y ≡ nat_cmp (severity_rank x) (severity_rank y) }

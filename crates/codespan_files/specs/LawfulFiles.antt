@@ -1,4 +1,4 @@
--- What the lookups of a file return, and when a file is lawful.
+-- What the lookups of a file return, when a file is lawful, and what lookups by default return.
 use Rattle.std.specs.Prelude.{◌≡◌, ◌≢◌, ℕ, ◌+◌, ◌-◌, ◌<◌, ◌≤◌, ◌↔◌, true, false, [], length, slice_index, Option, Some, None, Result, MatchResult, IfErr, ◌^◌, ◌==◌, if◌then◌else◌}
 use Rattle.std.specs.Str.{IsCharBoundary, IsUtf8}
 use Rattle.std.specs.declared.ops.Range.{Range}

@@ -212,8 +212,8 @@ pub trait Files<'a> {
     /// characters from the line's start to the byte, counted from 1, as
     /// [`default_column_number`](codespan_reporting::files::default_column_number) has it. Both
     /// indices count from 0. An implementation can not call that function, which requires the
-    /// implementation that is being checked; its body is
-    /// [`column_number_by_default!`](codespan_base::column_number_by_default).
+    /// implementation that is being checked;
+    /// [`column_number_by_default!`](codespan_base::column_number_by_default) expands to its body.
     ///
     /// # Errors
     ///
@@ -233,8 +233,8 @@ pub trait Files<'a> {
     /// Returns the line number and the column number of a byte, as users see them: in most
     /// databases as [`default_location`](codespan_reporting::files::default_location) has it. The
     /// byte index counts from 0. An implementation can not call that function, which requires the
-    /// implementation that is being checked; its body is
-    /// [`location_by_default!`](codespan_base::location_by_default).
+    /// implementation that is being checked;
+    /// [`location_by_default!`](codespan_base::location_by_default) expands to its body.
     ///
     /// # Errors
     ///

@@ -116,7 +116,7 @@ fn generic_calls_of_mapped_file(rt: HostRuntime) -> Result<(), Fail> {
 }
 
 #[test]
-fn generic_calls_of_database(rt: HostRuntime) -> Result<(), Fail> {
+fn generic_calls_of_simple_files(rt: HostRuntime) -> Result<(), Fail> {
     let database = database(rt.alloc())?;
     let lookups = lookups_at(rt.alloc(), &database, 0, 7)?;
     assert!(rt; lookups.are_of_second_line("bär\n", 2));

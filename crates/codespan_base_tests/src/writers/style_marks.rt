@@ -1,15 +1,11 @@
-//! Every style mark of every writer; the bytes of colors, characters, spaces and numbers; clones of
-//! configurations.
+//! Every style mark of every writer, and the bytes of colors.
 
 use crate::asserts::{assert_same, assert_text};
 use crate::writers::written::{
     Part, ansi, assert_plain, color_sequences, no_color_style_marks, plain, plain_ref_style_marks,
     tag_color_style_marks, tag_style_marks,
 };
-use codespan_base::files::Error;
-use codespan_base::term::config::chars::SnippetStart;
-use codespan_base::term::{Chars, Color, Config, Layout};
-use std::alloc::{AllocError, Global};
+use codespan_base::term::Color;
 use std::test::Fail;
 
 /// The style marks of `write_style_marks` where each is spelled as nothing: a newline for each but
@@ -99,110 +95,5 @@ fn foreground_and_background_colors(rt: HostRuntime) -> Result<(), Fail> {
         let text = color_sequences(rt.alloc(), fg, bg, intense)?;
         assert_text(&rt, text.as_slice(), expected);
     }
-    Ok(())
-}
-
-/// Characters of one to four bytes, with their texts.
-const CHARACTERS: [(char, &str); 4] = [('a', "a"), ('é', "é"), ('─', "─"), ('🗻', "🗻")];
-
-#[test]
-fn characters(rt: HostRuntime) -> Result<(), Fail> {
-    for (c, expected) in CHARACTERS {
-        assert_plain(&rt, rt.alloc(), Part::Char(c), expected)?;
-    }
-    Ok(())
-}
-
-#[test]
-fn repeated_characters(rt: HostRuntime) -> Result<(), Fail> {
-    for (c, expected) in CHARACTERS {
-        for count in [0, 1, 2, 3, 16, 21, 64, 65, 200] {
-            let whole = expected.repeat(rt.alloc(), count)?;
-            assert_plain(&rt, rt.alloc(), Part::Repeated(c, count), whole.as_str())?;
-        }
-    }
-    Ok(())
-}
-
-#[test]
-fn spaces(rt: HostRuntime) -> Result<(), Fail> {
-    for count in [0, 1, 63, 64, 65, 128, 1000] {
-        let whole = " ".repeat(rt.alloc(), count)?;
-        assert_plain(&rt, rt.alloc(), Part::Spaces(count), whole.as_str())?;
-    }
-    Ok(())
-}
-
-#[test]
-fn numbers(rt: HostRuntime) -> Result<(), Fail> {
-    let table = [
-        (0, "0"),
-        (9, "9"),
-        (10, "10"),
-        (1024, "1024"),
-        (usize::MAX, "18446744073709551615"),
-    ];
-    for (number, expected) in table {
-        assert_plain(&rt, rt.alloc(), Part::Number(number), expected)?;
-    }
-    Ok(())
-}
-
-#[test]
-fn clone_of_default_configuration(rt: HostRuntime) -> Result<(), Fail> {
-    let fixed = Config::default().clone()?;
-    assert_same(&rt, &fixed.tab_width, &4);
-    assert_same(&rt, &fixed.start_context_lines, &3);
-    assert_same(&rt, &fixed.layout, &Layout::Classic);
-    assert_same(&rt, &fixed.chars.multi_left, &'│');
-    assert!(rt; matches!(fixed.chars.snippet_start, SnippetStart::Fixed("┌─")));
-    Ok(())
-}
-
-/// Returns a configuration whose snippets start with `==>`, a text that it owns.
-fn with_owned_start(alloc: Global) -> Result<Config<'static>, AllocError> {
-    let chars = Chars {
-        snippet_start: SnippetStart::Owned(String::from_str(alloc, "==>")?),
-        ..Chars::ascii()
-    };
-    Ok(Config {
-        chars,
-        tab_width: 8,
-        ..Config::default()
-    })
-}
-
-/// Returns whether snippets start with a text that is owned, and is `==>`.
-fn has_owned_start(start: &SnippetStart<'_>) -> bool {
-    match start {
-        SnippetStart::Owned(text) => text.as_str() == "==>",
-        SnippetStart::Fixed(_) => false,
-    }
-}
-
-/// Returns whether the clone of a start is owned, and is `==>`.
-fn start_clone_is_owned(start: &SnippetStart<'_>) -> Result<bool, Error> {
-    Ok(has_owned_start(&start.clone()?))
-}
-
-/// Returns whether the clone of these characters has such a start.
-fn chars_clone_is_owned(chars: &Chars<'_>) -> Result<bool, Error> {
-    Ok(has_owned_start(&chars.clone()?.snippet_start))
-}
-
-#[test]
-fn clones(rt: HostRuntime) -> Result<(), Fail> {
-    let config = with_owned_start(rt.alloc())?;
-    assert!(rt; start_clone_is_owned(&config.chars.snippet_start)?);
-    assert!(rt; chars_clone_is_owned(&config.chars)?);
-    Ok(())
-}
-
-#[test]
-fn clone_of_configuration(rt: HostRuntime) -> Result<(), Fail> {
-    let copy = with_owned_start(rt.alloc())?.clone()?;
-    assert_same(&rt, &copy.tab_width, &8);
-    assert_same(&rt, &copy.chars.pointer_left, &'|');
-    assert!(rt; has_owned_start(&copy.chars.snippet_start));
     Ok(())
 }
