@@ -104,11 +104,12 @@ impl Write for Stopping {
     }
 }
 
-/// Returns whether rendering failed with `Io`, and `None` where it failed with another error.
-pub fn is_failed(returned: &Result<(), Error>) -> Option<bool> {
+/// Returns whether rendering into a writer ended as it should: with `Io` where the writer has
+/// stopped, and else without an error.
+pub fn is_as_expected(returned: &Result<(), Error>, is_stopped: bool) -> bool {
     match returned {
-        Ok(()) => Some(false),
-        Err(Error::Io(_)) => Some(true),
-        Err(_) => None,
+        Ok(()) => !is_stopped,
+        Err(Error::Io(_)) => is_stopped,
+        Err(_) => false,
     }
 }

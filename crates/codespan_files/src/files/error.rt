@@ -1,4 +1,4 @@
-//! The error of every call that can fail, those of writers aside.
+//! The error of file databases, of diagnostics and configurations, and of rendering.
 
 ghost use Rattle.std.specs.Prelude.{◌≡◌};
 ghost use Rattle.codespan_files.specs.declared.files.error.Error.TheVariants.{Io, FormatError, OutOfMemory};
@@ -6,8 +6,8 @@ ghost use Rattle.codespan_files.specs.declared.files.error.Error.TheVariants.{Io
 use std::alloc::{AllocError, AllocFailed};
 use std::{fmt, io};
 
-/// The error of every call that can fail, but for those of writers, which fail with an
-/// [`io::Error`].
+/// The error of file databases, of diagnostics and configurations, and of rendering. Writers fail
+/// with an [`io::Error`].
 ///
 /// The variants and texts are the Rust crate's, but for [`Error::OutOfMemory`], which is this
 /// project's own.
