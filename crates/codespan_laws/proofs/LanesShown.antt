@@ -1,4 +1,4 @@
--- What a row shows in each lane is what its stream has there.
+-- For `lanes_are_shown`: what a row shows in each lane is what its stream has there.
 use Rattle.std.proofs.Common.{◌≡◌, ℕ, [], ◌++◌, flat_map, Option, None, refl, sym, ap, subst, ◌∙◌, append-nil, append_assoc}
 use Rattle.std.proofs.lemmas.Option.{none-some, same_Some}
 use Rattle.std.specs.List.{range_with_len}

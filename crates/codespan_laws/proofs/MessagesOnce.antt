@@ -1,4 +1,5 @@
--- Each label's message has one slot, and with the slots filled the stream is the output.
+-- For `messages_appear_once`: each label's message has one slot, and with the slots filled the
+-- stream is the output.
 use Rattle.std.proofs.Common.{◌≡◌, ℕ, zero, suc, ◌+◌, ◌<◌, ◌≤◌, Bool, true, false, not, cond, ◌==◌, List, [], ◌∷◌, length, map, filter, Option, Some, None, option_map, slice_get, if◌then◌else◌, refl, sym, ap, ap₂, ◌∙◌, append-nil, arith}
 use Rattle.std.specs.Prelude.{sum_by, string_bytes}
 use Rattle.std.proofs.lemmas.Bool.Decides.{nat_tests}

@@ -1,4 +1,4 @@
--- The rows of an output are texts.
+-- For `outputs_are_texts`: the rows of an output are texts.
 use Rattle.std.proofs.Common.{◌≡◌, ℕ, ◌+◌, ◌-◌, Bool, true, false, not, ◌&&◌, ◌==◌, List, [], ◌∷◌, ◌++◌, map, filter, reverse, Option, Some, None, refl, sym, subst, ◌||◌}
 use Rattle.std.specs.Prelude.{if◌then◌else◌, IfSome, String, nat_lt, string_bytes}
 use Rattle.std.specs.List.{AllByRecursion, cons_option, enumerate_from, filter_map}

@@ -1,4 +1,5 @@
--- Other messages in the labels change only the messages in a row.
+-- For `messages_appear_once` and `order_is_free`: other messages in the labels change only the
+-- messages in a row.
 use Rattle.std.proofs.Common.{◌≡◌, ℕ, max, Bool, true, false, not, cond, ◌&&◌, ◌||◌, ◌==◌, nat_lt, List, [], ◌∷◌, ◌++◌, map, filter, fold, find, flat_map, Option, Some, None, option_map, if◌then◌else◌, refl, sym, ap, ap₂, ◌∙◌}
 use mathlib.Core.Path.{fun_ext}
 use Rattle.std.specs.List.{list_any, range_with_len}

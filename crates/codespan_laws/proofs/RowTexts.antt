@@ -1,4 +1,4 @@
--- The streams of rows are texts.
+-- For `outputs_are_texts`: the streams of rows are texts.
 use Rattle.std.proofs.Common.{◌≡◌, ℕ, ◌+◌, ◌-◌, Bool, true, false, ◌&&◌, ◌==◌, List, [], ◌∷◌, ◌++◌, Option, Some, None, refl, sym, subst, arith}
 use Rattle.std.specs.Prelude.{Contains, codes, nat_lt, nat_le, if◌then◌else◌, IfSome}
 use Rattle.std.specs.Char.{IsScalar, len_utf8}

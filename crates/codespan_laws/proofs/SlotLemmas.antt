@@ -1,4 +1,4 @@
--- The slots in each row.
+-- For `messages_appear_once`: the slots in each row.
 use Rattle.std.proofs.Common.{◌≡◌, ℕ, zero, suc, ◌+◌, ◌-◌, Bool, true, false, cond, ◌==◌, nat_lt, nat_le, List, [], ◌∷◌, ◌++◌, replicate, Option, Some, None, if◌then◌else◌, refl, ap₂, ◌∙◌, arith}
 use Rattle.std.specs.Prelude.{sum_by, count_by, flat_map}
 use Rattle.std.specs.List.{repeat, list_any, range_with_len}

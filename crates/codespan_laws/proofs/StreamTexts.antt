@@ -1,4 +1,4 @@
--- The streams of parts of rows are texts.
+-- For `outputs_are_texts`: the streams of parts of rows are texts.
 use Rattle.std.proofs.Common.{◌≡◌, ℕ, zero, suc, ◌+◌, ◌-◌, ◌<◌, ◌/◌, ◌%◌, Bool, true, false, ◌&&◌, ◌==◌, List, [], ◌∷◌, ◌++◌, flat_map, map, replicate, append_assoc, append-nil, Option, Some, None, refl, sym, subst, arith}
 use Rattle.std.specs.Prelude.{codes, decimal, nat_lt}
 use Rattle.std.specs.Char.{IsScalar, encode_utf8}

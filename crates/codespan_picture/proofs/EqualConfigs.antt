@@ -1,4 +1,5 @@
--- Equal configurations render the same.
+-- For the clauses `value` of `codespan_native`, and for the outputs of `report_runs`: equal
+-- configurations render the same.
 use Rattle.std.proofs.Common.{◌≡◌, ℕ, List, [], ◌∷◌, ◌++◌, refl, ap, ◌∙◌}
 use Rattle.codespan_base.specs.declared.term.config.Config.{Config}
 use Rattle.codespan_base.specs.declared.term.config.chars.SnippetStart.{SnippetStart}

@@ -58,8 +58,8 @@ abbrev pub label_start : {Id : Type 0} → (Id → FileModel) → InFile Id → 
 label_start file x = (file x.id, x.label.start)
 
 module _ {Id : Type 0} (same : Id → Id → Bool) (file : Id → FileModel) (xs : List (InFile Id)) where
-  -- what has a locus: in rich style each file's snippet, in medium and short style each primary
-  -- label
+  -- the starts that have a locus: in rich style that of each file's snippet, in medium and short
+  -- style that of each primary label
   abbrev pub starts : DisplayStyle → List (FileModel × ℕ)
   starts Rich = map snippet_start (labeled_file_models same file xs)
   starts _ = map (label_start file) (primary_of xs)
@@ -75,7 +75,7 @@ module _ {Id : Type 0} (files : FileDatabase Id) (d : Diagnostic Id) (style : Di
 
 -- ---- the output
 
--- what the rows of an output share
+-- what all rows of an output are rendered by
 abbrev pub context_of : Config → Severity → ℕ → RowContext
 context_of config severity padding = record {
   chars = config.chars;

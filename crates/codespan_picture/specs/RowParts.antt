@@ -103,7 +103,7 @@ line_metrics_to_end context line = char_metrics_to_end context.tab_width line.te
 abbrev pub leading_of : Line → ℕ
 leading_of line = leading_whitespace line.text
 
--- a multi-line label takes in the character on this line
+-- a multi-line label covers the character on this line
 abbrev pub part_covers : Metrics → MultiLabel → Bool
 part_covers c (Top start) = nat_le start c.byte_index
 part_covers c Left = true

@@ -52,7 +52,7 @@ source_row context line =
     ++ row_lanes context (leading_of line) Source line.lanes ++ space
     ++ colored_text context line
 
--- what each row under a line begins with
+-- what the caret, pointer and hanging rows of a line begin with
 unfoldable pub row_start : RowContext → Line → Stream
 row_start context line =
     gutter context.padding ++ border context.chars

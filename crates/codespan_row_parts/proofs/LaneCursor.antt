@@ -1,4 +1,4 @@
--- A cursor over lane marks in order finds the mark of each lane.
+-- For `inner_gutter`: a cursor over lane marks in order finds the mark of each lane.
 use Rattle.std.proofs.Common.{◌≡◌, ℕ, suc, zero, ◌+◌, ◌-◌, ◌<◌, ◌≤◌, Bool, true, false, cond, eqb, leb, ltb, ◌&&◌, List, [], ◌∷◌, ◌++◌, map, length, get_or, drop, None, Some, refl, sym, ap, ◌∙◌, arith, add-one, drop-cons, max}
 use Rattle.std.specs.Prelude.{IsTrue, flat_map}
 use Rattle.std.specs.List.{range_with_len}

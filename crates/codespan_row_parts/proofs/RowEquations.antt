@@ -1,4 +1,5 @@
--- Equations of rows, as the calls that write them put them together.
+-- For `write_line`, `write_empty` and `write_break`: equations of rows, as the calls that write
+-- them put them together.
 use Rattle.std.proofs.Common.{◌≡◌, ℕ, ◌+◌, ◌-◌, ◌^◌, ◌<◌, ◌≤◌, ◌==◌, List, [], ◌∷◌, ◌++◌, true, false, nat_lt, lt-ltb, Option, None, Some, append_assoc, append-nil, length, replicate, refl, ap, sym, ◌∙◌, arith}
 use Rattle.std.proofs.lemmas.List.{replicate-append-replicate}
 use Rattle.codespan_base.specs.declared.diagnostic.LabelStyle.{LabelStyle}

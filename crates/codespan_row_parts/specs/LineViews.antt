@@ -12,7 +12,7 @@ use Rattle.codespan_picture.specs.Lanes.{LaneRow, Source, Plain, Below, Underlin
 use Rattle.codespan_picture.specs.Rows.{RowContext, Lanes, Line}
 use Rattle.codespan_picture.specs.RowParts.{lane_of, row_lanes}
 
--- what all rows of one call share
+-- what all rows of a line are rendered by
 abbrev pub context_view : context.RowContext → RowContext
 context_view x = record {
   chars = x.chars.now;
@@ -22,11 +22,11 @@ context_view x = record {
   padding = x.padding;
 }
 
--- the lane marks in a row's lanes
+-- how many lanes a row has, and the lane marks in them
 abbrev pub lanes_view : lanes.Lanes → Lanes
 lanes_view x = lanes_of x.count x.marks.now
 
--- a rendered line
+-- a drawn line
 abbrev pub line_view : line.Line → Line
 line_view x = record {
   number = x.number;

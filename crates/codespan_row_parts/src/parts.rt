@@ -159,7 +159,8 @@ pub fn snippet_locus<W: PutStyle>(w: &mut W, at: &Locus) -> Result<(), W::Error>
     Ok(())
 }
 
-/// Writes the start of each row under a line: outer gutter, left border, inner gutter and a space.
+/// Writes the start of a caret, pointer or hanging row: outer gutter, left border, inner gutter and
+/// a space.
 ///
 /// # Errors
 ///

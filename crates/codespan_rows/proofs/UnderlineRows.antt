@@ -1,4 +1,5 @@
--- The underlines of multi-line labels, and the rows of a note.
+-- For `write_underlines` and `write_note`: the underlines of multi-line labels, and the rows of a
+-- note.
 use Rattle.std.proofs.Common.{◌≡◌, ℕ, ◌+◌, ◌≤◌, ◌<◌, Bool, true, false, cond, List, [], ◌∷◌, ◌++◌, length, drop, None, Some, refl, sym, ap, ◌∙◌, arith, get_or, add-one, drop-cons}
 use Rattle.std.specs.Prelude.{nat_lt, nat_le, filter, map}
 use Rattle.std.specs.Borrow.{Bor}
@@ -25,7 +26,7 @@ use Rattle.codespan_picture.specs.Lanes as kind
 use Rattle.codespan_picture.specs.RowParts.{row_lanes, underline, underline_message, metrics_before, metrics_up_to}
 use Rattle.codespan_rows.specs.Underlines.{underline_by_width, underline_width}
 use Rattle.codespan_picture.specs.RowStreams.{underline_row, stream_of_rows}
-use Rattle.codespan_row_parts.specs.RenderedRows.{later_notes}
+use Rattle.codespan_row_parts.specs.RenderedRows.{later_note_rows}
 
 -- ---- the lanes of an underline row
 
@@ -93,7 +94,7 @@ HasLines s pieces = YieldsList lines_steps (λ (x : Bor (List ℕ)). x.now) s pi
 pub record NotesToWrite (s : Sink) (whole : Stream) (padding : ℕ) (left : TextLines) (t : Sink) : Type 0 where
   pub pieces : List (List ℕ)
   pub yields : HasLines left pieces
-  pub written_so_far : StillToWrite s whole (later_notes padding pieces) t
+  pub written_so_far : StillToWrite s whole (later_note_rows padding pieces) t
 
 -- one line is the next
 pub record Next (x : List ℕ) (t : TextLines) (pieces : List (List ℕ)) : Type 0 where

@@ -6,7 +6,7 @@ use Rattle.std.proofs.lemmas.List.{append-nil, map-append, take-append-drop, tak
 use Rattle.codespan_base.specs.Streams.{Stream, newline}
 use Rattle.codespan_picture.specs.Rows.{RowContext, Row, FinalRow, LaterNoteRow}
 use Rattle.codespan_picture.specs.RowStreams.{first_note_row, later_note_row, stream_of, stream_of_rows}
-use Rattle.codespan_row_parts.specs.RenderedRows.{later_notes, note_stream}
+use Rattle.codespan_row_parts.specs.RenderedRows.{later_note_rows, note_stream}
 use Rattle.codespan_picture.specs.Snippets.{note_rows, piece_rows}
 
 module _ (context : RowContext) where
@@ -15,7 +15,7 @@ module _ (context : RowContext) where
   ended row = stream_of context row ++ newline
 
   -- the later rows of a note
-  later-rows : (ps : List (List ℕ)) → stream_of_rows context (map LaterNoteRow ps) ≡ later_notes context.padding ps
+  later-rows : (ps : List (List ℕ)) → stream_of_rows context (map LaterNoteRow ps) ≡ later_note_rows context.padding ps
   later-rows [] = refl
   later-rows (p ∷ ps) = ap (λ (s : Stream). (later_note_row context.padding p ++ newline) ++ s) (later-rows ps)
 

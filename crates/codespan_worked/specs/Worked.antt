@@ -106,9 +106,9 @@ medium config diagnostic files labels = shown Medium config diagnostic files lab
 abbrev pub short : Config → DiagnosticText → List FileModel → List (InFile ℕ) → Stream
 short config diagnostic files labels = shown Short config diagnostic files labels
 
--- ---- texts of several of them
+-- ---- texts of several worked outputs
 
--- an example of the crate: two files
+-- an example of the Rust crate: two files
 abbrev pub nat_files : List FileModel
 nat_files =
     text_file (codes "Data/Nat.fun") (codes "module Data.Nat where\n\n"

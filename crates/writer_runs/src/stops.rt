@@ -6,7 +6,7 @@ use crate::path::Path;
 use crate::record::Record;
 use crate::rendering::Render;
 use std::alloc::Global;
-use test_writers::stopping::{Stop, Stopping, is_failed};
+use test_writers::stopping::{Stop, Stopping, is_as_expected};
 
 /// How a writer stops at a write.
 pub const STOPS: [Stop; 4] = [
@@ -72,7 +72,7 @@ fn stops_at<D: Render>(
 ) -> bool {
     let is_whole = length == whole.len();
     let returned = path.render(output, &mut inner);
-    is_failed(&returned) == Some(!is_whole)
+    is_as_expected(&returned, !is_whole)
         && inner.is_right(is_whole, whole)
         && inner.text.len() == length
 }
@@ -112,7 +112,7 @@ fn stops_at_style_mark<D: Render>(
 ) -> bool {
     let mut writer = FailingWriter::new(Vec::new(alloc), marks);
     let returned = output.render(&mut writer);
-    is_failed(&returned) == Some(is_stopped)
+    is_as_expected(&returned, is_stopped)
         && writer.has_failed() == is_stopped
         && writer.calls_after == 0
         && writer.into_inner().as_slice() == written

@@ -74,7 +74,7 @@ impl<'chars> Config<'chars> {
         ensures kind { IfOk result (λ c.
             is_fixed c.chars.snippet_start ≡ is_fixed self.now.chars.snippet_start) }
         ensures fixed { IsTrue (is_fixed self.now.chars.snippet_start) → result ≡ Ok self.now }
-        ensures memory { OnErr result (IsErrOf result Error.OutOfMemory) }
+        ensures failed { OnErr result (IsErrOf result Error.OutOfMemory) }
     {
         Ok(Config {
             chars: self.chars.clone()?,
@@ -137,7 +137,7 @@ pub enum DisplayStyle {
     Short,
 }
 
-/// How wide the padding is, and how the lanes of multi-line labels are rendered.
+/// Which line numbers the padding width fits, and how the lanes of multi-line labels are rendered.
 #[derive(Clone, Copy, Debug, PartialEq, Eq)]
 pub enum Layout {
     /// The Rust crate's layout: the padding width fits the numbers of the lines from the start to

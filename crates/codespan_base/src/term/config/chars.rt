@@ -26,7 +26,7 @@ impl<'chars> SnippetStart<'chars> {
         ensures same { IfOk result (λ s. start_text s ≡ start_text self.now) }
         ensures kind { IfOk result (λ s. is_fixed s ≡ is_fixed self.now) }
         ensures fixed { IsTrue (is_fixed self.now) → result ≡ Ok self.now }
-        ensures memory { OnErr result (IsErrOf result Error.OutOfMemory) }
+        ensures failed { OnErr result (IsErrOf result Error.OutOfMemory) }
     {
         match self {
             SnippetStart::Fixed(text) => Ok(SnippetStart::Fixed(text)),
@@ -168,7 +168,7 @@ impl<'chars> Chars<'chars> {
         ensures kind { IfOk result (λ c.
             is_fixed c.snippet_start ≡ is_fixed self.now.snippet_start) }
         ensures fixed { IsTrue (is_fixed self.now.snippet_start) → result ≡ Ok self.now }
-        ensures memory { OnErr result (IsErrOf result Error.OutOfMemory) }
+        ensures failed { OnErr result (IsErrOf result Error.OutOfMemory) }
     {
         Ok(Chars {
             snippet_start: self.snippet_start.clone()?,
