@@ -24,12 +24,13 @@ pub struct Collected<'d, FileId> {
     pub labels: &'d [Label<FileId>],
     /// Their files, in the order of their first labels.
     pub files: Vec<LabeledFile<FileId>>,
-    /// Their annotations.
+    /// Their annotations, in order once [`collect`] returns.
     pub annotations: Vec<Annotation<'d, FileId>>,
-    /// The number of digits of the longest number of a line that a label spans; 0 without such a
-    /// line.
+    /// The padding width in the classic layout: the number of digits of the longest number of a
+    /// line that a label spans; 0 without such a line.
     pub padding: usize,
-    /// The first and the last of the lines on which labels of the first file start and end.
+    /// Of the labels of the first file, the least line on which one starts and the greatest on
+    /// which one ends, 0-based; `usize::MAX` and 0 without labels.
     pub lines: LabelSpan,
 }
 

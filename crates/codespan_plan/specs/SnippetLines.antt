@@ -139,7 +139,8 @@ does_line_fit count (Labeled l es) = do_annotations_fit count es
 does_line_fit count (Filled l es) = do_annotations_fit count es
 does_line_fit count (Break es) = do_lane_marks_fit count es
 
--- the single-line labels of each line are in order, and the multi-line ones have so many lanes
+-- the single-line labels of each line are in the order of their starts, and its lane marks ascend
+-- in so many lanes
 abbrev pub DoFit : ℕ → List SnippetLine → Type 0
 DoFit count snippet_lines = AllByRecursion (λ snippet_line. does_line_fit count snippet_line ≡ true)
     snippet_lines

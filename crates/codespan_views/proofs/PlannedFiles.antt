@@ -45,7 +45,7 @@ followed-at has_notes xs k =
 
 -- ---- the file at an index
 
--- each file has one name
+-- there are as many ids as plans
 pub ids-count : {Id : Type 0} (snippet_plans : List (SnippetPlan Id)) → length (ids_of snippet_plans) ≡ length snippet_plans
 ids-count {Id} snippet_plans = length-map snippet_plans (λ (snippet_plan : SnippetPlan Id). snippet_plan.file.now.id)
 

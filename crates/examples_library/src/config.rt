@@ -44,7 +44,7 @@ impl Problem {
     ///
     /// # Errors
     ///
-    /// `OutOfMemory` if an allocation fails.
+    /// `OutOfMemory`: an allocation fails.
     pub fn diagnostic(&self, alloc: Global) -> Result<Diagnostic<()>, Error>
         ensures { IfOk result (λ d. IfSome (slice_get d.labels.items 0) (λ label.
             (label.style ≡ LabelStyle.Primary) × (label.range ≡ bytes self.now.word))) }
@@ -66,7 +66,7 @@ impl Problem {
 ///
 /// # Errors
 ///
-/// `AllocError` if an allocation fails.
+/// `AllocError`: an allocation fails.
 pub fn lex(alloc: Global, text: &str) -> Result<Vec<Word>, AllocError>
     ensures { IfOk result (λ words. All (λ w. w.end ≤ length text.now) words.items) }
 {
@@ -92,7 +92,7 @@ pub fn lex(alloc: Global, text: &str) -> Result<Vec<Word>, AllocError>
     Ok(words)
 }
 
-/// Returns the text of a word; an empty one if the word is not inside the text.
+/// Returns the text of a word; an empty one if the word is not inside the text or cuts a character.
 pub fn text_of(text: &str, word: Word) -> &str {
     text.get(word.start..word.end).unwrap_or("")
 }
