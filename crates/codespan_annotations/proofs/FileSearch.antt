@@ -28,7 +28,7 @@ module _ {Id : Type 0} {same : Id → Id → Bool} (o : IsEquivalence same) (fil
       by true none = absurd (none refl)
       by false none = refl
 
-  -- where it is one of the files', they are as they were
+  -- where it is one of the files', they are unchanged
   pub file-unchanged : index ≢ length files → {A : Type 0} (known : List A) (one : A) → known ≡ with_file same (ids_view files) id known one
   file-unchanged inside known one =
       by (has same o (ids_view files) id) (λ none. inside (is ∙ no-index same o (ids_view files) id none ∙ ids-length))

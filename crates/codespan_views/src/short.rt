@@ -98,6 +98,10 @@ impl<'diagnostic, FileId: Copy + Eq> ShortDiagnostic<'diagnostic, FileId> {
 }
 
 /// Renders the headers, and then the notes.
+///
+/// # Errors
+///
+/// As [`ShortDiagnostic::render`].
 fn render_medium<'files, F: Files<'files>, W: WriteStyle>(
     files: &'files F,
     diagnostic: &Diagnostic<F::FileId>,
@@ -112,6 +116,10 @@ fn render_medium<'files, F: Files<'files>, W: WriteStyle>(
 }
 
 /// Renders a header for each primary label, or one without a locus.
+///
+/// # Errors
+///
+/// As [`ShortDiagnostic::render`].
 fn render_headers<'files, F: Files<'files>, W: WriteStyle>(
     files: &'files F,
     diagnostic: &Diagnostic<F::FileId>,
@@ -129,6 +137,10 @@ fn render_headers<'files, F: Files<'files>, W: WriteStyle>(
 }
 
 /// Renders a header for each primary label, in their order, and returns whether there is one.
+///
+/// # Errors
+///
+/// As [`ShortDiagnostic::render`].
 fn render_located<'files, F: Files<'files>, W: WriteStyle>(
     files: &'files F,
     diagnostic: &Diagnostic<F::FileId>,
@@ -146,6 +158,10 @@ fn render_located<'files, F: Files<'files>, W: WriteStyle>(
 }
 
 /// Renders the header of a label, where it is a primary one, and returns whether it is.
+///
+/// # Errors
+///
+/// As [`ShortDiagnostic::render`]. Nothing has been written where a lookup fails.
 fn render_if_primary<'files, F: Files<'files>, W: WriteStyle>(
     files: &'files F,
     diagnostic: &Diagnostic<F::FileId>,
@@ -165,6 +181,10 @@ fn render_if_primary<'files, F: Files<'files>, W: WriteStyle>(
 }
 
 /// Looks up the locus of a label's header: the name of its file, and the location of its start.
+///
+/// # Errors
+///
+/// As [`SourceFile::locus`].
 #[inline(always)]
 fn label_locus<'files, F: Files<'files>>(
     files: &'files F,

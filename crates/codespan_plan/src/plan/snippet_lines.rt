@@ -30,7 +30,7 @@ pub enum SnippetLine<'e, 'd, FileId> {
         index: usize,
         /// The line's number, where it is known before the header.
         number: Option<usize>,
-        /// Its annotations, in order: multi-line label marks alone.
+        /// Its annotations, in order: lane marks alone.
         annotations: &'e [Annotation<'d, FileId>],
     },
     /// A break: two lines or more are left out.
@@ -135,8 +135,9 @@ impl<'files, F: Files<'files>> LinePlanner<'files, F> {
         Ok(())
     }
 
-    /// Appends a shown line with its annotations, after what is before it. `hidden` are the
-    /// annotations of the line before it, where that is hidden.
+    /// Appends a shown line with its annotations, after what is before it. `last` is the index of
+    /// the shown line before it, if there is one, and `hidden` are the annotations of the line just
+    /// before it, where that is hidden.
     ///
     /// # Errors
     ///

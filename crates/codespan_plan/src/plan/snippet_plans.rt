@@ -71,8 +71,8 @@ fn push_snippet<'files, 'e, 'd, F: Files<'files>>(
     Ok(snippet_lines.len() - before)
 }
 
-/// Returns the plan of the snippet of a file, which has this many lines: looks up the name of the
-/// file, and the location at which the snippet starts.
+/// Returns the plan of a file's snippet of `line_total` lines: looks up the name of the file, and
+/// the location at which the snippet starts.
 ///
 /// # Errors
 ///

@@ -21,7 +21,7 @@ use std::alloc::Global;
 pub struct LineLabels<'d> {
     /// The single-line labels.
     pub single_labels: Vec<SingleLabel<'d>>,
-    /// The lane, the style and the part of each multi-line label.
+    /// The lane marks: of each multi-line label its lane, its style and its part on the line.
     pub multi_labels: Vec<(usize, LabelStyle, MultiLabel<'d>)>,
     /// The characters of the line and the pointers under them, as far as its rows reach.
     pub metrics: LineMetrics,
