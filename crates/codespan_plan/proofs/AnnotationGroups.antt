@@ -1,5 +1,6 @@
--- The lines_from over annotations in order takes the snippet lines of the lines that have
--- annotations, from the first on.
+-- `lines_from` makes of annotations in order the snippet lines of the lines that have annotations,
+-- from the first on: for the clause `added` of `push_lines` and the clause `planned` of
+-- `plan_output`.
 use Rattle.std.proofs.Common.{◌≡◌, ℕ, zero, suc, ◌+◌, ◌<◌, ◌≤◌, Bool, true, false, cond, ◌==◌, nat_lt, if◌then◌else◌, List, [], ◌∷◌, ◌++◌, take, drop, filter, Option, Some, None, ⊎_elim, refl, sym, ◌∙◌, ap, subst, arith}
 use Rattle.std.specs.List.{prefix_len, range_with_len, AllByRecursion}
 use Rattle.std.proofs.lemmas.Bool.{cases_Bool, eqb-true, eqb-false, eq-eqb, ltb-true, ltb-false, lt-ltb, le-ltb}
@@ -149,7 +150,7 @@ groups-by_line (suc n) a xs h low high =
     ap groups cut ∙ groups-append a g ys (all-on_line a xs) (all-above_line a xs)
     ∙ ap (λ (q : List Group). some_group a g q) (inner ∙ groups_on-same _ _ n (a + 1) (λ l q. filter-above (λ (e : Annotation). e.line) a l (omega arith) xs))
 
--- ---- the lines_from over groups of lines
+-- ---- `lines_from` over groups of lines
 
 -- the snippet lines of these shown lines, where each line has these annotations and `was` is shown
 -- before them
@@ -188,7 +189,7 @@ hidden-none : (m : ℕ → List Annotation) (a : ℕ) → IsHidden m (Some a) (a
 hidden-none m a = (omega arith, λ q. refl, λ q. absurd (omega (arith, q)))
 
 module _ (m : ℕ → List Annotation) where
-  -- the lines_from takes the lines that are shown
+  -- `lines_from` makes snippet lines of the lines that are shown
   lines_from-lines : (n a : ℕ) (was : Option ℕ) (hidden : List Annotation) → IsHidden m was a hidden
       → lines_from was hidden (groups_on m (range_with_len a n)) ≡ lines_after m was (filter (λ l. are_shown (m l)) (range_with_len a n))
   lines_from-lines zero a was hidden h = refl

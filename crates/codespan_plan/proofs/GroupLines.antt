@@ -1,4 +1,4 @@
--- The lines_from over annotations in order, group by group.
+-- `lines_from` over annotations in order, group by group, for the clause `added` of `push_lines`.
 use Rattle.std.proofs.Common.{◌≡◌, ℕ, zero, suc, ◌+◌, ◌-◌, ◌<◌, ◌≤◌, true, false, cond, List, [], ◌∷◌, ◌++◌, length, take, drop, get_or, Option, Some, refl, sym, ◌∙◌, ap, subst, arith, length-drop}
 use Rattle.std.specs.List.{prefix_len}
 use Rattle.std.proofs.Math.Nat.{add-sub_cancel_left}
@@ -82,7 +82,7 @@ module _ (xs : List Annotation) (at n : ℕ) (d : Annotation) (was : Option ℕ)
   abbrev where_hidden : List SnippetLine
   where_hidden = lines_from was (part xs at n) (groups (drop (at + n) xs))
 
-  -- what the lines_from does with the next group
+  -- what `lines_from` makes of the next group
   by_group : lines_from was hidden (groups (drop at xs)) ≡ cond (shows_line (get_or xs at d)) where_shown where_hidden
   by_group = ap (lines_from was hidden) next.first ∙ ap (λ b. cond b where_shown where_hidden) next.shown
 

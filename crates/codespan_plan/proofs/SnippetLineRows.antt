@@ -1,4 +1,5 @@
--- The rows of the snippet lines of shown lines, and the lines that they show and fill in.
+-- The rows of the snippet lines of shown lines, and the lines that they show and fill in, for the
+-- clause `planned` of `plan_output`.
 use Rattle.std.proofs.Common.{◌≡◌, ℕ, ◌≤◌, Bool, true, false, not, cond, ◌&&◌, if◌then◌else◌, List, [], ◌∷◌, ◌++◌, filter, flat_map, Option, None, refl, sym, ap, ◌∙◌}
 use Rattle.std.specs.List.{range_with_len, AllByRecursion}
 use Rattle.std.proofs.lemmas.List.{append-nil}
@@ -53,7 +54,7 @@ chosen false x y same = same refl
 -- ---- rows
 
 module _ (f : FileModel) (count : ℕ) (m : ℕ → List Annotation) where
-  -- a line with what its annotations say of it
+  -- a line with what its annotations do on it
   abbrev line : ℕ → Line
   line l = line_of_group f count l (m l)
 
@@ -65,7 +66,7 @@ module _ (f : FileModel) (count : ℕ) (m : ℕ → List Annotation) where
 
 -- ---- labels in order
 
--- the labels of all snippet lines are in order, and their multi-line label marks in so many lanes
+-- the labels of all snippet lines are in order, and their lane marks in so many lanes
 pub snippet_lines-fit : (count : ℕ) (m : ℕ → List Annotation) → ((l : ℕ) → do_annotations_fit count (m l) ≡ true) → ((l : ℕ) → do_lane_marks_fit count (m l) ≡ true)
     → (was : Option ℕ) (ds : List ℕ) → AllByRecursion (λ snippet_line. does_line_fit count snippet_line ≡ true) (lines_after m was ds)
 snippet_lines-fit count m fit lane_marks_fit =

@@ -1,4 +1,5 @@
--- The snippet lines of annotations as a view has them.
+-- The snippet lines of annotations as a view has them, for the clauses `added` and `failed` of
+-- `push_lines`.
 use Rattle.std.proofs.Common.{◌≡◌, ℕ, ◌+◌, ◌-◌, ◌<◌, ◌≤◌, true, false, List, [], ◌++◌, map, length, take, drop, get_or, Option, Some, sym, ◌∙◌, ap, arith}
 use Rattle.std.specs.List.{prefix_len}
 use Rattle.std.proofs.lemmas.List.{drop-map, take-map, length-drop, length-map, length-take, get_or-map, at_drop_all}

@@ -6,7 +6,7 @@ use Rattle.codespan_plan.proofs.SnippetLineViews.{lines_left}
 use Rattle.codespan_plan.proofs.LinesFound.{LinesLeft}
 use Rattle.codespan_plan.proofs.plan.snippet_lines.LinePlanner.push_lines.Given as goal
 
--- some snippet lines have been found, and the walk over the remaining annotations makes the rest
+-- some snippet lines have been appended, and the remaining annotations make the rest
 abbrev pub invariant-loop-at : goal.invariant-loop-at
 invariant-loop-at g l = record {
   within : l.at ≤ length l.annotations;
