@@ -2,7 +2,7 @@
 //! outputs.
 
 use crate::asserts::{assert_bytes, assert_text};
-use codespan_reporting::diagnostic::Diagnostic;
+use codespan_reporting::diagnostic::{Diagnostic, Label};
 use codespan_reporting::files::{Error, Files, SimpleFiles};
 use codespan_reporting::term::{
     Ansi, Config, NoColor, PlainWriter, Renderer, RichDiagnostic, Styles, StylesWriter, WriteColor,
@@ -22,6 +22,14 @@ pub fn files_of<'text>(
         files.add(*name, *source)?;
     }
     Ok(files)
+}
+
+/// Returns a diagnostic with a label in the first file, and one in the eighth.
+pub fn in_first_and_eighth(alloc: Global) -> Result<Diagnostic<usize>, Error> {
+    Diagnostic::error(alloc)
+        .with_message("m")?
+        .with_label(Label::primary(alloc, 0, 0..1))?
+        .with_label(Label::primary(alloc, 7, 0..1))
 }
 
 /// What a rendering returned, and what it wrote.
