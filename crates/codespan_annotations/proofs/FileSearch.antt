@@ -1,5 +1,5 @@
 -- The index of a file that is looked for, and what is known of all files with it, for the clauses
--- of `file_index`, `first_file` and `last_file`.
+-- of `get_or_insert_file`, `first_file` and `last_file`.
 use Rattle.std.proofs.Common.{◌≡◌, ◌≢◌, ℕ, ◌+◌, ◌≤◌, Bool, true, false, List, [], ◌∷◌, ◌++◌, length, take, drop, arith, refl, sym, ap, subst, ◌∙◌, append-nil}
 use Rattle.std.specs.Prelude.{if◌then◌else◌}
 use Rattle.std.specs.Cmp.{IsEquivalence}

@@ -64,7 +64,7 @@ impl LabelSpan {
 
     /// Returns how many annotations memory is reserved for: as many as the spanned lines make at
     /// most, if the label starts at or before its end; 1 otherwise.
-    pub fn spanned_annotations(self, config: &Config<'_>) -> usize {
+    pub fn annotation_capacity(self, config: &Config<'_>) -> usize {
         let others = self.last.saturating_sub(self.first);
         if others == 0 {
             return 1;

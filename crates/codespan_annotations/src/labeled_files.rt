@@ -75,7 +75,7 @@ pub fn add_label<FileId>(
 /// # Requires
 ///
 /// No two files have the same id.
-pub fn file_index<FileId: Copy + Eq>(
+pub fn get_or_insert_file<FileId: Copy + Eq>(
     files: &mut Vec<LabeledFile<FileId>>,
     previous: usize,
     id: FileId,

@@ -11,7 +11,7 @@ use crate::padding::PaddingWidth;
 use codespan_annotations::annotation::Annotation;
 use codespan_annotations::annotation::order::put_in_order;
 use codespan_annotations::label_span::LabelSpan;
-use codespan_annotations::labeled_files::{LabeledFile, add_label, file_index};
+use codespan_annotations::labeled_files::{LabeledFile, add_label, get_or_insert_file};
 use codespan_base::diagnostic::Label;
 use codespan_base::files::{Error, Files};
 use codespan_base::term::Config;
@@ -87,7 +87,7 @@ fn collect_in_turn<'files, 'd, F: Files<'files>>(
         last: 0,
     };
     for (index, label) in labels.iter().enumerate() {
-        let file = file_index(&mut labeled, previous, label.file_id)?;
+        let file = get_or_insert_file(&mut labeled, previous, label.file_id)?;
         let lane = labeled[file].lane_count;
         let at = LabelIndices { file, index, lane };
         let lines = collect_label(files, config, at, label, &mut found)?;

@@ -283,7 +283,7 @@ pub fn collect_label<'files, 'd, F: Files<'files>>(
     let lines = label_lines(files, label)?;
     found
         .annotations
-        .reserve(lines.spanned_annotations(config))?;
+        .reserve(lines.annotation_capacity(config))?;
     let collector = LabelCollector {
         file: SourceFile {
             files,

@@ -129,7 +129,7 @@ fn render_headers<'files, F: Files<'files>, W: WriteStyle>(
     ensures renders { RendersInStyle W.sink (F.database files.now)
         Short diagnostic.now renderer.old result renderer.new }
 {
-    if render_located(files, diagnostic, renderer)? {
+    if render_located_headers(files, diagnostic, renderer)? {
         Ok(())
     } else {
         render_diagnostic_header(diagnostic, renderer, None)
@@ -141,7 +141,7 @@ fn render_headers<'files, F: Files<'files>, W: WriteStyle>(
 /// # Errors
 ///
 /// As [`ShortDiagnostic::render`].
-fn render_located<'files, F: Files<'files>, W: WriteStyle>(
+fn render_located_headers<'files, F: Files<'files>, W: WriteStyle>(
     files: &'files F,
     diagnostic: &Diagnostic<F::FileId>,
     renderer: &mut Renderer<'_, '_, W>,
@@ -150,11 +150,11 @@ fn render_located<'files, F: Files<'files>, W: WriteStyle>(
     ensures renders { RendersHeadersOf W.sink (F.database files.now)
         diagnostic.now (labels_of diagnostic.now) renderer.old result renderer.new }
 {
-    let mut is_located = false;
+    let mut has_primary = false;
     for label in &diagnostic.labels {
-        is_located |= render_if_primary(files, diagnostic, renderer, label)?;
+        has_primary |= render_header_if_primary(files, diagnostic, renderer, label)?;
     }
-    Ok(is_located)
+    Ok(has_primary)
 }
 
 /// Renders the header of a label, where it is a primary one, and returns whether it is.
@@ -162,7 +162,7 @@ fn render_located<'files, F: Files<'files>, W: WriteStyle>(
 /// # Errors
 ///
 /// As [`ShortDiagnostic::render`]. Nothing has been written where a lookup fails.
-fn render_if_primary<'files, F: Files<'files>, W: WriteStyle>(
+fn render_header_if_primary<'files, F: Files<'files>, W: WriteStyle>(
     files: &'files F,
     diagnostic: &Diagnostic<F::FileId>,
     renderer: &mut Renderer<'_, '_, W>,
