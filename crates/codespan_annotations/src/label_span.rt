@@ -148,7 +148,7 @@ impl LabelSpan {
 /// # Errors
 ///
 /// That of the first lookup that fails: the line of the start, then that of the end.
-pub fn label_lines<'files, F: Files<'files>>(
+pub fn label_span<'files, F: Files<'files>>(
     files: &'files F,
     label: &Label<F::FileId>,
 ) -> Result<LabelSpan, Error>

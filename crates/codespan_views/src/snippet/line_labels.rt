@@ -14,7 +14,7 @@ use codespan_renderer::term::renderer::cached::LineMetrics;
 use codespan_renderer::term::renderer::{MultiLabel, SingleLabel};
 use std::alloc::Global;
 
-/// The labels of a line, as a renderer takes them.
+/// The labels of a line, as a renderer takes them, and the line's characters.
 ///
 /// One value serves many lines, so that its memory is allocated once.
 #[derive(Drop)]
