@@ -49,7 +49,7 @@ impl Rendered {
     /// Returns whether a rendering returned what this one did, and wrote the same.
     fn is_same(&self, returned: &Result<(), Error>, text: &[u8]) -> bool {
         let is_same_return = match &self.returned {
-            Ok(()) => returned.is_ok(),
+            Ok(_) => returned.is_ok(),
             Err(error) => matches!(returned, Err(other) if is_same_error(error, other)),
         };
         is_same_return && text == self.text.as_slice()

@@ -54,7 +54,7 @@ fn script_unknown_word(rt: HostRuntime) -> Result<(), Fail> {
     check(&rt, &SCRIPT_UNKNOWN_WORD)
 }
 
-/// The runs of `script_repeated_word`. The repeated `severity` has an unknown one too.
+/// The runs of `script_repeated_word`. In the last one the repeated severity is unknown too.
 static SCRIPT_REPEATED_WORD: [ScriptRun<'static>; 3] = [
     (
         "rich",
