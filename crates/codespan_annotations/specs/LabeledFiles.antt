@@ -36,8 +36,8 @@ pub record HasLabels {Id : Type 0} (same : Id → Id → Bool) (file : Id → Fi
 
 -- ---- one file more
 
--- what is known of the files of these ids, and of one of this id, which comes after them where it
--- is none of them
+-- a list with an element for each of these ids, and with `one` at its end where this id is none of
+-- them
 abbrev pub with_file : {Id A : Type 0} → (Id → Id → Bool) → List Id → Id → List A → A → List A
 with_file same ids id known one = if list_any (λ j. same j id) ids then known else known ++ one ∷ []
 

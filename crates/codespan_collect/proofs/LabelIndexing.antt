@@ -1,4 +1,5 @@
--- The files of ids, and the indices and lanes of labels, one label after another.
+-- The files of ids, and the indices and lanes of labels, one label after another, for the clause
+-- `collected` of `collect_in_turn`.
 use Rattle.std.proofs.Common.{◌≡◌, ℕ, ◌+◌, ◌<◌, ◌≤◌, Bool, true, false, not, ◌||◌, cond, List, [], ◌∷◌, ◌++◌, length, get_or, set, map, refl, sym, ap, subst, ◌∙◌, arith, ⊎_elim, true≢false}
 use Rattle.std.specs.Prelude.{filter, if◌then◌else◌}
 use Rattle.std.specs.Cmp.{IsEquivalence}
@@ -133,7 +134,7 @@ module _ {Id : Type 0} (same : Id → Id → Bool) (file : Id → FileModel) whe
           ap (λ (xs : List (InFile Id)). lane_count (record { file = file id; labels = map (λ (y : InFile Id). y.label) xs })) (append-nil own)
           ∙ (let e : lanes_in same file before id ≡ lanes_in same file before id + 0 = omega arith in e)
 
-  -- what the labels say, with one more
+  -- the annotations of the labels, with one more
   pub annotations_after-more : (config : Config) (ids : List Id) (before xs : List (InFile Id)) (x : InFile Id)
       → annotations_after same file config ids before (xs ++ x ∷ [])
       ≡ annotations_after same file config ids before xs

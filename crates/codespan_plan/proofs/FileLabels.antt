@@ -1,5 +1,5 @@
--- The labels of one range, and a file among those of a diagnostic, for what the annotations say of
--- a line.
+-- The labels of one range, and a file among those of a diagnostic, for the clause `planned` of
+-- `plan_output`.
 use Rattle.std.proofs.Common.{◌≡◌, ℕ, ◌<◌, Bool, true, false, ◌==◌, List, Option, Some, None}
 use Rattle.codespan_base.specs.FileModel.{FileModel, line_count}
 use Rattle.codespan_base.specs.Labels.{LabelModel}

@@ -1,5 +1,5 @@
 -- The plans of files: the rows and the lookups of their snippet lines are those of the files'
--- snippets.
+-- snippets, for the clauses `planned` and `failed` of `plan_output`.
 use Rattle.std.proofs.Common.{◌≡◌, ℕ, suc, ◌+◌, Bool, List, [], ◌∷◌, ◌++◌, take, drop, map, max, Option, None, refl, sym, subst, ap, ◌∙◌, arith}
 use Rattle.std.specs.Prelude.{IfSome, flat_map, fold}
 use Rattle.std.specs.List.{AllByRecursion}

@@ -1,5 +1,5 @@
 -- The padding width for the numbers of the lines that labels span is that of the output in the
--- classic layout.
+-- classic layout: for the clause `planned` of `plan_output`.
 use Rattle.std.proofs.Common.{◌≡◌, ℕ, zero, suc, ◌+◌, ◌<◌, ◌≤◌, Bool, true, false, ◌&&◌, ◌||◌, max, List, [], ◌∷◌, ◌++◌, length, get_or, map, filter, flat_map, ⊎_elim, refl, sym, ◌∙◌, ap, subst, arith}
 use Rattle.std.specs.Prelude.{Contains, fold, if◌then◌else◌}
 use Rattle.std.specs.Cmp.{IsEquivalence}

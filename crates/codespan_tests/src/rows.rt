@@ -16,20 +16,20 @@ use test_writers::counting::Counting;
 use test_writers::marks::set_styles;
 use test_writers::stopping::{Stop, Stopping};
 
-/// A lane of a multi-line label that goes on.
-type Lane = (usize, LabelStyle, MultiLabel<'static>);
+/// A lane mark: the lane, 0-based, the style of the label and its part on the line.
+type LaneMark = (usize, LabelStyle, MultiLabel<'static>);
 
-/// The first lane.
-const FIRST: Lane = (0, LabelStyle::Primary, MultiLabel::Left);
+/// A mark that goes through in the first lane.
+const FIRST: LaneMark = (0, LabelStyle::Primary, MultiLabel::Left);
 
-/// The second lane.
-const SECOND: Lane = (1, LabelStyle::Primary, MultiLabel::Left);
+/// One in the second lane.
+const SECOND: LaneMark = (1, LabelStyle::Primary, MultiLabel::Left);
 
-/// The third lane.
-const THIRD: Lane = (2, LabelStyle::Primary, MultiLabel::Left);
+/// One in the third lane.
+const THIRD: LaneMark = (2, LabelStyle::Primary, MultiLabel::Left);
 
-/// The number of lanes of a file, some of them, and whether these are in order.
-static LANES: [(usize, &[Lane], bool); 5] = [
+/// The number of lanes of a file, some lane marks, and whether these are in order.
+static LANES: [(usize, &[LaneMark], bool); 5] = [
     (0, &[], true),
     (2, &[FIRST, SECOND], true),
     (2, &[SECOND, FIRST], false),

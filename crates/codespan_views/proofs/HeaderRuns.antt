@@ -1,4 +1,5 @@
--- Headers of labels, one after another.
+-- Headers of labels, one after another, for the clauses `renders` of `render_headers` and
+-- `render_medium`.
 use Rattle.std.proofs.Common.{◌≡◌, ◌≢◌, ◌<◌, true, false, List, [], ◌∷◌, ◌++◌, length, map, flat_map, take, None, Some, Result, Ok, Err, ⊎_elim, inl, inr, sym, subst, ap, ◌∙◌, append-nil, arith}
 use Rattle.std.specs.Prelude.{IfErr}
 use Rattle.std.specs.List.{AllZip}

@@ -1,4 +1,5 @@
--- The header of one label, and one run of headers after another.
+-- The header of one label, and one run of headers after another, for the clauses `renders` of
+-- `render_header_if_primary` and `render_located_headers`.
 use Rattle.std.proofs.Common.{◌≡◌, ◌≢◌, ℕ, ◌+◌, ◌≤◌, Bool, true, false, cond, ◌||◌, List, [], ◌∷◌, ◌++◌, length, map, filter, flat_map, take, drop, Option, None, Some, Ok, Err, ⊎_elim, inl, inr, refl, sym, subst, ap, ap₂, ◌∙◌, append_assoc, append-nil}
 use Rattle.std.specs.Prelude.{Contains}
 use Rattle.std.specs.List.{AllZip}

@@ -1,4 +1,5 @@
--- The rows of notes, one note after another.
+-- The rows of notes, one note after another, for the clauses of `render_notes`, `render_closing`
+-- and `render_without_labels`.
 use Rattle.std.proofs.Common.{◌≡◌, ℕ, ◌+◌, ◌<◌, ◌≤◌, List, [], ◌∷◌, ◌++◌, length, take, drop, get_or, map, refl, sym, ap, ◌∙◌}
 use Rattle.std.specs.Str.Lines.{lines}
 use Rattle.std.proofs.lemmas.Grind.{flat_map-append}
@@ -57,5 +58,5 @@ module _ {N : Type 0} (text : N → List ℕ) (context : RowContext) where
   notes-all notes i past = ap (λ (ns : List N). stream_of_notes ns) (take_all i notes past)
 
   -- the rows of the notes, and the empty line
-  pub notes-blank : (notes : List N) → stream_of_rows context (note_rows (map text notes) ++ FinalRow ∷ []) ≡ stream_of_notes notes ++ newline
-  notes-blank notes = flat_map-append (ended context) (note_rows (map text notes)) (FinalRow ∷ []) ∙ ap (λ (s : Stream). stream_of_notes notes ++ s) (append-nil newline)
+  pub notes-empty : (notes : List N) → stream_of_rows context (note_rows (map text notes) ++ FinalRow ∷ []) ≡ stream_of_notes notes ++ newline
+  notes-empty notes = flat_map-append (ended context) (note_rows (map text notes)) (FinalRow ∷ []) ∙ ap (λ (s : Stream). stream_of_notes notes ++ s) (append-nil newline)

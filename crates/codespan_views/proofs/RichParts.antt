@@ -1,4 +1,5 @@
--- A rich output, rendered part by part: its header, its snippets, and its notes.
+-- A rich output, rendered part by part, its header, its snippets and its notes: for the clauses
+-- `renders` of `RichDiagnostic::render` and `RichDiagnostic::render_labels`.
 use Rattle.std.proofs.Common.{◌≡◌, ◌≢◌, ◌<◌, true, List, [], ◌∷◌, ◌++◌, length, drop, map, None, Some, Result, Ok, Err, ⊎_elim, refl, sym, subst, ap, ◌∙◌, arith}
 use Rattle.std.specs.Prelude.{IfErr}
 use Rattle.std.specs.List.{AllZip}

@@ -14,14 +14,14 @@ use codespan_renderer::term::renderer::cached::LineMetrics;
 use codespan_renderer::term::renderer::{MultiLabel, SingleLabel};
 use std::alloc::Global;
 
-/// The labels of a line, as a renderer takes them.
+/// The labels of a line, as a renderer takes them, and the line's characters.
 ///
 /// One value serves many lines, so that its memory is allocated once.
 #[derive(Drop)]
 pub struct LineLabels<'d> {
     /// The single-line labels.
     pub single_labels: Vec<SingleLabel<'d>>,
-    /// The lane, the style and the part of each multi-line label.
+    /// The lane marks: of each multi-line label its lane, its style and its part on the line.
     pub multi_labels: Vec<(usize, LabelStyle, MultiLabel<'d>)>,
     /// The characters of the line and the pointers under them, as far as its rows reach.
     pub metrics: LineMetrics,

@@ -78,6 +78,10 @@ impl<'context, 'files, F: Files<'files>> Snippet<'context, 'files, F> {
     /// # Errors
     ///
     /// As [`Snippet::render_lines`].
+    ///
+    /// # Requires
+    ///
+    /// As [`Snippet::render_lines`], of this line.
     fn render_snippet_line<'d, W: WriteStyle>(
         &self,
         renderer: &mut Renderer<'_, '_, W>,
@@ -114,6 +118,11 @@ impl<'context, 'files, F: Files<'files>> Snippet<'context, 'files, F> {
     ///
     /// - `OutOfMemory`: an allocation fails. Nothing has been written then.
     /// - `Io`: the writer fails or takes no bytes. A prefix of the rows has been written then.
+    ///
+    /// # Requires
+    ///
+    /// The text is that of the file, and the line is one of the file's. Its single-line labels are
+    /// in the order of their starts, and its lane marks ascend in the file's lanes.
     #[inline(always)]
     fn render_line<'d, W: WriteStyle>(
         &self,
@@ -148,6 +157,10 @@ impl<'context, 'files, F: Files<'files>> Snippet<'context, 'files, F> {
     ///
     /// - `OutOfMemory`: an allocation fails. Nothing has been written then.
     /// - `Io`: the writer fails or takes no bytes. A prefix of the row has been written then.
+    ///
+    /// # Requires
+    ///
+    /// The lane marks of the line ascend in the file's lanes.
     fn render_break<'d, W: WriteStyle>(
         &self,
         renderer: &mut Renderer<'_, '_, W>,

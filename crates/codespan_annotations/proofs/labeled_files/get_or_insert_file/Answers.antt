@@ -3,8 +3,8 @@ use Rattle.codespan_annotations.specs.LabeledFiles.{ids_view, lanes_view, starts
 use Rattle.codespan_annotations.specs.FileStarts.{no_start}
 use Rattle.codespan_annotations.specs.FileIndices.{index_of_file}
 use Rattle.codespan_annotations.proofs.FileSearch.{file-added, file-unchanged}
-use Rattle.codespan_annotations.proofs.labeled_files.file_index.Given.{Over}
-use Rattle.codespan_annotations.proofs.labeled_files.file_index.Goals as goal
+use Rattle.codespan_annotations.proofs.labeled_files.get_or_insert_file.Given.{Over}
+use Rattle.codespan_annotations.proofs.labeled_files.get_or_insert_file.Goals as goal
 
 -- the file is one more
 added : (g : Over) (c : goal.In_ok-push_file g) {A : Type 0} (known : List A) (one : A)

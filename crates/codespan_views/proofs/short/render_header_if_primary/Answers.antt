@@ -4,7 +4,7 @@ use Rattle.codespan_picture.specs.Arguments.{locus_view}
 use Rattle.codespan_picture.specs.Picture.{label_of}
 use Rattle.codespan_views.specs.Private.ViewRendering.{RendersHeadersOf}
 use Rattle.codespan_views.proofs.LabelHeaders.{lookup_failed_one, secondary_one, written_one, write_failed_one}
-use Rattle.codespan_views.proofs.short.render_if_primary.Goals as goal
+use Rattle.codespan_views.proofs.short.render_header_if_primary.Goals as goal
 
 pub returns-then-not-is_primary-clause-renders : goal.returns-then-not-is_primary-clause-renders
 unfolding RendersHeadersOf

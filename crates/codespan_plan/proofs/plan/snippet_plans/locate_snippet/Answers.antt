@@ -1,6 +1,6 @@
 use Rattle.std.proofs.Common.{Err, refl, ap, ◌∙◌}
 use Rattle.std.proofs.lemmas.Result.{err_from_is_err_and}
-use Rattle.codespan_plan.proofs.plan.snippet_plans.plan_snippet.Goals as goal
+use Rattle.codespan_plan.proofs.plan.snippet_plans.locate_snippet.Goals as goal
 
 pub returns-in_err-locus-clause-failed : goal.returns-in_err-locus-clause-failed
 returns-in_err-locus-clause-failed g c =
