@@ -106,7 +106,10 @@ pub fn plain_from(line: Line<'_, '_>, primary: PrimaryLaneMarks) -> usize
     ensures tab { list_any (λ b. b == 9) (drop result line.entry.text.now) ≡ false }
 {
     let text = line.text.as_bytes();
-    let end = primary.end().max(max_label_end(line.labels)).min(text.len());
+    let end = primary
+        .end()
+        .max(max_label_end(line.labels))
+        .min(text.len());
     if text[end..].contains(&b'\t') {
         text.len()
     } else {

@@ -38,7 +38,10 @@ pub fn database_of<'case>(alloc: Global, case: &'case Case<'_>) -> Result<Databa
             let files = SimpleFile::new(alloc, file.name.as_str(), file.source.as_str())?;
             Ok(Database::One(files, in_one_file(alloc, &case.diagnostic)?))
         }
-        DatabaseKind::Several => Ok(Database::Several(several_files(alloc, case.files.as_slice())?)),
+        DatabaseKind::Several => Ok(Database::Several(several_files(
+            alloc,
+            case.files.as_slice(),
+        )?)),
         DatabaseKind::Mapped => {
             let file = only_file(case.files.as_slice())?;
             let files = mapped_file(alloc, file, case.numbers.as_slice())?;

@@ -74,10 +74,7 @@ fn is_same_error(left: &Error, right: &Error) -> bool {
         | (Error::IndexTooLarge { .. }, Error::IndexTooLarge { .. })
         | (Error::LineTooLarge { .. }, Error::LineTooLarge { .. })
         | (Error::ColumnTooLarge { .. }, Error::ColumnTooLarge { .. })
-        | (
-            Error::InvalidCharBoundary { .. },
-            Error::InvalidCharBoundary { .. },
-        )
+        | (Error::InvalidCharBoundary { .. }, Error::InvalidCharBoundary { .. })
         | (Error::Io(_), Error::Io(_))
         | (Error::FormatError, Error::FormatError)
         | (Error::OutOfMemory, Error::OutOfMemory) => numbers_of(left) == numbers_of(right),

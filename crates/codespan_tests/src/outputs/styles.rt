@@ -104,7 +104,11 @@ fn render_views<W: WriteStyle>(
 /// Returns a bug by each view, in one text.
 fn bug_by_views(alloc: Global) -> Result<Vec<u8>, Error> {
     let mut plain = PlainWriter::new(Vec::new(alloc));
-    render_views(&mut plain, &SimpleFiles::new(alloc), &Diagnostic::bug(alloc))?;
+    render_views(
+        &mut plain,
+        &SimpleFiles::new(alloc),
+        &Diagnostic::bug(alloc),
+    )?;
     Ok(plain.into_inner())
 }
 
