@@ -38,7 +38,9 @@ pub fn database_of<'case>(alloc: Global, case: &'case Case<'_>) -> Result<Databa
             let files = SimpleFile::new(alloc, file.name.as_str(), file.source.as_str())?;
             Ok(Database::One(files, in_one_file(alloc, &case.diagnostic)?))
         }
-        DatabaseKind::Several => Ok(Database::Several(several_files(alloc, case.files.as_slice())?)),
+        DatabaseKind::Several => {
+            Ok(Database::Several(several_files(alloc, case.files.as_slice())?))
+        }
         DatabaseKind::Mapped => {
             let file = only_file(case.files.as_slice())?;
             let files = mapped_file(alloc, file, case.numbers.as_slice())?;
@@ -59,7 +61,8 @@ fn only_file(files: &[File]) -> Result<&File, Error>
 
 /// Returns a database of the files.
 fn several_files(alloc: Global, files: &[File]) -> Result<SimpleFiles<&str, &str>, Error>
-    ensures { IfOk result (λ database. map borrowed_view (entries database) ≡ map file_view files.now) }
+    ensures { IfOk result (λ database.
+        map borrowed_view (entries database) ≡ map file_view files.now) }
 {
     let mut database = SimpleFiles::new(alloc);
     for file in files {

@@ -11,8 +11,8 @@ use crate::errors::LineError;
 use crate::escape::unescape;
 use crate::fields::{cut, cut_number, is_ignored, parse_number};
 use crate::words::{
-    Word, parse_characters, parse_colors, parse_database_kind, parse_layout, parse_severity, parse_style,
-    parse_word,
+    Word, parse_characters, parse_colors, parse_database_kind, parse_layout, parse_severity,
+    parse_style, parse_word,
 };
 use codespan_base::diagnostic::{Label, LabelStyle, Severity};
 use codespan_base::term::{DisplayStyle, Layout};
