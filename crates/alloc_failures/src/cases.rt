@@ -22,7 +22,8 @@ pub enum CaseName {
     Short,
     /// A file with custom line numbers.
     MappedNumbers,
-    /// Lines before and after a label's, each of whose lookups allocates.
+    /// Lines before and after a label's, over a file each of whose lookups of a line's range
+    /// allocates.
     SurroundingLines,
 }
 

@@ -19,7 +19,7 @@ pub enum Subject {
     /// A call of a diagnostic.
     Diagnostic(DiagnosticCall),
     /// A clone of a configuration or of a part of it.
-    CloneCall(CloneCall),
+    Clone(CloneCall),
     /// A call of a file database.
     Database(DatabaseCall),
     /// A call that renders, and what it renders.
@@ -77,10 +77,10 @@ pub const CALLS: [(&str, Subject); 28] = [
     ),
     (
         "SnippetStart::clone",
-        Subject::CloneCall(CloneCall::SnippetStart),
+        Subject::Clone(CloneCall::SnippetStart),
     ),
-    ("Chars::clone", Subject::CloneCall(CloneCall::Chars)),
-    ("Config::clone", Subject::CloneCall(CloneCall::Config)),
+    ("Chars::clone", Subject::Clone(CloneCall::Chars)),
+    ("Config::clone", Subject::Clone(CloneCall::Config)),
     (
         "SimpleFile::new",
         Subject::Database(DatabaseCall::SimpleFileNew),
@@ -106,10 +106,10 @@ pub const CALLS: [(&str, Subject); 28] = [
     ),
     ("codespan_emit", Subject::Native),
     (
-        "no_memory_prepared",
+        "without_alloc_prepared",
         Subject::WithoutAlloc(Extent::Preparation),
     ),
-    ("no_memory", Subject::WithoutAlloc(Extent::Calls)),
+    ("without_alloc", Subject::WithoutAlloc(Extent::Calls)),
 ];
 
 /// The first words of the subjects named by two words.
@@ -152,7 +152,7 @@ impl Subject {
         prepared(match self {
             Subject::Label(call) => judge_label(alloc, call),
             Subject::Diagnostic(call) => judge_diagnostic(alloc, call),
-            Subject::CloneCall(clone_call) => judge_clone(alloc, clone_call),
+            Subject::Clone(call) => judge_clone(alloc, call),
             Subject::Database(call) => judge_database(alloc, call),
             Subject::Rendering(call, case_name) => judge_rendering(alloc, call, case_name),
             Subject::Document(call) => judge_document(alloc, call),

@@ -87,17 +87,30 @@ impl<'input> Row<'input> {
         }
     }
 
-    /// Adds a text, or continues the last one if that is of the same kind. Fails with
-    /// `OutOfMemory`.
+    /// Adds a text, or appends it to the text of its kind if one is stated.
+    ///
+    /// # Errors
+    ///
+    /// `OutOfMemory` if an allocation fails.
     pub fn add_text(&mut self, kind: TextKind, text: String) -> Result<(), LineError> {
-        if let Some(last) = self.texts.last_mut() {
-            if last.kind == kind {
-                last.text.push_str(text.as_str())?;
+        if let Some(index) = self.index_of(kind) {
+            if let Some(stated) = self.texts.get_mut(index) {
+                stated.text.push_str(text.as_str())?;
                 return Ok(());
             }
         }
         self.texts.push(Text { kind, text })?;
         Ok(())
+    }
+
+    /// Returns the index of the text of a kind, if stated.
+    fn index_of(&self, kind: TextKind) -> Option<usize> {
+        for (index, stated) in self.texts.iter().enumerate() {
+            if stated.kind == kind {
+                return Some(index);
+            }
+        }
+        None
     }
 
     /// Returns the text of a kind, if stated.
@@ -127,7 +140,11 @@ impl<'input> Row<'input> {
         }
     }
 
-    /// Returns the configuration of the case in a style. Fails with `OutOfMemory`.
+    /// Returns the configuration of the case in a style.
+    ///
+    /// # Errors
+    ///
+    /// `OutOfMemory` if an allocation fails.
     pub fn config(&self, style: DisplayStyle) -> Result<Config<'input>, Error> {
         let mut config = self.case.config.clone()?;
         config.display_style = style;

@@ -10,7 +10,9 @@
 //! | `ansi-end TEXT` | the expected end of that text |
 //! | `character FIELD C` | this field of [`Chars`] is this character |
 //!
-//! Such a line right after one with the same word continues its text.
+//! A text may take several lines of its word, which are joined. FIELD is `multi_top`,
+//! `multi_bottom`, `multi_primary_caret_end` or `multi_secondary_caret_end`. Any other field, and a
+//! C that is not one character, is the error `UnknownName`.
 
 use crate::failure::RunError;
 use crate::row::{Row, TextKind};
