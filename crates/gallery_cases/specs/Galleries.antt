@@ -12,8 +12,8 @@ use Rattle.gallery_cases.specs.Documents.{IsSvg}
 abbrev pub title : List ℕ → List ℕ
 title name = codes "== " ++ name ++ 10 ∷ []
 
--- a byte of an output as it is shown: the escape character, the character of the number 0, the
--- carriage return and the tab by a backslash
+-- a byte of an output as it is shown: the escape character, the null character, the carriage
+-- return and the tab by a backslash
 abbrev pub shown_byte : ℕ → List ℕ
 shown_byte b =
     if b == 27 then codes "\\e"

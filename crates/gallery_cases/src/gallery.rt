@@ -90,8 +90,8 @@ fn add_failure(
     }
 }
 
-/// Appends an output as it is shown: the escape character, the character of the number 0, the
-/// carriage return and the tab by a backslash and a letter or digit, all else as it is.
+/// Appends an output as it is shown: the escape character, the null character, the carriage return
+/// and the tab by a backslash and a letter or digit, all else unchanged.
 fn add_shown(gallery: &mut Vec<u8>, rendered: &[u8]) -> Result<(), AllocError>
     ensures { OnOk result (gallery.new.items ≡ gallery.old.items ++ shown rendered.now) }
 {

@@ -1,4 +1,5 @@
--- What is parsed of escapes, and of escaped texts.
+-- For the clauses of `escape::unescape`, `read_escape` and `read_numbered`: what is parsed of escapes,
+-- and of escaped texts.
 use Rattle.std.proofs.Common.{◌≡◌, ◌<◌, ℕ, List, [], ◌∷◌, ◌++◌, Option, Some, None, refl, sym, ◌∙◌, ap, subst, append_assoc, arith}
 use Rattle.std.specs.Borrow.{Bor}
 use Rattle.std.specs.Prelude.{encode_utf8, MatchOption}

@@ -148,8 +148,8 @@ IsLineError line before line_error =
     ⊎ ((statement : Statement) × ParsesTo line (Description statement)
     × FailsAtLast statement before line_error))
 
--- the error is the first line that has an error, by its number from 1, and the error; or a
--- failed allocation
+-- the error has the number, from 1, of the first line that is wrong, and what is wrong with it; or
+-- an allocation failed
 abbrev pub IsFirstLineError : List (List ℕ) → RunError → Type 0
 IsFirstLineError lines (run_error.Line number line_error) =
     (k : ℕ) × (line : List ℕ) × (before : List Case) × (number ≡ k + 1)

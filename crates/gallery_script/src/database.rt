@@ -88,7 +88,8 @@ fn mapped_file<'case>(
     Ok(mapped)
 }
 
-/// Returns the diagnostic by the id of a database of one file.
+/// Returns the diagnostic with the file id `()`. Fails with `FileMissing` if a label is not in file
+/// 0, and with `OutOfMemory`.
 fn in_one_file(alloc: Global, diagnostic: &Diagnostic<usize>) -> Result<Diagnostic<()>, Error>
     ensures { IfOk result (λ converted. diagnostic_view converted
         ≡ by_unit_id (diagnostic_view diagnostic.now)) }
@@ -107,7 +108,8 @@ fn in_one_file(alloc: Global, diagnostic: &Diagnostic<usize>) -> Result<Diagnost
     })
 }
 
-/// Returns the label by the id of a database of one file.
+/// Returns the label with the file id `()`. Fails with `FileMissing` if it is not in file 0, and
+/// with `OutOfMemory`.
 fn in_this_file(label: &Label<usize>) -> Result<Label<()>, Error>
     ensures { IfOk result (λ converted. label_view converted
         ≡ label_by_unit_id (label_view label.now)) }

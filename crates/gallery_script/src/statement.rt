@@ -32,9 +32,9 @@ pub enum Line<'input> {
 /// A part of the description of a case.
 #[derive(Drop)]
 pub enum Statement {
-    /// `database KIND`: the type of its file database.
+    /// `database KIND`: the kind of its file database.
     Database(DatabaseKind),
-    /// `file NAME`: one more file.
+    /// `file TEXT`: one more file, of this name.
     File(String),
     /// `| TEXT`: the continuation of the source of the last file.
     Source(String),
@@ -46,7 +46,8 @@ pub enum Statement {
     Layout(Layout),
     /// `tab WIDTH`: the cells between tab stops.
     Tab(usize),
-    /// `context START END BEFORE AFTER`: how many lines are shown around those of labels.
+    /// `context START END BEFORE AFTER`: how many context lines are shown, around labels and inside
+    /// multi-line labels.
     Context(Context),
     /// `characters NAME`: the characters of borders, carets and lanes.
     Characters(CharacterSet),
@@ -64,7 +65,7 @@ pub enum Statement {
     Note(String),
 }
 
-/// How many lines are shown around those of labels.
+/// How many context lines are shown: around labels, and inside multi-line labels.
 #[derive(Clone, Copy)]
 pub struct Context {
     /// After the first line of a multi-line label.
@@ -81,7 +82,11 @@ pub struct Context {
 ///
 /// # Errors
 ///
-/// The error of the line, and `OutOfMemory` if an allocation fails.
+/// - `UnknownWord`: the line begins with an unknown word.
+/// - `UnknownName`: its rest is none of the names that may follow its word.
+/// - `BadNumber`: a number is missing or malformed.
+/// - `BadEscape`: a backslash of its text begins no escape.
+/// - `OutOfMemory`: an allocation fails.
 pub fn parse_line<'input>(alloc: Global, line: &'input str) -> Result<Line<'input>, LineError>
     ensures parsed { IfOk result (ParsesTo line.now) }
     ensures wrong { IfErr result (IsWrongLine line.now) }

@@ -7,7 +7,7 @@ ghost use Rattle.std.specs.Str.{IsUtf8};
 use std::alloc::Global;
 use std::io::Read;
 
-/// Why the input is no text.
+/// An error of reading the input as text.
 #[derive(Clone, Copy, Debug, PartialEq, Eq)]
 pub enum InputError {
     /// Reading it failed, or an allocation for it.

@@ -27,8 +27,8 @@ IsStatusOf (Err (CannotRender error)) status = status ≡ 1
 IsStatusOf (Err (BadScript text)) status = (status ≡ 3) ⊎ (status ≡ 1)
 IsStatusOf (Err CannotWriteOutput) status = status ≡ 1
 
--- the line of an error, without its newline; that of rendering has the text of its error, that of a
--- script its diagnostic
+-- what an error's `Display` writes: a line without its newline, or the rendered diagnostic of a
+-- script's error
 abbrev pub error_line : RunError → Option (List ℕ)
 error_line WrongArguments = Some (codes "usage: report STYLE NAME START END MESSAGE")
 error_line CannotReadInput = Some (codes "report: cannot read input")
@@ -37,11 +37,12 @@ error_line (CannotRender error) = option_map (λ text. codes "report: " ++ text)
 error_line (BadScript text) = Some (string_bytes text)
 error_line CannotWriteOutput = Some (codes "report: cannot write output")
 
--- the error of arguments that are not known, and of an input that is no text
+-- the error of a run whose arguments can not be read
 abbrev pub arguments_error : ArgumentsError → RunError
 arguments_error arguments.NotUtf8 = WrongArguments
 arguments_error arguments.OutOfMemory = CannotRender OutOfMemory
 
+-- the error of a run whose input can not be read as text
 abbrev pub input_error : InputError → RunError
 input_error input.Unreadable = CannotReadInput
 input_error input.NotUtf8 = NotUtf8

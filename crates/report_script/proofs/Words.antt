@@ -1,4 +1,5 @@
--- What the arguments request, word by word.
+-- For the clauses of `Request::from_arguments` and `Command::from_arguments`: what the arguments
+-- request, word by word.
 use Rattle.std.proofs.Common.{◌≡◌, ℕ, ◌<◌, ◌≤◌, ◌⊎◌, inl, inr, List, [], ◌∷◌, length, get_or, map, Option, None, refl, ap, sym, ◌∙◌, arith}
 use Rattle.codespan_base.specs.declared.term.config.DisplayStyle.{DisplayStyle}
 use Rattle.std.specs.Option.{option_map}

@@ -2,7 +2,8 @@
 //!
 //! A script is a text of lines, up to the first line that is `---`; the source follows that line.
 //! Each line begins with a word, which ends at the first space; its rest is what follows that
-//! space. Lines that are empty or begin with `#` are ignored.
+//! space. A carriage return right before a newline is no part of its line. Lines that are empty or
+//! begin with `#` are ignored. `docs/SCRIPT.md` lists the words and their rests.
 
 ghost use Rattle.std.specs.Prelude.{◌≡◌, MatchResult};
 ghost use Rattle.report_script.specs.Scripts.{read_script, script_view};
@@ -42,7 +43,7 @@ pub struct Script<'input> {
     pub source: &'input str,
 }
 
-/// The kinds of errors in scripts, in the order of their numbers, from 1.
+/// A kind of error in scripts; the kinds are in the order of their numbers, from 1.
 #[derive(Clone, Copy)]
 pub enum FaultNumber {
     /// A line begins with a word that scripts do not have.
@@ -118,11 +119,11 @@ pub struct Fault {
 pub enum ScriptError {
     /// The text is no script.
     Fault(Fault),
-    /// Memory ran out.
+    /// An allocation failed.
     OutOfMemory,
 }
 
-/// A failed allocation becomes `OutOfMemory`.
+/// Converts a failed allocation.
 impl From<AllocError> for ScriptError {
     ghost from_gives = { λ _ error. error ≡ OutOfMemory };
 
@@ -137,7 +138,7 @@ impl From<AllocError> for ScriptError {
 ///
 /// - `Fault` if the text is no script: its first error, by lines, and within a line from left to
 ///   right.
-/// - `OutOfMemory` if memory runs out.
+/// - `OutOfMemory` if an allocation fails.
 pub fn parse_script(alloc: Global, input: &str) -> Result<Script<'_>, ScriptError>
     ensures { MatchResult result (λ script. read_script input.now ≡ Ok (script_view script))
         (λ error. IsFaultOf (read_script input.now) error) }

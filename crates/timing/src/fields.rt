@@ -25,6 +25,10 @@ impl<'a> Fields<'a> {
     }
 
     /// Reads a line.
+    ///
+    /// # Errors
+    ///
+    /// `Malformed` if no newline is left, or the line is not UTF-8.
     pub fn line(&mut self) -> Result<&'a str, Malformed> {
         match self.left.iter().position(|byte| *byte == b'\n') {
             Some(length) => self.ended(length),
@@ -33,6 +37,10 @@ impl<'a> Fields<'a> {
     }
 
     /// Reads a number.
+    ///
+    /// # Errors
+    ///
+    /// `Malformed` if there is no line, or it is no number.
     pub fn number(&mut self) -> Result<usize, Malformed> {
         match self.line()?.parse() {
             Ok(number) => Ok(number),
@@ -41,12 +49,17 @@ impl<'a> Fields<'a> {
     }
 
     /// Reads a text.
+    ///
+    /// # Errors
+    ///
+    /// `Malformed` if its length, the text or its newline is not there, or the text is not UTF-8.
     pub fn text(&mut self) -> Result<&'a str, Malformed> {
         let length = self.number()?;
         self.ended(length)
     }
 
-    /// Reads this many bytes and the newline after them.
+    /// Reads this many bytes and the newline after them. Fails with `Malformed` if they are not
+    /// there, or the bytes are not UTF-8.
     fn ended(&mut self, length: usize) -> Result<&'a str, Malformed> {
         let Some((taken, rest)) = self.left.split_at_checked(length) else {
             return Err(Malformed);

@@ -35,17 +35,17 @@ pub enum Failure {
     /// The text in escape sequences differs from what the row states.
     OtherColors,
     /// On a path, with a writer that stops in this way after this many writes or style marks: the
-    /// result is not `Io`, the writer does not hold exactly what it accepted before, or it was
-    /// called again.
+    /// result is not the expected one (`Io` if the writer stopped, and else `Ok`), the writer does
+    /// not hold exactly what it accepted, or it was called again.
     Stopped(Path, Ending, usize),
 }
 
 /// An error, with the style and the call in which it occurred.
 #[derive(Drop)]
 pub struct FailureAt {
-    /// The style; `None` before any text is rendered.
+    /// The style; `None` for a direct call, and before any text is rendered.
     pub style: Option<DisplayStyle>,
-    /// The call; `None` before one to a writer.
+    /// The call; `None` for a direct call, and before a call writes to a writer.
     pub call: Option<Call>,
     /// The error.
     pub failure: Failure,

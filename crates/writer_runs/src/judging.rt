@@ -22,6 +22,10 @@ pub const STYLES: [DisplayStyle; 3] = [
 ];
 
 /// Makes all runs of a row, and returns their number.
+///
+/// # Errors
+///
+/// The first error of a run, with its style and its call.
 pub fn judge_row(alloc: Global, row: &Row<'_>) -> Result<usize, FailureAt> {
     let database = prepared(database_of(alloc, &row.case))?;
     judge_styles(alloc, row, &database)
@@ -37,7 +41,7 @@ fn judge_styles(alloc: Global, row: &Row<'_>, database: &Database<'_>) -> Result
     Ok(runs)
 }
 
-/// Returns what a run is made of, or that making it failed.
+/// Adds to an error that it occurred before any call.
 fn prepared<T: Drop>(made: Result<T, Error>) -> Result<T, FailureAt> {
     match made {
         Ok(made) => Ok(made),
@@ -192,11 +196,15 @@ fn judge_colors<D: Render>(output: &D, bytes: &[u8], colors: Colors<'_>) -> Resu
 }
 
 /// Makes all runs of a direct call, and returns their number.
+///
+/// # Errors
+///
+/// The first error of a run, without a style or a call.
 pub fn judge_direct(alloc: Global, row: &DirectRow<'_>) -> Result<usize, FailureAt> {
     at(None, None, judge_direct_call(alloc, row))
 }
 
-/// Makes all runs of a direct call, and returns their number.
+/// Makes all runs of a direct call, and returns their number, or the first error.
 fn judge_direct_call(alloc: Global, row: &DirectRow<'_>) -> Result<usize, Failure> {
     let direct = Direct::new(alloc, row.call)?;
     judge_call(alloc, &direct, row.text, row.colors)

@@ -27,7 +27,7 @@ pub enum Path {
 /// The writers of styles.
 pub const PATHS: [Path; 4] = [Path::Plain, Path::Ansi, Path::NoColor, Path::Custom];
 
-/// Returns the name of the writer.
+/// Writes the name of the writer.
 impl fmt::Display for Path {
     fn fmt<W: fmt::Write>(&self, f: &mut fmt::Formatter<W>) -> fmt::Result {
         f.write_str(match self {
@@ -47,6 +47,10 @@ fn render_in_styles<D: Render, W: WriteColor + Drop>(output: &D, writer: W) -> R
 
 impl Path {
     /// Renders on this path.
+    ///
+    /// # Errors
+    ///
+    /// Those of rendering.
     pub fn render<D: Render, W: Write>(self, output: &D, writer: &mut W) -> Result<(), Error> {
         match self {
             Path::Plain => output.render_plain(writer),
@@ -63,6 +67,11 @@ impl Path {
 
     /// Renders on this path into a writer that records, and returns it. Without the escape
     /// sequences that style marks are written as, its text has to be the plain text.
+    ///
+    /// # Errors
+    ///
+    /// - `Failed`: rendering or an allocation fails.
+    /// - `OtherText`: the text is another.
     pub fn record<D: Render>(
         self,
         alloc: Global,

@@ -33,7 +33,7 @@ pub const CALLS: [Call; 4] = [
     Call::Emit,
 ];
 
-/// Returns the name of the call.
+/// Writes the name of the call.
 impl fmt::Display for Call {
     fn fmt<W: fmt::Write>(&self, f: &mut fmt::Formatter<W>) -> fmt::Result {
         f.write_str(match self {

@@ -1,4 +1,4 @@
-//! One run of the program.
+//! The program, over any reader and writers.
 
 ghost use Rattle.std.specs.Prelude.{◌≤◌};
 
@@ -48,7 +48,7 @@ fn write_counts<E: Write>(
     writeln!(error_output, "writer_runs: {rows} rows, {runs} runs")
 }
 
-/// The rows so far.
+/// How many rows and runs there were so far, and whether one was wrong.
 #[derive(Clone, Copy, Default)]
 struct Sum {
     rows: usize,

@@ -22,6 +22,10 @@ pub const WRITERS: usize = STOPS.len() + 2;
 
 /// Renders on a path into each writer that stops, at each write that rendering makes, and returns
 /// the number of runs.
+///
+/// # Errors
+///
+/// `Stopped`: the first run whose result or whose writer is not as expected.
 pub fn judge_stops<D: Render>(
     alloc: Global,
     path: Path,
@@ -78,7 +82,12 @@ fn stops_at<D: Render>(
 }
 
 /// Renders to this program's writer of styles, which fails at each style mark in turn, and returns
-/// the number of runs.
+/// the number of runs. The text itself has no escape character: each one in `whole` begins the
+/// spelling of a style mark.
+///
+/// # Errors
+///
+/// `Stopped`: the first run whose result or whose writer is not as expected.
 pub fn judge_style_marks<D: Render>(
     alloc: Global,
     output: &D,

@@ -14,7 +14,7 @@ use crate::request::parse_number;
 use codespan_base::diagnostic::{LabelStyle, Severity};
 use std::alloc::{AllocError, Global};
 
-/// Returns the first line that begins with the word.
+/// Returns the first line whose word is this.
 pub(super) fn line_of_word<'a, 'input>(
     word: &str,
     lines: &'a [Line<'input>],
@@ -29,7 +29,7 @@ pub(super) fn line_of_word<'a, 'input>(
     None
 }
 
-/// Returns the rest of the first line that begins with the word.
+/// Returns the rest of the first line whose word is this.
 pub(super) fn rest_of_word<'input>(word: &str, lines: &[Line<'input>]) -> Option<&'input str>
     ensures { option_map (λ rest. rest.now) result
         ≡ rest_of_word word.now (map line_view lines.now) }
