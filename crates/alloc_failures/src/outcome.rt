@@ -37,8 +37,8 @@ pub enum Wrong {
 impl Outcome {
     /// Returns the program's status.
     pub fn status(self) -> u8
-        ensures most { result ≤ 2 }
-        ensures right { result ≡ 0 → (self ≡ Outcome.Unprepared) ⊎ (self ≡ Outcome.Done)
+        ensures at_most_two { result ≤ 2 }
+        ensures success { result ≡ 0 → (self ≡ Outcome.Unprepared) ⊎ (self ≡ Outcome.Done)
             ⊎ (self ≡ Outcome.Failed) }
     {
         match self {

@@ -59,7 +59,7 @@ fn apply_line<'input>(
 {
     match parse_line(alloc, line)? {
         Line::Ignored => {}
-        Line::Title(name) => cases.push(Case::new(alloc, name))?,
+        Line::NewCase(name) => cases.push(Case::new(alloc, name))?,
         Line::Description(statement) => apply_to_last(cases, statement)?,
     }
     Ok(())
@@ -77,7 +77,7 @@ fn apply_to_last(cases: &mut Vec<Case<'_>>, statement: Statement) -> Result<(), 
 }
 
 /// Returns the first case of a name.
-pub fn named<'cases, 'input>(
+pub fn case_named<'cases, 'input>(
     cases: &'cases [Case<'input>],
     name: &str,
 ) -> Option<&'cases Case<'input>>

@@ -36,7 +36,7 @@ pub fn database_of<'case>(alloc: Global, case: &'case Case<'_>) -> Result<Databa
         DatabaseKind::One => {
             let file = only_file(case.files.as_slice())?;
             let files = SimpleFile::new(alloc, file.name.as_str(), file.source.as_str())?;
-            Ok(Database::One(files, in_one_file(alloc, &case.diagnostic)?))
+            Ok(Database::One(files, with_unit_ids(alloc, &case.diagnostic)?))
         }
         DatabaseKind::Several => {
             Ok(Database::Several(several_files(alloc, case.files.as_slice())?))
@@ -44,7 +44,7 @@ pub fn database_of<'case>(alloc: Global, case: &'case Case<'_>) -> Result<Databa
         DatabaseKind::Mapped => {
             let file = only_file(case.files.as_slice())?;
             let files = mapped_file(alloc, file, case.numbers.as_slice())?;
-            Ok(Database::Mapped(files, in_one_file(alloc, &case.diagnostic)?))
+            Ok(Database::Mapped(files, with_unit_ids(alloc, &case.diagnostic)?))
         }
     }
 }
@@ -90,14 +90,14 @@ fn mapped_file<'case>(
 
 /// Returns the diagnostic with the file id `()`. Fails with `FileMissing` if a label is not in file
 /// 0, and with `OutOfMemory`.
-fn in_one_file(alloc: Global, diagnostic: &Diagnostic<usize>) -> Result<Diagnostic<()>, Error>
+fn with_unit_ids(alloc: Global, diagnostic: &Diagnostic<usize>) -> Result<Diagnostic<()>, Error>
     ensures { IfOk result (λ converted. diagnostic_view converted
         ≡ by_unit_id (diagnostic_view diagnostic.now)) }
 {
     let diagnostic = diagnostic.clone()?;
     let mut labels = Vec::new(alloc);
     for label in diagnostic.labels.as_slice() {
-        labels.push(in_this_file(label)?)?;
+        labels.push(label_with_unit_id(label)?)?;
     }
     Ok(Diagnostic {
         severity: diagnostic.severity,
@@ -110,7 +110,7 @@ fn in_one_file(alloc: Global, diagnostic: &Diagnostic<usize>) -> Result<Diagnost
 
 /// Returns the label with the file id `()`. Fails with `FileMissing` if it is not in file 0, and
 /// with `OutOfMemory`.
-fn in_this_file(label: &Label<usize>) -> Result<Label<()>, Error>
+fn label_with_unit_id(label: &Label<usize>) -> Result<Label<()>, Error>
     ensures { IfOk result (λ converted. label_view converted
         ≡ label_by_unit_id (label_view label.now)) }
 {

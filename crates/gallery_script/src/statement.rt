@@ -24,7 +24,7 @@ pub enum Line<'input> {
     /// It is empty or begins with `#`, and is ignored.
     Ignored,
     /// `case NAME`: it begins a case of this name.
-    Title(&'input str),
+    NewCase(&'input str),
     /// It describes the last case.
     Description(Statement),
 }
@@ -96,7 +96,7 @@ pub fn parse_line<'input>(alloc: Global, line: &'input str) -> Result<Line<'inpu
     }
     let (word, rest) = cut(line);
     if word == "case" {
-        return Ok(Line::Title(rest));
+        return Ok(Line::NewCase(rest));
     }
     let word = parse_word(word).ok_or(LineError::UnknownWord)?;
     Ok(Line::Description(parse_statement(alloc, word, rest)?))
@@ -108,17 +108,17 @@ fn parse_statement(alloc: Global, word: Word, rest: &str) -> Result<Statement, L
     ensures wrong { IfErr result (IsWrong (Some word) rest.now) }
 {
     match word {
-        Word::Database => Ok(Statement::Database(known(parse_database_kind(rest))?)),
+        Word::Database => Ok(Statement::Database(or_unknown_name(parse_database_kind(rest))?)),
         Word::File => Ok(Statement::File(unescape(alloc, rest)?)),
         Word::Source => Ok(Statement::Source(unescape(alloc, rest)?)),
         Word::Number => parse_line_number(rest),
-        Word::Style => Ok(Statement::Style(known(parse_style(rest))?)),
-        Word::Layout => Ok(Statement::Layout(known(parse_layout(rest))?)),
+        Word::Style => Ok(Statement::Style(or_unknown_name(parse_style(rest))?)),
+        Word::Layout => Ok(Statement::Layout(or_unknown_name(parse_layout(rest))?)),
         Word::Tab => Ok(Statement::Tab(parse_number(rest)?)),
         Word::Context => parse_context(rest),
-        Word::Characters => Ok(Statement::Characters(known(parse_characters(rest))?)),
-        Word::Colors => Ok(Statement::Colors(known(parse_colors(rest))?)),
-        Word::Severity => Ok(Statement::Severity(known(parse_severity(rest))?)),
+        Word::Characters => Ok(Statement::Characters(or_unknown_name(parse_characters(rest))?)),
+        Word::Colors => Ok(Statement::Colors(or_unknown_name(parse_colors(rest))?)),
+        Word::Severity => Ok(Statement::Severity(or_unknown_name(parse_severity(rest))?)),
         Word::Code => Ok(Statement::Code(unescape(alloc, rest)?)),
         Word::Message => Ok(Statement::Message(unescape(alloc, rest)?)),
         Word::Primary => parse_label(alloc, LabelStyle::Primary, rest),
@@ -128,7 +128,7 @@ fn parse_statement(alloc: Global, word: Word, rest: &str) -> Result<Statement, L
 }
 
 /// Returns what a name stands for, or `UnknownName`.
-fn known<T: Drop>(named: Option<T>) -> Result<T, LineError>
+fn or_unknown_name<T: Drop>(named: Option<T>) -> Result<T, LineError>
     ensures { result ≡ ok_or named UnknownName }
 {
     named.ok_or(LineError::UnknownName)

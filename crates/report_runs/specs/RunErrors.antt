@@ -29,13 +29,14 @@ IsStatusOf (Err CannotWriteOutput) status = status ≡ 1
 
 -- what an error's `Display` writes: a line without its newline, or the rendered diagnostic of a
 -- script's error
-abbrev pub error_line : RunError → Option (List ℕ)
-error_line WrongArguments = Some (codes "usage: report STYLE NAME START END MESSAGE")
-error_line CannotReadInput = Some (codes "report: cannot read input")
-error_line NotUtf8 = Some (codes "report: input is not UTF-8")
-error_line (CannotRender error) = option_map (λ text. codes "report: " ++ text) (error_text error)
-error_line (BadScript text) = Some (string_bytes text)
-error_line CannotWriteOutput = Some (codes "report: cannot write output")
+abbrev pub displayed_error : RunError → Option (List ℕ)
+displayed_error WrongArguments = Some (codes "usage: report STYLE NAME START END MESSAGE")
+displayed_error CannotReadInput = Some (codes "report: cannot read input")
+displayed_error NotUtf8 = Some (codes "report: input is not UTF-8")
+displayed_error (CannotRender error) =
+    option_map (λ text. codes "report: " ++ text) (error_text error)
+displayed_error (BadScript text) = Some (string_bytes text)
+displayed_error CannotWriteOutput = Some (codes "report: cannot write output")
 
 -- the error of a run whose arguments can not be read
 abbrev pub arguments_error : ArgumentsError → RunError

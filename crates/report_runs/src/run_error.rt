@@ -31,7 +31,7 @@ pub enum RunError {
 
 impl RunError {
     ghost use Rattle.program_io.specs.Output.{AppendsPrefix};
-    ghost use Rattle.report_runs.specs.RunErrors.{error_line, failed_output_line};
+    ghost use Rattle.report_runs.specs.RunErrors.{displayed_error, failed_output_line};
 
     /// Writes the error and a newline.
     ///
@@ -40,7 +40,7 @@ impl RunError {
     /// An [`io::Error`] if a write fails. Of the line of a failed output a prefix has then been
     /// written; what has been written of another error is unspecified.
     pub fn write_line<W: Write>(&self, error_output: &mut W) -> io::Result<()>
-        ensures written { OnOk result (IfSome (with_newline (error_line self.now))
+        ensures written { OnOk result (IfSome (with_newline (displayed_error self.now))
             (Appends (W.contents error_output.old) (W.contents error_output.new))) }
         ensures prefix { self.now ≡ CannotWriteOutput
             → AppendsPrefix (W.contents error_output.old) (W.contents error_output.new)
@@ -96,9 +96,9 @@ impl From<Error> for RunError {
 
 /// Writes the error's line, without its newline; of a script's error the rendered diagnostic.
 impl fmt::Display for RunError {
-    ghost use Rattle.report_runs.specs.RunErrors.{error_line};
+    ghost use Rattle.report_runs.specs.RunErrors.{displayed_error};
 
-    ghost output = { error_line };
+    ghost output = { displayed_error };
 
     fn fmt<W: fmt::Write>(&self, f: &mut fmt::Formatter<W>) -> fmt::Result {
         match self {

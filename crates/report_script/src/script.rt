@@ -19,7 +19,7 @@ mod words;
 use codespan_base::diagnostic::{LabelStyle, Severity};
 use faults::first_fault;
 use lines::read_lines;
-use parts::{labels, notes, parsed_severity, rest_of_word};
+use parts::{parsed_labels, parsed_notes, parsed_severity, rest_of_word};
 use std::alloc::{AllocError, Global};
 use std::ops::Range;
 
@@ -59,7 +59,7 @@ pub enum FaultNumber {
 }
 
 impl FaultNumber {
-    ghost use Rattle.report_script.specs.Messages.{fault_code, fault_message, fault_note};
+    ghost use Rattle.report_script.specs.Messages.{fault_code, fault_message, fault_label_message};
 
     /// Returns the code of the diagnostic, `S1` for the first kind.
     pub fn code(self) -> &'static str
@@ -88,8 +88,8 @@ impl FaultNumber {
     }
 
     /// Returns the message of the label over the error.
-    pub fn note(self) -> &'static str
-        ensures { result.now ≡ fault_note self }
+    pub fn label_message(self) -> &'static str
+        ensures { result.now ≡ fault_label_message self }
     {
         match self {
             FaultNumber::UnknownWord => {
@@ -158,8 +158,8 @@ pub fn parse_script(alloc: Global, input: &str) -> Result<Script<'_>, ScriptErro
         severity: parsed_severity(lines.as_slice()),
         code: rest_of_word("code", lines.as_slice()),
         message: rest_of_word("message", lines.as_slice()).unwrap_or(""),
-        labels: labels(alloc, lines.as_slice())?,
-        notes: notes(alloc, lines.as_slice())?,
+        labels: parsed_labels(alloc, lines.as_slice())?,
+        notes: parsed_notes(alloc, lines.as_slice())?,
         source,
     })
 }

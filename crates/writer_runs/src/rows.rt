@@ -64,7 +64,7 @@ fn apply_case_line<'input>(
 ) -> Result<(), LineError> {
     match parse_line(alloc, line)? {
         Line::Ignored => Ok(()),
-        Line::Title(name) => add_row(alloc, rows, name),
+        Line::NewCase(name) => add_row(alloc, rows, name),
         Line::Description(statement) => apply_to_last(rows, statement),
     }
 }

@@ -71,7 +71,7 @@ fn label_of_rest(style: LabelStyle, rest: &str) -> Option<ScriptLabel<'_>>
 }
 
 /// Returns the labels that the lines state, in their order.
-pub(super) fn labels<'input>(
+pub(super) fn parsed_labels<'input>(
     alloc: Global,
     lines: &[Line<'input>],
 ) -> Result<Vec<ScriptLabel<'input>>, AllocError>
@@ -88,7 +88,7 @@ pub(super) fn labels<'input>(
 }
 
 /// Returns the notes that the lines state, in their order.
-pub(super) fn notes<'input>(
+pub(super) fn parsed_notes<'input>(
     alloc: Global,
     lines: &[Line<'input>],
 ) -> Result<Vec<&'input str>, AllocError>
