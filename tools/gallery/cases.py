@@ -59,7 +59,7 @@ class Case:
 
     def __init__(self, name):
         self.name, self.database, self.files, self.numbers = name, 'several', [], []
-        self.looks = {'style': 'rich', 'layout': 'classic', 'colors': 'none'}
+        self.settings = {'style': 'rich', 'layout': 'classic', 'colors': 'none'}
         self.config = {'tab': 4, 'chars': 'box', 'start': 3, 'end': 1, 'before': 0, 'after': 0}
         self.severity, self.code, self.message, self.labels, self.notes = 'error', None, '', [], []
 
@@ -73,8 +73,8 @@ class Case:
             self.files[-1][1] += unescaped(rest)
         elif word == 'number':
             self.numbers.append([int(number) for number in rest.split(' ')])
-        elif word in self.looks:
-            self.looks[word] = rest
+        elif word in self.settings:
+            self.settings[word] = rest
         elif word == 'tab':
             self.config['tab'] = int(rest)
         elif word == 'context':
@@ -100,8 +100,8 @@ class Case:
         if self.database != 'several':
             assert len(self.files) == 1 and all(label[1] == 0 for label in self.labels), self.name
         config = ' '.join('%s=%s' % setting for setting in self.config.items())
-        yield from ('case ' + self.name, 'style ' + self.looks['style'], 'layout ' + self.looks['layout'])
-        yield from ('config ' + config, 'color ' + ('none' if self.looks['colors'] == 'none' else 'ansi'))
+        yield from ('case ' + self.name, 'style ' + self.settings['style'], 'layout ' + self.settings['layout'])
+        yield from ('config ' + config, 'color ' + ('none' if self.settings['colors'] == 'none' else 'ansi'))
         for name, source in self.files:
             yield 'file %s %s' % (field(name), field(source))
         if self.database == 'mapped':
@@ -142,11 +142,11 @@ def outcomes(oracle, cases):
 
 def written(case, kind, texts):
     """An output under its name, as the gallery writes it: of `ok` and the output, or of `err`, the error and what was written before it."""
-    colors = case.looks['colors']
-    drawn = texts[0] if kind == 'ok' else texts[1] if colors == 'ansi' else ''
+    colors = case.settings['colors']
+    rendered = texts[0] if kind == 'ok' else texts[1] if colors == 'ansi' else ''
     if colors == 'svg' and kind == 'ok':
-        drawn = document(list(glyphs(drawn)))
-    shown = ''.join(SHOWN.get(c, c) for c in drawn)
+        rendered = document(list(glyphs(rendered)))
+    shown = ''.join(SHOWN.get(c, c) for c in rendered)
     return '== %s\n%s%s' % (case.name, shown, 'failed: %s\n' % texts[0] if kind == 'err' else '')
 
 
@@ -158,4 +158,4 @@ def section(name):
 
 def svg_cases():
     """The cases whose colors are `svg`."""
-    return [case for case in read_cases((GALLERY / 'stdin').read_bytes().decode()) if case.looks['colors'] == 'svg']
+    return [case for case in read_cases((GALLERY / 'stdin').read_bytes().decode()) if case.settings['colors'] == 'svg']
