@@ -16,10 +16,10 @@
 //! | 2 | no subject has this name |
 #![tactic(auto)]
 
+mod builders;
 mod cases;
 mod clones;
 mod copying;
-mod data;
 mod databases;
 mod diagnostics;
 mod documents;

@@ -1,8 +1,10 @@
 //! The subjects, and their names.
 
+use crate::builders::{
+    DiagnosticCall, LabelCall, ListCall, TextCall, judge_diagnostic, judge_label,
+};
 use crate::cases::CaseName;
 use crate::clones::{CloneCall, judge_clone};
-use crate::data::{DiagnosticCall, LabelCall, ListCall, TextCall, judge_diagnostic, judge_label};
 use crate::databases::{DatabaseCall, judge_database};
 use crate::documents::{DocumentCall, judge_document};
 use crate::native::judge_native;
@@ -138,10 +140,10 @@ impl Subject {
     /// Returns the subject that the arguments name.
     pub fn from_arguments(args: &[String]) -> Option<Subject> {
         match args {
-            [word] => named(&CALLS, word.as_str()),
+            [word] => entry_named(&CALLS, word.as_str()),
             [call, case_name] => Some(Subject::Rendering(
-                named(&RENDER_CALLS, call.as_str())?,
-                named(&CASES, case_name.as_str())?,
+                entry_named(&RENDER_CALLS, call.as_str())?,
+                entry_named(&CASES, case_name.as_str())?,
             )),
             _ => None,
         }
@@ -163,7 +165,7 @@ impl Subject {
 }
 
 /// Returns the entry of a table of this name.
-fn named<T: Copy>(table: &[(&str, T)], name: &str) -> Option<T> {
+fn entry_named<T: Copy>(table: &[(&str, T)], name: &str) -> Option<T> {
     for (known, value) in table {
         if *known == name {
             return Some(*value);

@@ -31,7 +31,7 @@ impl<'a> Fields<'a> {
     /// `Malformed` if no newline is left, or the line is not UTF-8.
     pub fn line(&mut self) -> Result<&'a str, Malformed> {
         match self.left.iter().position(|byte| *byte == b'\n') {
-            Some(length) => self.ended(length),
+            Some(length) => self.bytes_and_newline(length),
             None => Err(Malformed),
         }
     }
@@ -55,12 +55,12 @@ impl<'a> Fields<'a> {
     /// `Malformed` if its length, the text or its newline is not there, or the text is not UTF-8.
     pub fn text(&mut self) -> Result<&'a str, Malformed> {
         let length = self.number()?;
-        self.ended(length)
+        self.bytes_and_newline(length)
     }
 
     /// Reads this many bytes and the newline after them. Fails with `Malformed` if they are not
     /// there, or the bytes are not UTF-8.
-    fn ended(&mut self, length: usize) -> Result<&'a str, Malformed> {
+    fn bytes_and_newline(&mut self, length: usize) -> Result<&'a str, Malformed> {
         let Some((taken, rest)) = self.left.split_at_checked(length) else {
             return Err(Malformed);
         };

@@ -16,9 +16,9 @@ pub enum TextKind {
     /// The text in short style.
     Short,
     /// The text in escape sequences, in each style whose text is stated.
-    Colors,
+    Ansi,
     /// The end of the text in escape sequences, in each style whose text is stated.
-    ColorsEnd,
+    AnsiEnd,
 }
 
 impl TextKind {
@@ -28,8 +28,8 @@ impl TextKind {
             "rich" => Some(TextKind::Rich),
             "medium" => Some(TextKind::Medium),
             "short" => Some(TextKind::Short),
-            "ansi" => Some(TextKind::Colors),
-            "ansi-end" => Some(TextKind::ColorsEnd),
+            "ansi" => Some(TextKind::Ansi),
+            "ansi-end" => Some(TextKind::AnsiEnd),
             _ => None,
         }
     }
@@ -46,19 +46,19 @@ impl TextKind {
 
 /// What a row states of its text in escape sequences.
 #[derive(Clone, Copy)]
-pub enum Colors<'text> {
+pub enum ExpectedColors<'text> {
     /// The end of the text.
     End(&'text str),
     /// The whole text.
     Whole(&'text str),
 }
 
-impl Colors<'_> {
+impl ExpectedColors<'_> {
     /// Returns whether a text is as stated.
-    pub fn are_those(self, text: &[u8]) -> bool {
+    pub fn is_met_by(self, text: &[u8]) -> bool {
         match self {
-            Colors::End(end) => text.ends_with(end.as_bytes()),
-            Colors::Whole(whole) => text == whole.as_bytes(),
+            ExpectedColors::End(end) => text.ends_with(end.as_bytes()),
+            ExpectedColors::Whole(whole) => text == whole.as_bytes(),
         }
     }
 }
@@ -130,13 +130,13 @@ impl<'input> Row<'input> {
 
     /// Returns what is stated of the text in escape sequences in a style: nothing if the plain text
     /// of the style is not stated.
-    pub fn colors(&self, style: DisplayStyle) -> Colors<'_> {
+    pub fn colors(&self, style: DisplayStyle) -> ExpectedColors<'_> {
         if self.plain_text(style).is_none() {
-            return Colors::End("");
+            return ExpectedColors::End("");
         }
-        match self.text(TextKind::Colors) {
-            Some(whole) => Colors::Whole(whole),
-            None => Colors::End(self.text(TextKind::ColorsEnd).unwrap_or("")),
+        match self.text(TextKind::Ansi) {
+            Some(whole) => ExpectedColors::Whole(whole),
+            None => ExpectedColors::End(self.text(TextKind::AnsiEnd).unwrap_or("")),
         }
     }
 

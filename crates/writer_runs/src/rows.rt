@@ -28,13 +28,13 @@ use std::alloc::Global;
 /// # Errors
 ///
 /// `Line` with the error of the first line that has one.
-pub fn parse_rows(alloc: Global, input: &str) -> Result<Vec<Row<'_>>, RunError> {
+pub fn parse_rows(alloc: Global, input: &str) -> Result<Vec<Row<'_>>, ProgramError> {
     let mut rows = Vec::new(alloc);
     let mut number = 0usize;
     for line in input.lines() {
         number = number.saturating_add(1);
         if let Err(line_error) = apply_line(alloc, &mut rows, line) {
-            return Err(RunError::Line(number, line_error));
+            return Err(ProgramError::Line(number, line_error));
         }
     }
     Ok(rows)
@@ -71,10 +71,7 @@ fn apply_case_line<'input>(
 
 /// Applies a statement to the case of the last row.
 fn apply_to_last(rows: &mut Vec<Row<'_>>, statement: Statement) -> Result<(), LineError> {
-    match rows.last_mut() {
-        Some(row) => row.case.apply(statement),
-        None => Err(LineError::NoCase),
-    }
+    last(rows)?.case.apply(statement)
 }
 
 /// Adds an escaped text to the last row.

@@ -3,7 +3,7 @@
 ghost use Rattle.std.specs.Prelude.{◌≤◌};
 
 use crate::direct::rows::ROWS;
-use crate::failure::{FailureAt, RunError};
+use crate::failure::{FailureAt, ProgramError};
 use crate::judging::{STYLES, judge_direct, judge_row};
 use crate::rendering::CALLS;
 use crate::row::Row;
@@ -39,7 +39,7 @@ pub fn run<R: Read, W: Write, E: Write>(
 fn write_counts<E: Write>(
     error_output: &mut E,
     sum: Sum,
-    outcome: &Result<(), RunError>,
+    outcome: &Result<(), ProgramError>,
 ) -> io::Result<()> {
     if let Err(error) = outcome {
         writeln!(error_output, "writer_runs: {error}")?;
@@ -86,7 +86,7 @@ fn judge_all<R: Read, W: Write>(
     input: &mut R,
     output: &mut W,
     sum: &mut Sum,
-) -> Result<(), RunError> {
+) -> Result<(), ProgramError> {
     let text = read_text(alloc, input)?;
     judge_text(alloc, text.as_str(), output, sum)?;
     judge_direct_rows(alloc, output, sum)
@@ -98,7 +98,7 @@ fn judge_text<W: Write>(
     text: &str,
     output: &mut W,
     sum: &mut Sum,
-) -> Result<(), RunError> {
+) -> Result<(), ProgramError> {
     let rows = parse_rows(alloc, text)?;
     judge_rows(alloc, rows.as_slice(), output, sum)
 }
@@ -109,7 +109,7 @@ fn judge_rows<W: Write>(
     rows: &[Row<'_>],
     output: &mut W,
     sum: &mut Sum,
-) -> Result<(), RunError> {
+) -> Result<(), ProgramError> {
     let (styles, calls) = (STYLES.len(), CALLS.len());
     for row in rows {
         let judged = judge_row(alloc, row);
@@ -124,7 +124,7 @@ fn judge_direct_rows<W: Write>(
     alloc: Global,
     output: &mut W,
     sum: &mut Sum,
-) -> Result<(), RunError> {
+) -> Result<(), ProgramError> {
     for row in &ROWS {
         sum.report(output, row.name, judge_direct(alloc, row), row.call)?;
     }
