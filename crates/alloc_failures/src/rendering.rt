@@ -112,7 +112,10 @@ fn judge_call<'files, F: Files<'files>>(
             let returned = emit_to_string(&mut string, &case.config(), files, diagnostic);
             Ok(judge_appended(&returned, string.as_str(), case.output))
         }
-        _ => Ok(judge_written(alloc, call, case, files, diagnostic)),
+        RenderCall::Render
+        | RenderCall::EmitToWriteStyle
+        | RenderCall::EmitToIoWrite
+        | RenderCall::Emit => Ok(judge_written(alloc, call, case, files, diagnostic)),
     }
 }
 

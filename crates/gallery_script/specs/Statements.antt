@@ -5,7 +5,7 @@ use Rattle.codespan_base.specs.declared.diagnostic.LabelStyle.{LabelStyle}
 use Rattle.codespan_base.specs.declared.diagnostic.LabelStyle.TheVariants as styles
 use Rattle.gallery_script.specs.declared.errors.LineError.{LineError}
 use Rattle.gallery_script.specs.declared.errors.LineError.TheVariants.{UnknownWord, UnknownName, BadNumber, BadEscape, NoCase, NoFile, OutOfMemory}
-use Rattle.gallery_script.specs.declared.statement.Context as contexts
+use Rattle.gallery_script.specs.declared.statement.ContextLines as context_lines
 use Rattle.gallery_script.specs.declared.statement.Line.{Line}
 use Rattle.gallery_script.specs.declared.statement.Line.TheVariants.{Ignored, NewCase, Description}
 use Rattle.gallery_script.specs.declared.statement.Statement.{Statement}
@@ -34,9 +34,9 @@ abbrev pub style_word : LabelStyle → Word
 style_word styles.Primary = Primary
 style_word styles.Secondary = Secondary
 
--- the rest has the numbers of lines that are shown: after a first line, before a last one, before a
+-- the rest has the numbers of context lines: after a first line, before a last one, before a
 -- label and after it
-pub record IsContext (rest : List ℕ) (context : contexts.Context) : Type 0 where
+pub record AreContextLines (rest : List ℕ) (context : context_lines.ContextLines) : Type 0 where
   pub start : IsNumber (field_of rest) context.start
   pub end : IsNumber (field_of (past_space rest)) context.end
   pub before : IsNumber (field_of (past_two rest)) context.before
@@ -63,7 +63,8 @@ Describes word rest (statements.Style style) = (word ≡ Some Style) × (style_n
 Describes word rest (statements.Layout layout) =
     (word ≡ Some Layout) × (layout_named rest ≡ Some layout)
 Describes word rest (statements.Tab width) = (word ≡ Some Tab) × IsNumber rest width
-Describes word rest (statements.Context context) = (word ≡ Some Context) × IsContext rest context
+Describes word rest (statements.Context context) =
+    (word ≡ Some Context) × AreContextLines rest context
 Describes word rest (statements.Characters set) =
     (word ≡ Some Characters) × (characters_named rest ≡ Some set)
 Describes word rest (statements.Colors colors) =

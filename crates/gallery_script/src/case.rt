@@ -7,7 +7,7 @@ ghost use Rattle.gallery_script.specs.Words.{chars_of};
 ghost use Rattle.gallery_script.specs.declared.errors.LineError.TheVariants.{NoFile, OutOfMemory};
 
 use crate::errors::LineError;
-use crate::statement::{Context, Statement};
+use crate::statement::{ContextLines, Statement};
 use codespan_base::diagnostic::Diagnostic;
 use codespan_base::term::{Chars, Config};
 use std::alloc::Global;
@@ -162,7 +162,7 @@ impl<'input> Case<'input> {
     }
 
     /// Sets how many context lines are shown.
-    fn set_context(&mut self, context: Context)
+    fn set_context(&mut self, context: ContextLines)
         ensures { self.new ≡ record self.old {
           config = record self.old.config {
             start_context_lines = context.start;

@@ -48,7 +48,7 @@ pub enum Statement {
     Tab(usize),
     /// `context START END BEFORE AFTER`: how many context lines are shown, around labels and inside
     /// multi-line labels.
-    Context(Context),
+    Context(ContextLines),
     /// `characters NAME`: the characters of borders, carets and lanes.
     Characters(CharacterSet),
     /// `colors NAME`: how colors are written.
@@ -67,7 +67,7 @@ pub enum Statement {
 
 /// How many context lines are shown: around labels, and inside multi-line labels.
 #[derive(Clone, Copy)]
-pub struct Context {
+pub struct ContextLines {
     /// After the first line of a multi-line label.
     pub start: usize,
     /// Before the last line of a multi-line label.
@@ -151,7 +151,7 @@ fn parse_context(rest: &str) -> Result<Statement, LineError>
     let (start, left) = cut_number(rest)?;
     let (end, left) = cut_number(left)?;
     let (before, left) = cut_number(left)?;
-    Ok(Statement::Context(Context {
+    Ok(Statement::Context(ContextLines {
         start,
         end,
         before,

@@ -34,16 +34,10 @@ pub enum Failure {
     OtherText(StyleWriterKind),
     /// The text in escape sequences differs from what the row states.
     OtherColors,
-    /// The result is not the expected one (`Io` if the writer stopped, and else `Ok`), the writer
-    /// does not hold exactly what it accepted, or it was called again.
-    Stopped {
-        /// The writer of styles.
-        style_writer: StyleWriterKind,
-        /// How the writer below it stops.
-        ending: Ending,
-        /// After how many writes, or style marks, it does.
-        after: usize,
-    },
+    /// By way of a writer of styles, with a writer that stops in this way after this many writes or
+    /// style marks: the result is not the expected one (`Io` if the writer stopped, and else `Ok`),
+    /// the writer does not hold exactly what it accepted, or it was called again.
+    Stopped(StyleWriterKind, Ending, usize),
 }
 
 /// An error, with the style and the call in which it occurred.
@@ -121,11 +115,7 @@ impl fmt::Display for Failure {
             Failure::OtherString => f.write_str("another string"),
             Failure::OtherText(style_writer) => write!(f, "by {style_writer}: another text"),
             Failure::OtherColors => f.write_str("other colors than stated"),
-            Failure::Stopped {
-                style_writer,
-                ending,
-                after,
-            } => {
+            Failure::Stopped(style_writer, ending, after) => {
                 write!(f, "by {style_writer}: wrong where a writer {ending}, after {after}")
             }
         }

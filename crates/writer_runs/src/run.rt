@@ -16,7 +16,7 @@ use std::io;
 use std::io::{Read, Write};
 
 /// Makes the runs of each row, writes a line for each, and returns the program's status. The number
-/// of runs is written to `error_output`, after the error that ends the run, if there is one; an
+/// of runs is written to `error_output`, after the error that ends the program, if there is one; an
 /// error of `error_output` is ignored.
 pub fn run<R: Read, W: Write, E: Write>(
     alloc: Global,
@@ -35,7 +35,7 @@ pub fn run<R: Read, W: Write, E: Write>(
     }
 }
 
-/// Writes the error that ended a run, and the number of runs.
+/// Writes the error that ended the program, if there is one, and the number of runs.
 fn write_counts<E: Write>(
     error_output: &mut E,
     sum: Sum,

@@ -35,11 +35,7 @@ pub fn judge_stops<D: Render>(
     let whole = recording.text.as_slice();
     let slow = Stopping::new(alloc, 1, usize::MAX, Stop::Fails);
     if !stops_at(style_writer, output, slow, whole, whole.len()) {
-        return Err(Failure::Stopped {
-            style_writer,
-            ending: Ending::Slow,
-            after: 0,
-        });
+        return Err(Failure::Stopped(style_writer, Ending::Slow, 0));
     }
     let mut runs = 1usize;
     for stop in STOPS {
@@ -47,21 +43,14 @@ pub fn judge_stops<D: Render>(
             let inner = Stopping::new(alloc, usize::MAX, writes, stop);
             let length = written_length(stop, *start, whole.len());
             if !stops_at(style_writer, output, inner, whole, length) {
-                return Err(Failure::Stopped {
-                    style_writer,
-                    ending: Ending::AtWrite(stop),
-                    after: writes,
-                });
+                return Err(Failure::Stopped(style_writer, Ending::AtWrite(stop), writes));
             }
             runs = runs.saturating_add(1);
         }
         let inner = Stopping::new(alloc, usize::MAX, recording.starts.len(), stop);
         if !stops_at(style_writer, output, inner, whole, whole.len()) {
-            return Err(Failure::Stopped {
-                style_writer,
-                ending: Ending::AtWrite(stop),
-                after: recording.starts.len(),
-            });
+            let writes = recording.starts.len();
+            return Err(Failure::Stopped(style_writer, Ending::AtWrite(stop), writes));
         }
         runs = runs.saturating_add(1);
     }
@@ -110,24 +99,20 @@ pub fn judge_style_marks<D: Render>(
         if *byte == b'\x1b' {
             let (written, _rest) = whole.split_at(position.saturating_add(1).min(whole.len()));
             if !stops_at_style_mark(alloc, output, marks, written, true) {
-                return Err(unstopped_at_style_mark(marks));
+                return Err(stopped_at_style_mark(marks));
             }
             marks = marks.saturating_add(1);
         }
     }
     if !stops_at_style_mark(alloc, output, marks, whole, false) {
-        return Err(unstopped_at_style_mark(marks));
+        return Err(stopped_at_style_mark(marks));
     }
     Ok(marks.saturating_add(1))
 }
 
 /// Returns the error of a run with a writer that fails at the style mark after this many.
-fn unstopped_at_style_mark(marks: usize) -> Failure {
-    Failure::Stopped {
-        style_writer: StyleWriterKind::Custom,
-        ending: Ending::AtStyleMark,
-        after: marks,
-    }
+fn stopped_at_style_mark(marks: usize) -> Failure {
+    Failure::Stopped(StyleWriterKind::Custom, Ending::AtStyleMark, marks)
 }
 
 /// Renders to a writer that fails at the style mark after this many, and returns whether it then
