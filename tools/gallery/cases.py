@@ -1,4 +1,4 @@
-"""The cases of the gallery, and what the comparison program says of them."""
+"""The cases of the gallery, and what the comparison program prints of them."""
 import pathlib
 import re
 import subprocess
@@ -19,10 +19,10 @@ CONTEXT = ('start', 'end', 'before', 'after')
 
 def unescaped(text, letters=LETTERS):
     """The text that an escaped one stands for."""
-    def said(match):
+    def character(match):
         escape = match.group(1)
         return chr(int(escape[2:-1], 16)) if escape.startswith('u{') else letters[escape]
-    return re.sub(r'\\(u\{[0-9a-fA-F]+\}|[^u]|$)', said, text)
+    return re.sub(r'\\(u\{[0-9a-fA-F]+\}|[^u]|$)', character, text)
 
 
 def is_seen(character):
@@ -44,7 +44,7 @@ def line(*fields):
 
 
 def text_lines(source):
-    """The lines that say a source, one for each of its lines."""
+    """The lines that state a source, one for each of its lines."""
     return [line('|', escaped(part)) for part in re.findall(r'[^\n]*\n|[^\n]+', source)]
 
 
@@ -131,10 +131,10 @@ def read_cases(text):
 def outcomes(oracle, cases):
     """What the comparison program prints of each case: `ok` and the output, or `err`, the error and what was written before it."""
     rows = ''.join(row + '\n' for case in cases for row in case.rows())
-    answer = subprocess.run([oracle, '--impl', 'ported'], input=rows.encode(), stdout=subprocess.PIPE, check=True).stdout.decode()
-    said = answer.splitlines()
-    assert said[::2] == ['case ' + case.name for case in cases]
-    for case, outcome in zip(cases, said[1::2]):
+    output = subprocess.run([oracle, '--impl', 'ported'], input=rows.encode(), stdout=subprocess.PIPE, check=True).stdout.decode()
+    lines = output.splitlines()
+    assert lines[::2] == ['case ' + case.name for case in cases]
+    for case, outcome in zip(cases, lines[1::2]):
         kind, *texts = outcome.split(' ')
         assert kind in ('ok', 'err'), (case.name, outcome)
         yield kind, [unescaped(text, THEIRS) for text in texts]

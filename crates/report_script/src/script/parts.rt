@@ -71,6 +71,10 @@ fn label_of_rest(style: LabelStyle, rest: &str) -> Option<ScriptLabel<'_>>
 }
 
 /// Returns the labels that the lines state, in their order.
+///
+/// # Errors
+///
+/// `AllocError` if an allocation fails.
 pub(super) fn parsed_labels<'input>(
     alloc: Global,
     lines: &[Line<'input>],
@@ -88,6 +92,10 @@ pub(super) fn parsed_labels<'input>(
 }
 
 /// Returns the notes that the lines state, in their order.
+///
+/// # Errors
+///
+/// `AllocError` if an allocation fails.
 pub(super) fn parsed_notes<'input>(
     alloc: Global,
     lines: &[Line<'input>],
