@@ -9,7 +9,7 @@ from cases import ROOT, unescaped  # noqa: E402
 
 ROWS = ROOT / 'crates/writer_runs/stdin'
 STYLES = ('rich', 'medium', 'short')
-COLOURED = ('ansi', 'ansi-end')
+COLORED = ('ansi', 'ansi-end')
 
 
 class Row:
@@ -20,7 +20,7 @@ class Row:
 
     def take(self, word, rest, line):
         """Takes in a line."""
-        if word in STYLES + COLOURED:
+        if word in STYLES + COLORED:
             self.stated[word] = self.stated.get(word, '') + unescaped(rest)
         else:
             self.lines.append(line)
@@ -30,7 +30,7 @@ class Row:
         for style in STYLES:
             if style in self.stated:
                 yield style, 'none', self.stated[style], False
-                yield from ((style, 'ansi', self.stated[word], word == 'ansi-end') for word in COLOURED if word in self.stated)
+                yield from ((style, 'ansi', self.stated[word], word == 'ansi-end') for word in COLORED if word in self.stated)
 
     def case(self, style, colors):
         """The lines of the case that the row is in a style."""

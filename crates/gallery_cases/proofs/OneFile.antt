@@ -1,4 +1,5 @@
--- What holds over the file database of a case.
+-- For the clauses of `rendering::render` and `rendering::runs_of_case`: what holds over the file
+-- database of a case.
 use Rattle.std.proofs.Common.{◌≡◌, ℕ, List, [], map, Result, Ok, Err, OnOk, IfOk, sym, subst}
 use Rattle.codespan_base.specs.declared.diagnostic.Diagnostic.{Diagnostic}
 use Rattle.codespan_base.specs.FileModel.{FileDatabase}

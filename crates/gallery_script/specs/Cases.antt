@@ -14,7 +14,7 @@ use Rattle.gallery_script.specs.declared.errors.RunError.TheVariants as run_erro
 use Rattle.gallery_script.specs.declared.errors.LineError.{LineError}
 use Rattle.gallery_script.specs.declared.errors.LineError.TheVariants.{NoCase, NoFile, OutOfMemory}
 use Rattle.gallery_script.specs.declared.statement.Line.{Line}
-use Rattle.gallery_script.specs.declared.statement.Line.TheVariants.{Ignored, Title, Description}
+use Rattle.gallery_script.specs.declared.statement.Line.TheVariants.{Ignored, NewCase, Description}
 use Rattle.gallery_script.specs.declared.statement.Statement.{Statement}
 use Rattle.gallery_script.specs.declared.statement.Statement.TheVariants as statements
 use Rattle.gallery_script.specs.Statements.{ParsesTo, IsWrongLine}
@@ -113,16 +113,16 @@ pub record Begins (name : List ℕ) (before after : List Case) : Type 0 where
   pub new : IsNew name case
 
 -- what a line does to the cases before it
-abbrev pub Adds : Line → List Case → List Case → Type 0
-Adds Ignored before after = after ≡ before
-Adds (Title name) before after = Begins name.now before after
-Adds (Description statement) before after = AppliesToLast statement before after
+abbrev pub AppliesParsedLine : Line → List Case → List Case → Type 0
+AppliesParsedLine Ignored before after = after ≡ before
+AppliesParsedLine (NewCase name) before after = Begins name.now before after
+AppliesParsedLine (Description statement) before after = AppliesToLast statement before after
 
 -- the cases after a line are those before it, with the line applied
 pub record AppliesLine (line : List ℕ) (before after : List Case) : Type 0 where
   pub parsed_line : Line
   pub parsed : ParsesTo line parsed_line
-  pub adds : Adds parsed_line before after
+  pub applied : AppliesParsedLine parsed_line before after
 
 -- the cases after some lines, parsed one after another
 abbrev pub AppliesLines : List (List ℕ) → List Case → List Case → Type 0
@@ -148,8 +148,8 @@ IsLineError line before line_error =
     ⊎ ((statement : Statement) × ParsesTo line (Description statement)
     × FailsAtLast statement before line_error))
 
--- the error is the first line that has an error, by its number from 1, and the error; or a
--- failed allocation
+-- the error has the number, from 1, of the first line that is wrong, and what is wrong with it; or
+-- an allocation failed
 abbrev pub IsFirstLineError : List (List ℕ) → RunError → Type 0
 IsFirstLineError lines (run_error.Line number line_error) =
     (k : ℕ) × (line : List ℕ) × (before : List Case) × (number ≡ k + 1)

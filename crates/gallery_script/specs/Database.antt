@@ -51,7 +51,8 @@ pub record IsOnlyFile (case : Case) (name source : List ℕ)
 -- this is the file database of a case
 abbrev pub IsDatabaseOf : Case → Database → Type 0
 IsDatabaseOf case (One file diagnostic) =
-    (case.database_kind ≡ kinds.One) × IsOnlyFile case (name_of file).now (source_of file).now diagnostic
+    (case.database_kind ≡ kinds.One)
+    × IsOnlyFile case (name_of file).now (source_of file).now diagnostic
 IsDatabaseOf case (Several files) =
     (case.database_kind ≡ kinds.Several)
     × (map borrowed_view (entries files) ≡ map file_view case.files.items)

@@ -7,12 +7,12 @@ ghost use Rattle.gallery_script.specs.Words.{chars_of};
 ghost use Rattle.gallery_script.specs.declared.errors.LineError.TheVariants.{NoFile, OutOfMemory};
 
 use crate::errors::LineError;
-use crate::statement::{Context, Statement};
+use crate::statement::{ContextLines, Statement};
 use codespan_base::diagnostic::Diagnostic;
 use codespan_base::term::{Chars, Config};
 use std::alloc::Global;
 
-/// The type of the file database of a case.
+/// The kind of the file database of a case.
 #[derive(Clone, Copy)]
 pub enum DatabaseKind {
     /// A `SimpleFile`.
@@ -67,9 +67,9 @@ pub struct File {
 /// A diagnostic to be rendered.
 #[derive(Drop)]
 pub struct Case<'input> {
-    /// The name of the case, its heading.
+    /// The name of the case.
     pub name: &'input str,
-    /// The type of the file database.
+    /// The kind of the file database.
     pub database_kind: DatabaseKind,
     /// The files in their order.
     pub files: Vec<File>,
@@ -161,8 +161,8 @@ impl<'input> Case<'input> {
         Ok(())
     }
 
-    /// Sets how many lines are shown around those of labels.
-    fn set_context(&mut self, context: Context)
+    /// Sets how many context lines are shown.
+    fn set_context(&mut self, context: ContextLines)
         ensures { self.new ≡ record self.old {
           config = record self.old.config {
             start_context_lines = context.start;

@@ -36,16 +36,15 @@ pub fn database_of<'case>(alloc: Global, case: &'case Case<'_>) -> Result<Databa
         DatabaseKind::One => {
             let file = only_file(case.files.as_slice())?;
             let files = SimpleFile::new(alloc, file.name.as_str(), file.source.as_str())?;
-            Ok(Database::One(files, in_one_file(alloc, &case.diagnostic)?))
+            Ok(Database::One(files, with_unit_ids(alloc, &case.diagnostic)?))
         }
-        DatabaseKind::Several => Ok(Database::Several(several_files(
-            alloc,
-            case.files.as_slice(),
-        )?)),
+        DatabaseKind::Several => {
+            Ok(Database::Several(several_files(alloc, case.files.as_slice())?))
+        }
         DatabaseKind::Mapped => {
             let file = only_file(case.files.as_slice())?;
             let files = mapped_file(alloc, file, case.numbers.as_slice())?;
-            Ok(Database::Mapped(files, in_one_file(alloc, &case.diagnostic)?))
+            Ok(Database::Mapped(files, with_unit_ids(alloc, &case.diagnostic)?))
         }
     }
 }
@@ -62,7 +61,8 @@ fn only_file(files: &[File]) -> Result<&File, Error>
 
 /// Returns a database of the files.
 fn several_files(alloc: Global, files: &[File]) -> Result<SimpleFiles<&str, &str>, Error>
-    ensures { IfOk result (λ database. map borrowed_view (entries database) ≡ map file_view files.now) }
+    ensures { IfOk result (λ database.
+        map borrowed_view (entries database) ≡ map file_view files.now) }
 {
     let mut database = SimpleFiles::new(alloc);
     for file in files {
@@ -88,15 +88,16 @@ fn mapped_file<'case>(
     Ok(mapped)
 }
 
-/// Returns the diagnostic by the id of a database of one file.
-fn in_one_file(alloc: Global, diagnostic: &Diagnostic<usize>) -> Result<Diagnostic<()>, Error>
+/// Returns the diagnostic with the file id `()`. Fails with `FileMissing` if a label is not in file
+/// 0, and with `OutOfMemory`.
+fn with_unit_ids(alloc: Global, diagnostic: &Diagnostic<usize>) -> Result<Diagnostic<()>, Error>
     ensures { IfOk result (λ converted. diagnostic_view converted
         ≡ by_unit_id (diagnostic_view diagnostic.now)) }
 {
     let diagnostic = diagnostic.clone()?;
     let mut labels = Vec::new(alloc);
     for label in diagnostic.labels.as_slice() {
-        labels.push(in_this_file(label)?)?;
+        labels.push(label_with_unit_id(label)?)?;
     }
     Ok(Diagnostic {
         severity: diagnostic.severity,
@@ -107,8 +108,9 @@ fn in_one_file(alloc: Global, diagnostic: &Diagnostic<usize>) -> Result<Diagnost
     })
 }
 
-/// Returns the label by the id of a database of one file.
-fn in_this_file(label: &Label<usize>) -> Result<Label<()>, Error>
+/// Returns the label with the file id `()`. Fails with `FileMissing` if it is not in file 0, and
+/// with `OutOfMemory`.
+fn label_with_unit_id(label: &Label<usize>) -> Result<Label<()>, Error>
     ensures { IfOk result (λ converted. label_view converted
         ≡ label_by_unit_id (label_view label.now)) }
 {

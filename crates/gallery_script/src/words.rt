@@ -10,7 +10,7 @@ use codespan_base::term::{DisplayStyle, Layout};
 /// The first word of a line that describes a case.
 #[derive(Clone, Copy)]
 pub enum Word {
-    /// The type of the file database.
+    /// The kind of the file database.
     Database,
     /// The name of one more file.
     File,
@@ -24,7 +24,7 @@ pub enum Word {
     Layout,
     /// The cells between tab stops.
     Tab,
-    /// How many lines are shown around those of labels.
+    /// How many context lines are shown.
     Context,
     /// The characters of borders, carets and lanes.
     Characters,

@@ -1,4 +1,5 @@
--- The output of a diagnostic.
+-- For the clauses of `rendering::render_over` and `rendering::config_in`: the output of a
+-- diagnostic.
 use Rattle.std.proofs.Common.{◌≡◌, ℕ, true, List, [], ◌∷◌, map, Result, Ok, Err, IfOk, refl, sym, subst, ap, ◌∙◌}
 use Rattle.codespan_base.specs.declared.diagnostic.Diagnostic.{Diagnostic}
 use Rattle.codespan_base.specs.declared.diagnostic.Label.{Label}

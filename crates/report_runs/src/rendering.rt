@@ -21,9 +21,9 @@ use std::alloc::Global;
 ///
 /// # Errors
 ///
-/// - `BadScript` if a script is requested and the input is none: the rendered diagnostic of its
-///   first error.
-/// - `CannotRender` if rendering fails.
+/// - `BadScript` if a script is requested and the input is no script: the rendered diagnostic of
+///   its first error.
+/// - `CannotRender` if rendering fails, or an allocation for the script.
 pub fn render(alloc: Global, command: &Command<'_>, input: &str) -> Result<String, RunError>
     ensures text { IfOk result (λ text. rendering_of (command_view command.now) input.now
         ≡ Ok (string_bytes text)) }

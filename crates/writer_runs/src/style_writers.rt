@@ -2,7 +2,7 @@
 
 use crate::failing_writer::FailingWriter;
 use crate::failure::Failure;
-use crate::record::Record;
+use crate::recording::Recording;
 use crate::rendering::Render;
 use codespan_base::files::Error;
 use codespan_base::term::{Ansi, NoColor, Styles, StylesWriter, WriteColor};
@@ -13,7 +13,7 @@ use test_writers::sequences::without_sequences;
 
 /// A writer of styles.
 #[derive(Clone, Copy)]
-pub enum Path {
+pub enum StyleWriterKind {
     /// Plain text.
     Plain,
     /// A `StylesWriter` over `Ansi`.
@@ -25,16 +25,21 @@ pub enum Path {
 }
 
 /// The writers of styles.
-pub const PATHS: [Path; 4] = [Path::Plain, Path::Ansi, Path::NoColor, Path::Custom];
+pub const STYLE_WRITERS: [StyleWriterKind; 4] = [
+    StyleWriterKind::Plain,
+    StyleWriterKind::Ansi,
+    StyleWriterKind::NoColor,
+    StyleWriterKind::Custom,
+];
 
-/// Returns the name of the writer.
-impl fmt::Display for Path {
+/// Writes the name of the writer.
+impl fmt::Display for StyleWriterKind {
     fn fmt<W: fmt::Write>(&self, f: &mut fmt::Formatter<W>) -> fmt::Result {
         f.write_str(match self {
-            Path::Plain => "plain text",
-            Path::Ansi => "Ansi",
-            Path::NoColor => "NoColor",
-            Path::Custom => "a custom writer",
+            StyleWriterKind::Plain => "plain text",
+            StyleWriterKind::Ansi => "Ansi",
+            StyleWriterKind::NoColor => "NoColor",
+            StyleWriterKind::Custom => "a custom writer",
         })
     }
 }
@@ -45,34 +50,43 @@ fn render_in_styles<D: Render, W: WriteColor + Drop>(output: &D, writer: W) -> R
     output.render(&mut StylesWriter::new(writer, &styles))
 }
 
-impl Path {
-    /// Renders on this path.
+impl StyleWriterKind {
+    /// Renders by way of this writer of styles.
+    ///
+    /// # Errors
+    ///
+    /// Those of rendering.
     pub fn render<D: Render, W: Write>(self, output: &D, writer: &mut W) -> Result<(), Error> {
         match self {
-            Path::Plain => output.render_plain(writer),
-            Path::Ansi => render_in_styles(output, Ansi::new(writer)),
-            Path::NoColor => render_in_styles(output, NoColor::new(writer)),
-            Path::Custom => output.render(&mut FailingWriter::new(writer, usize::MAX)),
+            StyleWriterKind::Plain => output.render_plain(writer),
+            StyleWriterKind::Ansi => render_in_styles(output, Ansi::new(writer)),
+            StyleWriterKind::NoColor => render_in_styles(output, NoColor::new(writer)),
+            StyleWriterKind::Custom => output.render(&mut FailingWriter::new(writer, usize::MAX)),
         }
     }
 
-    /// Returns whether style marks are written as escape sequences on this path.
+    /// Returns whether this writer of styles writes style marks as escape sequences.
     fn shows_style_marks(self) -> bool {
-        matches!(self, Path::Ansi | Path::Custom)
+        matches!(self, StyleWriterKind::Ansi | StyleWriterKind::Custom)
     }
 
-    /// Renders on this path into a writer that records, and returns it. Without the escape
-    /// sequences that style marks are written as, its text has to be the plain text.
+    /// Renders by way of this writer of styles to a writer that records, and returns that. Without
+    /// the escape sequences that style marks are written as, its text has to be the plain text.
+    ///
+    /// # Errors
+    ///
+    /// - `Failed`: rendering or an allocation fails.
+    /// - `OtherText`: the text is another.
     pub fn record<D: Render>(
         self,
         alloc: Global,
         output: &D,
         text: &str,
-    ) -> Result<Record, Failure> {
-        let mut record = Record::new(alloc);
-        self.render(output, &mut record)?;
+    ) -> Result<Recording, Failure> {
+        let mut recording = Recording::new(alloc);
+        self.render(output, &mut recording)?;
         let has_sequences = self.shows_style_marks() && output.has_style_marks();
-        let bytes = record.text.as_slice();
+        let bytes = recording.text.as_slice();
         let is_text = if has_sequences {
             bytes.len() > text.len()
                 && without_sequences(alloc, bytes)?.as_slice() == text.as_bytes()
@@ -80,7 +94,7 @@ impl Path {
             bytes == text.as_bytes()
         };
         if is_text {
-            Ok(record)
+            Ok(recording)
         } else {
             Err(Failure::OtherText(self))
         }

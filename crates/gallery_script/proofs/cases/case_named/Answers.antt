@@ -4,7 +4,7 @@ use Rattle.std.specs.Str.{bytes_eq}
 use Rattle.std.proofs.lemmas.List.{drop_more}
 use Rattle.gallery_script.specs.declared.case.Case.{Case}
 use Rattle.gallery_script.specs.Cases.{case_named}
-use Rattle.gallery_script.proofs.cases.named.Goals as goal
+use Rattle.gallery_script.proofs.cases.case_named.Goals as goal
 
 -- the case at the index has the name, and none before it has
 pub returns-then-eq : goal.returns-then-eq

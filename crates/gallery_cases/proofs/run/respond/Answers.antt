@@ -5,7 +5,7 @@ use Rattle.gallery_script.specs.Cases.{AppliesLines}
 use Rattle.gallery_script.specs.Requests.{request_of, request_view}
 use Rattle.gallery_cases.specs.Requests.{IsResponseOf, ErrorMeans, IsFailureOf}
 use Rattle.gallery_cases.proofs.Outcomes.{responded, requested, failed}
-use Rattle.gallery_cases.proofs.run.show.Goals as goal
+use Rattle.gallery_cases.proofs.run.respond.Goals as goal
 
 pub returns-in_err-response-clause-reported : goal.returns-in_err-response-clause-reported
 returns-in_err-response-clause-reported g c =

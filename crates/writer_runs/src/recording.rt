@@ -6,17 +6,17 @@ use std::io::Write;
 
 /// The bytes written, and how many preceded each write.
 #[derive(Drop)]
-pub struct Record {
+pub struct Recording {
     /// The bytes written.
     pub text: Vec<u8>,
     /// The number of bytes before each write.
     pub starts: Vec<usize>,
 }
 
-impl Record {
-    /// Returns an empty record.
-    pub fn new(alloc: Global) -> Record {
-        Record {
+impl Recording {
+    /// Returns an empty recording.
+    pub fn new(alloc: Global) -> Recording {
+        Recording {
             text: Vec::new(alloc),
             starts: Vec::new(alloc),
         }
@@ -24,7 +24,7 @@ impl Record {
 }
 
 /// Records all bytes.
-impl Write for Record {
+impl Write for Recording {
     fn write(&mut self, buf: &[u8]) -> io::Result<usize> {
         self.starts.push(self.text.len())?;
         self.text.extend_from_slice(buf)?;

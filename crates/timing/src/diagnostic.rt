@@ -8,6 +8,11 @@ use std::alloc::Global;
 use std::ops::Range;
 
 /// Reads the files.
+///
+/// # Errors
+///
+/// - `Input`: a field is malformed.
+/// - `CannotRender`: an allocation fails.
 pub fn read_files<'a>(
     alloc: Global,
     fields: &mut Fields<'a>,
@@ -21,6 +26,11 @@ pub fn read_files<'a>(
 }
 
 /// Reads the diagnostic, whose severity is error.
+///
+/// # Errors
+///
+/// - `Input`: a field is malformed.
+/// - `CannotRender`: an allocation fails.
 pub fn read_diagnostic(
     alloc: Global,
     fields: &mut Fields<'_>,

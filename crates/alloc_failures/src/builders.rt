@@ -110,6 +110,10 @@ fn diagnostic(alloc: Global, texts: Texts<'_>) -> Result<Diagnostic<usize>, Erro
 }
 
 /// Makes a call of a label and judges it.
+///
+/// # Errors
+///
+/// `OutOfMemory` if an allocation of the preparation fails.
 pub fn judge_label(alloc: Global, call: LabelCall) -> Result<Outcome, Error> {
     let expected = label(alloc, "another")?;
     let returned = match call {
@@ -150,6 +154,10 @@ fn expected_texts(call: DiagnosticCall) -> Texts<'static> {
 }
 
 /// Makes a call of a diagnostic and judges it.
+///
+/// # Errors
+///
+/// `OutOfMemory` if an allocation of the preparation fails.
 pub fn judge_diagnostic(alloc: Global, call: DiagnosticCall) -> Result<Outcome, Error> {
     let expected = diagnostic(alloc, expected_texts(call))?;
     let initial = diagnostic(alloc, INITIAL)?;
