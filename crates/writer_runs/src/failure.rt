@@ -116,7 +116,10 @@ impl fmt::Display for Failure {
             Failure::OtherText(style_writer) => write!(f, "by {style_writer}: another text"),
             Failure::OtherColors => f.write_str("other colors than stated"),
             Failure::Stopped(style_writer, ending, after) => {
-                write!(f, "by {style_writer}: wrong where a writer {ending}, after {after}")
+                write!(
+                    f,
+                    "by {style_writer}: wrong where a writer {ending}, after {after}"
+                )
             }
         }
     }
