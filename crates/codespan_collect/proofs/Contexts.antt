@@ -21,7 +21,7 @@ use Rattle.codespan_annotations.specs.FileLookups.{failure_in}
 use Rattle.codespan_annotations.specs.AnnotationViews.{AddsOf}
 use Rattle.codespan_collect.specs.SpannedDigits.{digits_on, label_digits}
 use Rattle.codespan_picture.specs.Lookups.{looked_up_lines, lookups_of_file, ends_context, first_error, is_around, is_looked_up, line_lookups, lookup_past_end}
-use Rattle.codespan_picture.specs.Padding.{digit_count, spans}
+use Rattle.codespan_picture.specs.Padding.{count_digits, spans}
 use Rattle.codespan_laws.proofs.Greatest.{greatest-append}
 use Rattle.codespan_collect.proofs.Collecting.{Adds-as, Adds-both, Adds-none}
 use Rattle.codespan_collect.proofs.FirstErrors.{first_error-none, first_error-some}
@@ -67,7 +67,7 @@ module _ {Id : Type 0} (x : CollectedLabel Id) where
 
   -- a line that is not looked up is not spanned
   no_digits : (l : ℕ) → is_looked_up x.config x.file x.label l ≡ false → digits_on x.file x.label l ≡ []
-  no_digits l skipped = ap (λ (b : Bool). if b then digit_count (x.file.number l) ∷ [] else [])
+  no_digits l skipped = ap (λ (b : Bool). if b then count_digits (x.file.number l) ∷ [] else [])
       (neither (spans x.file x.label l)
       (is_around x.config (first_line x.file x.label) (last_line x.file x.label) l) skipped)
     where

@@ -9,7 +9,7 @@ use Rattle.codespan_picture.specs.Lanes.{is_unbroken}
 use Rattle.codespan_picture.specs.Lines.{drawn_lines, is_broken, is_shown}
 use Rattle.codespan_picture.specs.Rows.{Lanes, Locus, Row, BreakRow, SourceRow}
 use Rattle.codespan_picture.specs.Snippets.{LabeledFileModel, rows_after, rows_of_shown, line_at, snippet}
-use Rattle.codespan_picture.specs.Padding.{padding_of, digit_count}
+use Rattle.codespan_picture.specs.Padding.{padding_of, count_digits}
 use Rattle.codespan_laws.specs.LaneLaws.{shape_in, HasLane, IsCovered}
 
 -- the shown lines of a file, all of which it has
@@ -83,4 +83,4 @@ PaddingFits config ss =
     × ((s : LabeledFileModel) → Contains ss s → NumbersAscend s.file))
     → (s : LabeledFileModel) (l : ℕ) → Contains ss s
     → Contains (drawn_lines config s.file s.labels) l
-    → digit_count (s.file.number l) ≤ padding_of config ss
+    → count_digits (s.file.number l) ≤ padding_of config ss

@@ -27,7 +27,7 @@ ghost use Rattle.codespan_laws.specs.SortLaws.{SortsLabels};
 ghost use Rattle.codespan_laws.specs.StatedNames.{HeadersAreBeforeFailure, OutputIsPicture};
 ghost use Rattle.codespan_laws.specs.TextLaws.{OutputIsText, PictureIsText};
 ghost use Rattle.codespan_picture.specs.Lanes.{LaneRow};
-ghost use Rattle.codespan_picture.specs.RowParts.{line_metrics, row_lanes};
+ghost use Rattle.codespan_picture.specs.RowParts.{line_metrics, inner_gutter};
 ghost use Rattle.codespan_picture.specs.Picture.{AreLoci, output};
 ghost use Rattle.codespan_picture.specs.StatedPicture.{stated_loci};
 ghost use Rattle.codespan_picture.specs.Rows.{Locus, RowContext, Lanes, Line};
@@ -111,7 +111,7 @@ pub fn lanes_are_shown()
 /// States that each lane takes two characters.
 pub fn lanes_take_two()
     ensures { (context : RowContext) (leading : ℕ) (row : LaneRow) (lanes : Lanes)
-        → row_length (row_lanes context leading row lanes) ≡ 2 * lanes.count }
+        → row_length (inner_gutter context leading row lanes) ≡ 2 * lanes.count }
 {}
 
 // ---- messages

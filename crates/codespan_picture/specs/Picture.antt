@@ -34,8 +34,11 @@ abbrev pub files_of : {Id : Type 0} → FileDatabase Id → Diagnostic Id → Li
 files_of files d = labeled_file_models files.same files.file (labels_of d)
 
 -- its code and message
-abbrev pub heading_of : {Id : Type 0} → Diagnostic Id → HeaderText
-heading_of d = record { code = option_map string_bytes d.code; message = string_bytes d.message }
+abbrev pub header_text_of : {Id : Type 0} → Diagnostic Id → HeaderText
+header_text_of d = record {
+  code = option_map string_bytes d.code;
+  message = string_bytes d.message;
+}
 
 -- its notes
 abbrev pub notes_of : {Id : Type 0} → Diagnostic Id → List (List ℕ)
@@ -102,4 +105,5 @@ module _ {Id : Type 0} (style : DisplayStyle) (renderer view : Config)
   -- the output of a diagnostic with these loci
   abbrev pub output : List Locus → Stream
   output loci =
-      rendered style renderer view d.severity (heading_of d) loci (files_of files d) (notes_of d)
+      rendered style renderer view d.severity (header_text_of d) loci (files_of files d)
+      (notes_of d)

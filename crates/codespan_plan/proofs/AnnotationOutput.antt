@@ -30,7 +30,7 @@ use Rattle.codespan_annotations.proofs.FileIndices.{index_of_file-at}
 use Rattle.codespan_plan.proofs.LaneMarks.{ascend-climbs, marks-ascend}
 use Rattle.codespan_laws.proofs.FillLemmas.{none_past}
 use Rattle.codespan_collect.proofs.LabelAnnotations.{is_kind}
-use Rattle.codespan_collect.proofs.LabelIndexing.{AreFiles, lanes_in-equal}
+use Rattle.codespan_collect.proofs.LabelIndexing.{AreFiles, lane_count_of-equal}
 use Rattle.codespan_laws.proofs.OrderSorts.{has_range, ascending-same, sorted-ascends, sorted-keeps}
 use Rattle.codespan_laws.proofs.ListElements.{all-weaker, all-filter, all-both, all-pass, filter-filter, any-filtered}
 use Rattle.codespan_laws.proofs.SortedLists.{Rises, Climbs, Falls, filter-reverse, rises-filter, rises-from_sorted, filter-sorted_climbs, filter-sorted_falls}
@@ -75,7 +75,7 @@ module _ {Id : Type 0} {database : FileDatabase Id} (lawful : AreFiles database)
   here = record {
     index = index_of_file-at same lawful.equivalence xs f id at;
     one_file = λ i t. sym (lawful.one_file id i t);
-    lanes = λ before i t. sym (lanes_in-equal lawful before id i t);
+    lanes = λ before i t. sym (lane_count_of-equal lawful before id i t);
     some_line = lawful.some_line id;
   }
 

@@ -10,7 +10,7 @@ use Rattle.codespan_row_parts.specs.declared.line.Line as line
 use Rattle.codespan_picture.specs.Arguments.{LaneMarkTuple, single_label_views, lanes_of, lane_mark_view}
 use Rattle.codespan_picture.specs.Lanes.{LaneRow, Source, Plain, Below, Underline, row_shape, row_crossing}
 use Rattle.codespan_picture.specs.Rows.{RowContext, Lanes, Line}
-use Rattle.codespan_picture.specs.RowParts.{lane_of, row_lanes}
+use Rattle.codespan_picture.specs.RowParts.{inner_gutter_column, inner_gutter}
 
 -- what all rows of a line are rendered by
 abbrev pub context_view : context.RowContext → RowContext
@@ -46,10 +46,10 @@ lane_row_view (rust_variant.Underline corner_lane style part) =
 -- one lane of a kind of row, from the lane mark in it
 unfoldable pub lane_of_view : RowContext → ℕ → RustLaneRow → ℕ → Option LaneMarkTuple → Stream
 lane_of_view context leading row lane lane_mark =
-    lane_of context (row_crossing (lane_row_view row) lane)
+    inner_gutter_column context (row_crossing (lane_row_view row) lane)
     (row_shape context.layout leading (lane_row_view row) lane)
     (option_map lane_mark_view lane_mark)
 
 -- the lanes of a kind of row
 unfoldable pub row_lanes_view : RowContext → ℕ → RustLaneRow → Lanes → Stream
-row_lanes_view context leading row lanes = row_lanes context leading (lane_row_view row) lanes
+row_lanes_view context leading row lanes = inner_gutter context leading (lane_row_view row) lanes

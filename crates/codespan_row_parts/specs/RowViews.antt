@@ -10,7 +10,7 @@ use Rattle.codespan_picture.specs.CharMetrics.{char_metrics, char_metrics_to_end
 use Rattle.codespan_picture.specs.Arguments.{SingleLabelTuple, LaneMarkTuple, single_label_view, single_label_views, lane_mark_view, locus_view, text_now}
 use Rattle.codespan_picture.specs.Lanes.{Source, Underline, crossing_cells, label_glyph}
 use Rattle.codespan_picture.specs.Rows.{caret_rows, hanging, hanging_rows}
-use Rattle.codespan_picture.specs.RowParts.{border, carets, metrics_before, gutter, label_message, leading_of, numbered_gutter, pointers, row_lanes, severity_name}
+use Rattle.codespan_picture.specs.RowParts.{border_left, carets, metrics_before, outer_gutter, label_message, leading_of, outer_gutter_number, pointers, inner_gutter, severity_name}
 use Rattle.codespan_picture.specs.RowStreams.{bracketed, leading_locus, pointer_row, stream_of_rows}
 use Rattle.codespan_picture.specs.declared.arguments.Locus as rust_locus
 use Rattle.codespan_row_parts.specs.declared.line.RowContext as context
@@ -34,15 +34,15 @@ header_start_view locus severity code =
 -- the start of a source row: up to its text
 abbrev pub source_lanes_view : context.RowContext → rust_line.Line → Stream
 source_lanes_view x line =
-    numbered_gutter x.padding line.number ++ border x.chars.now
-    ++ row_lanes (context_view x) (leading_of (line_view line)) Source (lanes_view line.lanes)
+    outer_gutter_number x.padding line.number ++ border_left x.chars.now
+    ++ inner_gutter (context_view x) (leading_of (line_view line)) Source (lanes_view line.lanes)
     ++ space
 
 -- the start of an underline row: up to the end of its lanes
 abbrev pub underline_lanes_view : context.RowContext → rust_line.Line → LaneMarkTuple → Stream
 underline_lanes_view x line lane_mark =
-    gutter x.padding ++ border x.chars.now
-    ++ row_lanes (context_view x) (leading_of (line_view line))
+    outer_gutter x.padding ++ border_left x.chars.now
+    ++ inner_gutter (context_view x) (leading_of (line_view line))
     (Underline (lane_mark_view lane_mark))
     (lanes_view line.lanes)
 

@@ -143,7 +143,7 @@ fn write_lane_cells<W: PutStyle>(
 }
 
 /// Writes one lane, from the lane mark in it.
-#[tactic(auto, unfolding(codespan_picture::specs::RowParts::lane_of, crate::specs::LineViews::lane_of_view))]
+#[tactic(auto, unfolding(codespan_picture::specs::RowParts::inner_gutter_column, crate::specs::LineViews::lane_of_view))]
 fn inner_gutter_column<W: PutStyle>(
     w: &mut W,
     context: RowContext<'_>,

@@ -23,7 +23,7 @@ use Rattle.codespan_picture.specs.Arguments.{LaneMarkTuple, lane_mark_view, mult
 use Rattle.codespan_row_parts.specs.LineViews.{row_lanes_view}
 use Rattle.codespan_picture.specs.Rows.{RowContext, Lanes, Line, UnderlineRow, has_underline}
 use Rattle.codespan_picture.specs.Lanes as kind
-use Rattle.codespan_picture.specs.RowParts.{row_lanes, underline, underline_message, metrics_before, metrics_up_to}
+use Rattle.codespan_picture.specs.RowParts.{inner_gutter, underline, underline_message, metrics_before, metrics_up_to}
 use Rattle.codespan_rows.specs.Underlines.{underline_by_width, underline_width}
 use Rattle.codespan_picture.specs.RowStreams.{underline_row, stream_of_rows}
 use Rattle.codespan_row_parts.specs.RenderedRows.{later_note_rows}
@@ -32,8 +32,8 @@ use Rattle.codespan_row_parts.specs.RenderedRows.{later_note_rows}
 
 -- the lanes of the row of a lane mark are those of that kind of row
 pub underline_lanes_are : (context : RowContext) (leading : ℕ) (lane : ℕ) (style : LabelStyle) (part : rust_multi_label.MultiLabel) (lanes : Lanes)
-    → row_lanes_view context leading (Underline lane style part) lanes ≡ row_lanes context leading (kind.Underline (lane_mark_view (lane, style, part))) lanes
-unfolding row_lanes_view row_lanes
+    → row_lanes_view context leading (Underline lane style part) lanes ≡ inner_gutter context leading (kind.Underline (lane_mark_view (lane, style, part))) lanes
+unfolding row_lanes_view inner_gutter
 underline_lanes_are context leading lane style part lanes = refl
 
 -- ---- the message of an underline

@@ -1,12 +1,11 @@
 -- What the structs of C are converted to: a diagnostic, a configuration and its styles, and files.
 use Rattle.std.specs.Prelude.{ℕ, ◌-◌, ◌==◌, if◌then◌else◌, not, min, List, [], ◌∷◌, map, slice_get, Option, Some, None}
 use Rattle.std.specs.Option.{option_map_or}
-use Rattle.codespan_base.specs.Ansi.{ansi_style, ansi_reset}
 use Rattle.codespan_base.specs.Characters.{ascii, box_drawing}
 use Rattle.codespan_base.specs.Diagnostics.{DiagnosticView, LabelView}
 use Rattle.codespan_base.specs.FileModel.{FileDatabase}
 use Rattle.codespan_base.specs.Streams.{Spelling, no_style_marks}
-use Rattle.codespan_base.specs.StyleTables.{default_styles, spelling_by}
+use Rattle.codespan_base.specs.StyleTables.{ansi_spelling, default_styles}
 use Rattle.codespan_base.specs.declared.diagnostic.LabelStyle.{LabelStyle}
 use Rattle.codespan_base.specs.declared.diagnostic.LabelStyle.TheVariants.{Primary, Secondary}
 use Rattle.codespan_base.specs.declared.diagnostic.Severity.{Severity}
@@ -169,10 +168,6 @@ custom_styles s = record {
   source_border = color_spec_of s.source_border;
   note_bullet = color_spec_of s.note_bullet;
 }
-
--- style marks as the escape sequences of these styles
-abbrev pub ansi_spelling : Styles → Spelling
-ansi_spelling styles = spelling_by styles ansi_style ansi_reset
 
 -- how style marks are spelled
 abbrev pub spelling_of : RawConfig → Spelling

@@ -23,7 +23,8 @@ use Rattle.codespan_documents.specs.declared.text.Run.{Run}
 use Rattle.codespan_documents.specs.Runs.{AreTexts, StyledRun, characters_of, run_view}
 use Rattle.codespan_documents.specs.declared.style.Style.{Style}
 use Rattle.codespan_documents.specs.declared.style.Style.TheVariants as Kinds
-use Rattle.codespan_terminal.specs.Terminal.{ansi_spelling, columns, is_safe, style_mark_of, next_reading, first_sequences, reading_after, run_bytes, runs_bytes, safe_characters, safe_text, shown, terminal_text, ShowsSafe, Text, Escape, Parameters, Unknown}
+use Rattle.codespan_base.specs.StyleTables.{ansi_spelling}
+use Rattle.codespan_terminal.specs.Terminal.{columns, is_safe, style_mark_of, next_reading, first_sequences, reading_after, run_bytes, runs_bytes, safe_characters, safe_text, shown, terminal_text, ShowsSafe, Text, Escape, Parameters, Unknown}
 use Rattle.codespan_terminal.proofs.UnsafeCells.{columns_stay}
 
 -- ---- characters

@@ -4,9 +4,8 @@ use Rattle.std.specs.Char.{is_ascii_digit, is_control}
 use Rattle.std.specs.List.{AllByRecursion, flat_map}
 use Rattle.std.specs.Str.{chars, encode_utf8_all}
 use Rattle.ucd_props.specs.Binary.{is_bidi_control}
-use Rattle.codespan_base.specs.Ansi.{ansi_reset, ansi_style}
-use Rattle.codespan_base.specs.StyleTables.{spelling_by}
-use Rattle.codespan_base.specs.Streams.{Spelling, StyleMark, Header, HeaderMessage, LineNumber, NoteBullet, SourceBorder, LabelMark, Reset}
+use Rattle.codespan_base.specs.StyleTables.{ansi_spelling}
+use Rattle.codespan_base.specs.Streams.{StyleMark, Header, HeaderMessage, LineNumber, NoteBullet, SourceBorder, LabelMark, Reset}
 use Rattle.codespan_base.specs.declared.term.config.styles.Styles.{Styles}
 use Rattle.codespan_picture.specs.CharMetrics.{width_at}
 use Rattle.codespan_documents.specs.Runs.{StyledRun, characters_of}
@@ -38,10 +37,6 @@ style_mark_of Kinds.LineNumber = LineNumber
 style_mark_of Kinds.NoteBullet = NoteBullet
 style_mark_of Kinds.SourceBorder = SourceBorder
 style_mark_of (Kinds.Label severity style) = LabelMark severity style
-
--- how `Ansi` spells style marks
-abbrev pub ansi_spelling : Styles → Spelling
-ansi_spelling styles = spelling_by styles ansi_style ansi_reset
 
 -- a run: the escape sequences of its style, and its safe text
 abbrev pub run_bytes : Styles → StyledRun → List ℕ

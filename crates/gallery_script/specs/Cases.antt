@@ -4,7 +4,7 @@ use Rattle.std.specs.Str.{bytes_eq}
 use Rattle.codespan_base.specs.declared.diagnostic.Severity.TheVariants as severities
 use Rattle.codespan_base.specs.Defaults.{default_config}
 use Rattle.codespan_base.specs.Diagnostics.{diagnostic_view}
-use Rattle.codespan_base.specs.ConfigEquality.{IsChars, IsConfig}
+use Rattle.codespan_base.specs.ConfigEquality.{IsEqualChars, IsEqualConfig}
 use Rattle.gallery_script.specs.declared.case.Case.{Case}
 use Rattle.gallery_script.specs.declared.case.Colors.TheVariants.{Plain}
 use Rattle.gallery_script.specs.declared.case.File.{File}
@@ -32,7 +32,7 @@ pub record IsNew (name : List ℕ) (case : Case) : Type 0 where
   pub database_kind : case.database_kind ≡ Several
   pub files : case.files.items ≡ []
   pub numbers : case.numbers.items ≡ []
-  pub config : IsConfig default_config case.config
+  pub config : IsEqualConfig default_config case.config
   pub colors : case.colors ≡ Plain
   pub diagnostic : diagnostic_view case.diagnostic
       ≡ record { severity = severities.Error; code = None; message = []; labels = []; notes = [] }
@@ -75,7 +75,7 @@ Applies (statements.Context context) old new = new ≡ record old {
 }
 Applies (statements.Characters set) old new =
     (new ≡ record old { config = record old.config { chars = new.config.chars } })
-    × IsChars (chars_of set) new.config.chars
+    × IsEqualChars (chars_of set) new.config.chars
 Applies (statements.Colors colors) old new = new ≡ record old { colors = colors }
 Applies (statements.Severity severity) old new =
     new ≡ record old { diagnostic = record old.diagnostic { severity = severity } }

@@ -1,7 +1,7 @@
 //! A case: a diagnostic, its files, and a configuration.
 
 ghost use Rattle.std.specs.Prelude.{◌≡◌, ◌⊎◌, [], ◌∷◌, ◌++◌, map, OnOk, IfErr, string_bytes};
-ghost use Rattle.codespan_base.specs.ConfigEquality.{IsChars};
+ghost use Rattle.codespan_base.specs.ConfigEquality.{IsEqualChars};
 ghost use Rattle.gallery_script.specs.Cases.{IsNew, Applies, IsSource, ContinuesSource, file_view};
 ghost use Rattle.gallery_script.specs.Words.{chars_of};
 ghost use Rattle.gallery_script.specs.declared.errors.LineError.TheVariants.{NoFile, OutOfMemory};
@@ -35,7 +35,7 @@ pub enum CharacterSet {
 impl CharacterSet {
     /// Returns the characters of this set.
     pub fn chars<'chars>(self) -> Chars<'chars>
-        ensures { IsChars (chars_of self) result }
+        ensures { IsEqualChars (chars_of self) result }
     {
         match self {
             CharacterSet::Box => Chars::box_drawing(),

@@ -2,7 +2,7 @@
 
 ghost use Rattle.std.specs.Prelude.{◌≡◌, Ok, IsTrue, IfOk, OnErr, IsErrOf};
 ghost use Rattle.codespan_base.specs.SnippetStarts.{is_fixed};
-ghost use Rattle.codespan_base.specs.ConfigEquality.{IsConfig};
+ghost use Rattle.codespan_base.specs.ConfigEquality.{IsEqualConfig};
 ghost use Rattle.codespan_base.specs.Defaults.{default_config};
 
 pub mod ansi;
@@ -70,7 +70,7 @@ impl<'chars> Config<'chars> {
     /// [`Error::OutOfMemory`] where an allocation fails; never where the text before a locus is
     /// [`SnippetStart::Fixed`](chars::SnippetStart::Fixed).
     pub fn clone(&self) -> Result<Config<'chars>, Error>
-        ensures same { IfOk result (IsConfig self.now) }
+        ensures same { IfOk result (IsEqualConfig self.now) }
         ensures kind { IfOk result (λ c.
             is_fixed c.chars.snippet_start ≡ is_fixed self.now.chars.snippet_start) }
         ensures fixed { IsTrue (is_fixed self.now.chars.snippet_start) → result ≡ Ok self.now }
@@ -84,10 +84,10 @@ impl<'chars> Config<'chars> {
 }
 
 impl<'chars> Default for Config<'chars> {
-    ghost is_default = { IsConfig default_config };
+    ghost is_default = { IsEqualConfig default_config };
 
     fn default() -> Config<'chars>
-        ensures equal { IsConfig default_config result }
+        ensures equal { IsEqualConfig default_config result }
         ensures fixed { IsTrue (is_fixed result.chars.snippet_start) }
     {
         Config {

@@ -2,7 +2,7 @@
 
 ghost use Rattle.std.specs.Prelude.{◌≡◌};
 ghost use Rattle.std.specs.Char.{InScalarRange};
-ghost use Rattle.codespan_base.specs.ConfigEquality.{IsChars};
+ghost use Rattle.codespan_base.specs.ConfigEquality.{IsEqualChars};
 ghost use Rattle.codespan_structs.specs.Converted.{chars_of, custom_chars};
 ghost use Rattle.codespan_structs.specs.ValidParts.{AreCustomChars, AreValidChars};
 
@@ -18,7 +18,7 @@ use codespan_base::term::{Chars, SnippetStart};
 /// one of the caller's characters.
 pub fn convert_chars<'a>(raw: &RawConfig<'a>) -> Chars<'a>
     requires { AreValidChars raw.now }
-    ensures { IsChars (chars_of raw.now) result }
+    ensures { IsEqualChars (chars_of raw.now) result }
 {
     match raw.characters {
         0 => Chars::box_drawing(),
@@ -30,7 +30,7 @@ pub fn convert_chars<'a>(raw: &RawConfig<'a>) -> Chars<'a>
 /// Returns the caller's characters.
 fn custom_chars<'a>(raw: &RawChars<'a>) -> Chars<'a>
     requires { AreCustomChars raw.now }
-    ensures { IsChars (custom_chars raw.now) result }
+    ensures { IsEqualChars (custom_chars raw.now) result }
 {
     Chars {
         snippet_start: SnippetStart::Fixed(text_of(raw.snippet_start)),

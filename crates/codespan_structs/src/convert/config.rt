@@ -1,7 +1,7 @@
 //! The configuration.
 
 ghost use Rattle.std.specs.Prelude.{◌≡◌};
-ghost use Rattle.codespan_base.specs.ConfigEquality.{IsConfig};
+ghost use Rattle.codespan_base.specs.ConfigEquality.{IsEqualConfig};
 ghost use Rattle.codespan_structs.specs.Converted.{config_of, display_style_of, layout_of, spelling_of};
 ghost use Rattle.codespan_structs.specs.Spellings.{spelling_by_kind};
 ghost use Rattle.codespan_structs.specs.ValidParts.{AreValidChars};
@@ -38,7 +38,7 @@ pub struct Settings<'a> {
 /// [`first_invalid`](crate::validate::first_invalid) has found nothing.
 pub fn convert_config<'a>(raw: &RawConfig<'a>) -> Settings<'a>
     requires { AreValidChars raw.now }
-    ensures config { IsConfig (config_of raw.now) result.config }
+    ensures config { IsEqualConfig (config_of raw.now) result.config }
     ensures spelling { spelling_by_kind result.spelling ≡ spelling_of raw.now }
 {
     Settings {
@@ -50,7 +50,7 @@ pub fn convert_config<'a>(raw: &RawConfig<'a>) -> Settings<'a>
 /// Returns the configuration itself.
 fn config_of<'a>(raw: &RawConfig<'a>) -> Config<'a>
     requires { AreValidChars raw.now }
-    ensures { IsConfig (config_of raw.now) result }
+    ensures { IsEqualConfig (config_of raw.now) result }
 {
     Config {
         display_style: display_style_of(raw.display_style),

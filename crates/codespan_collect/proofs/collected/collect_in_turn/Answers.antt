@@ -5,7 +5,7 @@ use Rattle.std.proofs.lemmas.Result.{err_from_is_err_and}
 use Rattle.codespan_annotations.specs.declared.labeled_files.LabeledFile.{LabeledFile as RustFile}
 use Rattle.codespan_collect.specs.CollectedLabels.{FindsLines, collected_label}
 use Rattle.codespan_annotations.specs.AnnotationViews.{Adds, IsOfFiles}
-use Rattle.codespan_annotations.specs.LabeledFiles.{ids_view, lanes_view, lanes_in, lanes_with_label}
+use Rattle.codespan_annotations.specs.LabeledFiles.{ids_view, lanes_view, lane_count_of, lanes_with_label}
 use Rattle.codespan_annotations.specs.FileStarts.{file_start}
 use Rattle.codespan_picture.specs.Picture.{label_of}
 use Rattle.codespan_picture.specs.Snippets.{file_ids}
@@ -135,7 +135,7 @@ returns-clause-collected g c =
         ids_are = done.ids_are;
         labels_are = each-labels same file xs c.loop-index.labeled.items
             (done.starts_are ∙ ap (map (file_start same xs)) (sym done.ids_are))
-            (done.lanes_are ∙ ap (map (lanes_in same file xs)) (sym done.ids_are));
+            (done.lanes_are ∙ ap (map (lane_count_of same file xs)) (sym done.ids_are));
         padding_is = done.counted;
       };
       adds = subst (λ js. Adds (IsOfFiles file js) [] c.loop-index.found.annotations.items (annotations_after same file c.args.config.now (file_ids same xs) [] xs)) (sym done.ids_are) done.added;
