@@ -11,7 +11,7 @@ ghost use Rattle.codespan_views.specs.Private.Rendering.{RendersRows};
 ghost use Rattle.codespan_views.specs.Private.ViewRendering.{RendersSnippets, RendersView, output_without_labels, closing_rows};
 
 use crate::parts::{render_diagnostic_header, render_notes};
-use crate::snippet::line_labels::LineLabels;
+use crate::snippet::line_buffers::LineBuffers;
 use crate::snippet::lines::SnippetContext;
 use crate::snippet::{render_snippet, render_trailing_border};
 use codespan_base::diagnostic::Diagnostic;
@@ -170,7 +170,7 @@ impl<'diagnostic, 'config, FileId: Copy + Eq> RichDiagnostic<'diagnostic, 'confi
             padding: output_plan.padding,
             severity: diagnostic.severity,
         };
-        let mut labels = LineLabels::new(*diagnostic.labels.allocator());
+        let mut labels = LineBuffers::new(*diagnostic.labels.allocator());
         let notes_follow = has_notes(diagnostic);
         let mut start = 0;
         for (index, snippet_plan) in output_plan.snippet_plans.iter().enumerate() {

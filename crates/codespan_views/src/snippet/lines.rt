@@ -7,7 +7,7 @@ ghost use Rattle.codespan_views.specs.Private.LineRendering.{HasLine, HasLines, 
 ghost use Rattle.codespan_annotations.specs.SourceFiles.{model_of};
 ghost use Rattle.codespan_plan.specs.SnippetLines.{Labeled, Break, do_annotations_fit, do_lane_marks_fit};
 
-use crate::snippet::line_labels::{LineLabels, fill_multi_labels};
+use crate::snippet::line_buffers::{LineBuffers, fill_multi_labels};
 use codespan_annotations::annotation::{Annotation, LineInfo};
 use codespan_annotations::source_file::SourceFile;
 use codespan_base::diagnostic::Severity;
@@ -59,7 +59,7 @@ impl<'context, 'files, F: Files<'files>> Snippet<'context, 'files, F> {
     pub fn render_lines<'d, W: WriteStyle>(
         &self,
         renderer: &mut Renderer<'_, '_, W>,
-        labels: &mut LineLabels<'d>,
+        labels: &mut LineBuffers<'d>,
         snippet_lines: &[SnippetLine<'_, 'd, F::FileId>],
     ) -> Result<(), Error>
         requires { HasLines F.database self.now snippet_lines.now }
@@ -85,7 +85,7 @@ impl<'context, 'files, F: Files<'files>> Snippet<'context, 'files, F> {
     fn render_snippet_line<'d, W: WriteStyle>(
         &self,
         renderer: &mut Renderer<'_, '_, W>,
-        labels: &mut LineLabels<'d>,
+        labels: &mut LineBuffers<'d>,
         snippet_line: &SnippetLine<'_, 'd, F::FileId>,
     ) -> Result<(), Error>
         requires { HasLine F.database self.now snippet_line.now }
@@ -127,7 +127,7 @@ impl<'context, 'files, F: Files<'files>> Snippet<'context, 'files, F> {
     fn render_line<'d, W: WriteStyle>(
         &self,
         renderer: &mut Renderer<'_, '_, W>,
-        labels: &mut LineLabels<'d>,
+        labels: &mut LineBuffers<'d>,
         line: LineInfo,
         annotations: &[Annotation<'d, F::FileId>],
     ) -> Result<(), Error>
@@ -164,7 +164,7 @@ impl<'context, 'files, F: Files<'files>> Snippet<'context, 'files, F> {
     fn render_break<'d, W: WriteStyle>(
         &self,
         renderer: &mut Renderer<'_, '_, W>,
-        labels: &mut LineLabels<'d>,
+        labels: &mut LineBuffers<'d>,
         next: &[Annotation<'d, F::FileId>],
     ) -> Result<(), Error>
         requires fits { IsTrue (do_lane_marks_fit self.now.lane_count

@@ -1,4 +1,4 @@
-use Rattle.codespan_views.proofs.snippet.line_labels.single_label.Goals as goal
+use Rattle.codespan_views.proofs.snippet.line_buffers.single_label.Goals as goal
 
 -- the range is counted from the start of the line, and the message is the label's
 pub returns : goal.returns

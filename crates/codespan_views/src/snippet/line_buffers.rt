@@ -1,4 +1,4 @@
-//! The labels of a line, as a renderer takes them.
+//! The memory in which a line is prepared for a renderer.
 
 ghost use Rattle.std.specs.Prelude.{◌≡◌, [], IfOk, OnErr, IsErrOf, map};
 ghost use Rattle.codespan_base.specs.Labels.{from_line_start};
@@ -14,11 +14,11 @@ use codespan_renderer::term::renderer::cached::LineMetrics;
 use codespan_renderer::term::renderer::{MultiLabel, SingleLabel};
 use std::alloc::Global;
 
-/// The labels of a line, as a renderer takes them, and the line's characters.
+/// The memory in which the labels and the characters of a line are prepared for a renderer.
 ///
 /// One value serves many lines, so that its memory is allocated once.
 #[derive(Drop)]
-pub struct LineLabels<'d> {
+pub struct LineBuffers<'d> {
     /// The single-line labels.
     pub single_labels: Vec<SingleLabel<'d>>,
     /// The lane marks: of each multi-line label its lane, its style and its part on the line.
@@ -27,13 +27,13 @@ pub struct LineLabels<'d> {
     pub metrics: LineMetrics,
 }
 
-impl<'d> LineLabels<'d> {
-    /// Returns the value without labels. It allocates nothing.
-    pub fn new(alloc: Global) -> LineLabels<'d>
+impl<'d> LineBuffers<'d> {
+    /// Returns buffers without labels and characters. It allocates nothing.
+    pub fn new(alloc: Global) -> LineBuffers<'d>
         ensures single_labels { result.single_labels.items ≡ [] }
         ensures multi_labels { result.multi_labels.items ≡ [] }
     {
-        LineLabels {
+        LineBuffers {
             single_labels: Vec::new(alloc),
             multi_labels: Vec::new(alloc),
             metrics: LineMetrics::new(alloc),
