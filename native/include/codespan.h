@@ -50,7 +50,7 @@ typedef struct codespan_line {
     size_t number; /* the line number that is shown */
 } codespan_line;
 
-/* The line and column number that are shown for a byte at which a label starts. */
+/* The location that is shown for a byte at which a label starts: a line and a column number. */
 typedef struct codespan_locus {
     size_t byte; /* byte index in the file */
     size_t line_number;
@@ -62,18 +62,20 @@ typedef struct codespan_locus {
  * `source` is the whole file, and then first_byte and first_line are 0; or a window of it, some
  * whole lines one after another, and then they say where it starts. All byte indices, those of
  * labels too, count from the start of the file, not of the window. An index before the window is
- * taken as the start of the window, and one past its end as in a file that ends there; those of
- * lines and loci are, too, before they are checked. */
+ * taken as the start of the window, those of lines and loci before they are checked. A label past
+ * the end of the window is rendered as in a file that ends there; a line past it is invalid. */
 typedef struct codespan_file {
     codespan_text name;
     codespan_text source;
     size_t first_byte; /* byte index in the file of the first byte of `source` */
-    size_t first_line; /* lines of the file before `source`; not read where there are `lines` */
+    /* The number of lines of the file before `source`, that is the index, from 0, of the first line
+     * of `source`. Not read where there are `lines`. */
+    size_t first_line;
     /* The lines of `source`, in ascending order; none: a line starts after each '\n', and line
-     * numbers count on from first_line + 1, up to SIZE_MAX. Of given lines the first one starts at
-     * first_byte, each later one starts after the start of the one before it and not before its
-     * end, none ends before its start or past the end of `source`, and all starts and ends are
-     * boundaries of characters. */
+     * numbers count on from first_line + 1, up to SIZE_MAX. Where there are lines, the first one
+     * starts at first_byte, each later one starts after the start of the one before it and not
+     * before its end, none ends before its start or past the end of `source`, and all starts and
+     * ends are boundaries of characters. */
     const codespan_line *lines;
     size_t lines_length;
     /* Loci that are shown in place of those that are computed, in strictly ascending order of their
@@ -84,8 +86,8 @@ typedef struct codespan_file {
 
 /* ---- diagnostics ---- */
 
-/* The style of a label: a primary one is marked by ^ in the color of the severity, a secondary one
- * by - or '. */
+/* The style of a label: a primary one has the caret ^, in the color of the severity, a secondary
+ * one - or ', unless `chars` of the configuration has others. */
 enum { CODESPAN_PRIMARY = 0, CODESPAN_SECONDARY = 1 };
 
 /* A label: a range of bytes of a file, with a message. */
@@ -123,8 +125,9 @@ typedef struct codespan_diagnostic {
 /* What is rendered. */
 enum {
     CODESPAN_RICH = 0,   /* a header, the source with its labels, and the notes */
-    CODESPAN_MEDIUM = 1, /* a header for each primary label, and the notes */
-    CODESPAN_SHORT = 2   /* a header for each primary label */
+    CODESPAN_MEDIUM = 1, /* a header for each primary label, or one without a location where there
+                          * is none, and the notes */
+    CODESPAN_SHORT = 2   /* the headers of CODESPAN_MEDIUM alone */
 };
 
 /* How lines between those of labels are laid out. */
@@ -252,7 +255,7 @@ enum {
     CODESPAN_INVALID = 4        /* `detail` names another argument that is invalid */
 };
 
-/* Arguments, for codespan_detail, by the order in which they are looked at. */
+/* Arguments, for codespan_detail, in the order in which they are checked. */
 enum {
     CODESPAN_ARGUMENT_NONE = 0,
     CODESPAN_ARGUMENT_ABI = 1,
@@ -281,7 +284,8 @@ enum {
 typedef struct codespan_detail {
     uint32_t argument; /* CODESPAN_ARGUMENT_NONE unless the status is CODESPAN_INVALID or
                         * CODESPAN_FILE_MISSING */
-    size_t index;      /* which of several, as above; 0 where there is one */
+    size_t index;      /* of the file, label, note, character or style, from 0, as above; 0 where
+                        * there is one argument */
 } codespan_detail;
 
 /* Renders a diagnostic over files into `out`, which has room for out_length bytes, and returns a
@@ -293,7 +297,7 @@ typedef struct codespan_detail {
  * 0, and any `out` but NULL, returns the length.
  * Any other status: *written is 0, and `out` is unchanged.
  *
- * The arguments are looked at before anything is allocated. Where one is invalid the status is
+ * The arguments are checked before anything is allocated. Where one is invalid the status is
  * CODESPAN_INVALID, or CODESPAN_FILE_MISSING for the file of a label. Of several, `detail` names the
  * one with the lowest number, and of those with one number the one with the lowest index. Where all
  * are valid the status is one of the first three. */

@@ -37,11 +37,11 @@ void *calloc(size_t count, size_t size) { TAKE(calloc, count, size); }
 void *realloc(void *old, size_t size) { TAKE(realloc, old, size); }
 void *aligned_alloc(size_t alignment, size_t size) { TAKE(aligned_alloc, alignment, size); }
 
-int posix_memalign(void **place, size_t alignment, size_t size) {
+int posix_memalign(void **pointer, size_t alignment, size_t size) {
     if (has_to_fail())
         return ENOMEM;
     ORIGINAL(posix_memalign);
-    return original(place, alignment, size);
+    return original(pointer, alignment, size);
 }
 
 /* A number of the environment, 0 where it is not there. */

@@ -1,9 +1,9 @@
 """The diagnostics that are rendered, by name and size, each with what it is, and the input of both programs for them."""
 
 
-def text(said):
-    """A text."""
-    data = said.encode()
+def text(content):
+    """A text as a field: a line with its length in bytes, and then the bytes and a newline."""
+    data = content.encode()
     return b'%d\n%s\n' % (len(data), data)
 
 

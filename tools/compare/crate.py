@@ -48,11 +48,11 @@ def built(folder):
     return out / 'release' / folder.name
 
 
-def answers(text):
+def results(text):
     """What the program `compare` prints of each case of an input: its name, `rendered`, `failed` or `panicked`, and a text."""
-    said = subprocess.run([built(pathlib.Path(__file__).resolve().parent)], input=text.encode(), stdout=subprocess.PIPE, check=True).stdout
-    while said:
-        head, _, rest = said.partition(b'\n')
+    left = subprocess.run([built(pathlib.Path(__file__).resolve().parent)], input=text.encode(), stdout=subprocess.PIPE, check=True).stdout
+    while left:
+        head, _, rest = left.partition(b'\n')
         name, kind, length = head.decode().rsplit(' ', 2)
         yield name, kind, rest[:int(length)].decode()
-        said = rest[int(length) + 1:]
+        left = rest[int(length) + 1:]

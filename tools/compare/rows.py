@@ -9,7 +9,7 @@ from cases import ROOT, unescaped  # noqa: E402
 
 ROWS = ROOT / 'crates/writer_runs/stdin'
 STYLES = ('rich', 'medium', 'short')
-COLOURED = ('ansi', 'ansi-end')
+COLORED = ('ansi', 'ansi-end')
 
 
 class Row:
@@ -20,21 +20,21 @@ class Row:
 
     def take(self, word, rest, line):
         """Takes in a line."""
-        if word in STYLES + COLOURED:
+        if word in STYLES + COLORED:
             self.stated[word] = self.stated.get(word, '') + unescaped(rest)
         else:
             self.lines.append(line)
 
     def texts(self):
-        """The texts of the row: the style and the colours of each, the text, and whether it is just the end."""
+        """The texts of the row: the style and the colors of each, the text, and whether it is just the end."""
         for style in STYLES:
             if style in self.stated:
                 yield style, 'none', self.stated[style], False
-                yield from ((style, 'ansi', self.stated[word], word == 'ansi-end') for word in COLOURED if word in self.stated)
+                yield from ((style, 'ansi', self.stated[word], word == 'ansi-end') for word in COLORED if word in self.stated)
 
-    def case(self, style, colours):
+    def case(self, style, colors):
         """The lines of the case that the row is in a style."""
-        return ['case ' + self.name, *self.lines, 'style ' + style, 'colours ' + colours]
+        return ['case ' + self.name, *self.lines, 'style ' + style, 'colors ' + colors]
 
 
 def rows():

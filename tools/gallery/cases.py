@@ -1,4 +1,4 @@
-"""The cases of the gallery, and what the comparison program says of them."""
+"""The cases of the gallery, and what the comparison program prints of them."""
 import pathlib
 import re
 import subprocess
@@ -19,10 +19,10 @@ CONTEXT = ('start', 'end', 'before', 'after')
 
 def unescaped(text, letters=LETTERS):
     """The text that an escaped one stands for."""
-    def said(match):
+    def character(match):
         escape = match.group(1)
         return chr(int(escape[2:-1], 16)) if escape.startswith('u{') else letters[escape]
-    return re.sub(r'\\(u\{[0-9a-fA-F]+\}|[^u]|$)', said, text)
+    return re.sub(r'\\(u\{[0-9a-fA-F]+\}|[^u]|$)', character, text)
 
 
 def is_seen(character):
@@ -44,7 +44,7 @@ def line(*fields):
 
 
 def text_lines(source):
-    """The lines that say a source, one for each of its lines."""
+    """The lines that state a source, one for each of its lines."""
     return [line('|', escaped(part)) for part in re.findall(r'[^\n]*\n|[^\n]+', source)]
 
 
@@ -58,23 +58,23 @@ class Case:
     """A case as it is read."""
 
     def __init__(self, name):
-        self.name, self.table, self.files, self.numbers = name, 'several', [], []
-        self.looks = {'style': 'rich', 'layout': 'classic', 'colours': 'none'}
+        self.name, self.database, self.files, self.numbers = name, 'several', [], []
+        self.settings = {'style': 'rich', 'layout': 'classic', 'colors': 'none'}
         self.config = {'tab': 4, 'chars': 'box', 'start': 3, 'end': 1, 'before': 0, 'after': 0}
         self.severity, self.code, self.message, self.labels, self.notes = 'error', None, '', [], []
 
     def take(self, word, rest):
         """Takes in a line."""
-        if word == 'table':
-            self.table = rest
+        if word == 'database':
+            self.database = rest
         elif word == 'file':
             self.files.append([unescaped(rest), ''])
         elif word == '|':
             self.files[-1][1] += unescaped(rest)
         elif word == 'number':
             self.numbers.append([int(number) for number in rest.split(' ')])
-        elif word in self.looks:
-            self.looks[word] = rest
+        elif word in self.settings:
+            self.settings[word] = rest
         elif word == 'tab':
             self.config['tab'] = int(rest)
         elif word == 'context':
@@ -97,14 +97,14 @@ class Case:
 
     def rows(self):
         """The case as the comparison program reads it."""
-        if self.table != 'several':
+        if self.database != 'several':
             assert len(self.files) == 1 and all(label[1] == 0 for label in self.labels), self.name
         config = ' '.join('%s=%s' % setting for setting in self.config.items())
-        yield from ('case ' + self.name, 'style ' + self.looks['style'], 'layout ' + self.looks['layout'])
-        yield from ('config ' + config, 'color ' + ('none' if self.looks['colours'] == 'none' else 'ansi'))
+        yield from ('case ' + self.name, 'style ' + self.settings['style'], 'layout ' + self.settings['layout'])
+        yield from ('config ' + config, 'color ' + ('none' if self.settings['colors'] == 'none' else 'ansi'))
         for name, source in self.files:
             yield 'file %s %s' % (field(name), field(source))
-        if self.table == 'mapped':
+        if self.database == 'mapped':
             yield 'mapped 0'
             yield from ('number 0 %d %d' % tuple(number) for number in self.numbers)
         yield 'severity ' + self.severity
@@ -131,10 +131,10 @@ def read_cases(text):
 def outcomes(oracle, cases):
     """What the comparison program prints of each case: `ok` and the output, or `err`, the error and what was written before it."""
     rows = ''.join(row + '\n' for case in cases for row in case.rows())
-    answer = subprocess.run([oracle, '--impl', 'ported'], input=rows.encode(), stdout=subprocess.PIPE, check=True).stdout.decode()
-    said = answer.splitlines()
-    assert said[::2] == ['case ' + case.name for case in cases]
-    for case, outcome in zip(cases, said[1::2]):
+    output = subprocess.run([oracle, '--impl', 'ported'], input=rows.encode(), stdout=subprocess.PIPE, check=True).stdout.decode()
+    lines = output.splitlines()
+    assert lines[::2] == ['case ' + case.name for case in cases]
+    for case, outcome in zip(cases, lines[1::2]):
         kind, *texts = outcome.split(' ')
         assert kind in ('ok', 'err'), (case.name, outcome)
         yield kind, [unescaped(text, THEIRS) for text in texts]
@@ -142,11 +142,11 @@ def outcomes(oracle, cases):
 
 def written(case, kind, texts):
     """An output under its name, as the gallery writes it: of `ok` and the output, or of `err`, the error and what was written before it."""
-    colours = case.looks['colours']
-    drawn = texts[0] if kind == 'ok' else texts[1] if colours == 'ansi' else ''
-    if colours == 'svg' and kind == 'ok':
-        drawn = document(list(glyphs(drawn)))
-    shown = ''.join(SHOWN.get(c, c) for c in drawn)
+    colors = case.settings['colors']
+    rendered = texts[0] if kind == 'ok' else texts[1] if colors == 'ansi' else ''
+    if colors == 'svg' and kind == 'ok':
+        rendered = document(list(glyphs(rendered)))
+    shown = ''.join(SHOWN.get(c, c) for c in rendered)
     return '== %s\n%s%s' % (case.name, shown, 'failed: %s\n' % texts[0] if kind == 'err' else '')
 
 
@@ -157,5 +157,5 @@ def section(name):
 
 
 def svg_cases():
-    """The cases whose colours are `svg`."""
-    return [case for case in read_cases((GALLERY / 'stdin').read_bytes().decode()) if case.looks['colours'] == 'svg']
+    """The cases whose colors are `svg`."""
+    return [case for case in read_cases((GALLERY / 'stdin').read_bytes().decode()) if case.settings['colors'] == 'svg']

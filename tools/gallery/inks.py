@@ -1,4 +1,4 @@
-"""Pictures in colours: read from escape sequences, written as SVG documents, and read back from these."""
+"""Outputs in colors: read from escape sequences, written as SVG documents, and read back from these."""
 import re
 import unicodedata
 import xml.etree.ElementTree
@@ -11,15 +11,15 @@ FONT = 'font-family="DejaVu Sans Mono, Menlo, Consolas, monospace" font-size="15
 
 
 def glyphs(text):
-    """The characters of a text with escape sequences, each with its ink: the shade of its colour, if it has one, and whether it is bold."""
+    """The characters of a text with escape sequences, each with its ink: the shade of its color, if it has one, and whether it is bold."""
     ink = PLAIN
     for part in re.split('(\x1b\\[[0-9;]*m)', text):
         sequence = re.fullmatch('\x1b\\[(?:(0)|(1)|3([0-7])|38;5;([0-9]+))m', part)
         if not sequence:
             yield from ((c, ink) for c in part)
             continue
-        reset, bold, colour, bright = sequence.groups()
-        shade = SHADES[int(colour)] if colour else SHADES[int(bright) - 8] if bright else ink[0]
+        reset, bold, color, bright = sequence.groups()
+        shade = SHADES[int(color)] if color else SHADES[int(bright) - 8] if bright else ink[0]
         ink = PLAIN if reset else (shade, ink[1] or bool(bold))
 
 
@@ -53,8 +53,8 @@ def texts(characters):
         yield joined
 
 
-def held(c):
-    """A character as XML holds it."""
+def xml_text(c):
+    """A character as it is written in XML."""
     other = '\ufffd' if c < ' ' or c in '\ufffe\uffff' else c
     return ENTITIES.get(c) or SHOWN.get(c) or other
 
@@ -62,9 +62,9 @@ def held(c):
 def element(joined):
     """A text of a document."""
     row, column, _, (shade, bold) = joined[0]
-    place = 'x="%d" y="%d" textLength="%d"' % (12 + 9 * column, 25 + 18 * row, 9 * sum(cells(glyph[2]) for glyph in joined))
+    attributes = 'x="%d" y="%d" textLength="%d"' % (12 + 9 * column, 25 + 18 * row, 9 * sum(cells(glyph[2]) for glyph in joined))
     ink = (' fill="%s"' % shade if shade else '') + (' font-weight="bold"' if bold else '')
-    return '<text %s%s>%s</text>' % (place, ink, ''.join(held(glyph[2]) for glyph in joined))
+    return '<text %s%s>%s</text>' % (attributes, ink, ''.join(xml_text(glyph[2]) for glyph in joined))
 
 
 def document(characters):
@@ -79,7 +79,7 @@ def document(characters):
     return head + '<rect width="100%" height="100%" rx="6" fill="#161b22"/>\n' + '\n'.join(rows) + '</svg>\n'
 
 
-def shown(text):
+def glyphs_of_svg(text):
     """The glyphs of a document with their rows and columns, as a reader of XML finds them."""
     for part in xml.etree.ElementTree.fromstring(text).iter('{http://www.w3.org/2000/svg}text'):
         row, column = (int(part.get('y')) - 25) / 18, (int(part.get('x')) - 12) / 9

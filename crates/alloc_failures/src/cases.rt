@@ -22,7 +22,8 @@ pub enum CaseName {
     Short,
     /// A file with custom line numbers.
     MappedNumbers,
-    /// Lines before and after a label's, each of whose lookups allocates.
+    /// Lines before and after a label's, over a file each of whose lookups of a line's range
+    /// allocates.
     SurroundingLines,
 }
 
@@ -36,8 +37,10 @@ pub struct Case<'text> {
     pub display_style: DisplayStyle,
     /// The lines that are shown after the first line of a multi-line label.
     pub start_context_lines: usize,
-    /// The lines that are shown before and after a label.
-    pub around: (usize, usize),
+    /// The lines that are shown before a label.
+    pub before_label_lines: usize,
+    /// The lines that are shown after a label.
+    pub after_label_lines: usize,
     /// The name and the text of each file.
     pub files: &'text [(&'text str, &'text str)],
     /// The code of an error.
@@ -58,7 +61,8 @@ pub struct Case<'text> {
 const EMPTY: Case<'static> = Case {
     display_style: DisplayStyle::Rich,
     start_context_lines: 3,
-    around: (0, 0),
+    before_label_lines: 0,
+    after_label_lines: 0,
     files: &[],
     code: None,
     message: "",
@@ -87,12 +91,11 @@ impl CaseName {
 impl Case<'_> {
     /// Returns the configuration.
     pub fn config<'chars>(&self) -> Config<'chars> {
-        let (before_label_lines, after_label_lines) = self.around;
         Config {
             display_style: self.display_style,
             start_context_lines: self.start_context_lines,
-            before_label_lines,
-            after_label_lines,
+            before_label_lines: self.before_label_lines,
+            after_label_lines: self.after_label_lines,
             ..Config::default()
         }
     }
@@ -245,7 +248,8 @@ static MAPPED_NUMBERS: Case<'static> = Case {
 
 /// The end of a file, with lines before it.
 static SURROUNDING_LINES: Case<'static> = Case {
-    around: (2, 1),
+    before_label_lines: 2,
+    after_label_lines: 1,
     files: &[(
         "surroundingLines.fun",
         "#[foo]\nfn main() {\n    println!(\n        \"{}\",\n        Foo\n    );\n}\n\nstruct Foo",

@@ -6,10 +6,10 @@ use codespan_base::files::Error;
 use codespan_base::term::{Chars, Config, DisplayStyle, Layout, SnippetStart};
 use std::alloc::Global;
 
-/// What is cloned.
+/// A clone of a configuration or of a part of it.
 #[derive(Clone, Copy)]
 pub enum CloneCall {
-    /// The text before a locus.
+    /// The `snippet_start`.
     SnippetStart,
     /// The characters.
     Chars,
@@ -17,7 +17,7 @@ pub enum CloneCall {
     Config,
 }
 
-/// A text before a locus.
+/// The `snippet_start` of the configuration.
 const START: &str = "==>";
 
 /// Returns whether it is this owned text.
@@ -33,7 +33,7 @@ fn are_chars(chars: &Chars<'_>) -> bool {
     is_start(&chars.snippet_start) && are_same_chars(chars, &Chars::ascii())
 }
 
-/// Returns whether it is the configuration with this text before a locus.
+/// Returns whether it is the configuration with this `snippet_start`.
 fn is_config(config: &Config<'_>) -> bool {
     is_start(&config.chars.snippet_start) && is_same_config(config, &config_of(Chars::ascii()))
 }
@@ -53,20 +53,24 @@ fn config_of(chars: Chars<'_>) -> Config<'_> {
 }
 
 /// Makes the clone of a configuration, or of a part of it, and judges it.
-pub fn judge_clone(alloc: Global, clone_call: CloneCall) -> Result<Outcome, Error> {
+///
+/// # Errors
+///
+/// `OutOfMemory` if an allocation of the preparation fails.
+pub fn judge_clone(alloc: Global, call: CloneCall) -> Result<Outcome, Error> {
     let config = config_of(Chars {
         snippet_start: SnippetStart::Owned(String::from_str(alloc, START)?),
         ..Chars::ascii()
     });
-    Ok(match is_cloned(&config, clone_call) {
+    Ok(match is_cloned(&config, call) {
         Ok(is_equal) => judge_made(is_equal),
         Err(error) => judge_failure(&error, true),
     })
 }
 
 /// Makes the clone, and returns whether it is equal.
-fn is_cloned(config: &Config<'_>, clone_call: CloneCall) -> Result<bool, Error> {
-    match clone_call {
+fn is_cloned(config: &Config<'_>, call: CloneCall) -> Result<bool, Error> {
+    match call {
         CloneCall::SnippetStart => Ok(is_start(&config.chars.snippet_start.clone()?)),
         CloneCall::Chars => Ok(are_chars(&config.chars.clone()?)),
         CloneCall::Config => Ok(is_config(&config.clone()?)),

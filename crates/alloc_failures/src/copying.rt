@@ -1,4 +1,4 @@
-//! A file database that allocates at each lookup of a line.
+//! A file database that allocates at each lookup of a line's range.
 
 ghost use Rattle.std.specs.Prelude.{refl, Some};
 
@@ -6,7 +6,8 @@ use codespan_base::files::{Error, Files, Location, SimpleFile};
 use std::alloc::Global;
 use std::ops::Range;
 
-/// One file, of which each lookup of a line allocates, as one that is read line by line does.
+/// One file, of which each lookup of a line's range allocates, as one that is read line by line
+/// does.
 #[derive(Drop)]
 pub struct Copying<'text> {
     file: SimpleFile<&'text str, &'text str>,
@@ -14,7 +15,11 @@ pub struct Copying<'text> {
 }
 
 impl<'text> Copying<'text> {
-    /// Returns the file of this name and text. Fails with `OutOfMemory`.
+    /// Returns the file of this name and text.
+    ///
+    /// # Errors
+    ///
+    /// `OutOfMemory` if an allocation fails.
     pub fn new(alloc: Global, name: &'text str, text: &'text str) -> Result<Self, Error> {
         Ok(Copying {
             file: SimpleFile::new(alloc, name, text)?,

@@ -22,6 +22,10 @@ pub enum DatabaseCall {
 const TEXT: &str = "a\nb\nc\nd";
 
 /// Makes a call of a file database, and judges its result and what it leaves.
+///
+/// # Errors
+///
+/// `OutOfMemory` if an allocation of the preparation fails.
 pub fn judge_database(alloc: Global, call: DatabaseCall) -> Result<Outcome, Error> {
     match call {
         DatabaseCall::SimpleFileNew => Ok(match SimpleFile::new(alloc, "f", TEXT) {

@@ -5,7 +5,12 @@ use codespan_base::diagnostic::{Diagnostic, Label};
 use codespan_base::files::Error;
 use std::alloc::Global;
 
-/// Returns the diagnostic, over files of these ids. Fails with `OutOfMemory`.
+/// Returns the diagnostic, over files of these ids.
+///
+/// # Errors
+///
+/// - `FileMissing`: a label's file has no id.
+/// - `OutOfMemory`: an allocation fails.
 pub fn diagnostic_of<FileId: Copy + Drop>(
     alloc: Global,
     case: &Case<'_>,

@@ -1,6 +1,6 @@
 //! The calls of `codespan_styled` and `codespan_lsp` that allocate, each over a small text.
 
-use crate::outcome::{Outcome, judge_made, judge_value};
+use crate::outcome::{Outcome, judge_failure, judge_made, judge_value};
 use crate::rendering::judge_string;
 use codespan_base::diagnostic::{Diagnostic, Label, Severity};
 use codespan_base::files::{Error, SimpleFile};
@@ -12,7 +12,7 @@ use codespan_styled::{
 };
 use std::alloc::{AllocError, Global};
 
-/// A call that makes text in runs, a document of these, or diagnostics for an editor.
+/// A call of `codespan_styled` or `codespan_lsp`.
 #[derive(Clone, Copy)]
 pub enum DocumentCall {
     /// `styled_text`
@@ -76,7 +76,11 @@ const CSS: &str = ".diagnostic .header-bug { }\n\
                    .diagnostic .source-border { }\n\
                    .diagnostic .note-bullet { }\n";
 
-/// Makes a call and judges it. Fails if preparing it fails.
+/// Makes a call and judges it.
+///
+/// # Errors
+///
+/// `OutOfMemory` if an allocation of the preparation fails.
 pub fn judge_document(alloc: Global, call: DocumentCall) -> Result<Outcome, Error> {
     let styles = Styles::default();
     match call {
@@ -142,7 +146,7 @@ fn judge_styled(alloc: Global) -> Result<Outcome, Error> {
     };
     match styled_text(alloc, &config, &file, &diagnostic) {
         Ok(text) => Ok(judge_made(are_same(&text, &expected))),
-        Err(error) => Ok(judge_value(&Err(error), &())),
+        Err(error) => Ok(judge_failure(&error, true)),
     }
 }
 

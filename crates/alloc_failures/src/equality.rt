@@ -1,8 +1,8 @@
-//! Equality of configurations, but for the text before a locus.
+//! Equality of configurations, but for the `snippet_start`.
 
 use codespan_base::term::{Chars, Config};
 
-/// Returns whether two configurations are equal, but for the text before a locus.
+/// Returns whether two configurations are equal, but for the `snippet_start`.
 pub fn is_same_config(left: &Config<'_>, right: &Config<'_>) -> bool {
     left.display_style == right.display_style
         && left.layout == right.layout
@@ -10,7 +10,7 @@ pub fn is_same_config(left: &Config<'_>, right: &Config<'_>) -> bool {
         && are_same_chars(&left.chars, &right.chars)
 }
 
-/// Returns whether characters are equal, but for the text before a locus.
+/// Returns whether characters are equal, but for the `snippet_start`.
 pub fn are_same_chars(left: &Chars<'_>, right: &Chars<'_>) -> bool {
     characters_of(left) == characters_of(right)
 }

@@ -1,8 +1,9 @@
-//! `alloc_failures SUBJECT` makes one call that allocates, and judges the outcome.
-//! `alloc_failures` does so for each subject, one after another.
+//! `alloc_failures SUBJECT`, of one or two words ([`subject`] lists them), makes one call that
+//! allocates, or the calls that do not, and judges the outcome. `alloc_failures` does so for each
+//! subject, one after another.
 //!
 //! It is made to be run while one allocation after another fails: `tools/alloc_failures` does that.
-//! A subject is prepared, its one call is made, and one line reports the outcome: `unprepared`, an
+//! A subject is prepared, its call is made, and one line reports the outcome: `unprepared`, an
 //! allocation failed before the call; `done`, the call returned `Ok` with exactly what is expected;
 //! `failed`, it failed with an error that it may return, and all that must stay unchanged is
 //! unchanged; or `wrong`. What is expected is written down in this crate: worked outputs, and what
@@ -12,13 +13,13 @@
 //! |---|---|
 //! | 0 | no error; without SUBJECT, each subject is done |
 //! | 1 | a wrong outcome, without SUBJECT any but `done`; or writing the output failed |
-//! | 2 | nothing: no subject has this name |
+//! | 2 | no subject has this name |
 #![tactic(auto)]
 
+mod builders;
 mod cases;
 mod clones;
 mod copying;
-mod data;
 mod databases;
 mod diagnostics;
 mod documents;
@@ -44,7 +45,8 @@ fn main(rt: HostRuntime) -> ExitCode {
     ExitCode::from(status)
 }
 
-/// Returns the outcome without arguments: those that are not UTF-8 name no subject.
+/// Returns the outcome where the arguments can not be read: those that are not UTF-8 name no
+/// subject.
 fn unknown_arguments(error: ArgumentsError) -> Outcome {
     match error {
         ArgumentsError::NotUtf8 => Outcome::Unknown,

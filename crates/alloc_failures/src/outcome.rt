@@ -37,8 +37,8 @@ pub enum Wrong {
 impl Outcome {
     /// Returns the program's status.
     pub fn status(self) -> u8
-        ensures most { result ≤ 2 }
-        ensures right { result ≡ 0 → (self ≡ Outcome.Unprepared) ⊎ (self ≡ Outcome.Done)
+        ensures at_most_two { result ≤ 2 }
+        ensures success { result ≡ 0 → (self ≡ Outcome.Unprepared) ⊎ (self ≡ Outcome.Done)
             ⊎ (self ≡ Outcome.Failed) }
     {
         match self {
@@ -66,10 +66,10 @@ impl fmt::Display for Outcome {
 impl fmt::Display for Wrong {
     fn fmt<W: Write>(&self, f: &mut fmt::Formatter<W>) -> fmt::Result {
         match self {
-            Wrong::Preparation => write!(f, "not prepared, and memory is not why"),
-            Wrong::Value => write!(f, "another value than is expected"),
-            Wrong::Failure => write!(f, "another error than may come"),
-            Wrong::Changed => write!(f, "failed, and something did not stay unchanged"),
+            Wrong::Preparation => write!(f, "preparing it failed, not by a failed allocation"),
+            Wrong::Value => write!(f, "not the expected value"),
+            Wrong::Failure => write!(f, "an error that the call may not return"),
+            Wrong::Changed => write!(f, "the call failed and has changed something"),
         }
     }
 }
@@ -83,7 +83,7 @@ pub fn prepared(judged: Result<Outcome, Error>) -> Outcome {
     }
 }
 
-/// Returns `Done` if the value is the expected one.
+/// Returns `Done` if the value is the expected one, and else `Wrong`.
 pub fn judge_made(is_expected: bool) -> Outcome
     ensures done { result ≡ Outcome.Done → IsTrue is_expected }
     ensures no_failure { result ≢ Outcome.Failed }
@@ -95,7 +95,8 @@ pub fn judge_made(is_expected: bool) -> Outcome
     }
 }
 
-/// Returns `Failed` if the error is a failed allocation, and what must stay unchanged is unchanged.
+/// Returns `Failed` if the error is a failed allocation and what must stay unchanged is unchanged,
+/// and else `Wrong`.
 pub fn judge_failure(error: &Error, is_unchanged: bool) -> Outcome
     ensures error { result ≡ Outcome.Failed → error.now ≡ Error.OutOfMemory }
     ensures unchanged { result ≡ Outcome.Failed → IsTrue is_unchanged }
@@ -109,7 +110,7 @@ pub fn judge_failure(error: &Error, is_unchanged: bool) -> Outcome
 }
 
 /// Returns the outcome of a call that makes a value: `Done` if it is the expected one, `Failed` if
-/// an allocation failed.
+/// an allocation failed, and else `Wrong`.
 pub fn judge_value<T: PartialEq + Drop>(returned: &Result<T, Error>, expected: &T) -> Outcome
     ensures done { result ≡ Outcome.Done → IfOk returned.now
         (λ made. IsTrue (T.eq made expected.now)) }

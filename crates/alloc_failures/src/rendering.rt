@@ -50,6 +50,10 @@ impl RenderCall {
 const OLD_TEXT: &str = "kept";
 
 /// Makes a call over a worked diagnostic and judges it.
+///
+/// # Errors
+///
+/// An error of the preparation: `OutOfMemory` if an allocation fails.
 pub fn judge_rendering(
     alloc: Global,
     call: RenderCall,
@@ -82,7 +86,7 @@ fn judge_mapped(alloc: Global, call: RenderCall, case: &Case<'_>) -> Result<Outc
     judge_call(alloc, call, case, &file, &diagnostic)
 }
 
-/// Makes a call over the first file, where each lookup of a line allocates, and judges it.
+/// Makes a call over the first file, where each lookup of a line's range allocates, and judges it.
 fn judge_copying(alloc: Global, call: RenderCall, case: &Case<'_>) -> Result<Outcome, Error> {
     let (name, source) = case.files.first().ok_or(Error::FileMissing)?;
     let file = Copying::new(alloc, name, source)?;
@@ -108,7 +112,10 @@ fn judge_call<'files, F: Files<'files>>(
             let returned = emit_to_string(&mut string, &case.config(), files, diagnostic);
             Ok(judge_appended(&returned, string.as_str(), case.output))
         }
-        _ => Ok(judge_written(alloc, call, case, files, diagnostic)),
+        RenderCall::Render
+        | RenderCall::EmitToWriteStyle
+        | RenderCall::EmitToIoWrite
+        | RenderCall::Emit => Ok(judge_written(alloc, call, case, files, diagnostic)),
     }
 }
 

@@ -1,8 +1,10 @@
 //! The subjects, and their names.
 
+use crate::builders::{
+    DiagnosticCall, LabelCall, ListCall, TextCall, judge_diagnostic, judge_label,
+};
 use crate::cases::CaseName;
 use crate::clones::{CloneCall, judge_clone};
-use crate::data::{DiagnosticCall, LabelCall, ListCall, TextCall, judge_diagnostic, judge_label};
 use crate::databases::{DatabaseCall, judge_database};
 use crate::documents::{DocumentCall, judge_document};
 use crate::native::judge_native;
@@ -19,7 +21,7 @@ pub enum Subject {
     /// A call of a diagnostic.
     Diagnostic(DiagnosticCall),
     /// A clone of a configuration or of a part of it.
-    CloneCall(CloneCall),
+    Clone(CloneCall),
     /// A call of a file database.
     Database(DatabaseCall),
     /// A call that renders, and what it renders.
@@ -77,10 +79,10 @@ pub const CALLS: [(&str, Subject); 28] = [
     ),
     (
         "SnippetStart::clone",
-        Subject::CloneCall(CloneCall::SnippetStart),
+        Subject::Clone(CloneCall::SnippetStart),
     ),
-    ("Chars::clone", Subject::CloneCall(CloneCall::Chars)),
-    ("Config::clone", Subject::CloneCall(CloneCall::Config)),
+    ("Chars::clone", Subject::Clone(CloneCall::Chars)),
+    ("Config::clone", Subject::Clone(CloneCall::Config)),
     (
         "SimpleFile::new",
         Subject::Database(DatabaseCall::SimpleFileNew),
@@ -106,10 +108,10 @@ pub const CALLS: [(&str, Subject); 28] = [
     ),
     ("codespan_emit", Subject::Native),
     (
-        "no_memory_prepared",
+        "without_alloc_prepared",
         Subject::WithoutAlloc(Extent::Preparation),
     ),
-    ("no_memory", Subject::WithoutAlloc(Extent::Calls)),
+    ("without_alloc", Subject::WithoutAlloc(Extent::Calls)),
 ];
 
 /// The first words of the subjects named by two words.
@@ -138,10 +140,10 @@ impl Subject {
     /// Returns the subject that the arguments name.
     pub fn from_arguments(args: &[String]) -> Option<Subject> {
         match args {
-            [word] => named(&CALLS, word.as_str()),
+            [word] => entry_named(&CALLS, word.as_str()),
             [call, case_name] => Some(Subject::Rendering(
-                named(&RENDER_CALLS, call.as_str())?,
-                named(&CASES, case_name.as_str())?,
+                entry_named(&RENDER_CALLS, call.as_str())?,
+                entry_named(&CASES, case_name.as_str())?,
             )),
             _ => None,
         }
@@ -152,7 +154,7 @@ impl Subject {
         prepared(match self {
             Subject::Label(call) => judge_label(alloc, call),
             Subject::Diagnostic(call) => judge_diagnostic(alloc, call),
-            Subject::CloneCall(clone_call) => judge_clone(alloc, clone_call),
+            Subject::Clone(call) => judge_clone(alloc, call),
             Subject::Database(call) => judge_database(alloc, call),
             Subject::Rendering(call, case_name) => judge_rendering(alloc, call, case_name),
             Subject::Document(call) => judge_document(alloc, call),
@@ -163,7 +165,7 @@ impl Subject {
 }
 
 /// Returns the entry of a table of this name.
-fn named<T: Copy>(table: &[(&str, T)], name: &str) -> Option<T> {
+fn entry_named<T: Copy>(table: &[(&str, T)], name: &str) -> Option<T> {
     for (known, value) in table {
         if *known == name {
             return Some(*value);

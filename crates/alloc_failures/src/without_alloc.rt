@@ -1,19 +1,20 @@
 //! The calls that do not allocate.
 
+mod rows;
+
 use crate::databases::has_text;
 use crate::equality::{are_same_chars, is_same_config};
-use crate::outcome::{Outcome, judge_made};
+use crate::outcome::{Outcome, Wrong, judge_made};
 use codespan_base::diagnostic::LabelStyle::{Primary, Secondary};
-use codespan_base::diagnostic::{Diagnostic, Label, LabelStyle, Severity};
+use codespan_base::diagnostic::{Diagnostic, Label, Severity};
 use codespan_base::files::{
     Error, Files, Location, MappedFile, SimpleFile, SimpleFiles, column_index,
     default_column_number, default_line_number, default_location, line_starts,
 };
-use codespan_base::term::{
-    Ansi, Chars, Color, Config, PlainWriter, SnippetStart, Styles, StylesWriter, WriteStyle,
-};
-use codespan_renderer::term::renderer::{Locus, MultiLabel, Renderer, lanes_in_order};
+use codespan_base::term::{Chars, Color, Config, PlainWriter, SnippetStart, Styles};
+use codespan_renderer::term::renderer::Locus;
 use codespan_views::emitting::emit;
+use rows::{COLORED, ROWS, render_colored, render_rows};
 use std::alloc::Global;
 use std::convert::AsStr;
 use std::ops::Range;
@@ -30,26 +31,37 @@ pub enum Extent {
 /// The text of each file.
 const TEXT: &str = "foo\nbär\nbaz";
 
-/// What the calls need.
+/// What the calls need. Each vector has capacity for all that is written to it.
 #[derive(Drop)]
 struct Prepared<'text> {
-    /// Vectors with capacity for all that is written to them.
+    /// The rows, in plain text.
     rows: Vec<u8>,
+    /// A source line with a label, in colors.
     colored_output: Vec<u8>,
+    /// The diagnostic that is rendered without a lookup.
     output: Vec<u8>,
+    /// The locus of the snippet's start.
     start: Locus,
+    /// The locus of the header.
     row_locus: Locus,
+    /// A database of one file.
     file: SimpleFile<&'text str, &'text str>,
+    /// A database of the same file.
     files: SimpleFiles<&'text str, &'text str>,
+    /// A database of the same file, whose second line has the number 40.
     mapped: MappedFile<&'text str, &'text str>,
 }
 
 /// Prepares what the calls need, which allocates, and then makes the calls.
+///
+/// # Errors
+///
+/// `OutOfMemory` if an allocation of the preparation fails.
 pub fn judge_without_alloc(alloc: Global, extent: Extent) -> Result<Outcome, Error> {
     let mut needed = prepare(alloc)?;
     match extent {
         Extent::Preparation => Ok(Outcome::Done),
-        Extent::Calls => judge_calls(alloc, &mut needed),
+        Extent::Calls => Ok(judge_calls(alloc, &mut needed)),
     }
 }
 
@@ -87,21 +99,36 @@ fn locus_of(
     })
 }
 
-/// Makes each call and judges the results. An error of a call is reported as one of the preparation
-/// would be.
-fn judge_calls(alloc: Global, needed: &mut Prepared<'_>) -> Result<Outcome, Error> {
+/// Makes each call and judges the results. An error of a call is wrong.
+fn judge_calls(alloc: Global, needed: &mut Prepared<'_>) -> Outcome {
+    match render_all(alloc, needed) {
+        Ok(()) => judge_results(alloc, needed),
+        Err(_) => Outcome::Wrong(Wrong::Failure),
+    }
+}
+
+/// Makes the calls that write.
+///
+/// # Errors
+///
+/// The error of the first call that fails, and `FormatError` if lanes are not in order.
+fn render_all(alloc: Global, needed: &mut Prepared<'_>) -> Result<(), Error> {
     let mut plain_rows = PlainWriter::new(&mut needed.rows);
     render_rows(&mut plain_rows, &needed.start, &needed.row_locus)?;
     render_colored(&mut needed.colored_output)?;
-    render_bug(alloc, &mut needed.output, &needed.files)?;
-    Ok(judge_made(
+    render_bug(alloc, &mut needed.output, &needed.files)
+}
+
+/// Judges what was written, makes the other calls, and judges what they return.
+fn judge_results(alloc: Global, needed: &Prepared<'_>) -> Outcome {
+    judge_made(
         are_written(needed)
             && are_looked_up(needed)
             && are_styles(&Styles::default())
             && are_starts()
             && column_index("\n\n🗻∈🌏\n\n", 2..13, 10) == 2
             && are_made(alloc),
-    ))
+    )
 }
 
 /// Returns whether the vectors hold what is expected.
@@ -226,6 +253,10 @@ fn are_chars_cloned() -> bool {
 }
 
 /// Renders a diagnostic without a lookup.
+///
+/// # Errors
+///
+/// Those of `emit`.
 fn render_bug(
     alloc: Global,
     output: &mut Vec<u8>,
@@ -233,88 +264,3 @@ fn render_bug(
 ) -> Result<(), Error> {
     emit(output, &Config::default(), files, &Diagnostic::bug(alloc))
 }
-
-/// Writes each kind of row.
-fn render_rows<W: WriteStyle>(
-    writer: &mut W,
-    start: &Locus,
-    row_locus: &Locus,
-) -> Result<(), Error> {
-    let config = Config::default();
-    let mut renderer = Renderer::new(writer, &config);
-    renderer.render_header(None, Severity::Error, None, "")?;
-    renderer.render_snippet_start(1, start)?;
-    renderer.render_snippet_empty(1, Severity::Error, 2, &[])?;
-    render_crossing(&mut renderer)?;
-    renderer.render_empty()?;
-    render_other_rows(&mut renderer, row_locus)
-}
-
-/// Writes rows of other kinds.
-fn render_other_rows<W: WriteStyle>(
-    renderer: &mut Renderer<'_, '_, W>,
-    row_locus: &Locus,
-) -> Result<(), Error> {
-    let bars = [(0, Primary, MultiLabel::Left)];
-    if !lanes_in_order(1, &bars) {
-        return Err(Error::FormatError);
-    }
-    renderer.render_snippet_break(2, Severity::Error, 1, &bars)?;
-    let message = "unexpected type in application of `_+_`";
-    renderer.render_header(Some(row_locus), Severity::Error, Some("E0001"), message)?;
-    renderer.render_snippet_note(0, "a\r\n\nb\n")
-}
-
-/// Writes source lines with two multi-line labels whose underlines cross.
-fn render_crossing<W: WriteStyle>(renderer: &mut Renderer<'_, '_, W>) -> Result<(), Error> {
-    let first = [
-        (0, Secondary, MultiLabel::Top(1)),
-        (1, Primary, MultiLabel::Top(0)),
-    ];
-    let second = [
-        (0, Secondary, MultiLabel::Bottom(1, "q")),
-        (1, Primary, MultiLabel::Left),
-    ];
-    let third = [(1, Primary, MultiLabel::Bottom(1, "p"))];
-    render_line(renderer, 1, "ab\n", &first)?;
-    render_line(renderer, 2, "cd\n", &second)?;
-    render_line(renderer, 3, "ef", &third)
-}
-
-/// Writes a source line with two lanes.
-fn render_line<W: WriteStyle>(
-    renderer: &mut Renderer<'_, '_, W>,
-    number: usize,
-    text: &str,
-    lanes: &[(usize, LabelStyle, MultiLabel<'_>)],
-) -> Result<(), Error> {
-    if !lanes_in_order(2, lanes) {
-        return Err(Error::FormatError);
-    }
-    renderer.render_snippet_source(1, number, text, Severity::Error, &[], 2, lanes)
-}
-
-/// Writes a source line with a label and its message, in colors.
-fn render_colored(text: &mut Vec<u8>) -> Result<(), Error> {
-    let styles = Styles::default();
-    render_label(&mut StylesWriter::new(Ansi::new(text), &styles))
-}
-
-/// Writes a source line with a label and its message.
-fn render_label<W: WriteStyle>(writer: &mut W) -> Result<(), Error> {
-    let config = Config::default();
-    let mut renderer = Renderer::new(writer, &config);
-    let labels = [(Primary, 1..2, "m")];
-    renderer.render_snippet_source(1, 1, "abc", Severity::Error, &labels, 0, &[])
-}
-
-/// The rows of `render_rows`.
-const ROWS: &str = "error: \n  ┌─ f:1:1\n  │    \n1 │   ╭ ab\n  │ ╭────'\n2 │ │ │ cd\n\
-    \x20 │ ╰─│─' q\n3 │   │ ef\n  │   ╰─^ p\n\n\
-    \x20  · │\n\
-    Test.fun:4:11: error[E0001]: unexpected type in application of `_+_`\n \
-    = a\n   \n   b\n";
-
-/// The rows of `render_label`, in colors.
-const COLORED: &str = "\x1b[0m\x1b[36m1\x1b[0m \x1b[0m\x1b[36m│\x1b[0m a\x1b[0m\x1b[31mb\x1b[0mc\n\
-    \x20 \x1b[0m\x1b[36m│\x1b[0m  \x1b[0m\x1b[31m^\x1b[0m \x1b[0m\x1b[31mm\x1b[0m\n";

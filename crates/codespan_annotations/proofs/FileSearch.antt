@@ -1,4 +1,5 @@
--- The index of a file that is looked for, and what is known of all files with it.
+-- The index of a file that is looked for, and what is known of all files with it, for the clauses
+-- of `get_or_insert_file`, `first_file` and `last_file`.
 use Rattle.std.proofs.Common.{◌≡◌, ◌≢◌, ℕ, ◌+◌, ◌≤◌, Bool, true, false, List, [], ◌∷◌, ◌++◌, length, take, drop, arith, refl, sym, ap, subst, ◌∙◌, append-nil}
 use Rattle.std.specs.Prelude.{if◌then◌else◌}
 use Rattle.std.specs.Cmp.{IsEquivalence}
@@ -28,7 +29,7 @@ module _ {Id : Type 0} {same : Id → Id → Bool} (o : IsEquivalence same) (fil
       by true none = absurd (none refl)
       by false none = refl
 
-  -- where it is one of the files', they are as they were
+  -- where it is one of the files', they are unchanged
   pub file-unchanged : index ≢ length files → {A : Type 0} (known : List A) (one : A) → known ≡ with_file same (ids_view files) id known one
   file-unchanged inside known one =
       by (has same o (ids_view files) id) (λ none. inside (is ∙ no-index same o (ids_view files) id none ∙ ids-length))

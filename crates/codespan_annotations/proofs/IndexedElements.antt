@@ -1,4 +1,4 @@
--- Elements of lists at their indices.
+-- Elements of lists at their indices, for the clauses of `add_label`, `first_file` and `last_file`.
 use Rattle.std.proofs.Common.{◌≡◌, ℕ, suc, ◌+◌, ◌<◌, List, [], ◌∷◌, ◌++◌, length, take, drop, get_or, set, map, sym, ap, subst, ◌∙◌, arith}
 use Rattle.std.proofs.Math.Seq.{drop-cons}
 use Rattle.std.proofs.lemmas.List.{get_or-map, map-set, take_more}
@@ -25,7 +25,7 @@ drop-one {X} xs k x inside is =
     drop-cons xs k x inside ∙ ap (λ (y : X). y ∷ drop (suc k) xs) (sym is) ∙ (let e : suc k ≡ k + 1 = omega arith in ap (λ n. x ∷ drop n xs) e)
 
 -- what is known of each element, where the one at the index changes
-pub map-changed : {X A : Type 0} (h : X → A) (d : A) (snippet_line : A → A) {xs : List X} {index : ℕ} {x : X} → IsElementAt xs index x → (new : X) → h new ≡ snippet_line (h x)
-    → map h (set xs index new) ≡ set (map h xs) index (snippet_line (get_or (map h xs) index d))
-map-changed h d snippet_line {xs} {index} {x} at new is =
-    map-set h xs index new ∙ ap (set (map h xs) index) (is ∙ ap snippet_line (ap h at.is ∙ sym (get_or-map h xs index x d at.inside)))
+pub map-changed : {X A : Type 0} (h : X → A) (d : A) (change : A → A) {xs : List X} {index : ℕ} {x : X} → IsElementAt xs index x → (new : X) → h new ≡ change (h x)
+    → map h (set xs index new) ≡ set (map h xs) index (change (get_or (map h xs) index d))
+map-changed h d change {xs} {index} {x} at new is =
+    map-set h xs index new ∙ ap (set (map h xs) index) (is ∙ ap change (ap h at.is ∙ sym (get_or-map h xs index x d at.inside)))

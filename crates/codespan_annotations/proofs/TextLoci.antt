@@ -1,4 +1,4 @@
--- Loci of names and locations that were looked up.
+-- Loci of names and locations that were looked up, for the clause `locus` of `SourceFile::locus`.
 use Rattle.std.proofs.Common.{◌≡◌, ℕ}
 use Rattle.std.specs.Prelude.{IfSome, string_bytes}
 use Rattle.std.proofs.lemmas.Str.{IsUtf8-string_bytes}

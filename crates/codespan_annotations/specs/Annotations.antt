@@ -19,13 +19,13 @@ pub record Annotation : Type 0 where
 
 -- ---- the order of annotations
 
--- shown comes first, then single-line labels, then multi-line label marks
+-- shown comes first, then single-line labels, then lane marks
 abbrev pub rank_of : AnnotationKind → ℕ
 rank_of Shown = 0
 rank_of (Single index label) = 1
 rank_of (Multi lane_mark) = 2
 
--- the start of a single-line label, and the lane of a multi-line one
+-- the start of a single-line label, and the lane of a lane mark
 abbrev pub first_of : AnnotationKind → ℕ
 first_of Shown = 0
 first_of (Single index label) = label.start
@@ -43,8 +43,8 @@ index_in_list Shown = 0
 index_in_list (Single index label) = index
 index_in_list (Multi lane_mark) = 0
 
--- by kind; single-line labels by their ranges, of equal ranges the greater index first; multi-line
--- label marks by their lanes
+-- by kind; single-line labels by their ranges, of equal ranges the greater index first; lane marks
+-- by their lanes
 abbrev pub kind_cmp : AnnotationKind → AnnotationKind → Ordering
 kind_cmp x y =
     ordering_then (nat_cmp (rank_of x) (rank_of y))
@@ -76,7 +76,7 @@ is_on_line l e = e.line == l
 abbrev pub is_of_file : ℕ → Annotation → Bool
 is_of_file f e = e.file == f
 
--- the annotation is a multi-line label mark in this lane, on this line of this file
+-- the annotation is a lane mark in this lane, on this line of this file
 abbrev pub IsLaneMarkOn : ℕ → ℕ → ℕ → Annotation → Type 0
 IsLaneMarkOn f l lane e =
     (e.file ≡ f) × (e.line ≡ l) × (rank_of e.kind ≡ 2) × (first_of e.kind ≡ lane)

@@ -9,7 +9,7 @@ IsIdAt (j ∷ js) zero id = j ≡ id
 IsIdAt (j ∷ js) (suc f) id = IsIdAt js f id
 
 module _ {Id : Type 0} (same : Id → Id → Bool) where
-  -- the index of an id among these
+  -- the index of an id among these, or their number if it is none of them
   abbrev pub index_of_file : List Id → Id → ℕ
   index_of_file ids id = position_or_len (λ j. same j id) ids
 

@@ -24,20 +24,20 @@ abbrev pub lanes_view : {Id : Type 0} → List (RustFile Id) → List ℕ
 lanes_view {Id} files = map (λ (f : RustFile Id). f.lane_count) files
 
 -- how many lanes the file of an id has for these labels
-abbrev pub lanes_in : {Id : Type 0} → (Id → Id → Bool) → (Id → FileModel) → List (InFile Id) → Id
-    → ℕ
-lanes_in same file xs id = lane_count (labeled_file_model same file xs id)
+abbrev pub lane_count_of : {Id : Type 0} → (Id → Id → Bool) → (Id → FileModel) → List (InFile Id)
+    → Id → ℕ
+lane_count_of same file xs id = lane_count (labeled_file_model same file xs id)
 
 -- the start and the lanes of the file are those of these labels
 pub record HasLabels {Id : Type 0} (same : Id → Id → Bool) (file : Id → FileModel)
     (xs : List (InFile Id)) (f : RustFile Id) : Type 0 where
   pub start_is : f.start ≡ file_start same xs f.id
-  pub lanes_are : f.lane_count ≡ lanes_in same file xs f.id
+  pub lanes_are : f.lane_count ≡ lane_count_of same file xs f.id
 
 -- ---- one file more
 
--- what is known of the files of these ids, and of one of this id, which comes after them where it
--- is none of them
+-- a list with an element for each of these ids, and with `one` at its end where this id is none of
+-- them
 abbrev pub with_file : {Id A : Type 0} → (Id → Id → Bool) → List Id → Id → List A → A → List A
 with_file same ids id known one = if list_any (λ j. same j id) ids then known else known ++ one ∷ []
 

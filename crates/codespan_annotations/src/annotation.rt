@@ -56,9 +56,10 @@ pub enum AnnotationKind<'d, FileId> {
     /// The label is a multi-line label, and the line is between its start and its end, or one of
     /// them. It may be hidden.
     Multi {
-        /// The label's part that is on the line. It comes first, where it takes no word of its own.
+        /// The label's part that is on the line. It is the first field, which makes the enum one
+        /// machine word smaller.
         part: MultiPart,
-        /// The label's lane: the number of the file's multi-line labels before it.
+        /// The label's lane, 0-based: the number of the file's multi-line labels before it.
         lane: usize,
         /// The label.
         label: &'d Label<FileId>,
@@ -141,8 +142,8 @@ pub fn multi_label<FileId>(
     }
 }
 
-/// Returns the range of a single-line label inside its line, in bytes from `line_start`: at least
-/// one byte long.
+/// Returns the range of a single-line label in its line, in bytes from `line_start`, the end
+/// exclusive: at least one byte long, unless it starts at the greatest `usize`.
 #[inline(always)]
 pub fn range_in_line<FileId>(label: &Label<FileId>, line_start: usize) -> Range<usize>
     ensures start { result.start ≡ (from_line_start line_start (label_of label.now).label).start }

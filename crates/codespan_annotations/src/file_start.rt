@@ -14,7 +14,7 @@ pub fn is_primary<FileId>(label: &Label<FileId>) -> bool
     matches!(label.style, LabelStyle::Primary)
 }
 
-/// Returns the lesser of a byte index and a known one, if there is one.
+/// Returns the lesser of a byte index and a known one; the index itself if none is known.
 fn least(known: Option<usize>, start: usize) -> usize
     ensures { result ≡ least_with known start }
 {
@@ -24,7 +24,7 @@ fn least(known: Option<usize>, start: usize) -> usize
     }
 }
 
-/// Where the snippet of a file starts, by some of its labels. Byte indices are from 0.
+/// Where the snippet of a file starts, by the labels that were added. Byte indices are 0-based.
 #[derive(Clone, Copy)]
 pub struct FileStart {
     /// The least byte index at which a primary label starts; `None` where none is primary.
@@ -61,7 +61,7 @@ impl FileStart {
     }
 
     /// Returns the byte index at which the snippet starts: the least start of a primary label, or
-    /// of any label where none is primary.
+    /// of any label where none is primary; 0 without labels.
     pub fn byte(self) -> usize
         ensures { result ≡ start_byte self }
     {

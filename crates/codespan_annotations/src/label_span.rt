@@ -13,8 +13,8 @@ use codespan_base::files::{Error, Files};
 use codespan_base::term::Config;
 use std::ops::Range;
 
-/// The indices of the lines on which a label starts and ends, 0-based. The first may be after the
-/// last.
+/// The indices of the lines on which a label starts and ends, 0-based. It may start after the line
+/// on which it ends.
 #[derive(Clone, Copy)]
 pub struct LabelSpan {
     /// The index of the line on which the label starts.
@@ -64,7 +64,7 @@ impl LabelSpan {
 
     /// Returns how many annotations memory is reserved for: as many as the spanned lines make at
     /// most, if the label starts at or before its end; 1 otherwise.
-    pub fn spanned_annotations(self, config: &Config<'_>) -> usize {
+    pub fn annotation_capacity(self, config: &Config<'_>) -> usize {
         let others = self.last.saturating_sub(self.first);
         if others == 0 {
             return 1;
@@ -78,7 +78,8 @@ impl LabelSpan {
     }
 
     /// Returns the lines inside the label that are far from its ends: after the context lines of
-    /// the first line, and before those of the last one.
+    /// the first line, and before those of the last one. They are 0-based indices, the end
+    /// exclusive; where there are none, the end may be before the start.
     #[inline(always)]
     pub fn far_lines(self, config: &Config<'_>) -> Range<usize>
         ensures { (k : ℕ) → result.start ≤ k → k < result.end
@@ -92,7 +93,7 @@ impl LabelSpan {
         start.saturating_add(1)..end
     }
 
-    /// Returns the span from the first line of both to the last one.
+    /// Returns the span from the lesser of both first lines to the greater of both last ones.
     #[inline(always)]
     pub fn join(self, other: LabelSpan) -> LabelSpan {
         LabelSpan {
@@ -101,7 +102,8 @@ impl LabelSpan {
         }
     }
 
-    /// Returns the indices of the lines, and of the context lines around them.
+    /// Returns the lines, and the context lines around them, as 0-based indices, the end exclusive.
+    /// The line of the greatest index is left out.
     pub fn with_context(self, config: &Config<'_>) -> Range<usize> {
         let start = self.first.saturating_sub(config.before_label_lines);
         let end = self.last.saturating_add(config.after_label_lines);
@@ -146,7 +148,7 @@ impl LabelSpan {
 /// # Errors
 ///
 /// That of the first lookup that fails: the line of the start, then that of the end.
-pub fn label_lines<'files, F: Files<'files>>(
+pub fn label_span<'files, F: Files<'files>>(
     files: &'files F,
     label: &Label<F::FileId>,
 ) -> Result<LabelSpan, Error>

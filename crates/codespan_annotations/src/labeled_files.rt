@@ -24,7 +24,7 @@ pub struct LabeledFile<FileId> {
 }
 
 impl<FileId> LabeledFile<FileId> {
-    /// Adds a label of the file, which starts and ends on these lines.
+    /// Adds a label of the file. `lines` are those on which the label starts and ends.
     ///
     /// # Requires
     ///
@@ -42,7 +42,8 @@ impl<FileId> LabeledFile<FileId> {
     }
 }
 
-/// Adds a label to the file at this index.
+/// Adds a label to the file at this 0-based index. `lines` are those on which the label starts and
+/// ends.
 ///
 /// # Requires
 ///
@@ -64,8 +65,8 @@ pub fn add_label<FileId>(
     files[index].add(label, lines);
 }
 
-/// Returns the index of the file with this id, which is appended without labels if there is none.
-/// The file at index `previous`, that of the label before, is compared first.
+/// Returns the 0-based index of the file with this id, which is appended without labels if there is
+/// none. The file at index `previous`, that of the label before, is compared first.
 ///
 /// # Errors
 ///
@@ -74,7 +75,7 @@ pub fn add_label<FileId>(
 /// # Requires
 ///
 /// No two files have the same id.
-pub fn file_index<FileId: Copy + Eq>(
+pub fn get_or_insert_file<FileId: Copy + Eq>(
     files: &mut Vec<LabeledFile<FileId>>,
     previous: usize,
     id: FileId,
@@ -136,7 +137,7 @@ fn find_file<FileId: Copy + Eq>(files: &[LabeledFile<FileId>], previous: usize, 
 }
 
 /// Returns the index of the first file with this id, or the number of files if there is none. Each
-/// turn of the loop compares two files, which takes fewer instructions.
+/// turn of the loop compares two files, which takes fewer instructions than one turn for each.
 fn first_file<FileId: Copy + Eq>(files: &[LabeledFile<FileId>], id: FileId) -> usize
     ensures { result ≡ index_of_file FileId.eq (ids_view files.now) id }
 {

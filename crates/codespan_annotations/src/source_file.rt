@@ -26,7 +26,8 @@ pub struct SourceFile<'files, F: Files<'files>> {
 }
 
 impl<'files, F: Files<'files>> SourceFile<'files, F> {
-    /// Looks up a line: its range, and then its number, where that is not known.
+    /// Looks up a line by its 0-based index: its range, and then its number, where that is not
+    /// known.
     ///
     /// # Errors
     ///
@@ -55,8 +56,9 @@ impl<'files, F: Files<'files>> SourceFile<'files, F> {
         })
     }
 
-    /// Looks up the range and the number of a line, unless it is after this last one and the file
-    /// ends before it: then it returns `None`.
+    /// Looks up the range and the number of a line. Returns `None` where the range fails with
+    /// `LineTooLarge` and the line is after line `last`, the last one of a label: the file has
+    /// ended. Both indices are 0-based.
     ///
     /// # Errors
     ///
@@ -84,7 +86,7 @@ impl<'files, F: Files<'files>> SourceFile<'files, F> {
         }))
     }
 
-    /// Looks up the number of a line.
+    /// Looks up the number of a line by its 0-based index.
     ///
     /// # Errors
     ///
@@ -98,7 +100,7 @@ impl<'files, F: Files<'files>> SourceFile<'files, F> {
         self.files.line_number(self.id, index)
     }
 
-    /// Looks up the name of the file, and the location of a byte index in it.
+    /// Looks up the name of the file, and the location of a byte index in it, 0-based.
     ///
     /// # Errors
     ///

@@ -1,4 +1,4 @@
--- The bytes of a color, as they are written.
+-- For the clauses of `write_color`: the bytes of a color, as they are written.
 use Rattle.std.proofs.Common.{◌≡◌, ℕ, ◌+◌, ◌-◌, ◌<◌, ◌≤◌, Bool, true, false, List, [], ◌∷◌, None, Some, refl, arith}
 use Rattle.std.specs.Fmt.{digits}
 use Rattle.codespan_base.specs.declared.term.config.color.Color.{Color}

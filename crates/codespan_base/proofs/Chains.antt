@@ -1,4 +1,5 @@
--- Calls that write one after another, each where the one before it succeeded.
+-- For the clause of `put_pair`, and of each function that writes a row: calls that write one after
+-- another, each where the one before it succeeded.
 use Rattle.std.proofs.Common.{◌≡◌, true, ◌++◌, ap, sym, subst, ◌∙◌, Result, Ok, Err}
 use Rattle.std.specs.Result.{IsErrAnd}
 use Rattle.std.proofs.lemmas.Result.{err_from_is_err_and}

@@ -1,4 +1,5 @@
--- Known bytes of a writer, and more that are appended to them.
+-- For `AppendsBytes`, `Writes` and `Put`: known bytes of a writer, and more that are appended to
+-- them.
 use Rattle.std.proofs.Common.{◌≡◌, ℕ, List, [], ◌++◌, Option, None, Some, is_some, append-nil, append_assoc, refl, sym, ap, ◌∙◌}
 use Rattle.std.specs.Io.KnownBytes.{append_known}
 use Rattle.codespan_base.specs.WriterLaw.{are_known, extended, PrefixAppended}

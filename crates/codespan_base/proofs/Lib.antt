@@ -1,3 +1,4 @@
+-- what writers write
 pub mod KnownBytes
 pub mod Writes
 pub mod Put

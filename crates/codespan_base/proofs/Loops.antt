@@ -1,4 +1,5 @@
--- A loop that writes a stream piece by piece.
+-- For the clauses of `put_all`, `put_spaces` and `put_runs`: a loop that writes a stream piece by
+-- piece.
 use Rattle.std.proofs.Common.{◌≡◌, true, [], ◌++◌, refl, sym, ap, subst, ◌∙◌, append_assoc, append-nil, Result, Ok, Err}
 use Rattle.codespan_base.specs.Streams.{Stream}
 use Rattle.codespan_base.specs.WriterLaw.{Sink, with_written, is_known, PrefixWritten, Writes, failing}

@@ -1,4 +1,4 @@
--- A loop of `put`.
+-- For the clauses of `put_all` and `forward_put`: a loop of `put`.
 use Rattle.std.proofs.Common.{◌≡◌, ℕ, ◌<◌, true, ltb, List, [], ◌∷◌, ◌++◌, length, take, drop, refl, sym, ap, ◌∙◌, arith, Option, None, Some, is_some, suc, zero}
 use Rattle.std.specs.Io.KnownBytes.{append_known, Appends, Keeps}
 use Rattle.std.proofs.lemmas.Bool.{ne_eqb, false≢true}

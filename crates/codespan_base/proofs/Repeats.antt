@@ -1,4 +1,5 @@
--- Spaces, repeated characters and numbers, part by part.
+-- For the clauses of `put_spaces`, `put_repeated`, `put_runs`, `fill` and `write_digits`: spaces,
+-- repeated characters and numbers, part by part.
 use Rattle.std.proofs.Common.{◌≡◌, ℕ, zero, suc, get_or, ◌+◌, ◌-◌, ◌*◌, ◌/◌, ◌%◌, ◌^◌, ◌<◌, ◌≤◌, List, [], ◌∷◌, ◌++◌, length, take, drop, replicate, refl, sym, ap, ◌∙◌, append_assoc, append-nil, arith, mul-le-mul_right}
 use Rattle.std.specs.Fmt.{decimal}
 use Rattle.std.specs.List.{repeat}

@@ -1,4 +1,5 @@
--- A style mark as the bytes that spell it, and bytes that a writer of colors writes.
+-- For the clauses of the style marks of each `WriteStyle`: a style mark as the bytes that spell it,
+-- and bytes that a writer of colors writes.
 use Rattle.std.proofs.Common.{◌≡◌, ℕ, true, List, [], Option, append-nil, Result, Ok, Err, refl, sym, ap, ◌∙◌}
 use Rattle.codespan_base.specs.Streams.{StyleMark, style_mark, bytes}
 use Rattle.codespan_base.specs.WriterLaw.{Frame, Sink, is_known, are_known, extended, PrefixAppended, with_written, PrefixWritten, Writes}

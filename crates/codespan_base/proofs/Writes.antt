@@ -1,4 +1,4 @@
--- Calls that write, one after another.
+-- For `Loops`, `Put`, `Chains` and each clause `Writes`: calls that write, one after another.
 use Rattle.std.proofs.Common.{◌≡◌, ℕ, List, [], ◌∷◌, ◌++◌, refl, sym, ap, ◌∙◌, append_assoc, Option}
 use Rattle.codespan_base.specs.Streams.{Stream, Byte, Mark, Slot, Spelling, spelled, bytes}
 use Rattle.codespan_base.specs.WriterLaw.{Sink, with_written, is_known, extended, PrefixWritten}

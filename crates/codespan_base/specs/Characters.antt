@@ -1,16 +1,13 @@
 -- The characters of the output.
-use Rattle.std.specs.Prelude.{ℕ, List, codes, encode_utf8_all}
+use Rattle.std.specs.Prelude.{codes, encode_utf8_all}
 use Rattle.codespan_base.specs.declared.term.config.chars.SnippetStart.TheVariants.{Fixed}
 use Rattle.codespan_base.specs.declared.term.config.chars.Chars.{Chars}
 
--- the text of a literal in UTF-8
-abbrev pub utf8 : List ℕ → List ℕ
-utf8 cs = encode_utf8_all cs
-
--- the characters of box drawing
+-- the characters of box drawing: `│` (0x2502), `·` (0xb7), `=` (0x3d), `^` (0x5e), `-` (0x2d), `'`
+-- (0x27), `╭` (0x256d), `─` (0x2500) and `╰` (0x2570)
 abbrev pub box_drawing : Chars
 box_drawing = record {
-  snippet_start = Fixed (record { ref_ptr = (0, 0); now = utf8 (codes "┌─") });
+  snippet_start = Fixed (record { ref_ptr = (0, 0); now = encode_utf8_all (codes "┌─") });
   source_border_left = 0x2502;
   source_border_left_break = 0xb7;
   note_bullet = 0x3d;
@@ -28,7 +25,8 @@ box_drawing = record {
   pointer_left = 0x2502;
 }
 
--- the characters of ASCII
+-- the characters of ASCII: `|` (0x7c), `.` (0x2e), `=` (0x3d), `^` (0x5e), `-` (0x2d), `'` (0x27),
+-- `/` (0x2f) and `\` (0x5c)
 abbrev pub ascii : Chars
 ascii = record {
   snippet_start = Fixed (record { ref_ptr = (0, 0); now = codes "-->" });

@@ -1,4 +1,4 @@
--- The law of writers of colors: each style, and the reset, has fixed bytes.
+-- What a call does that writes bytes: it appends them, or a prefix where it fails.
 use Rattle.std.specs.Prelude.{◌≡◌, ℕ, true, List, Option, Result, MatchResult}
 use Rattle.codespan_base.specs.WriterLaw.{are_known, extended, PrefixAppended}
 

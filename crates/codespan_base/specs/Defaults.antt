@@ -4,8 +4,8 @@ use Rattle.codespan_base.specs.declared.term.config.DisplayStyle.TheVariants.{Ri
 use Rattle.codespan_base.specs.declared.term.config.Layout.TheVariants.{Classic}
 use Rattle.codespan_base.specs.Characters.{box_drawing}
 
--- rich style in box drawing, tabs of four cells, three lines after a label's first and one before
--- its last
+-- rich style in box drawing, tabs of four cells; of a multi-line label, three lines after its first
+-- and one before its last
 abbrev pub default_config : Config
 default_config = record {
   display_style = Rich;

@@ -1,5 +1,5 @@
--- Lemmas that the laws of files rest on. A reader may skip them: no contract rests
--- on what is defined here.
+-- Lemmas by which implementations of `Files` prove its law and their clauses. A reader may skip
+-- them: no clause names what is defined here.
 pub mod Lines
 pub use Rattle.codespan_files.specs.Lemmas.Simple
 pub use Rattle.codespan_files.specs.Lemmas.Mapped

@@ -8,7 +8,8 @@ use Rattle.codespan_base.specs.declared.term.config.color.Color.{Color}
 use Rattle.codespan_base.specs.declared.term.config.color.Color.TheVariants.{Red, Green, Yellow, Cyan}
 use Rattle.codespan_base.specs.declared.term.config.color.ColorSpec.{ColorSpec}
 use Rattle.codespan_base.specs.declared.term.config.styles.Styles.{Styles}
-use Rattle.codespan_base.specs.Streams.{StyleMark, Header, HeaderMessage, LineNumber, NoteBullet, SourceBorder, LabelMark, Reset}
+use Rattle.codespan_base.specs.Streams.{StyleMark, Header, HeaderMessage, LineNumber, NoteBullet, SourceBorder, LabelMark, Reset, Spelling}
+use Rattle.codespan_base.specs.Ansi.{ansi_reset, ansi_style}
 
 -- ---- the default styles
 
@@ -68,6 +69,10 @@ spelling_by styles set reset NoteBullet = set styles.note_bullet
 spelling_by styles set reset SourceBorder = set styles.source_border
 spelling_by styles set reset (LabelMark severity style) = set (label_style styles severity style)
 spelling_by styles set reset Reset = reset
+
+-- how `Ansi` spells style marks in these styles
+abbrev pub ansi_spelling : Styles → Spelling
+ansi_spelling styles = spelling_by styles ansi_style ansi_reset
 
 -- ---- styles with nothing set
 

@@ -70,17 +70,17 @@ styles_sink contents color reset p = record {
 
 -- the borrowed writer
 abbrev pub borrowed_writer : {W : Type 0} → PlainWriterRef W → W
-borrowed_writer l = l.writer.now
+borrowed_writer p = p.writer.now
 
 -- the reference by which it is borrowed
 abbrev pub borrow_name : {W : Type 0} → PlainWriterRef W → GName
-borrow_name l = l.writer.ghost_name
+borrow_name p = p.writer.ghost_name
 
 -- a plain writer that writes through the reference
 abbrev pub plain_ref_sink : {W : Type 0} → (W → Option (List ℕ)) → PlainWriterRef W → Sink
-plain_ref_sink contents l = record {
-  frame = record { spelling = no_style_marks; failed = l.failed; through = borrow_name l ∷ [] };
-  contents = contents (borrowed_writer l);
+plain_ref_sink contents p = record {
+  frame = record { spelling = no_style_marks; failed = p.failed; through = borrow_name p ∷ [] };
+  contents = contents (borrowed_writer p);
 }
 
 -- one that has not failed

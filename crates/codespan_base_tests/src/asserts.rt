@@ -36,7 +36,7 @@ pub fn is_file_missing<T>(returned: &Result<T, Error>) -> bool {
     matches!(returned, Err(Error::FileMissing))
 }
 
-/// Returns whether a call failed with these limits of a line.
+/// Returns whether a call failed with `LineTooLarge`, with these values of `given` and `max`.
 pub fn is_line_too_large<T>(returned: &Result<T, Error>, limits: (usize, usize)) -> bool {
     match returned {
         Err(Error::LineTooLarge { given, max }) => (*given, *max) == limits,
@@ -44,7 +44,7 @@ pub fn is_line_too_large<T>(returned: &Result<T, Error>, limits: (usize, usize))
     }
 }
 
-/// Returns whether a call failed with these limits of a column.
+/// Returns whether a call failed with `ColumnTooLarge`, with these values of `given` and `max`.
 pub fn is_column_too_large<T>(returned: &Result<T, Error>, limits: (usize, usize)) -> bool {
     match returned {
         Err(Error::ColumnTooLarge { given, max }) => (*given, *max) == limits,
@@ -52,8 +52,8 @@ pub fn is_column_too_large<T>(returned: &Result<T, Error>, limits: (usize, usize
     }
 }
 
-/// Returns the number that a call was given, where it failed since that is inside a character.
-pub fn inside_character<T>(returned: &Result<T, Error>) -> Option<usize> {
+/// Returns the byte index in `InvalidCharBoundary`, where a call failed with it.
+pub fn invalid_boundary<T>(returned: &Result<T, Error>) -> Option<usize> {
     match returned {
         Err(Error::InvalidCharBoundary { given }) => Some(*given),
         _ => None,

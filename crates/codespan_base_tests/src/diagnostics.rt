@@ -1,4 +1,4 @@
-//! Constructors and builders, each with the fields that it states.
+//! Orders, constructors, builders and clones of diagnostics and labels.
 
 ghost use Rattle.std.specs.Prelude.{◌≡◌, ◌∷◌, [], IfOk, string_bytes, codes, map};
 
@@ -34,14 +34,16 @@ fn chain(alloc: Global, file_id: usize) -> Result<Diagnostic<usize>, Error>
         .with_label(Label::primary(alloc, file_id, 0..1))
 }
 
-/// Returns a diagnostic with the labels of a vector. Their contract says so alone.
+/// Returns a diagnostic with the labels of a vector, as the contract of `with_labels_iter` alone
+/// proves.
 fn with_vector(alloc: Global, labels: Vec<Label<usize>>) -> Result<Diagnostic<usize>, Error>
     ensures { IfOk result (λ d. d.labels.items ≡ labels.items) }
 {
     Diagnostic::error(alloc).with_labels_iter(labels)
 }
 
-/// Returns a diagnostic with the notes of an iterator. Their contract says so alone.
+/// Returns a diagnostic with the notes of an iterator, as the contract of `with_notes_iter` alone
+/// proves.
 fn with_iterator(alloc: Global, notes: Vec<String>) -> Result<Diagnostic<usize>, Error>
     ensures { IfOk result (λ d. d.notes.items ≡ notes.items) }
 {
@@ -49,7 +51,7 @@ fn with_iterator(alloc: Global, notes: Vec<String>) -> Result<Diagnostic<usize>,
 }
 
 #[test]
-fn severities(rt: HostRuntime) {
+fn orders_of_severities_and_label_styles(rt: HostRuntime) {
     assert!(rt; Severity::Bug > Severity::Error);
     assert!(rt; Severity::Error > Severity::Warning);
     assert!(rt; Severity::Warning > Severity::Note);
@@ -181,7 +183,7 @@ fn with_notes_of_three(alloc: Global) -> Result<Diagnostic<usize>, Error> {
 }
 
 #[test]
-fn lists(rt: HostRuntime) -> Result<(), Fail> {
+fn lists_of_labels(rt: HostRuntime) -> Result<(), Fail> {
     let whole = with_labels_of_three(rt.alloc())?;
     let ids: Vec<usize> = whole
         .labels

@@ -2,7 +2,7 @@
 
 mod example;
 mod generic;
-mod keys;
+mod ids;
 
 use crate::asserts::{assert_ok, assert_same, assert_same_at, is_file_missing, is_line_too_large};
 use codespan_base::files::{
@@ -106,7 +106,7 @@ fn file_of_database(rt: HostRuntime) -> Result<(), Fail> {
 }
 
 /// Returns the text of a line, without its newline.
-fn line_of<'a>(
+fn line_text<'a>(
     file: &'a MappedFile<&'static str, &'static str>,
     line: usize,
 ) -> Result<Option<&'a str>, Error> {
@@ -121,7 +121,7 @@ fn mapped_numbers(rt: HostRuntime) -> Result<(), Fail> {
     for (line, number) in [(0, 1), (1, 2), (2, 100), (3, 101)] {
         assert_ok(&rt, file.line_number((), line), number);
     }
-    assert_ok(&rt, line_of(&file, 1), Some("b"));
+    assert_ok(&rt, line_text(&file, 1), Some("b"));
     Ok(())
 }
 

@@ -1,5 +1,6 @@
-//! Tests of positions and of diagnostics for language servers: values that the protocol, UTF-16 and
-//! the Rust crate give, and databases of each kind. And the code of `docs/LSP.md`.
+//! Tests of positions and of diagnostics for language servers, over databases of each kind: values
+//! from the protocol, from UTF-16 and from the tests of Rust's `codespan-lsp`, and the code of
+//! `docs/LSP.md`.
 
 mod diagnostics;
 mod failures;

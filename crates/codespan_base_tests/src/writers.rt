@@ -1,6 +1,8 @@
-//! Tests of every writer.
+//! Tests of every writer, and of clones of configurations.
 
+mod characters;
+mod clones;
 mod flushing;
-mod marks;
 mod parts;
+mod style_marks;
 mod written;

@@ -1,4 +1,4 @@
--- What was collected, put in order.
+-- What was collected, put in order, for the clause `collected` of `collect`.
 use Rattle.std.proofs.Common.{List, map, Vec, Global}
 use Rattle.std.specs.List.Sorted.{IsPermutation, IsSortedBy}
 use Rattle.codespan_base.specs.declared.term.config.Config.{Config}

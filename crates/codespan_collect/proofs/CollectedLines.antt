@@ -1,4 +1,5 @@
--- What is found of one line of a label, by the lines on which the label starts and ends.
+-- What is collected of one line of a label, by the lines on which the label starts and ends, for
+-- the clauses `added`, `padding` and `succeeded` of `collect_line`.
 use Rattle.std.proofs.Common.{◌≡◌, ℕ, Bool, true, false, max, List, [], None, ap, ◌∙◌, arith}
 use Rattle.std.specs.Prelude.{◌&&◌, ◌||◌, ◌==◌, decimal, fold, length, nat_le, if◌then◌else◌}
 use Rattle.std.proofs.lemmas.Bool.{and_from, le-leb, or_left, or_right}

@@ -1,4 +1,5 @@
--- Entries that are added, one after another.
+-- Annotations that are added, one after another, for the clauses `added` of `push_line` and
+-- `push_far_line`.
 use Rattle.std.proofs.Common.{◌≡◌, ℕ, Bool, true, false, List, [], ◌++◌, Option, Some, None, refl, sym, subst, ap, ◌∙◌, arith, Bor, ◌&&◌, ◌==◌, map}
 use Rattle.std.specs.Prelude.{if◌then◌else◌}
 use borrow.Author.Tests.{eqb-true}

@@ -1,4 +1,4 @@
--- The lines that are looked up for a label, one after another.
+-- The lines that are looked up for a label, one after another, for the clauses of `collect_lines`.
 use Rattle.std.proofs.Common.{◌≡◌, ℕ, ◌+◌, ◌-◌, ◌^◌, ◌<◌, ◌≤◌, Bool, true, false, not, ◌&&◌, ◌||◌, List, [], ◌∷◌, ◌++◌, length, Option, Some, None, refl, sym, ap, ◌∙◌, arith, ⊎_elim, true≢false}
 use Rattle.std.specs.Prelude.{nat_lt, nat_le, if◌then◌else◌, flat_map, fold, max, min}
 use Rattle.std.specs.List.{range_with_len}
@@ -21,7 +21,7 @@ use Rattle.codespan_annotations.specs.FileLookups.{failure_in}
 use Rattle.codespan_annotations.specs.AnnotationViews.{AddsOf}
 use Rattle.codespan_collect.specs.SpannedDigits.{digits_on, label_digits}
 use Rattle.codespan_picture.specs.Lookups.{looked_up_lines, lookups_of_file, ends_context, first_error, is_around, is_looked_up, line_lookups, lookup_past_end}
-use Rattle.codespan_picture.specs.Padding.{digit_count, spans}
+use Rattle.codespan_picture.specs.Padding.{count_digits, spans}
 use Rattle.codespan_laws.proofs.Greatest.{greatest-append}
 use Rattle.codespan_collect.proofs.Collecting.{Adds-as, Adds-both, Adds-none}
 use Rattle.codespan_collect.proofs.FirstErrors.{first_error-none, first_error-some}
@@ -67,7 +67,7 @@ module _ {Id : Type 0} (x : CollectedLabel Id) where
 
   -- a line that is not looked up is not spanned
   no_digits : (l : ℕ) → is_looked_up x.config x.file x.label l ≡ false → digits_on x.file x.label l ≡ []
-  no_digits l skipped = ap (λ (b : Bool). if b then digit_count (x.file.number l) ∷ [] else [])
+  no_digits l skipped = ap (λ (b : Bool). if b then count_digits (x.file.number l) ∷ [] else [])
       (neither (spans x.file x.label l)
       (is_around x.config (first_line x.file x.label) (last_line x.file x.label) l) skipped)
     where
@@ -111,11 +111,11 @@ module _ {Id : Type 0} {x : CollectedLabel Id} where
 
   module _ {xs ys : FoundAnnotations Id} {n : ℕ} (g : CollectsLines x xs ys n) where
     -- one more line
-    pub collected-snippet_line : {zs : FoundAnnotations Id} → HasEnds x
+    pub collected-line : {zs : FoundAnnotations Id} → HasEnds x
         → n ≤ max (last_line x.file x.label + x.config.after_label_lines) (first_line x.file x.label)
         → HasLineLookedUp x n → FindsLine x ys zs n → ExtendsPaddingForLine x ys zs n → failure_on x n ≡ None
         → CollectsLines x xs zs (n + 1)
-    collected-snippet_line there near inside adds counts none = record {
+    collected-line there near inside adds counts none = record {
       within = ⊎_elim (λ looked_up. let k = inside looked_up in omega arith) (λ skipped. further skipped) (cases_Bool (is_looked_up x.config x.file x.label n));
       added = Adds-as (flat_map_more (annotations_on x.config x.file x.label x.at) n) (Adds-both g.added adds);
       counted = counts ∙ ap (λ k. fold max k (digits_on x.file x.label n)) g.counted
@@ -150,8 +150,8 @@ module _ {Id : Type 0} {x : CollectedLabel Id} where
     -- the lines that are done with are all
     collected-up : annotations_of x.config x.file x.at x.label ≡ annotations_below x n → flat_map line_lookups (looked_up_lines x.config x.file x.label) ≡ lookups_below x n
         → label_digits x.file x.label ≡ digits_below x n → lookup_past_end x.config x.file (x.failure x.id) x.label ≡ [] → CollectsLabel x xs ys
-    collected-up annotation_if_any looked_up digits no_lookup_past_end = record {
-      added = Adds-as annotation_if_any g.added;
+    collected-up annotations_are looked_up digits no_lookup_past_end = record {
+      added = Adds-as annotations_are g.added;
       counted = g.counted ∙ sym (ap (fold max xs.padding.digits) digits);
       succeeded = ap (failed x) (ap (λ (ls : List Lookup). flat_map line_lookups (looked_up_lines x.config x.file x.label) ++ ls) no_lookup_past_end ∙ append-nil _ ∙ looked_up) ∙ g.succeeded;
     }

@@ -1,4 +1,4 @@
--- What the annotations of one label say of one line.
+-- The annotations of one label on one line, for the clause `collected` of `collect_in_turn`.
 use Rattle.std.proofs.Common.{◌≡◌, ◌≢◌, ℕ, zero, suc, ◌+◌, ◌<◌, Bool, true, false, cond, ◌==◌, nat_lt, nat_le, ◌&&◌, ◌||◌, List, [], ◌∷◌, ◌++◌, filter, flat_map, Some, None, ⊎_elim, refl, sym, ◌∙◌, ap, arith}
 use Rattle.std.specs.Prelude.{Option}
 use Rattle.std.specs.Option.{option_map}
@@ -154,8 +154,8 @@ module _ (config : Config) (f : FileModel) (at : LabelIndices) (x : LabelModel) 
   kind_annotations_on l = kind_annotations_where l (is_single f x && (first_line f x == l)) (shows config (first_line f x) (last_line f x) l)
 
   -- what holds of each annotation that it can have on a line
-  each-line_lookups : (P : Annotation → Type 0) (l : ℕ) → ((s : AnnotationKind) → P (annotation_on l s)) → AllByRecursion P (line_annotations config f at x l)
-  each-line_lookups P l h =
+  each-line_annotations : (P : Annotation → Type 0) (l : ℕ) → ((s : AnnotationKind) → P (annotation_on l s)) → AllByRecursion P (line_annotations config f at x l)
+  each-line_annotations P l h =
       all-append P (kind_annotations_on l) (multi_annotations_on l) (by_tests (is_single f x && (first_line f x == l)) (shows config (first_line f x) (last_line f x) l))
       (by_lane_mark (is_single f x) (lane_mark_of at.lane x (part_on f l x)))
     where
@@ -172,12 +172,12 @@ module _ (config : Config) (f : FileModel) (at : LabelIndices) (x : LabelModel) 
   -- its annotations are of its file
   pub all-of_file : AllByRecursion (λ e. e.file ≡ at.file) (annotations_of config f at x)
   all-of_file = all-range (λ e. e.file ≡ at.file) (line_annotations config f at x) (is_looked_up config f x) (line_count f) 0
-      (λ l k. each-line_lookups (λ e. e.file ≡ at.file) l (λ s. refl))
+      (λ l k. each-line_annotations (λ e. e.file ≡ at.file) l (λ s. refl))
 
   -- they are of lines that the file has
   pub all-below : AllByRecursion (λ e. e.line < line_count f) (annotations_of config f at x)
   all-below = all-range (λ e. e.line < line_count f) (line_annotations config f at x) (is_looked_up config f x) (line_count f) 0
-      (λ l k. each-line_lookups (λ e. e.line < line_count f) l (λ s. omega arith))
+      (λ l k. each-line_annotations (λ e. e.line < line_count f) l (λ s. omega arith))
 
   -- it has no annotation on a line that is not looked up for it
   not_looked_up : (l : ℕ) → is_looked_up config f x l ≡ false → line_annotations config f at x l ≡ []
@@ -193,9 +193,9 @@ module _ (config : Config) (f : FileModel) (at : LabelIndices) (x : LabelModel) 
       without_part false = refl
 
   -- on a line that the file has these are its annotations
-  pub annotations-line_lookups : (l : ℕ) → filter (is_on_line l) (annotations_of config f at x) ≡ cond (nat_lt l (line_count f)) (line_annotations config f at x l) []
-  annotations-line_lookups l =
-      on-line (line_annotations config f at x) (λ k. each-line_lookups (λ e. e.line ≡ k) k (λ s. refl)) (is_looked_up config f x) l (line_count f) 0
+  pub annotations-on_line : (l : ℕ) → filter (is_on_line l) (annotations_of config f at x) ≡ cond (nat_lt l (line_count f)) (line_annotations config f at x l) []
+  annotations-on_line l =
+      on-line (line_annotations config f at x) (λ k. each-line_annotations (λ e. e.line ≡ k) k (λ s. refl)) (is_looked_up config f x) l (line_count f) 0
       ∙ ap (λ b. cond (b && is_looked_up config f x l) (line_annotations config f at x l) []) (among-below (line_count f) l)
       ∙ ⊎_elim
       (λ (t : is_looked_up config f x l ≡ true). ap (λ b. cond (nat_lt l (line_count f) && b) (line_annotations config f at x l) []) t ∙ both (nat_lt l (line_count f)))
@@ -214,8 +214,8 @@ module _ (config : Config) (f : FileModel) (at : LabelIndices) (x : LabelModel) 
   -- ---- the kinds of its annotations of a line
 
   -- those of a label inside the line
-  pub single_labels-line_lookups : (l : ℕ) → filter (is_kind 1) (line_annotations config f at x l) ≡ cond (is_single f x && (first_line f x == l)) (carets l ∷ []) []
-  single_labels-line_lookups l =
+  pub single_labels-on_line : (l : ℕ) → filter (is_kind 1) (line_annotations config f at x l) ≡ cond (is_single f x && (first_line f x == l)) (carets l ∷ []) []
+  single_labels-on_line l =
       filter-append (is_kind 1) (kind_annotations_on l) (multi_annotations_on l)
       ∙ (λ i. by_tests (is_single f x && (first_line f x == l)) (shows config (first_line f x) (last_line f x) l) i ++ by_lane_mark (is_single f x) (lane_mark_of at.lane x (part_on f l x)) i)
       ∙ append-nil (cond (is_single f x && (first_line f x == l)) (carets l ∷ []) [])
@@ -231,8 +231,8 @@ module _ (config : Config) (f : FileModel) (at : LabelIndices) (x : LabelModel) 
       by_tests false false = refl
 
   -- its multi-line label mark
-  pub marks-line_lookups : (l : ℕ) → filter (is_kind 2) (line_annotations config f at x l) ≡ multi_annotations_on l
-  marks-line_lookups l =
+  pub marks-on_line : (l : ℕ) → filter (is_kind 2) (line_annotations config f at x l) ≡ multi_annotations_on l
+  marks-on_line l =
       filter-append (is_kind 2) (kind_annotations_on l) (multi_annotations_on l)
       ∙ (λ i. by_tests (is_single f x && (first_line f x == l)) (shows config (first_line f x) (last_line f x) l) i ++ by_lane_mark (is_single f x) (lane_mark_of at.lane x (part_on f l x)) i)
     where
@@ -247,8 +247,8 @@ module _ (config : Config) (f : FileModel) (at : LabelIndices) (x : LabelModel) 
       by_tests false false = refl
 
   -- its annotations make the lines shown that it shows: a label inside a line shows that line
-  pub any-line_lookups : (l : ℕ) → list_any shows_line (line_annotations config f at x l) ≡ shows config (first_line f x) (last_line f x) l
-  any-line_lookups l =
+  pub shown-on_line : (l : ℕ) → list_any shows_line (line_annotations config f at x l) ≡ shows config (first_line f x) (last_line f x) l
+  shown-on_line l =
       list_any-append shows_line (kind_annotations_on l) (multi_annotations_on l)
       ∙ (λ i. by_tests (is_single f x) (first_line f x == l) (shows config (first_line f x) (last_line f x) l) (own_shown config (first_line f x) (last_line f x) l) i
       || by_lane_mark (is_single f x) (lane_mark_of at.lane x (part_on f l x)) i)

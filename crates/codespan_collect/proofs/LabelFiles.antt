@@ -1,4 +1,4 @@
--- The files of labels, one label after another.
+-- The files of labels, one label after another, for the clause `collected` of `collect_in_turn`.
 use Rattle.std.proofs.Common.{◌≡◌, ◌<◌, Bool, true, false, List, [], ◌∷◌, ◌++◌, length, map, arith, refl, sym, ap, subst, ◌∙◌}
 use Rattle.std.specs.Prelude.{if◌then◌else◌}
 use Rattle.std.specs.Cmp.{IsEquivalence}
@@ -12,7 +12,7 @@ use Rattle.codespan_annotations.specs.declared.annotation.Annotation.{Annotation
 use Rattle.codespan_annotations.specs.Annotations.{Annotation}
 use Rattle.codespan_collect.specs.LabelAnnotations.{annotations_of}
 use Rattle.codespan_annotations.specs.AnnotationViews.{Adds, IsOfFiles, annotation_view}
-use Rattle.codespan_annotations.specs.LabeledFiles.{lanes_in, with_file}
+use Rattle.codespan_annotations.specs.LabeledFiles.{lane_count_of, with_file}
 use Rattle.codespan_annotations.specs.FileIndices.{IsIdAt, index_of_file}
 use Rattle.codespan_collect.specs.IndexedLabels.{annotations_after, indices_after}
 use Rattle.codespan_annotations.proofs.FileOrder.{file_ids-has, file_ids-more, has, none-of_file}
@@ -48,7 +48,7 @@ module _ {Id : Type 0} {same : Id → Id → Bool} (o : IsEquivalence same) (xs 
       by false known = ap (λ v. map h were ++ v ∷ []) (sym (known refl)) ∙ sym (map-append h were (x.id ∷ []))
 
   module _ (file : Id → FileModel) (config : Config) where
-    -- what labels of these files say stays
+    -- the annotations of labels of these files stay
     annotations-stay : (before ys : List (InFile Id)) → AllByRecursion (λ (y : InFile Id). has same o were y.id ≡ true) ys
         → annotations_after same file config are before ys ≡ annotations_after same file config were before ys
     annotations-stay before [] there = refl
@@ -58,7 +58,7 @@ module _ {Id : Type 0} {same : Id → Id → Bool} (o : IsEquivalence same) (xs 
           file = stays y.id there.0 i;
           index = length before;
           lane =
-              lanes_in same file before y.id;
+              lane_count_of same file before y.id;
         }) y.label
         ++ annotations-stay (before ++ y ∷ []) ys there.1 i
 
@@ -72,7 +72,7 @@ module _ {Id : Type 0} {same : Id → Id → Bool} (o : IsEquivalence same) (xs 
         (all-of_file config (file y.id) (indices_after same file were before y) y.label))
         (annotations-inside (before ++ y ∷ []) ys there.1)
 
-    -- what the labels say was added, and their lines are those of their files
+    -- the annotations of the labels were added, and their lines are those of their files
     pub added-with_file : {items : List (RustAnnotation Id)} → Adds (IsOfFiles file were) [] items (annotations_after same file config were [] xs)
         → Adds (IsOfFiles file are) [] items (annotations_after same file config are [] xs)
     added-with_file adds = record {

@@ -1,4 +1,5 @@
--- The files of ids, and the indices and lanes of labels, one label after another.
+-- The files of ids, and the indices and lanes of labels, one label after another, for the clause
+-- `collected` of `collect_in_turn`.
 use Rattle.std.proofs.Common.{◌≡◌, ℕ, ◌+◌, ◌<◌, ◌≤◌, Bool, true, false, not, ◌||◌, cond, List, [], ◌∷◌, ◌++◌, length, get_or, set, map, refl, sym, ap, subst, ◌∙◌, arith, ⊎_elim, true≢false}
 use Rattle.std.specs.Prelude.{filter, if◌then◌else◌}
 use Rattle.std.specs.Cmp.{IsEquivalence}
@@ -14,7 +15,7 @@ use Rattle.codespan_base.specs.Labels.{LabelModel, first_line, is_single, last_l
 use Rattle.codespan_annotations.specs.declared.label_span.LabelSpan.{LabelSpan}
 use Rattle.codespan_annotations.specs.Annotations.{Annotation}
 use Rattle.codespan_collect.specs.LabelAnnotations.{annotations_of}
-use Rattle.codespan_annotations.specs.LabeledFiles.{lanes_by, lanes_in}
+use Rattle.codespan_annotations.specs.LabeledFiles.{lanes_by, lane_count_of}
 use Rattle.codespan_annotations.specs.FileIndices.{index_of_file}
 use Rattle.codespan_collect.specs.IndexedLabels.{indices_after, annotations_after}
 use Rattle.codespan_picture.specs.Snippets.{InFile, lane_count}
@@ -84,21 +85,21 @@ module _ {Id : Type 0} {same : Id → Id → Bool} (o : IsEquivalence same) wher
         (cases_Bool (same j i))
 
 -- equal ids have as many lanes
-pub lanes_in-equal : {Id : Type 0} {database : FileDatabase Id} (lawful : AreFiles database) (before : List (InFile Id)) (i j : Id) → database.same i j ≡ true
-    → lanes_in database.same database.file before i ≡ lanes_in database.same database.file before j
-lanes_in-equal {Id} lawful before i j t = λ k. lane_count (record {
+pub lane_count_of-equal : {Id : Type 0} {database : FileDatabase Id} (lawful : AreFiles database) (before : List (InFile Id)) (i j : Id) → database.same i j ≡ true
+    → lane_count_of database.same database.file before i ≡ lane_count_of database.same database.file before j
+lane_count_of-equal {Id} lawful before i j t = λ k. lane_count (record {
   file = lawful.one_file i j t k;
   labels = map (λ (x : InFile Id). x.label) (filter (λ (x : InFile Id). lawful.equivalence.congr i j x.id t k) before);
 })
 
 module _ {Id : Type 0} (same : Id → Id → Bool) (file : Id → FileModel) where
   -- labels of other files have no lane in a file
-  pub lanes_in-none : (xs : List (InFile Id)) (id : Id) → AllByRecursion (λ (x : InFile Id). same id x.id ≡ false) xs → lanes_in same file xs id ≡ 0
-  lanes_in-none xs id none =
+  pub lane_count_of-none : (xs : List (InFile Id)) (id : Id) → AllByRecursion (λ (x : InFile Id). same id x.id ≡ false) xs → lane_count_of same file xs id ≡ 0
+  lane_count_of-none xs id none =
       ap (λ (own : List (InFile Id)). lane_count (record { file = file id; labels = map (λ (x : InFile Id). x.label) own })) (filter-nothing (λ (x : InFile Id). same id x.id) xs none)
 
   -- a file has a lane for each label at most
-  pub lanes-within : (id : Id) (xs : List (InFile Id)) → lanes_in same file xs id ≤ length xs
+  pub lanes-within : (id : Id) (xs : List (InFile Id)) → lane_count_of same file xs id ≤ length xs
   lanes-within id xs =
       let a = length-filter_both (λ (x : InFile Id). same id x.id) (λ (x : InFile Id). not (same id x.id)) (λ x. refl) xs in
       let own = filter (λ (x : InFile Id). same id x.id) xs in
@@ -106,9 +107,9 @@ module _ {Id : Type 0} (same : Id → Id → Bool) (file : Id → FileModel) whe
       omega (arith, a, b, length-map own (λ (x : InFile Id). x.label))
 
   -- the lanes with one more label
-  pub lanes_in-more : (before : List (InFile Id)) (x : InFile Id) (id : Id)
-      → lanes_in same file (before ++ x ∷ []) id ≡ lanes_in same file before id + (if same id x.id then label_lanes (file id) x.label else 0)
-  lanes_in-more before x id =
+  pub lane_count_of-more : (before : List (InFile Id)) (x : InFile Id) (id : Id)
+      → lane_count_of same file (before ++ x ∷ []) id ≡ lane_count_of same file before id + (if same id x.id then label_lanes (file id) x.label else 0)
+  lane_count_of-more before x id =
       ap (λ (xs : List (InFile Id)). lane_count (record { file = file id; labels = map (λ (y : InFile Id). y.label) xs })) (filter-append (λ (y : InFile Id). same id y.id) before (x ∷ []))
       ∙ by_same (same id x.id)
     where
@@ -123,17 +124,17 @@ module _ {Id : Type 0} (same : Id → Id → Bool) (file : Id → FileModel) whe
       one false = refl
 
       by_same : (b : Bool) → lane_count (record { file = file id; labels = map (λ (y : InFile Id). y.label) (own ++ (cond b (x ∷ []) [])) })
-          ≡ lanes_in same file before id + (if b then label_lanes (file id) x.label else 0)
+          ≡ lane_count_of same file before id + (if b then label_lanes (file id) x.label else 0)
       by_same true =
           ap (λ (ls : List LabelModel). lane_count (record { file = file id; labels = ls })) (map-append (λ (y : InFile Id). y.label) own (x ∷ []))
           ∙ ap (λ (ls : List LabelModel). length ls) (filter-append (λ y. not (is_single (file id) y)) labels (x.label ∷ []))
           ∙ length-append (multi_labels (file id) labels) (multi_labels (file id) (x.label ∷ []))
-          ∙ ap (λ n. lanes_in same file before id + n) (one (is_single (file id) x.label))
+          ∙ ap (λ n. lane_count_of same file before id + n) (one (is_single (file id) x.label))
       by_same false =
           ap (λ (xs : List (InFile Id)). lane_count (record { file = file id; labels = map (λ (y : InFile Id). y.label) xs })) (append-nil own)
-          ∙ (let e : lanes_in same file before id ≡ lanes_in same file before id + 0 = omega arith in e)
+          ∙ (let e : lane_count_of same file before id ≡ lane_count_of same file before id + 0 = omega arith in e)
 
-  -- what the labels say, with one more
+  -- the annotations of the labels, with one more
   pub annotations_after-more : (config : Config) (ids : List Id) (before xs : List (InFile Id)) (x : InFile Id)
       → annotations_after same file config ids before (xs ++ x ∷ [])
       ≡ annotations_after same file config ids before xs

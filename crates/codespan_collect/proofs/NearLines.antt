@@ -1,4 +1,4 @@
--- The lines around the two ends of a label, for the lines that are looked up for it.
+-- The lines around the two ends of a label, for the clauses of `collect_lines`.
 use Rattle.std.proofs.Common.{◌≡◌, ℕ, ◌+◌, ◌<◌, ◌≤◌, Bool, true, false, ◌&&◌, ◌||◌, List, [], ◌∷◌, ◌++◌, refl, ap, arith}
 use Rattle.std.specs.Prelude.{nat_lt, nat_le, if◌then◌else◌, filter, flat_map}
 use Rattle.std.proofs.lemmas.Grind.{common_steps}

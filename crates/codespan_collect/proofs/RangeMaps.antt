@@ -1,4 +1,4 @@
--- What the numbers of a range have, one after another.
+-- What the numbers of a range have, one after another, for the clauses of `collect_lines`.
 use Rattle.std.proofs.Common.{◌≡◌, ℕ, zero, suc, ◌+◌, ◌-◌, ◌<◌, ◌≤◌, List, [], ◌++◌, refl, ap, ◌∙◌, arith}
 use Rattle.std.specs.Prelude.{flat_map}
 use Rattle.std.specs.List.{range_with_len}

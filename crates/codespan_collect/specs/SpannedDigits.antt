@@ -4,12 +4,12 @@ use Rattle.std.specs.Prelude.{ℕ, List, [], ◌∷◌, flat_map, if◌then◌el
 use Rattle.std.specs.List.{range_with_len}
 use Rattle.codespan_base.specs.FileModel.{FileModel, line_count}
 use Rattle.codespan_base.specs.Labels.{LabelModel}
-use Rattle.codespan_picture.specs.Padding.{digit_count, spans}
+use Rattle.codespan_picture.specs.Padding.{count_digits, spans}
 use Rattle.codespan_picture.specs.Snippets.{InFile}
 
 -- those of a line's number, where the label spans it
 abbrev pub digits_on : FileModel → LabelModel → ℕ → List ℕ
-digits_on f x l = if spans f x l then digit_count (f.number l) ∷ [] else []
+digits_on f x l = if spans f x l then count_digits (f.number l) ∷ [] else []
 
 -- those of all lines of a label
 abbrev pub label_digits : FileModel → LabelModel → List ℕ

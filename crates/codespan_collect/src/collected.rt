@@ -11,7 +11,7 @@ use crate::padding::PaddingWidth;
 use codespan_annotations::annotation::Annotation;
 use codespan_annotations::annotation::order::put_in_order;
 use codespan_annotations::label_span::LabelSpan;
-use codespan_annotations::labeled_files::{LabeledFile, add_label, file_index};
+use codespan_annotations::labeled_files::{LabeledFile, add_label, get_or_insert_file};
 use codespan_base::diagnostic::Label;
 use codespan_base::files::{Error, Files};
 use codespan_base::term::Config;
@@ -24,12 +24,13 @@ pub struct Collected<'d, FileId> {
     pub labels: &'d [Label<FileId>],
     /// Their files, in the order of their first labels.
     pub files: Vec<LabeledFile<FileId>>,
-    /// Their annotations.
+    /// Their annotations, in order once [`collect`] returns.
     pub annotations: Vec<Annotation<'d, FileId>>,
-    /// The number of digits of the longest number of a line that a label spans; 0 without such a
-    /// line.
+    /// The padding width in the classic layout: the number of digits of the longest number of a
+    /// line that a label spans; 0 without such a line.
     pub padding: usize,
-    /// The first and the last of the lines on which labels of the first file start and end.
+    /// Of the labels of the first file, the least line on which one starts and the greatest on
+    /// which one ends, 0-based; `usize::MAX` and 0 without labels.
     pub lines: LabelSpan,
 }
 
@@ -86,7 +87,7 @@ fn collect_in_turn<'files, 'd, F: Files<'files>>(
         last: 0,
     };
     for (index, label) in labels.iter().enumerate() {
-        let file = file_index(&mut labeled, previous, label.file_id)?;
+        let file = get_or_insert_file(&mut labeled, previous, label.file_id)?;
         let lane = labeled[file].lane_count;
         let at = LabelIndices { file, index, lane };
         let lines = collect_label(files, config, at, label, &mut found)?;

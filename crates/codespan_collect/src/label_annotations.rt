@@ -14,7 +14,7 @@ use crate::padding::PaddingWidth;
 use codespan_annotations::annotation::{
     Annotation, AnnotationKind, LineInfo, MultiPart, push_annotation,
 };
-use codespan_annotations::label_span::{LabelSpan, label_lines};
+use codespan_annotations::label_span::{LabelSpan, label_span};
 use codespan_annotations::source_file::SourceFile;
 use codespan_base::diagnostic::Label;
 use codespan_base::files::{Error, Files};
@@ -280,10 +280,10 @@ pub fn collect_label<'files, 'd, F: Files<'files>>(
     ensures failed { FailsBy (label_failure
         (collected_label (F.database files.now) config.now at label.now)) result }
 {
-    let lines = label_lines(files, label)?;
+    let lines = label_span(files, label)?;
     found
         .annotations
-        .reserve(lines.spanned_annotations(config))?;
+        .reserve(lines.annotation_capacity(config))?;
     let collector = LabelCollector {
         file: SourceFile {
             files,

@@ -15,7 +15,8 @@ pub struct PaddingWidth {
 }
 
 impl PaddingWidth {
-    /// Returns the width without a number, or that of a number with this many digits.
+    /// Returns a width of this many digits; 0 is that without a number. Its limit is known for 1 to
+    /// 6 digits. For others it is 0, so the digits of each number are counted.
     pub fn with_digits(digits: usize) -> PaddingWidth
         ensures { result.digits ≡ digits }
     {

@@ -1,4 +1,5 @@
--- Texts that a value was written to, and the views of a list with one element more.
+-- For `display_text` and `with_note`: texts that a value was written to. For `clone_labels` and
+-- `clone_notes`: the views of a list with one element more.
 use Rattle.std.proofs.Common.{◌≡◌, ℕ, ◌+◌, ◌<◌, List, [], ◌∷◌, ◌++◌, length, get_or, take, map, Option, Some, None, IfSome, string_bytes, refl, sym, ap, ◌∙◌}
 use Rattle.std.specs.Prelude.{String}
 use Rattle.std.specs.Global.{Global}

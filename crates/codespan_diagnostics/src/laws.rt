@@ -13,8 +13,8 @@ use crate::diagnostic::{LabelStyle, Severity};
 use std::hash::Hash;
 
 /// States that severities are ordered `Help` < `Note` < `Warning` < `Error` < `Bug`, that `Ord` and
-/// `PartialOrd` agree, that two are `==` exactly where they are one, and that equal ones have equal
-/// hashes.
+/// `PartialOrd` agree, that two are `==` exactly where they are the same, and that equal ones give
+/// a hasher the same input.
 pub fn severities_agree()
     ensures order { (x y : Severity) →
         ⟦<Severity as Ord>⟧.cmp x y ≡ nat_cmp (severity_rank x) (severity_rank y) }
@@ -26,7 +26,7 @@ pub fn severities_agree()
 {}
 
 /// States that label styles are ordered `Primary` < `Secondary`, and that two are `==` exactly
-/// where they are one.
+/// where they are the same.
 pub fn label_styles_agree()
     ensures order { (x y : LabelStyle) →
         ⟦<LabelStyle as PartialOrd>⟧.partial_cmp x y

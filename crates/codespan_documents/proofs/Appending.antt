@@ -1,5 +1,5 @@
 -- Texts that are appended to a string: for the clauses of `html::push_character`,
--- `html::push_runs`, `svg::push_character` and `terminal::push_runs`.
+-- `html::push_runs` and `svg::push_character`, and of `push_runs` of `codespan_terminal`.
 use Rattle.std.proofs.Common.{◌≡◌, ℕ, ◌+◌, ◌<◌, ◌≤◌, List, ◌∷◌, ◌++◌, drop, get_or, length, map, sym, ap, ◌∙◌, append_assoc, append-nil, Result, Ok, Err}
 use Rattle.std.specs.Prelude.{OnOk, is_ok, if◌then◌else◌}
 use Rattle.std.specs.List.{flat_map}

@@ -1,5 +1,5 @@
--- What the writer of runs holds, read back as runs: for the clauses `runs_are` and `text_is` of
--- `styled_text`.
+-- What the writer of runs holds, read back as runs: for the fields `runs_are` and `text_is` of
+-- `AreRuns`, in the clause of `styled_text`.
 use Rattle.std.proofs.Common.{◌≡◌, ℕ, ◌-◌, ◌<◌, true, List, [], ◌∷◌, ◌++◌, get_or, refl, sym, ap, ◌∙◌, append_assoc, append-nil, arith}
 use Rattle.std.specs.Prelude.{Bool, nat_lt, if◌then◌else◌}
 use Rattle.std.proofs.lemmas.Bool.Decides.{nat_tests}

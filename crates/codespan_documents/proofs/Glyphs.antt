@@ -1,5 +1,5 @@
--- Glyphs one by one: whose they are, which cells they take, and of which texts they are: for the
--- clause `document` of `to_svg`.
+-- Glyphs one by one: of which run they are, which cells they take, and in which text they are: for
+-- the clause `document` of `to_svg`.
 use Rattle.std.proofs.Common.{◌≡◌, ◌+◌, ◌-◌, ◌≤◌, ◌<◌, ℕ, List, [], ◌∷◌, ◌++◌, length, length-drop, map, max, take, drop, get_or, codes, false, Some, sym, ◌∙◌, ap, append_assoc, append-nil, arith}
 use Rattle.std.specs.Prelude.{if◌then◌else◌}
 use Rattle.std.proofs.lemmas.Grind.{flat_map-append}
@@ -11,7 +11,7 @@ use Rattle.codespan_documents.specs.declared.svg.position.CellPosition.{CellPosi
 use Rattle.codespan_documents.specs.declared.svg.Pen.{Pen}
 use Rattle.codespan_documents.specs.Glyphs.{after_glyph, cells_of, extent_from, follows, glyphs_of, glyphs_of_run, goes_on, is_newline, joined_cells, start}
 use Rattle.codespan_documents.specs.Runs.{run_view}
-use Rattle.codespan_documents.specs.Svg.{first_pen, font_attributes, glyph_text, background_element, next_pen, size_element, svg_document, text_tag, texts_from, xml_character}
+use Rattle.codespan_documents.specs.Svg.{first_pen, font_attributes, glyph_text, background_tag_content, next_pen, svg_tag_start, svg_document, text_tag, texts_from, xml_character}
 
 -- ---- runs
 
@@ -26,9 +26,9 @@ next_glyphs styles runs i run old new inside at before is =
     ∙ sym (flat_map-append (glyphs_of_run styles) (map run_view (take i runs)) (run_view run ∷ []))
     ∙ ap (glyphs_of styles) (sym more)
 
--- ---- room
+-- ---- extent
 
--- a picture is at least as wide as its position
+-- the extent of glyphs is at least as wide as the position from which they go on
 as_wide : (position : CellPosition) (glyphs : List Glyph) → position.column ≤ (extent_from position glyphs).column
 as_wide position [] = omega arith
 as_wide position (glyph ∷ glyphs) = omega arith
@@ -99,10 +99,10 @@ regrouped : (lt size font gt background end texts last : List ℕ) → ((((lt ++
 regrouped lt size font gt background end texts last = simp append_assoc
 
 -- the whole document
-pub document-written : (glyphs : List Glyph) (extent : CellPosition) (b0 b1 b2 b3 b4 : List ℕ) → b0 ≡ [] → extent ≡ extent_from start glyphs → b1 ≡ b0 ++ codes "<" ++ size_element extent
-    → b2 ≡ b1 ++ (font_attributes ++ codes ">\n<" ++ background_element ++ codes ">\n") → b3 ≡ b2 ++ texts_from first_pen glyphs → b4 ≡ b3 ++ codes "</svg>\n" → b4 ≡ svg_document glyphs
+pub document-written : (glyphs : List Glyph) (extent : CellPosition) (b0 b1 b2 b3 b4 : List ℕ) → b0 ≡ [] → extent ≡ extent_from start glyphs → b1 ≡ b0 ++ codes "<" ++ svg_tag_start extent
+    → b2 ≡ b1 ++ (font_attributes ++ codes ">\n<" ++ background_tag_content ++ codes ">\n") → b3 ≡ b2 ++ texts_from first_pen glyphs → b4 ≡ b3 ++ codes "</svg>\n" → b4 ≡ svg_document glyphs
 document-written glyphs extent b0 b1 b2 b3 b4 e0 is e1 e2 e3 e4 =
     let texts = texts_from first_pen glyphs in
-    let after = font_attributes ++ codes ">\n<" ++ background_element ++ codes ">\n" in
-    e4 ∙ ap (λ b. b ++ codes "</svg>\n") (e3 ∙ ap (λ b. b ++ texts) (e2 ∙ ap (λ b. b ++ after) (e1 ∙ ap (λ b. b ++ codes "<" ++ size_element extent) e0 ∙ ap (λ p. codes "<" ++ size_element p) is)))
-    ∙ regrouped (codes "<") (size_element (extent_from start glyphs)) font_attributes (codes ">\n<") background_element (codes ">\n") texts (codes "</svg>\n")
+    let after = font_attributes ++ codes ">\n<" ++ background_tag_content ++ codes ">\n" in
+    e4 ∙ ap (λ b. b ++ codes "</svg>\n") (e3 ∙ ap (λ b. b ++ texts) (e2 ∙ ap (λ b. b ++ after) (e1 ∙ ap (λ b. b ++ codes "<" ++ svg_tag_start extent) e0 ∙ ap (λ p. codes "<" ++ svg_tag_start p) is)))
+    ∙ regrouped (codes "<") (svg_tag_start (extent_from start glyphs)) font_attributes (codes ">\n<") background_tag_content (codes ">\n") texts (codes "</svg>\n")

@@ -15,9 +15,9 @@ use Rattle.codespan_base.specs.declared.diagnostic.Severity.TheVariants.{Bug, Er
 use Rattle.codespan_documents.specs.declared.style.Style.{Style}
 use Rattle.codespan_documents.specs.declared.style.Style.TheVariants.{Plain, Header, HeaderMessage, LineNumber, NoteBullet, SourceBorder, Label}
 use Rattle.codespan_documents.specs.declared.text.Run.{Run}
-use Rattle.codespan_documents.specs.Html.{html_character, html_document, html_run, html_text, is_control, is_noncharacter, is_plain, shown, shown_text, span_tag}
+use Rattle.codespan_documents.specs.Html.{html_character, html_document, html_run, html_text, is_forbidden_control, is_noncharacter, shown, shown_text, span_tag_content}
 use Rattle.codespan_documents.specs.HtmlReading.{InEntity, InTag, InText, Part, Tag, TextByte, document_parts, html_parts, parts_from, run_parts, text_of_html, text_of_parts, text_parts, without_newline}
-use Rattle.codespan_documents.specs.Runs.{StyledRun, joined, run_view}
+use Rattle.codespan_documents.specs.Runs.{StyledRun, is_plain, joined, run_view}
 
 -- ---- bytes of text
 
@@ -56,7 +56,7 @@ character-bytes c h =
 
 -- it is shown as such a character
 shown-text : (c : ℕ) → IsTextByte c → IsTextByte (shown c)
-shown-text c h = cond_both (is_control c || is_noncharacter c) 65533 c IsTextByte (λ _. (refl, refl)) (λ _. h)
+shown-text c h = cond_both (is_forbidden_control c || is_noncharacter c) 65533 c IsTextByte (λ _. (refl, refl)) (λ _. h)
 
 -- ---- characters
 
@@ -108,21 +108,21 @@ ended-read text rest =
 
 run-read-at : (style : Style) (text rest : List ℕ) → parts_from InText (html_run (record { style = style; text = text }) ++ rest) ≡ run_parts (record { style = style; text = text }) ++ parts_from InText rest
 run-read-at Plain text rest = text-read text rest
-run-read-at (Header Bug) text rest = ap (λ (parts : List Part). Tag (span_tag (Header Bug)) ∷ parts) (ended-read text rest)
-run-read-at (Header Error) text rest = ap (λ (parts : List Part). Tag (span_tag (Header Error)) ∷ parts) (ended-read text rest)
-run-read-at (Header Warning) text rest = ap (λ (parts : List Part). Tag (span_tag (Header Warning)) ∷ parts) (ended-read text rest)
-run-read-at (Header Note) text rest = ap (λ (parts : List Part). Tag (span_tag (Header Note)) ∷ parts) (ended-read text rest)
-run-read-at (Header Help) text rest = ap (λ (parts : List Part). Tag (span_tag (Header Help)) ∷ parts) (ended-read text rest)
-run-read-at HeaderMessage text rest = ap (λ (parts : List Part). Tag (span_tag HeaderMessage) ∷ parts) (ended-read text rest)
-run-read-at LineNumber text rest = ap (λ (parts : List Part). Tag (span_tag LineNumber) ∷ parts) (ended-read text rest)
-run-read-at NoteBullet text rest = ap (λ (parts : List Part). Tag (span_tag NoteBullet) ∷ parts) (ended-read text rest)
-run-read-at SourceBorder text rest = ap (λ (parts : List Part). Tag (span_tag SourceBorder) ∷ parts) (ended-read text rest)
-run-read-at (Label Bug Primary) text rest = ap (λ (parts : List Part). Tag (span_tag (Label Bug Primary)) ∷ parts) (ended-read text rest)
-run-read-at (Label Error Primary) text rest = ap (λ (parts : List Part). Tag (span_tag (Label Error Primary)) ∷ parts) (ended-read text rest)
-run-read-at (Label Warning Primary) text rest = ap (λ (parts : List Part). Tag (span_tag (Label Warning Primary)) ∷ parts) (ended-read text rest)
-run-read-at (Label Note Primary) text rest = ap (λ (parts : List Part). Tag (span_tag (Label Note Primary)) ∷ parts) (ended-read text rest)
-run-read-at (Label Help Primary) text rest = ap (λ (parts : List Part). Tag (span_tag (Label Help Primary)) ∷ parts) (ended-read text rest)
-run-read-at (Label severity Secondary) text rest = ap (λ (parts : List Part). Tag (span_tag (Label severity Secondary)) ∷ parts) (ended-read text rest)
+run-read-at (Header Bug) text rest = ap (λ (parts : List Part). Tag (span_tag_content (Header Bug)) ∷ parts) (ended-read text rest)
+run-read-at (Header Error) text rest = ap (λ (parts : List Part). Tag (span_tag_content (Header Error)) ∷ parts) (ended-read text rest)
+run-read-at (Header Warning) text rest = ap (λ (parts : List Part). Tag (span_tag_content (Header Warning)) ∷ parts) (ended-read text rest)
+run-read-at (Header Note) text rest = ap (λ (parts : List Part). Tag (span_tag_content (Header Note)) ∷ parts) (ended-read text rest)
+run-read-at (Header Help) text rest = ap (λ (parts : List Part). Tag (span_tag_content (Header Help)) ∷ parts) (ended-read text rest)
+run-read-at HeaderMessage text rest = ap (λ (parts : List Part). Tag (span_tag_content HeaderMessage) ∷ parts) (ended-read text rest)
+run-read-at LineNumber text rest = ap (λ (parts : List Part). Tag (span_tag_content LineNumber) ∷ parts) (ended-read text rest)
+run-read-at NoteBullet text rest = ap (λ (parts : List Part). Tag (span_tag_content NoteBullet) ∷ parts) (ended-read text rest)
+run-read-at SourceBorder text rest = ap (λ (parts : List Part). Tag (span_tag_content SourceBorder) ∷ parts) (ended-read text rest)
+run-read-at (Label Bug Primary) text rest = ap (λ (parts : List Part). Tag (span_tag_content (Label Bug Primary)) ∷ parts) (ended-read text rest)
+run-read-at (Label Error Primary) text rest = ap (λ (parts : List Part). Tag (span_tag_content (Label Error Primary)) ∷ parts) (ended-read text rest)
+run-read-at (Label Warning Primary) text rest = ap (λ (parts : List Part). Tag (span_tag_content (Label Warning Primary)) ∷ parts) (ended-read text rest)
+run-read-at (Label Note Primary) text rest = ap (λ (parts : List Part). Tag (span_tag_content (Label Note Primary)) ∷ parts) (ended-read text rest)
+run-read-at (Label Help Primary) text rest = ap (λ (parts : List Part). Tag (span_tag_content (Label Help Primary)) ∷ parts) (ended-read text rest)
+run-read-at (Label severity Secondary) text rest = ap (λ (parts : List Part). Tag (span_tag_content (Label severity Secondary)) ∷ parts) (ended-read text rest)
 
 runs-read : (runs : List StyledRun) (rest : List ℕ) → parts_from InText (flat_map html_run runs ++ rest) ≡ flat_map run_parts runs ++ parts_from InText rest
 runs-read [] rest = refl

@@ -6,8 +6,8 @@ use Rattle.std.specs.List.{flat_map}
 use Rattle.std.specs.Str.{IsUtf8}
 use Rattle.std.proofs.lemmas.Str.{chars-nil, chars_past_char}
 use Rattle.codespan_documents.specs.declared.text.Run.{Run}
-use Rattle.codespan_documents.specs.Html.{html_character, html_document, html_run, html_text, is_plain, style_class}
-use Rattle.codespan_documents.specs.Runs.{run_view}
+use Rattle.codespan_documents.specs.Html.{html_character, html_document, html_run, html_text, style_class}
+use Rattle.codespan_documents.specs.Runs.{is_plain, run_view}
 
 -- a character of the text that is left
 pub text-more : (front next whole rest more : List ℕ) (c : ℕ) → IsUtf8 rest → rest ≡ encode_utf8 c ++ more → next ≡ front ++ html_character c → front ++ html_text rest ≡ whole

@@ -13,7 +13,7 @@ use Rattle.codespan_documents.specs.declared.svg.Pen.{Pen}
 use Rattle.codespan_documents.specs.Glyphs.{cells_of, follows, goes_on, is_narrow, is_newline, joined_cells, joins, start}
 use Rattle.codespan_documents.specs.HtmlReading.{Part, Tag, TextByte}
 use Rattle.codespan_documents.specs.Inks.{optional_color_number, same_ink}
-use Rattle.codespan_documents.specs.Svg.{first_pen, next_pen, text_element}
+use Rattle.codespan_documents.specs.Svg.{first_pen, next_pen, text_tag_content}
 use Rattle.codespan_documents.specs.SvgReading.{InCell, Piece, RowEnd, Text, cells_in, cells_of_piece, joined_glyphs, piece_parts, pieces_from, shown_cells, shown_glyphs, svg_shown, width_of}
 use Rattle.codespan_documents.proofs.HtmlReading.{and_true, is_code}
 
@@ -27,7 +27,7 @@ end_tag = Tag (codes "/text") ∷ []
 abbrev pub glyph_parts : Pen → Glyph → List Glyph → List Part
 glyph_parts pen glyph others =
     if is_newline glyph then TextByte 10 ∷ []
-    else (if follows pen.before glyph then [] else Tag (text_element pen.position (cells_of glyph + joined_cells glyph others) glyph.ink) ∷ [])
+    else (if follows pen.before glyph then [] else Tag (text_tag_content pen.position (cells_of glyph + joined_cells glyph others) glyph.ink) ∷ [])
     ++ map TextByte (svg_shown glyph.character) ++ (if goes_on glyph others then [] else end_tag)
 
 -- the parts of glyphs
@@ -111,7 +111,7 @@ parts_by_pieces pen (glyph ∷ glyphs) = all (parts_by_pieces (next_pen pen glyp
     parts = flat_map piece_parts rest
 
     tag : ℕ → List Part
-    tag cells = Tag (text_element pen.position cells glyph.ink) ∷ []
+    tag cells = Tag (text_tag_content pen.position cells glyph.ink) ∷ []
 
     shown : List Part
     shown = map TextByte (svg_shown glyph.character)

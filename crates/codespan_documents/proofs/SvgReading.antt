@@ -19,7 +19,7 @@ use Rattle.codespan_documents.specs.declared.svg.Pen.{Pen}
 use Rattle.codespan_documents.specs.Glyphs.{cells_of, extent_from, follows, glyphs_of, glyphs_of_run, goes_on, is_newline, joined_cells, start}
 use Rattle.codespan_documents.specs.HtmlReading.{InTag, InText, Part, Tag, TextByte, html_parts, parts_from, text_of_parts}
 use Rattle.codespan_documents.specs.Runs.{StyledRun, characters_of}
-use Rattle.codespan_documents.specs.Svg.{above, color_attribute, first_pen, font_attributes, glyph_text, background_element, height, is_forbidden_in_xml, left_of, next_pen, size_element, svg_document, svg_element, text_element, text_tag, texts_from, weight_attribute, width, xml_character}
+use Rattle.codespan_documents.specs.Svg.{y_of, color_attribute, first_pen, font_attributes, glyph_text, background_tag_content, height, is_forbidden_in_xml, x_of, next_pen, svg_tag_start, svg_document, svg_tag_content, text_tag_content, text_tag, texts_from, weight_attribute, width, xml_character}
 use Rattle.codespan_documents.specs.SvgReading.{piece_parts, pieces_from, svg_parts, svg_shown, svg_text}
 use Rattle.codespan_documents.proofs.HtmlReading.{IsTextByte, and_true, bytes-read, character-bytes, is_code, text_of-append, text_of-bytes}
 use Rattle.codespan_documents.proofs.SvgPieces.{glyph_parts, parts_of_glyphs, parts_of_pieces, two_ifs}
@@ -91,14 +91,14 @@ weight-inside : (bold : Bool) → is_inside (weight_attribute bold) ≡ true
 weight-inside true = refl
 weight-inside false = refl
 
-text-inside : (position : CellPosition) (cells : ℕ) (ink : Ink) → is_inside (text_element position cells ink) ≡ true
+text-inside : (position : CellPosition) (cells : ℕ) (ink : Ink) → is_inside (text_tag_content position cells ink) ≡ true
 text-inside position cells ink =
-    let p1 : List ℕ = codes "text x=\"" ++ decimal (left_of position) in
-    let i1 : is_inside p1 ≡ true = inside-append (codes "text x=\"") (decimal (left_of position)) (refl) (decimal-inside (left_of position)) in
+    let p1 : List ℕ = codes "text x=\"" ++ decimal (x_of position) in
+    let i1 : is_inside p1 ≡ true = inside-append (codes "text x=\"") (decimal (x_of position)) (refl) (decimal-inside (x_of position)) in
     let p2 : List ℕ = p1 ++ codes "\" y=\"" in
     let i2 : is_inside p2 ≡ true = inside-append (p1) (codes "\" y=\"") (i1) (refl) in
-    let p3 : List ℕ = p2 ++ decimal (above position) in
-    let i3 : is_inside p3 ≡ true = inside-append (p2) (decimal (above position)) (i2) (decimal-inside (above position)) in
+    let p3 : List ℕ = p2 ++ decimal (y_of position) in
+    let i3 : is_inside p3 ≡ true = inside-append (p2) (decimal (y_of position)) (i2) (decimal-inside (y_of position)) in
     let p4 : List ℕ = p3 ++ codes "\" textLength=\"" in
     let i4 : is_inside p4 ≡ true = inside-append (p3) (codes "\" textLength=\"") (i3) (refl) in
     let p5 : List ℕ = p4 ++ decimal (9 * cells) in
@@ -111,7 +111,7 @@ text-inside position cells ink =
     let i8 : is_inside p8 ≡ true = inside-append (p7) (weight_attribute ink.bold) (i7) (weight-inside ink.bold) in
     i8
 
-size-inside : (extent : CellPosition) → is_inside (size_element extent) ≡ true
+size-inside : (extent : CellPosition) → is_inside (svg_tag_start extent) ≡ true
 size-inside extent =
     let p1 : List ℕ = codes "svg xmlns=\"http://www.w3.org/2000/svg\" width=\"" ++ decimal (width extent) in
     let i1 : is_inside p1 ≡ true = inside-append (codes "svg xmlns=\"http://www.w3.org/2000/svg\" width=\"") (decimal (width extent)) (refl) (decimal-inside (width extent)) in
@@ -131,9 +131,9 @@ size-inside extent =
     let i8 : is_inside p8 ≡ true = inside-append (p7) (codes "\"") (i7) (refl) in
     i8
 
-svg-inside : (extent : CellPosition) → is_inside (svg_element extent) ≡ true
+svg-inside : (extent : CellPosition) → is_inside (svg_tag_content extent) ≡ true
 unfolding font_attributes
-svg-inside extent = inside-append (size_element extent) font_attributes (size-inside extent) refl
+svg-inside extent = inside-append (svg_tag_start extent) font_attributes (size-inside extent) refl
 
 -- a tag
 element-read : (element rest : List ℕ) → is_inside element ≡ true → parts_from InText ((codes "<" ++ element ++ codes ">") ++ rest) ≡ Tag element ∷ parts_from InText rest
@@ -193,10 +193,10 @@ prefix-read false element rest h = element-read element rest h
 -- a glyph that is no newline
 character-glyph : (pen : Pen) (glyph : Glyph) (others : List Glyph) (rest : List ℕ) → is_newline glyph ≡ false
     → parts_from InText (((if follows pen.before glyph then [] else text_tag pen.position (cells_of glyph + joined_cells glyph others) glyph.ink) ++ xml_character glyph.character ++ (if goes_on glyph others then [] else codes "</text>")) ++ rest)
-    ≡ ((if follows pen.before glyph then [] else Tag (text_element pen.position (cells_of glyph + joined_cells glyph others) glyph.ink) ∷ []) ++ map TextByte (svg_shown glyph.character) ++ (if goes_on glyph others then [] else Tag (codes "/text") ∷ []))
+    ≡ ((if follows pen.before glyph then [] else Tag (text_tag_content pen.position (cells_of glyph + joined_cells glyph others) glyph.ink) ∷ []) ++ map TextByte (svg_shown glyph.character) ++ (if goes_on glyph others then [] else Tag (codes "/text") ∷ []))
     ++ parts_from InText rest
 character-glyph pen glyph others rest ends =
-    let element = text_element pen.position (cells_of glyph + joined_cells glyph others) glyph.ink in
+    let element = text_tag_content pen.position (cells_of glyph + joined_cells glyph others) glyph.ink in
     let prefix = if follows pen.before glyph then [] else codes "<" ++ element ++ codes ">" in
     let character = xml_character glyph.character in
     let ended = if goes_on glyph others then [] else codes "</text>" in
@@ -213,7 +213,7 @@ glyph-read pen glyph others rest =
     two_ifs (is_newline glyph) (codes "\n")
     ((if follows pen.before glyph then [] else text_tag pen.position (cells_of glyph + joined_cells glyph others) glyph.ink) ++ xml_character glyph.character ++ (if goes_on glyph others then [] else codes "</text>"))
     (TextByte 10 ∷ [])
-    ((if follows pen.before glyph then [] else Tag (text_element pen.position (cells_of glyph + joined_cells glyph others) glyph.ink) ∷ []) ++ map TextByte (svg_shown glyph.character) ++ (if goes_on glyph others then [] else Tag (codes "/text") ∷ []))
+    ((if follows pen.before glyph then [] else Tag (text_tag_content pen.position (cells_of glyph + joined_cells glyph others) glyph.ink) ∷ []) ++ map TextByte (svg_shown glyph.character) ++ (if goes_on glyph others then [] else Tag (codes "/text") ∷ []))
     (λ bytes parts. parts_from InText (bytes ++ rest) ≡ parts ++ parts_from InText rest) (λ _. refl) (character-glyph pen glyph others rest)
 
 glyphs-read : (pen : Pen) (glyphs : List Glyph) (rest : List ℕ) → parts_from InText (texts_from pen glyphs ++ rest) ≡ parts_of_glyphs pen glyphs ++ parts_from InText rest
@@ -231,19 +231,19 @@ regrouped lt head gt line background end texts last = simp append_assoc
 
 -- the document of glyphs reads back
 pub svg-read : (glyphs : List Glyph) → html_parts (svg_document glyphs) ≡ svg_parts glyphs
-unfolding background_element
+unfolding background_tag_content
 svg-read glyphs =
-    let head = svg_element (extent_from start glyphs) in
+    let head = svg_tag_content (extent_from start glyphs) in
     let texts = texts_from first_pen glyphs in
     let last = codes "</svg>\n" in
     let pieces : List Part = flat_map piece_parts (pieces_from first_pen glyphs) in
-    let whole : svg_document glyphs ≡ (codes "<" ++ head ++ codes ">") ++ (codes "\n<" ++ background_element ++ codes ">\n" ++ (texts ++ last)) =
-    regrouped (codes "<") head (codes ">") (codes "\n<") background_element (codes ">\n") texts last in
+    let whole : svg_document glyphs ≡ (codes "<" ++ head ++ codes ">") ++ (codes "\n<" ++ background_tag_content ++ codes ">\n" ++ (texts ++ last)) =
+    regrouped (codes "<") head (codes ">") (codes "\n<") background_tag_content (codes ">\n") texts last in
     let inner : parts_from InText (texts ++ last) ≡ pieces ++ Tag (codes "/svg") ∷ TextByte 10 ∷ [] =
     glyphs-read first_pen glyphs last ∙ ap (λ (parts : List Part). parts ++ parts_from InText last) (parts_of_pieces glyphs) in
     ap html_parts whole
-    ∙ element-read head (codes "\n<" ++ background_element ++ codes ">\n" ++ (texts ++ last)) (svg-inside (extent_from start glyphs))
-    ∙ ap (λ (parts : List Part). Tag head ∷ TextByte 10 ∷ Tag background_element ∷ TextByte 10 ∷ parts) inner
+    ∙ element-read head (codes "\n<" ++ background_tag_content ++ codes ">\n" ++ (texts ++ last)) (svg-inside (extent_from start glyphs))
+    ∙ ap (λ (parts : List Part). Tag head ∷ TextByte 10 ∷ Tag background_tag_content ∷ TextByte 10 ∷ parts) inner
 
 -- ---- text
 
@@ -252,7 +252,7 @@ glyph-text : (pen : Pen) (glyph : Glyph) (others : List Glyph) → text_of_parts
 glyph-text pen glyph others = at (is_newline glyph) refl
   where
     prefix : Bool → List Part
-    prefix t = if t then [] else Tag (text_element pen.position (cells_of glyph + joined_cells glyph others) glyph.ink) ∷ []
+    prefix t = if t then [] else Tag (text_tag_content pen.position (cells_of glyph + joined_cells glyph others) glyph.ink) ∷ []
 
     ended : Bool → List Part
     ended t = if t then [] else Tag (codes "/text") ∷ []

@@ -43,7 +43,8 @@ after_glyph position glyph =
     then record { row = position.row + 1; column = 0 }
     else record { row = position.row; column = position.column + cells_of glyph }
 
--- the size of glyphs from a position on: the row where they end, and the cells of the widest row
+-- the size of glyphs from a position on: as `row` the row where they end, and as `column` the cells
+-- of the widest row
 abbrev pub extent_from : CellPosition → List Glyph → CellPosition
 extent_from position [] = position
 extent_from position (glyph ∷ glyphs) =

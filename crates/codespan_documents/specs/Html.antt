@@ -1,5 +1,5 @@
 -- HTML documents of styled text.
-use Rattle.std.specs.Prelude.{ℕ, ◌%◌, ◌==◌, Bool, true, false, not, nat_lt, nat_le, ◌&&◌, ◌||◌, List, ◌++◌, codes, encode_utf8, if◌then◌else◌}
+use Rattle.std.specs.Prelude.{ℕ, ◌%◌, ◌==◌, Bool, not, nat_lt, nat_le, ◌&&◌, ◌||◌, List, ◌++◌, codes, encode_utf8, if◌then◌else◌}
 use Rattle.std.specs.List.{flat_map}
 use Rattle.std.specs.Str.{chars}
 use Rattle.codespan_base.specs.declared.diagnostic.LabelStyle.TheVariants.{Primary, Secondary}
@@ -7,13 +7,14 @@ use Rattle.codespan_base.specs.declared.diagnostic.Severity.{Severity}
 use Rattle.codespan_base.specs.declared.diagnostic.Severity.TheVariants.{Bug, Error, Warning, Note, Help}
 use Rattle.codespan_documents.specs.declared.style.Style.{Style}
 use Rattle.codespan_documents.specs.declared.style.Style.TheVariants.{Plain, Header, HeaderMessage, LineNumber, NoteBullet, SourceBorder, Label}
-use Rattle.codespan_documents.specs.Runs.{StyledRun}
+use Rattle.codespan_documents.specs.Runs.{StyledRun, is_plain}
 
 -- ---- characters
 
--- the character is a control character other than a tab, a newline and a form feed
-abbrev pub is_control : ℕ → Bool
-is_control c =
+-- the character is a control character other than a tab, a newline and a form feed, which HTML text
+-- can hold
+abbrev pub is_forbidden_control : ℕ → Bool
+is_forbidden_control c =
     (nat_lt c 32 && not (c == 9 || c == 10 || c == 12)) || (nat_le 127 c && nat_le c 159)
 
 -- the character is a noncharacter: U+FDD0 to U+FDEF, and the last two of each plane
@@ -22,7 +23,7 @@ is_noncharacter c = (nat_le 64976 c && nat_le c 65007) || nat_le 65534 (c % 6553
 
 -- a character as a document shows it: U+FFFD for one that HTML text can not hold
 abbrev pub shown : ℕ → ℕ
-shown c = if is_control c || is_noncharacter c then 65533 else c
+shown c = if is_forbidden_control c || is_noncharacter c then 65533 else c
 
 -- a text as a document shows it
 abbrev pub shown_text : List ℕ → List ℕ
@@ -64,22 +65,18 @@ style_class SourceBorder = codes "source-border"
 style_class (Label severity Primary) = codes "primary-label-" ++ severity_suffix severity
 style_class (Label severity Secondary) = codes "secondary-label"
 
--- the style is that of plain text
-abbrev pub is_plain : Style → Bool
-is_plain Plain = true
-is_plain _ = false
-
 -- ---- documents
 
 -- the content of the tag that starts a run
-abbrev pub span_tag : Style → List ℕ
-span_tag style = codes "span class=\"" ++ style_class style ++ codes "\""
+abbrev pub span_tag_content : Style → List ℕ
+span_tag_content style = codes "span class=\"" ++ style_class style ++ codes "\""
 
 -- a run: a plain one as its text, any other between two tags
 abbrev pub html_run : StyledRun → List ℕ
 html_run run =
     if is_plain run.style then html_text run.text
-    else codes "<" ++ span_tag run.style ++ codes ">" ++ html_text run.text ++ codes "</span>"
+    else codes "<" ++ span_tag_content run.style ++ codes ">" ++ html_text run.text
+    ++ codes "</span>"
 
 -- the document of runs; HTML does not show the newline after the first tag
 abbrev pub html_document : List StyledRun → List ℕ

@@ -2,19 +2,19 @@
 use Rattle.std.specs.Prelude.{ℕ, ◌==◌, List, [], ◌∷◌, ◌++◌, map, codes, if◌then◌else◌}
 use Rattle.std.specs.List.{flat_map}
 use Rattle.std.specs.Str.{bytes_eq}
-use Rattle.codespan_documents.specs.Html.{is_plain, shown_text, span_tag}
-use Rattle.codespan_documents.specs.Runs.{StyledRun}
+use Rattle.codespan_documents.specs.Html.{shown_text, span_tag_content}
+use Rattle.codespan_documents.specs.Runs.{StyledRun, is_plain}
 
 -- a part of a document: a byte of text, or what is between `<` and `>`
 pub data Part : Type 0 where
   TextByte : ℕ → Part
   Tag : List ℕ → Part
 
--- where a reader is: in text, after `<` and these bytes, or after `&` and these bytes
-pub data Position : Type 0 where
-  InText : Position
-  InTag : List ℕ → Position
-  InEntity : List ℕ → Position
+-- the state of a reader: in text, after `<` and these bytes, or after `&` and these bytes
+pub data ReaderState : Type 0 where
+  InText : ReaderState
+  InTag : List ℕ → ReaderState
+  InEntity : List ℕ → ReaderState
 
 -- the character of an entity; none where it is not one of the five
 abbrev pub entity_text : List ℕ → List ℕ
@@ -26,10 +26,10 @@ entity_text name =
     else if bytes_eq name (codes "#39") then 39 ∷ []
     else []
 
--- the parts that a reader finds from a position on: `<` starts a tag, which `>` ends, and `&` an
+-- the parts that a reader in this state finds: `<` starts a tag, which `>` ends, and `&` an
 -- entity, which `;` ends
-abbrev pub parts_from : Position → List ℕ → List Part
-parts_from position [] = []
+abbrev pub parts_from : ReaderState → List ℕ → List Part
+parts_from state [] = []
 parts_from InText (b ∷ bs) =
     if b == 60 then parts_from (InTag []) bs
     else if b == 38 then parts_from (InEntity []) bs
@@ -69,7 +69,7 @@ text_parts text = map TextByte (shown_text text)
 abbrev pub run_parts : StyledRun → List Part
 run_parts run =
     if is_plain run.style then text_parts run.text
-    else Tag (span_tag run.style) ∷ text_parts run.text ++ Tag (codes "/span") ∷ []
+    else Tag (span_tag_content run.style) ∷ text_parts run.text ++ Tag (codes "/span") ∷ []
 
 -- all of a document: no other tag, and no other text
 abbrev pub document_parts : List StyledRun → List Part

@@ -5,7 +5,7 @@ use Rattle.codespan_base.specs.declared.term.config.color.ColorSpec.{ColorSpec}
 use Rattle.codespan_base.specs.Ansi.{color_number}
 use Rattle.codespan_documents.specs.declared.svg.ink.Ink.{Ink}
 
--- the ink of a style of a terminal: its color, and whether it is bold
+-- the ink of a `ColorSpec`: its text color, and whether it is bold
 abbrev pub ink_of : ColorSpec → Ink
 ink_of spec = record { color = spec.fg; bold = spec.bold }
 

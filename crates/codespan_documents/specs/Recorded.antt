@@ -25,13 +25,13 @@ AllBytes runs = AllByRecursion (λ (run : StyledRun). AreBytes run.text) runs
 
 -- ---- numbers of styles
 
--- the number of a severity
-abbrev pub severity_number : Severity → ℕ
-severity_number Bug = 0
-severity_number Error = 1
-severity_number Warning = 2
-severity_number Note = 3
-severity_number Help = 4
+-- the number of a severity among the styles that have one
+abbrev pub severity_offset : Severity → ℕ
+severity_offset Bug = 0
+severity_offset Error = 1
+severity_offset Warning = 2
+severity_offset Note = 3
+severity_offset Help = 4
 
 -- the number of a style, which is no byte
 abbrev pub style_number : Style → ℕ
@@ -40,13 +40,13 @@ style_number HeaderMessage = 257
 style_number LineNumber = 258
 style_number NoteBullet = 259
 style_number SourceBorder = 260
-style_number (Header severity) = 261 + severity_number severity
-style_number (Label severity Primary) = 266 + severity_number severity
-style_number (Label severity Secondary) = 271 + severity_number severity
+style_number (Header severity) = 261 + severity_offset severity
+style_number (Label severity Primary) = 266 + severity_offset severity
+style_number (Label severity Secondary) = 271 + severity_offset severity
 
 -- each style mark is recorded as the number of the style that it starts
 abbrev pub style_spelling : Spelling
-style_spelling mark = style_number (style_after mark) ∷ []
+style_spelling style_mark = style_number (style_after style_mark) ∷ []
 
 -- ---- runs
 
@@ -68,9 +68,9 @@ recorded r =
     recorded_runs (ended_runs r)
     ++ recorded_run (record { style = r.style; text = r.text.items })
 
--- a call of the writer has failed
-abbrev pub has_flag : Recorder → Bool
-has_flag r = r.failed
+-- a style mark or a `put` of the writer has failed
+abbrev pub has_failed : Recorder → Bool
+has_failed r = r.failed
 
 -- the writer, as the law of writers sees it
 abbrev pub recorder_sink : Recorder → Sink

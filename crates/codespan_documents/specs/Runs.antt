@@ -1,11 +1,11 @@
 -- Styled text: the runs of a stream, which is its text cut at its style marks.
-use Rattle.std.specs.Prelude.{ℕ, List, [], ◌∷◌, ◌++◌, map, string_bytes}
+use Rattle.std.specs.Prelude.{ℕ, Bool, true, false, List, [], ◌∷◌, ◌++◌, map, string_bytes}
 use Rattle.std.specs.List.{AllByRecursion, flat_map}
 use Rattle.std.specs.Str.{IsUtf8, chars}
 use Rattle.codespan_base.specs.Streams.{Stream, StyleMark, Byte, Mark, Slot}
 use Rattle.codespan_base.specs.Streams.{Header, HeaderMessage, LineNumber, NoteBullet, SourceBorder, LabelMark, Reset}
 use Rattle.codespan_documents.specs.declared.style.Style.{Style}
-use Rattle.codespan_documents.specs.declared.style.Style.TheVariants as Styles
+use Rattle.codespan_documents.specs.declared.style.Style.TheVariants as Kinds
 use Rattle.codespan_documents.specs.declared.text.Run.{Run}
 use Rattle.codespan_documents.specs.declared.text.StyledText.{StyledText}
 
@@ -14,15 +14,20 @@ pub record StyledRun : Type 0 where
   pub style : Style
   pub text : List ℕ
 
+-- the style is that of plain text
+abbrev pub is_plain : Style → Bool
+is_plain Kinds.Plain = true
+is_plain _ = false
+
 -- the style that a style mark starts; a reset starts plain text
 abbrev pub style_after : StyleMark → Style
-style_after (Header severity) = Styles.Header severity
-style_after HeaderMessage = Styles.HeaderMessage
-style_after LineNumber = Styles.LineNumber
-style_after NoteBullet = Styles.NoteBullet
-style_after SourceBorder = Styles.SourceBorder
-style_after (LabelMark severity style) = Styles.Label severity style
-style_after Reset = Styles.Plain
+style_after (Header severity) = Kinds.Header severity
+style_after HeaderMessage = Kinds.HeaderMessage
+style_after LineNumber = Kinds.LineNumber
+style_after NoteBullet = Kinds.NoteBullet
+style_after SourceBorder = Kinds.SourceBorder
+style_after (LabelMark severity style) = Kinds.Label severity style
+style_after Reset = Kinds.Plain
 
 -- the runs of a stream that continues a run of this style, with this text so far: a byte belongs to
 -- the run, a style mark ends it and starts the next one
@@ -35,7 +40,7 @@ runs_from style text (Slot k ∷ s) = runs_from style text s
 
 -- the runs of a stream; the first one is plain
 abbrev pub runs_of : Stream → List StyledRun
-runs_of s = runs_from Styles.Plain [] s
+runs_of s = runs_from Kinds.Plain [] s
 
 -- the texts of runs, one after another
 abbrev pub joined : List StyledRun → List ℕ

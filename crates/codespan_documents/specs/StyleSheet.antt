@@ -1,4 +1,4 @@
--- The style sheet of documents, by the styles of a terminal.
+-- The style sheet of documents, by the colors and the weights of a `Styles`.
 use Rattle.std.specs.Prelude.{ℕ, Bool, List, [], ◌∷◌, ◌++◌, codes, Option, Some, None, if◌then◌else◌}
 use Rattle.std.specs.List.{flat_map}
 use Rattle.codespan_base.specs.declared.diagnostic.LabelStyle.TheVariants.{Primary, Secondary}
@@ -14,7 +14,7 @@ use Rattle.codespan_documents.specs.Html.{style_class}
 
 -- ---- colors
 
--- a color of a terminal
+-- the CSS color of a terminal color, as xterm shows it by default
 abbrev pub normal_color : Color → List ℕ
 normal_color Black = codes "#000000"
 normal_color Red = codes "#cd0000"
@@ -25,7 +25,7 @@ normal_color Magenta = codes "#cd00cd"
 normal_color Cyan = codes "#00cdcd"
 normal_color White = codes "#e5e5e5"
 
--- its bright color
+-- the CSS color of its bright one
 abbrev pub bright_color : Color → List ℕ
 bright_color Black = codes "#7f7f7f"
 bright_color Red = codes "#ff0000"
@@ -48,14 +48,14 @@ color_declaration property intense (Some color) =
 abbrev pub weight_declaration : Bool → List ℕ
 weight_declaration bold = if bold then codes "font-weight: bold; " else []
 
--- the declarations of a style of a terminal
+-- the declarations of colors and a weight
 abbrev pub declarations : ColorSpec → List ℕ
 declarations spec =
     color_declaration (codes "color: ") spec.intense spec.fg
     ++ color_declaration (codes "background-color: ") spec.intense spec.bg
     ++ weight_declaration spec.bold
 
--- the style of a terminal that a style has
+-- the colors and the weight that `styles` has for a style
 abbrev pub spec_of : Styles → Style → ColorSpec
 spec_of styles Plain = unset
 spec_of styles (Header severity) = header_style styles severity

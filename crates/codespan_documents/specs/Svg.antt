@@ -32,7 +32,7 @@ xml_character c =
 
 -- ---- tags
 
--- what a terminal color is on the dark background
+-- the CSS color of a terminal color, chosen to be read on the dark background
 abbrev pub shade : Color → List ℕ
 shade Black = codes "#6e7681"
 shade Red = codes "#ff7b72"
@@ -54,32 +54,32 @@ weight_attribute true = codes " font-weight=\"bold\""
 weight_attribute false = []
 
 -- the pixels left of a position: a margin, and nine for each cell
-abbrev pub left_of : CellPosition → ℕ
-left_of position = 12 + 9 * position.column
+abbrev pub x_of : CellPosition → ℕ
+x_of position = 12 + 9 * position.column
 
 -- the pixels above the baseline of a position: eighteen for each row
-abbrev pub above : CellPosition → ℕ
-above position = 25 + 18 * position.row
+abbrev pub y_of : CellPosition → ℕ
+y_of position = 25 + 18 * position.row
 
 -- the content of the tag that begins a text of this many cells at a position: its position, its
 -- length and its ink
-abbrev pub text_element : CellPosition → ℕ → Ink → List ℕ
-text_element position cells ink =
-    codes "text x=\"" ++ decimal (left_of position) ++ codes "\" y=\"" ++ decimal (above position)
+abbrev pub text_tag_content : CellPosition → ℕ → Ink → List ℕ
+text_tag_content position cells ink =
+    codes "text x=\"" ++ decimal (x_of position) ++ codes "\" y=\"" ++ decimal (y_of position)
     ++ codes "\" textLength=\"" ++ decimal (9 * cells) ++ codes "\""
     ++ color_attribute ink.color ++ weight_attribute ink.bold
 
--- the tag
+-- that tag
 abbrev pub text_tag : CellPosition → ℕ → Ink → List ℕ
-text_tag position cells ink = codes "<" ++ text_element position cells ink ++ codes ">"
+text_tag position cells ink = codes "<" ++ text_tag_content position cells ink ++ codes ">"
 
 -- ---- texts
 
--- the position of the first glyph
+-- the pen before the first glyph
 abbrev pub first_pen : Pen
 first_pen = record { position = start; before = None }
 
--- the position of the next glyph
+-- the pen after a glyph
 abbrev pub next_pen : Pen → Glyph → Pen
 next_pen pen glyph = record { position = after_glyph pen.position glyph; before = Some glyph }
 
@@ -108,9 +108,9 @@ width extent = 24 + 9 * extent.column
 abbrev pub height : CellPosition → ℕ
 height extent = 24 + 18 * extent.row
 
--- its first tag begins with its size
-abbrev pub size_element : CellPosition → List ℕ
-size_element extent =
+-- the content of its first tag begins with its size
+abbrev pub svg_tag_start : CellPosition → List ℕ
+svg_tag_start extent =
     codes "svg xmlns=\"http://www.w3.org/2000/svg\" width=\"" ++ decimal (width extent)
     ++ codes "\" height=\"" ++ decimal (height extent)
     ++ codes "\" viewBox=\"0 0 " ++ decimal (width extent)
@@ -122,16 +122,16 @@ font_attributes =
     codes " font-family=\"DejaVu Sans Mono, Menlo, Consolas, monospace\" font-size=\"15\""
     ++ codes " fill=\"#e6edf3\" xml:space=\"preserve\""
 
--- the content of the first tag
-abbrev pub svg_element : CellPosition → List ℕ
-svg_element extent = size_element extent ++ font_attributes
+-- that content
+abbrev pub svg_tag_content : CellPosition → List ℕ
+svg_tag_content extent = svg_tag_start extent ++ font_attributes
 
 -- the content of the tag of the dark background
-unfoldable pub background_element : List ℕ
-background_element = codes "rect width=\"100%\" height=\"100%\" rx=\"6\" fill=\"#161b22\"/"
+unfoldable pub background_tag_content : List ℕ
+background_tag_content = codes "rect width=\"100%\" height=\"100%\" rx=\"6\" fill=\"#161b22\"/"
 
 -- the document that shows glyphs
 abbrev pub svg_document : List Glyph → List ℕ
 svg_document glyphs =
-    codes "<" ++ svg_element (extent_from start glyphs) ++ codes ">\n<" ++ background_element
-    ++ codes ">\n" ++ texts_from first_pen glyphs ++ codes "</svg>\n"
+    codes "<" ++ svg_tag_content (extent_from start glyphs) ++ codes ">\n<"
+    ++ background_tag_content ++ codes ">\n" ++ texts_from first_pen glyphs ++ codes "</svg>\n"

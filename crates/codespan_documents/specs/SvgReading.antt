@@ -9,7 +9,7 @@ use Rattle.codespan_documents.specs.declared.svg.Pen.{Pen}
 use Rattle.codespan_documents.specs.Glyphs.{after_glyph, cells_of, extent_from, follows, is_newline, joins, start}
 use Rattle.codespan_documents.specs.HtmlReading.{Part, Tag, TextByte}
 use Rattle.codespan_documents.specs.Runs.{StyledRun, characters_of}
-use Rattle.codespan_documents.specs.Svg.{first_pen, background_element, is_forbidden_in_xml, next_pen, svg_element, text_element}
+use Rattle.codespan_documents.specs.Svg.{first_pen, background_tag_content, is_forbidden_in_xml, next_pen, svg_tag_content, text_tag_content}
 
 -- ---- characters
 
@@ -68,13 +68,13 @@ pieces_from pen (glyph ∷ glyphs) =
 abbrev pub piece_parts : Piece → List Part
 piece_parts RowEnd = TextByte 10 ∷ []
 piece_parts (Text position first others) =
-    Tag (text_element position (width_of (first ∷ others)) first.ink)
+    Tag (text_tag_content position (width_of (first ∷ others)) first.ink)
     ∷ map TextByte (shown_glyphs (first ∷ others)) ++ Tag (codes "/text") ∷ []
 
 -- all of a document: no other tag, and no other text
 abbrev pub svg_parts : List Glyph → List Part
 svg_parts glyphs =
-    Tag (svg_element (extent_from start glyphs)) ∷ TextByte 10 ∷ Tag background_element
+    Tag (svg_tag_content (extent_from start glyphs)) ∷ TextByte 10 ∷ Tag background_tag_content
     ∷ TextByte 10 ∷ flat_map piece_parts (pieces_from first_pen glyphs)
     ++ Tag (codes "/svg") ∷ TextByte 10 ∷ []
 

@@ -1,7 +1,7 @@
 //! Styled text as an HTML document.
 
 ghost use Rattle.std.specs.Prelude.{◌≡◌, ◌++◌, IfErr, IfOk, OnOk, flat_map, map, string_bytes};
-ghost use Rattle.codespan_documents.specs.Html.{html_character, html_document, html_run, html_text, is_control, is_noncharacter, shown, shown_text, style_class};
+ghost use Rattle.codespan_documents.specs.Html.{html_character, html_document, html_run, html_text, is_forbidden_control, is_noncharacter, shown, shown_text, style_class};
 ghost use Rattle.codespan_documents.specs.HtmlReading.{document_parts, html_parts, text_of_html};
 ghost use Rattle.codespan_documents.specs.Runs.{joined, run_view, styled_runs};
 
@@ -21,7 +21,7 @@ use std::alloc::{AllocError, Global};
 /// A text can neither start nor end a tag, an attribute or an entity: each of the characters `&`,
 /// `<`, `>`, `"` and `'` becomes an entity. A control character other than a tab, a newline and a
 /// form feed, and a noncharacter, which HTML text can not hold, become U+FFFD. With its tags taken
-/// out and its entities read back the document is the text.
+/// out and its entities read back the document is the text, with U+FFFD for these characters.
 ///
 /// # Errors
 ///
@@ -86,7 +86,7 @@ fn push_text(html: &mut String, text: &str) -> Result<(), AllocError>
     Ok(())
 }
 
-/// Appends a character, as an entity where HTML gives it a meaning.
+/// Appends a character, as an entity where it can begin or end a tag, an attribute or an entity.
 fn push_character(html: &mut String, c: char) -> Result<(), AllocError>
     ensures { OnOk result (string_bytes html.new ≡ string_bytes html.old ++ html_character c) }
 {
@@ -104,16 +104,17 @@ fn push_character(html: &mut String, c: char) -> Result<(), AllocError>
 fn shown(c: char) -> char
     ensures { result ≡ shown c }
 {
-    if is_control(c) || is_noncharacter(c) {
+    if is_forbidden_control(c) || is_noncharacter(c) {
         char::REPLACEMENT_CHARACTER
     } else {
         c
     }
 }
 
-/// Returns whether a character is a control character other than a tab, a newline and a form feed.
-fn is_control(c: char) -> bool
-    ensures { result ≡ is_control c }
+/// Returns whether a character is a control character other than a tab, a newline and a form feed,
+/// which HTML text can hold.
+fn is_forbidden_control(c: char) -> bool
+    ensures { result ≡ is_forbidden_control c }
 {
     matches!(c, '\0'..='\x08' | '\x0b' | '\r'..='\x1f' | '\x7f'..='\u{9f}')
 }

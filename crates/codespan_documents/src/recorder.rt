@@ -34,7 +34,7 @@ pub struct Recorder {
 }
 
 impl Recorder {
-    ghost use Rattle.codespan_documents.specs.Recorded.{ended_runs, has_flag, recorded, recorder_sink};
+    ghost use Rattle.codespan_documents.specs.Recorded.{ended_runs, has_failed, recorded, recorder_sink};
 
     /// Returns a writer that has received nothing. Its first run is plain.
     pub fn new(alloc: Global) -> Recorder
@@ -49,9 +49,9 @@ impl Recorder {
         }
     }
 
-    /// Returns the flag: whether a style mark or a `put` has failed.
+    /// Returns whether a style mark or a `put` has failed.
     pub fn has_failed(&self) -> bool
-        ensures { result ≡ has_flag self.now }
+        ensures { result ≡ has_failed self.now }
     {
         self.failed
     }
@@ -76,7 +76,7 @@ impl Recorder {
     ///
     /// # Errors
     ///
-    /// Those of [`push_run`](Self::push_run); each sets the flag.
+    /// Those of [`push_run`](Self::push_run). The writer has then failed.
     fn start(&mut self, style: Style) -> io::Result<()>
         ensures { Writes (recorder_sink self.old) (bytes (style_number style ∷ [])) result
             (recorder_sink self.new) }
@@ -99,7 +99,7 @@ impl Recorder {
         ensures appends { AppendsBytes (Some (recorded self.old)) (style_number next ∷ []) result
             (Some (recorded self.new)) }
         ensures runs { OnOk result (recorded_runs (ended_runs self.new) ≡ recorded self.old) }
-        ensures flag { has_flag self.new ≡ has_flag self.old }
+        ensures flag { has_failed self.new ≡ has_failed self.old }
     {
         let Ok(bytes) = str::from_utf8(self.text.as_slice()) else {
             return Err(io::Error::from(ErrorKind::InvalidData));
@@ -114,7 +114,7 @@ impl Recorder {
     }
 }
 
-/// A write that fails leaves the flag.
+/// Leaves [`has_failed`](Recorder::has_failed) unchanged where a `write` fails.
 impl Write for Recorder {
     ghost use Rattle.codespan_documents.specs.Recorded.{recorded};
 

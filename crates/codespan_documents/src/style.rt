@@ -26,7 +26,7 @@ pub enum Style {
 
 impl Style {
     ghost use Rattle.std.specs.Prelude.{◌≡◌};
-    ghost use Rattle.codespan_documents.specs.Html.{is_plain};
+    ghost use Rattle.codespan_documents.specs.Runs.{is_plain};
 
     /// Returns whether the style is that of plain text.
     pub fn is_plain(self) -> bool

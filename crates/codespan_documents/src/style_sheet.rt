@@ -32,8 +32,8 @@ const CLASSED_STYLES: [Style; 15] = [
 /// Returns a style sheet for the documents of [`to_html`](crate::to_html): a rule for each class,
 /// with the colors and the weight that `styles` has for it.
 ///
-/// The colors are those of a terminal, on a background that is the page's: `Styles::default` is
-/// meant for a dark one.
+/// The colors are those that xterm shows by default, the bright one where a style is `intense`, on
+/// a background that is the page's: `Styles::default` is meant for a dark one.
 ///
 /// # Errors
 ///
@@ -76,7 +76,7 @@ fn push_rule(css: &mut String, styles: &Styles, style: Style) -> Result<(), Allo
     Ok(())
 }
 
-/// Appends the declarations of a style of a terminal.
+/// Appends the declarations of the colors and the weight of a [`ColorSpec`].
 fn push_declarations(css: &mut String, spec: ColorSpec) -> Result<(), AllocError>
     ensures { OnOk result (string_bytes css.new ≡ string_bytes css.old ++ declarations spec) }
 {
@@ -126,7 +126,7 @@ fn color_code(intense: bool, color: Color) -> &'static str
     }
 }
 
-/// Returns a color of a terminal.
+/// Returns the CSS color of a terminal color, as xterm shows it by default.
 fn normal_color(color: Color) -> &'static str
     ensures { result.now ≡ normal_color color }
 {
@@ -142,7 +142,7 @@ fn normal_color(color: Color) -> &'static str
     }
 }
 
-/// Returns the bright color of a terminal.
+/// Returns the CSS color of the bright one of a terminal color, as xterm shows it by default.
 fn bright_color(color: Color) -> &'static str
     ensures { result.now ≡ bright_color color }
 {
@@ -158,7 +158,7 @@ fn bright_color(color: Color) -> &'static str
     }
 }
 
-/// Returns the style of a terminal that a style has.
+/// Returns the colors and the weight that `styles` has for a style.
 pub(crate) fn spec_of(styles: &Styles, style: Style) -> ColorSpec
     ensures { result ≡ spec_of styles.now style }
 {

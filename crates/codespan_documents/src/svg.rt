@@ -4,7 +4,7 @@ ghost use Rattle.std.specs.Prelude.{◌≡◌, ◌≤◌, ◌++◌, ◌*◌, ◌
 ghost use Rattle.codespan_documents.specs.Glyphs.{glyphs_of};
 ghost use Rattle.codespan_documents.specs.HtmlReading.{html_parts, text_of_parts};
 ghost use Rattle.codespan_documents.specs.Runs.{styled_runs};
-ghost use Rattle.codespan_documents.specs.Svg.{color_attribute, first_pen, glyph_text, shade, size_element, svg_document, text_tag, texts_from, weight_attribute, xml_character};
+ghost use Rattle.codespan_documents.specs.Svg.{color_attribute, first_pen, glyph_text, shade, svg_tag_start, svg_document, text_tag, texts_from, weight_attribute, xml_character};
 ghost use Rattle.codespan_documents.specs.SvgReading.{svg_parts, svg_text};
 
 mod glyph;
@@ -33,7 +33,7 @@ const MARGIN: u128 = 12;
 const BASELINE: u128 = 25;
 
 /// The end of the first tag, with the font and the color of plain text, and the dark background.
-const BACKGROUND: &str =
+const FONT_AND_BACKGROUND: &str =
     " font-family=\"DejaVu Sans Mono, Menlo, Consolas, monospace\" font-size=\"15\" fill=\"#e6edf3\" xml:space=\"preserve\">
 <rect width=\"100%\" height=\"100%\" rx=\"6\" fill=\"#161b22\"/>
 ";
@@ -42,10 +42,10 @@ const BACKGROUND: &str =
 /// in a row in one ink, on a dark background.
 ///
 /// The ink of a run is the color of its style in `styles`, on the dark background, and whether it
-/// is bold; a background is not rendered. A cell is nine pixels wide and a row eighteen high, and
-/// each `text` is at the cell where it begins and as long as its cells, so carets are under their
-/// characters in any font, except in a row with a control character, which takes no cell. A
-/// character that takes two cells or more is a `text` alone.
+/// is bold; `bg` and `intense` have no effect. A cell is nine pixels wide and a row eighteen high,
+/// and each `text` is at the cell where it begins and as long as its cells, so that carets are
+/// under their characters in any font of one width, except in a row with a control character, which
+/// takes no cell. A character that takes two cells or more is a `text` alone.
 ///
 /// The text has to end with a newline, as each output does: a last row without one is below the
 /// document's end.
@@ -83,7 +83,7 @@ fn document(alloc: Global, glyphs: &[Glyph]) -> Result<String, AllocError>
 {
     let mut document = String::new(alloc);
     push_size(alloc, &mut document, extent(glyphs))?;
-    document.push_str(BACKGROUND)?;
+    document.push_str(FONT_AND_BACKGROUND)?;
     push_texts(alloc, &mut document, glyphs)?;
     document.push_str("</svg>\n")?;
     Ok(document)
@@ -94,7 +94,7 @@ fn push_size(alloc: Global, document: &mut String, extent: CellPosition) -> Resu
     requires row { extent.row ≤ 2 ^ 64 }
     requires column { extent.column ≤ 2 ^ 66 }
     ensures { OnOk result (string_bytes document.new ≡ string_bytes document.old
-        ++ codes "<" ++ size_element extent) }
+        ++ codes "<" ++ svg_tag_start extent) }
 {
     let width = 2 * MARGIN + CELL_WIDTH * extent.column;
     let height = 2 * MARGIN + ROW_HEIGHT * extent.row;
@@ -211,7 +211,7 @@ fn push_weight(document: &mut String, bold: bool) -> Result<(), AllocError>
     Ok(())
 }
 
-/// Returns what a terminal color is on the dark background.
+/// Returns the CSS color of a terminal color, chosen to be read on the dark background.
 fn shade(color: Color) -> &'static str
     ensures { result.now ≡ shade color }
 {

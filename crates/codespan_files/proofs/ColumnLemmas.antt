@@ -1,4 +1,4 @@
--- Facts on columns and locations.
+-- For the clause `value` of `column_index`, and of `column_number`, `location` and their defaults.
 use Rattle.std.proofs.lemmas.Bool.Decides.{nat_tests}
 use Rattle.std.proofs.lemmas.Bool.{false_from_ne_true}
 use Rattle.std.proofs.lemmas.List.{map-id}

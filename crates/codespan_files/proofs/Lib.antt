@@ -1,3 +1,4 @@
+-- columns, line numbers and line starts
 pub mod ColumnLemmas
 pub mod Settings
 pub mod SetNumbers

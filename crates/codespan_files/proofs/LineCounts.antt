@@ -1,4 +1,4 @@
--- A byte's line is the number of newlines before it.
+-- For the law `line_counts_newlines`: a byte's line is the number of newlines before it.
 use Rattle.std.proofs.Common.{◌≡◌, ℕ, suc, ◌+◌, ◌-◌, ◌<◌, ◌≤◌, Bool, true, false, cond, List, [], ◌∷◌, length, get_or, take, Option, refl, ap, sym, ◌∙◌, arith, eqb, inl, inr}
 use Rattle.std.specs.Prelude.{count_by, nat_le, ◌==◌, if◌then◌else◌}
 use Rattle.std.proofs.lemmas.Bool.{cases_lt, le-leb, lt-leb}

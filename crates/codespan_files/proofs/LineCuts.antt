@@ -1,4 +1,4 @@
--- The lines of a text join to it, and columns ascend.
+-- For the law `lines_join_to_source`, that the lines of a text join to it, and for `columns_rise`.
 use Rattle.std.proofs.Common.{◌≡◌, ℕ, zero, suc, ◌+◌, ◌-◌, ◌≤◌, min, Bool, cond, List, ◌++◌, drop, flat_map, length, get_or, Option, refl, sym, ap, ◌∙◌, arith}
 use Rattle.std.specs.Prelude.{count_by, slice_range}
 use Rattle.std.specs.List.{range_with_len}

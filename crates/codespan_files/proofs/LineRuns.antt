@@ -1,4 +1,4 @@
--- What the iterator over line starts returns up to its end.
+-- For the law `line_starts_end`: what the iterator over line starts returns up to its end.
 use Rattle.std.proofs.Common.{◌≡◌, ℕ, List, refl, sym, ◌∙◌}
 use Rattle.std.proofs.lemmas.Iterator.{items_from_drains}
 use Rattle.std.proofs.lemmas.Iterator.Consumers.{YieldsList-from_first}

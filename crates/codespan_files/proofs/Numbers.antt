@@ -1,4 +1,4 @@
--- The numbers of the lines of a database's files.
+-- For the clauses `value` and `failed` of `line_number` of `SimpleFiles`.
 use Rattle.std.proofs.Common.{◌≡◌, ℕ, ◌+◌, List, Option, Some, None, refl}
 use Rattle.std.specs.Option.{option_map_or}
 use Rattle.codespan_files.specs.FileModel.Lookup.{LineNumber}

@@ -1,4 +1,4 @@
--- A line past the last, and the line of a byte, which never is: what clauses `failed` rest on.
+-- For the clauses `failed`: a line past the last, and the line of a byte, which never is.
 use Rattle.std.proofs.Common.{◌≡◌, ◌≢◌, ℕ, suc, ◌-◌, ◌^◌, ◌<◌, ◌≤◌, List, length, refl, ap, ◌∙◌, arith, Option, Some, None}
 use Rattle.std.proofs.lemmas.Bool.{lt-leb, le-leb, ne_eqb}
 use Rattle.codespan_files.specs.declared.files.error.Error.{Error}

@@ -1,4 +1,4 @@
--- What setting a line's number does to the numbers of all lines.
+-- For the law `set_numbers_count_on`: what setting a line's number does to all lines' numbers.
 use Rattle.std.proofs.Common.{◌≡◌, ℕ, suc, ◌<◌, List, [], ◌∷◌, length, Option, Some, None, refl, arith}
 use Rattle.std.proofs.lemmas.Bool.Decides.{nat_tests}
 use Rattle.codespan_files.specs.Settings.{set_index_at, IsStrictlySorted}

@@ -34,7 +34,7 @@ module _ {Name Source : Type 0} {texts : Ghosts Source} where
   abbrev pub file_in : (Name → Option (List ℕ)) → SimpleFiles Name Source texts → ℕ → FileModel
   file_in output database id = database_file output texts.text (entries database) id
 
-  -- what a lookup fails with there
+  -- what a lookup of an id in a database fails with
   abbrev pub error_in : SimpleFiles Name Source texts → ℕ → Lookup → Option Error
   error_in database id lookup = database_failure texts.text (entries database) id lookup
 
@@ -42,23 +42,24 @@ module _ {Name Source : Type 0} {texts : Ghosts Source} where
   abbrev pub mapped_name_of : MappedFile Name Source texts → Name
   mapped_name_of file = name_of file.file
 
-  -- its source
+  -- the source of a file whose line numbers are set
   abbrev pub mapped_source_of : MappedFile Name Source texts → Source
   mapped_source_of file = source_of file.file
 
-  -- its text
+  -- the text of a file whose line numbers are set
   abbrev pub mapped_text_of : MappedFile Name Source texts → List ℕ
   mapped_text_of file = text_of file.file
 
-  -- its set line indices with their numbers, the indices ascending
+  -- the line indices whose numbers are set, ascending, with these numbers
   abbrev pub settings_of : MappedFile Name Source texts → List (ℕ × ℕ)
   settings_of file = file.numbers.items
 
-  -- the file that its lookups return, where `output` is what names display
+  -- the file that the lookups of one whose line numbers are set return, where `output` is what
+  -- names display
   abbrev pub mapped_file_of : (Name → Option (List ℕ)) → MappedFile Name Source texts → FileModel
   mapped_file_of output file =
       mapped_file (output (mapped_name_of file)) (mapped_text_of file) (settings_of file)
 
-  -- what they fail with
+  -- what a lookup of a file whose line numbers are set fails with
   abbrev pub mapped_error_of : MappedFile Name Source texts → Lookup → Option Error
   mapped_error_of file lookup = mapped_failure (mapped_text_of file) (settings_of file) lookup

@@ -1,4 +1,5 @@
--- What the lines of a text are together, how columns ascend, how lines are counted and numbered.
+-- What the lines of a text are together, that columns never decrease, how lines are counted and
+-- numbered.
 use Rattle.std.specs.Prelude.{◌≡◌, ℕ, ◌+◌, ◌-◌, ◌<◌, ◌≤◌, ◌==◌, ◌||◌, nat_lt, if◌then◌else◌, List, length, flat_map, take, count_by, Option, Some, None}
 use Rattle.std.specs.List.{range_with_len}
 use Rattle.codespan_files.specs.FileModel.{FileModel, line_count, line_start, line_of, line_text}

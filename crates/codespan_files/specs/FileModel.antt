@@ -13,13 +13,13 @@ pub record FileModel : Type 0 where
   pub text : List ℕ
   -- where each line starts, in bytes
   pub starts : List ℕ
-  -- where each line ends
+  -- where each line ends, in bytes, exclusive
   pub ends : List ℕ
-  -- the number of a line, as users see it
+  -- the number of the line of an index from 0, as users see it
   pub number : ℕ → ℕ
-  -- the column number of a byte on a line
+  -- the column number, as users see it, by a line index and a byte index, both from 0
   pub column : ℕ → ℕ → ℕ
-  -- the location of a byte
+  -- the location of a byte index from 0
   pub location : ℕ → Location
 
 -- what is looked up in a file

@@ -1,4 +1,4 @@
--- What the lookups of a file return, and when a file is lawful.
+-- What the lookups of a file return, when a file is lawful, and what lookups by default return.
 use Rattle.std.specs.Prelude.{◌≡◌, ◌≢◌, ℕ, ◌+◌, ◌-◌, ◌<◌, ◌≤◌, ◌↔◌, true, false, [], length, slice_index, Option, Some, None, Result, MatchResult, IfErr, ◌^◌, ◌==◌, if◌then◌else◌}
 use Rattle.std.specs.Str.{IsCharBoundary, IsUtf8}
 use Rattle.std.specs.declared.ops.Range.{Range}
@@ -15,7 +15,7 @@ pub record IsLineRange (f : FileModel) (i : ℕ) (r : Range ℕ) : Type 0 where
   pub start_is : r.start ≡ slice_index f.starts i
   pub end_is : r.end ≡ slice_index f.ends i
 
--- where the lookup succeeds it has no such error, and where it fails it returns this error or
+-- where the call succeeds there is no such error, and where it fails it returns this error or
 -- `OutOfMemory`
 abbrev pub FailsBy : {T : Type 0} → Option Error → Result T Error → Type 0
 FailsBy o r = MatchResult r (λ _. o ≡ None) (λ e. e ≢ OutOfMemory → o ≡ Some e)
@@ -24,34 +24,41 @@ FailsBy o r = MatchResult r (λ _. o ≡ None) (λ e. e ≢ OutOfMemory → o �
 abbrev pub NeedsNoMemory : {T : Type 0} → Result T Error → Type 0
 NeedsNoMemory r = IfErr r (λ e. e ≢ OutOfMemory)
 
--- the text is UTF-8, short enough for a string, and cut into lines
+-- the text is UTF-8, short enough for a `str`, and cut into lines; an id that names no file has an
+-- empty name and an empty text
 pub record IsLawful (f : FileModel) : Type 0 where
+  -- the text
   pub is_text : IsUtf8 f.text
   pub fits : length f.text < 2 ^ 64
+  -- lines start in strictly ascending order, the first one at byte 0
   pub some_line : 0 < length f.starts
   pub first : slice_index f.starts 0 ≡ 0
   pub ascending : (i : ℕ) → i + 1 < length f.starts
       → slice_index f.starts i < slice_index f.starts (i + 1)
+  -- starts and ends are character boundaries
   pub starts_cut : (i : ℕ) → i < length f.starts → IsCharBoundary f.text (slice_index f.starts i)
   pub ends_cut : (i : ℕ) → i < length f.starts → IsCharBoundary f.text (slice_index f.ends i)
+  -- each line ends at its start or after it, and not after the next line's start
   pub ends_after : (i : ℕ) → i < length f.starts → slice_index f.starts i ≤ slice_index f.ends i
   pub ends_before : (i : ℕ) → i + 1 < length f.starts
       → slice_index f.ends i ≤ slice_index f.starts (i + 1)
+  -- there are as many ends as starts
   pub one_end : length f.ends ≡ length f.starts
+  -- an id that names no file
   pub missing_name : f.exists ≡ false → f.name ≡ Some []
   pub missing_text : f.exists ≡ false → f.text ≡ []
 
--- the error is that of a line past the last
+-- the error is `LineTooLarge`
 abbrev pub IsLineTooLarge : Error → Type 0
 IsLineTooLarge (LineTooLarge given max) = Unit {0}
 IsLineTooLarge _ = ⊥
 
--- a lookup fails as past the last line
+-- the lookup fails with `LineTooLarge`
 abbrev pub IsPastEndError : Option Error → Type 0
 IsPastEndError None = ⊥
 IsPastEndError (Some e) = IsLineTooLarge e
 
--- of a file that exists, a line fails so exactly where it is past the last
+-- of a file that exists, a line fails with `LineTooLarge` exactly where it is past the last
 abbrev pub FailsPastEnd : FileModel → ℕ → Option Error → Type 0
 FailsPastEnd f i o = f.exists ≡ true → IsPastEndError o ↔ (length f.starts ≤ i)
 

@@ -11,5 +11,5 @@ pub mod Errors
 pub mod FileLaws
 pub mod DatabaseViews
 pub mod Lemmas
--- how worked files are written down
+-- what the clauses of `worked` open
 pub mod Worked

@@ -36,7 +36,8 @@ abbrev pub number_from : Option (ℕ × ℕ) → ℕ → ℕ
 number_from None i = i + 1
 number_from (Some s) i = s.1 + (i - s.0)
 
--- a number past the greatest usize fails
+-- what the lookup of a line's number fails with, from its setting: a number past the greatest
+-- `usize` does
 abbrev pub number_failure : Option (ℕ × ℕ) → ℕ → Option Error
 number_failure None i = line_number_failure i
 number_failure (Some s) i =

@@ -39,7 +39,7 @@ simple_file name text = record {
   location = simple_location text;
 }
 
--- a line past the last fails
+-- what the lookup of a line's range or of its column fails with: a line past the last does
 abbrev pub past_end : List ℕ → ℕ → Option Error
 past_end text i =
     if nat_lt i (length (line_starts_of text)) then None
@@ -65,7 +65,7 @@ missing_file = record {
   location = λ byte. record { line_number = 1; column_number = 1 };
 }
 
--- every lookup but that of a line's number fails with `FileMissing`
+-- what a lookup of such an id fails with: each but that of a line's number with `FileMissing`
 abbrev pub missing_failure : Lookup → Option Error
 missing_failure (LineNumber i) = line_number_failure i
 missing_failure _ = Some FileMissing
@@ -77,7 +77,7 @@ database_file output text entries id =
     option_map_or (λ entry. simple_file (output entry.0) (text entry.1))
     (slice_get entries id) missing_file
 
--- what a lookup fails with there
+-- what a lookup of an id fails with, in a database of names and sources
 abbrev pub database_failure : {Name Source : Type 0} → (Source → List ℕ) → List (Name × Source) → ℕ
     → Lookup → Option Error
 database_failure text entries id lookup =

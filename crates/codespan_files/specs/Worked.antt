@@ -1,4 +1,4 @@
--- How worked files are written down.
+-- What opens the definitions of a file, so that the clauses of `worked` compute.
 use Rattle.std.specs.Char.{encode_utf8}
 use Rattle.codespan_files.specs.FileModel.{line_of}
 

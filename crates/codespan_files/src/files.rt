@@ -2,8 +2,8 @@
 //!
 //! [`Files`] is the trait of file databases. This module has three implementations: [`SimpleFile`]
 //! has one text, [`SimpleFiles`] many, and [`MappedFile`] one text whose line numbers can be set as
-//! `#line` does in C. They are small; implement [`Files`] for other databases, for example over the
-//! sources that a compiler keeps.
+//! `#line` does in C. They keep one text for each file; implement [`Files`] for other databases, as
+//! over the sources that a compiler keeps.
 //!
 //! Line indices and byte indices count from 0, and the end of a range is exclusive. Line numbers
 //! and column numbers are for users.
@@ -69,8 +69,8 @@ pub struct Location {
 /// # Examples
 ///
 /// A database of two files, the module `files::checked` of `crates/examples`, which also defines
-/// `Part`, `Checked`, `part_name` and `one_part`. `docs/FILES.md` goes through another one step by
-/// step.
+/// `Part` and `Checked`; `part_name`, `of_part` and `one_part` are in `specs/Parts.antt` of that
+/// crate. `docs/FILES.md` goes through another one step by step.
 ///
 /// ```rust
 /// impl<'a, 'text: 'a> Files<'a> for Checked<'text> {
@@ -161,7 +161,7 @@ pub trait Files<'a> {
     ///
     /// # Errors
     ///
-    /// - [`Error::FileMissing`], or a custom error, where the database has no such file.
+    /// - [`Error::FileMissing`], or another variant, where the database has no such file.
     /// - [`Error::OutOfMemory`] where an allocation fails.
     fn name(&'a self, id: Self::FileId) -> Result<Self::Name, Error>
         ensures value { IfOk result (λ n. Self.Name.output n ≡ ((database self.now).file id).name) }
@@ -171,7 +171,7 @@ pub trait Files<'a> {
     ///
     /// # Errors
     ///
-    /// - [`Error::FileMissing`], or a custom error, where the database has no such file or can not
+    /// - [`Error::FileMissing`], or another variant, where the database has no such file or can not
     ///   read it.
     /// - [`Error::OutOfMemory`] where an allocation fails.
     fn source(&'a self, id: Self::FileId) -> Result<Self::Source, Error>
@@ -186,7 +186,7 @@ pub trait Files<'a> {
     ///
     /// # Errors
     ///
-    /// - [`Error::FileMissing`], or a custom error, where the database has no such file.
+    /// - [`Error::FileMissing`], or another variant, where the database has no such file.
     /// - [`Error::OutOfMemory`] where an allocation fails.
     fn line_index(&'a self, id: Self::FileId, byte_index: usize) -> Result<usize, Error>
         ensures value { IfOk result (λ i.
@@ -201,7 +201,7 @@ pub trait Files<'a> {
     ///
     /// # Errors
     ///
-    /// - [`Error::LineTooLarge`], or a custom error, where the number does not fit into a `usize`
+    /// - [`Error::LineTooLarge`], or another variant, where the number does not fit into a `usize`
     ///   or the line has none.
     /// - [`Error::OutOfMemory`] where an allocation fails.
     fn line_number(&'a self, id: Self::FileId, line_index: usize) -> Result<usize, Error>
@@ -211,9 +211,9 @@ pub trait Files<'a> {
     /// Returns the column number of a byte on a line as users see it: in most databases the
     /// characters from the line's start to the byte, counted from 1, as
     /// [`default_column_number`](codespan_reporting::files::default_column_number) has it. Both
-    /// indices count from 0. An implementation can not call that function, since that would be a
-    /// cycle; it writes
-    /// [`column_number_by_default!`](codespan_base::column_number_by_default) as its body.
+    /// indices count from 0. An implementation can not call that function, which requires the
+    /// implementation that is being checked;
+    /// [`column_number_by_default!`](codespan_base::column_number_by_default) expands to its body.
     ///
     /// # Errors
     ///
@@ -232,8 +232,9 @@ pub trait Files<'a> {
 
     /// Returns the line number and the column number of a byte, as users see them: in most
     /// databases as [`default_location`](codespan_reporting::files::default_location) has it. The
-    /// byte index counts from 0. An implementation can not call that function, since that would be
-    /// a cycle; it writes [`location_by_default!`](codespan_base::location_by_default) as its body.
+    /// byte index counts from 0. An implementation can not call that function, which requires the
+    /// implementation that is being checked;
+    /// [`location_by_default!`](codespan_base::location_by_default) expands to its body.
     ///
     /// # Errors
     ///
@@ -248,9 +249,10 @@ pub trait Files<'a> {
     ///
     /// # Errors
     ///
-    /// - [`Error::LineTooLarge`] exactly where the file exists and has no such line.
-    /// - [`Error::FileMissing`], or a custom error, where the database has no such file or does not
-    ///   show the line.
+    /// - [`Error::LineTooLarge`] where the file exists and has no such line, and for no line that
+    ///   the file has.
+    /// - [`Error::FileMissing`], or another variant, where the database has no such file or does
+    ///   not show the line.
     /// - [`Error::OutOfMemory`] where an allocation fails.
     fn line_range(&'a self, id: Self::FileId, line_index: usize) -> Result<Range<usize>, Error>
         ensures value { IfOk result (IsLineRange ((database self.now).file id) line_index) }

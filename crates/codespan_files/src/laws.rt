@@ -15,15 +15,16 @@ ghost use Rattle.codespan_files.specs.declared.files.starts.LineStarts.{LineStar
 
 use crate::files::LineStarts;
 
-/// States that the line ranges of a text follow each other from byte 0 to its length, and that its
-/// lines join to it.
+/// States that the line ranges of a [`SimpleFile`](codespan_reporting::files::SimpleFile) follow
+/// each other from byte 0 to the length of its source, and that its lines join to the source.
 pub fn lines_join_to_source()
     ensures { (name : Option (List ℕ)) (text : List ℕ) → IsUtf8 text →
         LinesJoin (simple_file name text) }
 {}
 
-/// States that the index of a byte's line, from 0, is the number of newlines before the byte. Past
-/// the end of the text it is that of the last line.
+/// States that in a [`SimpleFile`](codespan_reporting::files::SimpleFile) the index of a byte's
+/// line, from 0, is the number of newlines before the byte. Past the end of the text it is that of
+/// the last line.
 pub fn line_counts_newlines()
     ensures { (name : Option (List ℕ)) (text : List ℕ) →
         LineCountsNewlines (simple_file name text) }
@@ -44,7 +45,8 @@ pub fn columns_rise()
 {}
 
 /// States that the iterator of [`line_starts`](codespan_reporting::files::line_starts) ends, and
-/// that it has then returned all starts that were left; at first these are all starts of the text.
+/// that it has then returned all starts that were left. By the contract of `line_starts` these are,
+/// at first, all starts of the text.
 pub fn line_starts_end()
     ensures ends { (starts : LineStarts) →
         IsFinite (⟦<LineStarts<'static> as Iterator>⟧.remaining starts) }

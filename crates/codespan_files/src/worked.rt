@@ -1,4 +1,5 @@
-//! Worked files: each function does nothing, and its contract is what the definitions compute to.
+//! Lookups and columns of small texts: each function does nothing, and its contract is what the
+//! definitions compute to.
 #![tactic(auto, unfolding(crate::specs::Worked::file_definitions))]
 
 ghost use Rattle.std.specs.Prelude.{◌≡◌, ◌^◌, ◌-◌, [], ◌∷◌, map, codes, encode_utf8_all, Some, None};
@@ -9,7 +10,7 @@ ghost use Rattle.codespan_files.specs.SimpleModel.{simple_file, simple_failure, 
 ghost use Rattle.codespan_files.specs.MappedModel.{with_number, number_from, setting, mapped_failure};
 ghost use Rattle.codespan_files.specs.declared.files.error.Error.TheVariants.{FileMissing, LineTooLarge};
 
-/// Computes columns, which count the characters that end after the line's start, and lines, which
+/// Computes columns, which count the characters from the line's start to the byte, and lines, which
 /// start after newlines.
 fn columns_and_starts()
     ensures first_line { column_index_of (encode_utf8_all (codes "\n\n🗻∈🌏\n\n")) 0 1 0 ≡ 0 }
@@ -30,7 +31,7 @@ fn missing_file()
     ensures past_end { simple_failure (codes "a\nb") (LineRange 2) ≡ Some (LineTooLarge 2 1) }
 {}
 
-/// Computes lookups of the greatest indices.
+/// Computes lookups of the greatest indices, and the column in a reversed range.
 fn greatest_indices()
     ensures wide { column_index_of (encode_utf8_all (codes "é")) 0 9 (2 ^ 64 - 1) ≡ 1 }
     ensures reversed { column_index_of (codes "ab") 5 1 9 ≡ 0 }

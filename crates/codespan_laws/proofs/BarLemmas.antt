@@ -1,4 +1,4 @@
--- The bars of source rows and break rows.
+-- For `bars_are_labels`: the bars of source rows and break rows.
 use Rattle.std.proofs.Common.{◌≡◌, ℕ, zero, suc, ◌+◌, ◌-◌, ◌<◌, ◌↔◌, Bool, true, false, ◌==◌, nat_lt, nat_le, ◌&&◌, if◌then◌else◌, List, [], ◌∷◌, filter_map, Option, Some, None, slice_get, add-zero, zero-add, refl, sym, ap, ◌∙◌, arith}
 use Rattle.std.specs.List.{enumerate_from, cons_option}
 use Rattle.std.proofs.lemmas.Bool.Decides.{nat_tests}

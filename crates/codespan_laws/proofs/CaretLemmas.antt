@@ -1,4 +1,4 @@
--- The text of a caret row is its caret cells.
+-- For `carets_are_cells`: the text of a caret row is its caret cells.
 use Rattle.std.proofs.Common.{◌≡◌, ℕ, zero, suc, suc-add, zero-add, ap₂, chars, ◌+◌, ◌<◌, ◌≤◌, Bool, true, false, cond, nat_lt, List, [], ◌∷◌, ◌++◌, map, filter, flat_map, replicate, Option, Some, None, encode_utf8_all, refl, sym, ap, ◌∙◌, arith, add-zero, lt-ltb}
 use Rattle.std.specs.List.{range_with_len}
 use Rattle.std.specs.Char.{len_utf8}

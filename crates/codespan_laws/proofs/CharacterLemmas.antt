@@ -1,4 +1,5 @@
--- The length of rows does not depend on the characters that they are rendered with.
+-- For `characters_are_free`: the length of rows does not depend on the characters that they are
+-- rendered with.
 use Rattle.std.proofs.Common.{◌≡◌, ℕ, ◌-◌, Bool, true, false, List, [], ◌∷◌, ◌++◌, flat_map, Option, Some, None, if◌then◌else◌, refl, sym, ap, ◌∙◌, arith}
 use Rattle.std.specs.List.{list_any}
 use Rattle.codespan_base.specs.declared.diagnostic.Severity.{Severity}
@@ -12,7 +13,7 @@ use Rattle.codespan_picture.specs.declared.char_metrics.Metrics.{Metrics}
 use Rattle.codespan_picture.specs.Carets.{style_under, max_label_end}
 use Rattle.codespan_picture.specs.Lanes.{label_glyph}
 use Rattle.codespan_picture.specs.Rows.{RowContext, Locus, Lanes, Line, Row, HeaderRow, SnippetStartRow, EmptyRow, BreakRow, SourceRow, CaretRow, PointerRow, HangingRow, UnderlineRow, FirstNoteRow, LaterNoteRow, FinalRow, hanging, trailing}
-use Rattle.codespan_picture.specs.RowParts.{gutter, numbered_gutter, border, break_border, change, styled, lanes_in, locus, line_metrics, line_metrics_to_end, row_lanes, colored_text, caret_glyphs, carets, trailing_message, label_message, starts_in, max_label_start, spaces_up_to, pointer_style, pointer_at, pointers, metrics_before, underline, underline_message}
+use Rattle.codespan_picture.specs.RowParts.{outer_gutter, outer_gutter_number, border_left, border_left_break, change, styled, lanes_in, locus, line_metrics, line_metrics_to_end, inner_gutter, colored_text, caret_glyphs, carets, trailing_message, label_message, starts_in, max_label_start, spaces_up_to, pointer_style, pointer_at, pointers, metrics_before, underline, underline_message}
 use Rattle.codespan_picture.specs.RowStreams.{stream_of, snippet_start_row, empty_row, break_row, source_row, row_start, caret_row, pointer_row, hanging_row, underline_row, first_note_row}
 use Rattle.codespan_laws.proofs.Texts.{row_length-append, row_length-glyph, row_length-repeated, text_of-bytes}
 use Rattle.codespan_laws.proofs.LaneWidths.{row_length-lanes_in, row_length-label_glyph}
@@ -66,20 +67,20 @@ module _ (context : RowContext) (chars : Chars) where
   lanes_as_long crossing crossing' shape shape' lanes =
       record { same = row_length-lanes_in other crossing shape lanes ∙ sym (row_length-lanes_in context crossing' shape' lanes) }
 
-  border_as_long : AreAsLong (border chars) (border context.chars)
-  unfolding border
-  border_as_long = marked SourceBorder chars.source_border_left context.chars.source_border_left
+  border_left_as_long : AreAsLong (border_left chars) (border_left context.chars)
+  unfolding border_left
+  border_left_as_long = marked SourceBorder chars.source_border_left context.chars.source_border_left
 
-  break_border_as_long : AreAsLong (break_border chars) (break_border context.chars)
-  unfolding break_border
-  break_border_as_long = marked SourceBorder chars.source_border_left_break context.chars.source_border_left_break
+  border_left_break_as_long : AreAsLong (border_left_break chars) (border_left_break context.chars)
+  unfolding border_left_break
+  border_left_break_as_long = marked SourceBorder chars.source_border_left_break context.chars.source_border_left_break
 
   row_start_as_long : (line : Line) → AreAsLong (row_start other line) (row_start context line)
-  unfolding row_start row_lanes
+  unfolding row_start inner_gutter
   row_start_as_long line =
       same_before _ _ space
-      (joined (gutter context.padding ++ border chars) (gutter context.padding ++ border context.chars) _ _
-      (same_after (gutter context.padding) (border chars) (border context.chars) border_as_long) (lanes_as_long _ _ _ _ line.lanes))
+      (joined (outer_gutter context.padding ++ border_left chars) (outer_gutter context.padding ++ border_left context.chars) _ _
+      (same_after (outer_gutter context.padding) (border_left chars) (border_left context.chars) border_left_as_long) (lanes_as_long _ _ _ _ line.lanes))
 
   styled_as_long : (style : Metrics → Option LabelStyle) (shown shown' : Metrics → Stream) → ((c : Metrics) → AreAsLong (shown c) (shown' c)) → (previous : Option LabelStyle) (cs : List Metrics)
       → AreAsLong (styled context.severity style shown previous cs) (styled context.severity style shown' previous cs)
@@ -122,20 +123,20 @@ module _ (context : RowContext) (chars : Chars) where
   unfolding snippet_start_row
   start_as_long e at =
       same_before _ _ (locus at) (same_before _ _ space (same_before _ _ (style_mark Reset)
-      (same_after (gutter context.padding ++ style_mark SourceBorder) _ _ (texts (start_text chars.snippet_start) (start_text context.chars.snippet_start) e))))
+      (same_after (outer_gutter context.padding ++ style_mark SourceBorder) _ _ (texts (start_text chars.snippet_start) (start_text context.chars.snippet_start) e))))
 
   rows_as_long : character_count (start_text chars.snippet_start) ≡ character_count (start_text context.chars.snippet_start) → (row : Row)
       → AreAsLong (stream_of other row) (stream_of context row)
-  unfolding empty_row break_row source_row caret_row pointer_row hanging_row underline_row first_note_row colored_text row_lanes
+  unfolding empty_row break_row source_row caret_row pointer_row hanging_row underline_row first_note_row colored_text inner_gutter
   rows_as_long e (HeaderRow at heading) = as_long _
   rows_as_long e (SnippetStartRow at) = start_as_long e at
   rows_as_long e (EmptyRow lanes) =
-      joined _ _ _ _ (same_after (gutter context.padding) (border chars) (border context.chars) border_as_long) (lanes_as_long _ _ _ _ lanes)
+      joined _ _ _ _ (same_after (outer_gutter context.padding) (border_left chars) (border_left context.chars) border_left_as_long) (lanes_as_long _ _ _ _ lanes)
   rows_as_long e (BreakRow lanes) =
-      joined _ _ _ _ (same_after (gutter context.padding) (break_border chars) (break_border context.chars) break_border_as_long) (lanes_as_long _ _ _ _ lanes)
+      joined _ _ _ _ (same_after (outer_gutter context.padding) (border_left_break chars) (border_left_break context.chars) border_left_break_as_long) (lanes_as_long _ _ _ _ lanes)
   rows_as_long e (SourceRow line) =
       same_before _ _ (colored_text context line) (same_before _ _ space
-      (joined _ _ _ _ (same_after (numbered_gutter context.padding line.number) (border chars) (border context.chars) border_as_long) (lanes_as_long _ _ _ _ line.lanes)))
+      (joined _ _ _ _ (same_after (outer_gutter_number context.padding line.number) (border_left chars) (border_left context.chars) border_left_as_long) (lanes_as_long _ _ _ _ line.lanes)))
   rows_as_long e (CaretRow line) =
       same_before _ _ (trailing_message context.severity (trailing line.labels))
       (joined _ _ _ _ (row_start_as_long line) (carets_as_long line.labels (line_metrics_to_end context line)))
@@ -146,11 +147,11 @@ module _ (context : RowContext) (chars : Chars) where
   rows_as_long e (UnderlineRow line m) =
       same_before _ _ (style_mark Reset)
       (joined _ _ _ _ (same_before _ _ (style_mark (LabelMark context.severity m.style))
-      (joined _ _ _ _ (same_after (gutter context.padding) (border chars) (border context.chars) border_as_long) (lanes_as_long _ _ _ _ line.lanes)))
+      (joined _ _ _ _ (same_after (outer_gutter context.padding) (border_left chars) (border_left context.chars) border_left_as_long) (lanes_as_long _ _ _ _ line.lanes)))
       (underline_as_long m.style (line_metrics context line) m.part))
   rows_as_long e (FirstNoteRow piece) =
       same_before _ _ (bytes piece) (same_before _ _ space (same_before _ _ (style_mark Reset)
-      (same_after (gutter context.padding ++ style_mark NoteBullet) (glyph chars.note_bullet) (glyph context.chars.note_bullet) (glyphs chars.note_bullet context.chars.note_bullet))))
+      (same_after (outer_gutter context.padding ++ style_mark NoteBullet) (glyph chars.note_bullet) (glyph context.chars.note_bullet) (glyphs chars.note_bullet context.chars.note_bullet))))
   rows_as_long e (LaterNoteRow piece) = as_long _
   rows_as_long e FinalRow = as_long []
 

@@ -1,4 +1,4 @@
--- Bytes of text among bytes of style marks.
+-- For `colors_change_no_text`: bytes of text among bytes of style marks.
 use Rattle.std.proofs.Common.{◌≡◌, ℕ, false, List, [], ◌∷◌, ◌++◌, map, filter, refl, ap, ap₂, ◌∙◌}
 use Rattle.std.proofs.lemmas.List.{map-append}
 use Rattle.codespan_base.specs.declared.term.config.styles.Styles.{Styles}

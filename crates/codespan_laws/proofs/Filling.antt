@@ -1,5 +1,5 @@
--- Lines of which some are shown: the elements of the drawn ones in order are those of the shown
--- ones, with what is between two of them.
+-- For `rows_are_of_shown_lines`: lines of which some are shown. The elements of the drawn ones in
+-- order are those of the shown ones, with what is between two of them.
 use Rattle.std.proofs.Common.{◌≡◌, ℕ, zero, suc, ◌+◌, ◌-◌, ◌≤◌, Bool, true, false, cond, ◌==◌, nat_lt, nat_le, ◌&&◌, ◌||◌, if◌then◌else◌, List, [], ◌∷◌, ◌++◌, filter, Option, Some, None, refl, sym, ap, ◌∙◌, arith, append_assoc}
 use Rattle.std.specs.List.{range_with_len}
 use Rattle.std.proofs.Math.Bool.{and-false}

@@ -1,4 +1,4 @@
--- Each lane is one line, by the drawn lines of the file.
+-- For `lanes_are_lines`: each lane is one line, by the drawn lines of the file.
 use Rattle.std.proofs.Common.{◌≡◌, ℕ, zero, suc, ◌+◌, ◌-◌, ◌<◌, ◌≤◌, Bool, true, false, not, cond, ◌||◌, ◌&&◌, ◌==◌, nat_lt, nat_le, ⊎_elim, List, [], ◌∷◌, ◌++◌, filter, length, Option, Some, None, slice_get, refl, sym, ap, ◌∙◌, zero-add, append_assoc, arith, if◌then◌else◌}
 use Rattle.std.specs.List.{range_with_len, cons_option, AllByRecursion}
 use Rattle.std.proofs.lemmas.Bool.{cases_lt}

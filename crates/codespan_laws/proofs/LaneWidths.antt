@@ -1,4 +1,4 @@
--- Each lane takes two characters.
+-- For `lanes_take_two`: each lane takes two characters.
 use Rattle.std.proofs.Common.{◌≡◌, ℕ, zero, suc, ◌+◌, ◌*◌, ◌++◌, flat_map, Option, Some, None, refl, ◌∙◌, arith}
 use Rattle.codespan_base.specs.declared.diagnostic.Severity.{Severity}
 use Rattle.codespan_base.specs.declared.diagnostic.LabelStyle.{LabelStyle}
@@ -12,7 +12,7 @@ use Rattle.codespan_picture.specs.declared.lanes.Shape.{Shape}
 use Rattle.codespan_picture.specs.declared.lanes.Shape.TheVariants.{Space, Bar, TopCorner, BottomCorner}
 use Rattle.codespan_picture.specs.Lanes.{corner_line, crossing_cells, label_glyph, lane_mark_in, lane_cells}
 use Rattle.codespan_picture.specs.Rows.{RowContext, Lanes}
-use Rattle.codespan_picture.specs.RowParts.{lane_of, lanes_in}
+use Rattle.codespan_picture.specs.RowParts.{inner_gutter_column, lanes_in}
 use Rattle.codespan_laws.proofs.Texts.{row_length-append, row_length-glyph, row_length-style_mark, row_length-repeated, row_length-spaces}
 
 -- a stream between two style marks is as long as it is alone
@@ -47,11 +47,11 @@ row_length-lane_cells severity chars crossing style Bar = filled_and_own severit
 row_length-lane_cells severity chars crossing style TopCorner = filled_and_own severity chars crossing style chars.multi_top_left
 row_length-lane_cells severity chars crossing style BottomCorner = filled_and_own severity chars crossing style chars.multi_bottom_left
 
-pub row_length-lane_of : (context : RowContext) (crossing : Option LaneMark) (shape : MultiLabel → Shape) (lane_mark : Option LaneMark)
-    → row_length (lane_of context crossing shape lane_mark) ≡ 2
-unfolding lane_of
-row_length-lane_of context crossing shape None = row_length-lane_cells context.severity context.chars crossing Primary Space
-row_length-lane_of context crossing shape (Some m) = row_length-lane_cells context.severity context.chars crossing m.style (shape m.part)
+pub row_length-inner_gutter_column : (context : RowContext) (crossing : Option LaneMark) (shape : MultiLabel → Shape) (lane_mark : Option LaneMark)
+    → row_length (inner_gutter_column context crossing shape lane_mark) ≡ 2
+unfolding inner_gutter_column
+row_length-inner_gutter_column context crossing shape None = row_length-lane_cells context.severity context.chars crossing Primary Space
+row_length-inner_gutter_column context crossing shape (Some m) = row_length-lane_cells context.severity context.chars crossing m.style (shape m.part)
 
 twice : (f : ℕ → Stream) → ((k : ℕ) → row_length (f k) ≡ 2) → (a n : ℕ) → row_length (flat_map f (range_with_len a n)) ≡ 2 * n
 twice f two a zero = refl
@@ -62,5 +62,5 @@ twice f two a (suc n) =
 pub row_length-lanes_in : (context : RowContext) (crossing : ℕ → Option LaneMark) (shape : ℕ → MultiLabel → Shape) (lanes : Lanes)
     → row_length (lanes_in context crossing shape lanes) ≡ 2 * lanes.count
 row_length-lanes_in context crossing shape lanes =
-    twice (λ lane. lane_of context (crossing lane) (shape lane) (lane_mark_in lanes.marks lane))
-    (λ lane. row_length-lane_of context (crossing lane) (shape lane) (lane_mark_in lanes.marks lane)) 0 lanes.count
+    twice (λ lane. inner_gutter_column context (crossing lane) (shape lane) (lane_mark_in lanes.marks lane))
+    (λ lane. row_length-inner_gutter_column context (crossing lane) (shape lane) (lane_mark_in lanes.marks lane)) 0 lanes.count

@@ -1,4 +1,4 @@
--- What a row shows in each lane is what its stream has there.
+-- For `lanes_are_shown`: what a row shows in each lane is what its stream has there.
 use Rattle.std.proofs.Common.{◌≡◌, ℕ, [], ◌++◌, flat_map, Option, None, refl, sym, ap, subst, ◌∙◌, append-nil, append_assoc}
 use Rattle.std.proofs.lemmas.Option.{none-some, same_Some}
 use Rattle.std.specs.List.{range_with_len}
@@ -7,7 +7,7 @@ use Rattle.codespan_base.specs.Streams.{Stream, LabelMark, Reset, style_mark, sp
 use Rattle.codespan_picture.specs.declared.lanes.Shape.{Shape}
 use Rattle.codespan_picture.specs.Lanes.{Source, Plain, Below, Underline, row_shape, row_crossing, source_shape, plain_shape, below_shape, lane_mark_in, shape_of, style_of_lane_mark, lane_cells}
 use Rattle.codespan_picture.specs.Rows.{RowContext, Lanes, Line, Row, HeaderRow, SnippetStartRow, EmptyRow, BreakRow, SourceRow, CaretRow, PointerRow, HangingRow, UnderlineRow, FirstNoteRow, LaterNoteRow, FinalRow, trailing}
-use Rattle.codespan_picture.specs.RowParts.{gutter, numbered_gutter, border, break_border, label_message, lane_of, lanes_in, row_lanes, line_metrics, line_metrics_to_end, leading_of, colored_text, carets, trailing_message, pointers, metrics_before, underline}
+use Rattle.codespan_picture.specs.RowParts.{outer_gutter, outer_gutter_number, border_left, border_left_break, label_message, inner_gutter_column, lanes_in, inner_gutter, line_metrics, line_metrics_to_end, leading_of, colored_text, carets, trailing_message, pointers, metrics_before, underline}
 use Rattle.codespan_picture.specs.RowStreams.{stream_of, empty_row, break_row, source_row, row_start, caret_row, pointer_row, hanging_row, underline_row}
 use Rattle.codespan_laws.specs.LaneLaws.{lanes_shown, before_lanes, ShowsLanes, LanesAreShown}
 
@@ -18,7 +18,7 @@ lanes_are : (context : RowContext) (crossing : ℕ → Option LaneMark) (shape :
     → lanes_in context crossing shape lanes
     ≡ flat_map (λ lane. lane_cells context.severity context.chars (crossing lane) (style_of_lane_mark (lane_mark_in lanes.marks lane)) (shape_of (shape lane) (lane_mark_in lanes.marks lane)))
     (range_with_len 0 lanes.count)
-unfolding lane_of
+unfolding inner_gutter_column
 lanes_are context crossing shape lanes = refl
 
 -- ---- rows
@@ -47,44 +47,44 @@ shows : (context : RowContext) (row : Row) (lanes : Lanes) → Starts (before_la
     → ShowsLanes context row lanes
 shows context row lanes starts = record { after = starts.after; is = starts.is }
 
-plain_are : (context : RowContext) (lanes : Lanes) → row_lanes context 0 Plain lanes ≡ lanes_shown context (EmptyRow lanes) lanes
-unfolding row_lanes
+plain_are : (context : RowContext) (lanes : Lanes) → inner_gutter context 0 Plain lanes ≡ lanes_shown context (EmptyRow lanes) lanes
+unfolding inner_gutter
 plain_are context lanes = lanes_are context (λ _. None) (λ _. plain_shape) lanes
 
-source_are : (context : RowContext) (line : Line) → row_lanes context (leading_of line) Source line.lanes ≡ lanes_shown context (SourceRow line) line.lanes
-unfolding row_lanes
+source_are : (context : RowContext) (line : Line) → inner_gutter context (leading_of line) Source line.lanes ≡ lanes_shown context (SourceRow line) line.lanes
+unfolding inner_gutter
 source_are context line = lanes_are context (λ _. None) (λ _. source_shape (leading_of line)) line.lanes
 
-below_are : (context : RowContext) (line : Line) → row_lanes context (leading_of line) Below line.lanes ≡ lanes_shown context (CaretRow line) line.lanes
-unfolding row_lanes
+below_are : (context : RowContext) (line : Line) → inner_gutter context (leading_of line) Below line.lanes ≡ lanes_shown context (CaretRow line) line.lanes
+unfolding inner_gutter
 below_are context line = lanes_are context (λ _. None) (λ _. below_shape context.layout (leading_of line)) line.lanes
 
 underline_are : (context : RowContext) (line : Line) (m : LaneMark)
-    → row_lanes context (leading_of line) (Underline m) line.lanes ≡ lanes_shown context (UnderlineRow line m) line.lanes
-unfolding row_lanes
+    → inner_gutter context (leading_of line) (Underline m) line.lanes ≡ lanes_shown context (UnderlineRow line m) line.lanes
+unfolding inner_gutter
 underline_are context line m =
     lanes_are context (row_crossing (Underline m)) (row_shape context.layout (leading_of line) (Underline m)) line.lanes
 
 -- what each row under a line begins with
 opened : (context : RowContext) (line : Line)
-    → Starts (gutter context.padding ++ border context.chars) (lanes_shown context (CaretRow line) line.lanes) (row_start context line)
+    → Starts (outer_gutter context.padding ++ border_left context.chars) (lanes_shown context (CaretRow line) line.lanes) (row_start context line)
 unfolding row_start
-opened context line = more _ _ _ (alone (gutter context.padding ++ border context.chars) _ _ (below_are context line)) space
+opened context line = more _ _ _ (alone (outer_gutter context.padding ++ border_left context.chars) _ _ (below_are context line)) space
 
 empty_shows : (context : RowContext) (lanes : Lanes) → ShowsLanes context (EmptyRow lanes) lanes
 unfolding empty_row
-empty_shows context lanes = shows context (EmptyRow lanes) lanes (alone (gutter context.padding ++ border context.chars) _ _ (plain_are context lanes))
+empty_shows context lanes = shows context (EmptyRow lanes) lanes (alone (outer_gutter context.padding ++ border_left context.chars) _ _ (plain_are context lanes))
 
 break_shows : (context : RowContext) (lanes : Lanes) → ShowsLanes context (BreakRow lanes) lanes
 unfolding break_row
-break_shows context lanes = shows context (BreakRow lanes) lanes (alone (gutter context.padding ++ break_border context.chars) _ _ (plain_are context lanes))
+break_shows context lanes = shows context (BreakRow lanes) lanes (alone (outer_gutter context.padding ++ border_left_break context.chars) _ _ (plain_are context lanes))
 
 source_shows : (context : RowContext) (line : Line) → ShowsLanes context (SourceRow line) line.lanes
 unfolding source_row
 source_shows context line =
     shows context (SourceRow line) line.lanes
     (more _ _ _
-    (more _ _ _ (alone (numbered_gutter context.padding line.number ++ border context.chars) _ _ (source_are context line)) space)
+    (more _ _ _ (alone (outer_gutter_number context.padding line.number ++ border_left context.chars) _ _ (source_are context line)) space)
     (colored_text context line))
 
 caret_shows : (context : RowContext) (line : Line) → ShowsLanes context (CaretRow line) line.lanes
@@ -112,7 +112,7 @@ underline_shows context line m =
     shows context (UnderlineRow line m) line.lanes
     (more _ _ _
     (more _ _ _
-    (more _ _ _ (alone (gutter context.padding ++ border context.chars) _ _ (underline_are context line m)) (style_mark (LabelMark context.severity m.style)))
+    (more _ _ _ (alone (outer_gutter context.padding ++ border_left context.chars) _ _ (underline_are context line m)) (style_mark (LabelMark context.severity m.style)))
     (underline context.chars m.style (line_metrics context line) m.part))
     (style_mark Reset))
 

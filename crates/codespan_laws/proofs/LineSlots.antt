@@ -1,4 +1,4 @@
--- Sums over the rows of a line, for the slots of each label's message.
+-- For `messages_appear_once`: sums over the rows of a line, for the slots of each label's message.
 use Rattle.std.proofs.Common.{◌≡◌, ℕ, ◌+◌, ◌-◌, Bool, true, false, not, cond, ◌&&◌, ◌==◌, nat_lt, List, [], ◌∷◌, ◌++◌, map, filter, filter_map, reverse, Option, Some, None, if◌then◌else◌, refl, sym, ap, ◌∙◌, arith}
 use Rattle.std.specs.Prelude.{sum_by, flat_map}
 use Rattle.std.specs.List.{enumerate_from, cons_option}

@@ -1,4 +1,4 @@
--- Loci: lists of them, and those with the names that files state.
+-- For `stated_loci_are_loci`: lists of loci, and those with the names that files state.
 use Rattle.std.proofs.Common.{◌≡◌, ℕ, suc, Bool, List, [], ◌∷◌, ◌++◌, Option, Some, None, length, map, not, refl, sym, ap, true≢false}
 use Rattle.std.specs.Prelude.{Contains, IfSome, IsSome, unwrap_or}
 use Rattle.std.specs.List.{AllByRecursion, AllZip}

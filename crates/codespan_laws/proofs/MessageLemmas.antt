@@ -1,4 +1,5 @@
--- Each label with a message trails or hangs, and none does both.
+-- For `each_message_trails_or_hangs`: each label with a message trails or hangs, and none does
+-- both.
 use Rattle.std.proofs.Common.{◌≡◌, ℕ, ◌+◌, Bool, true, false, cond, List, [], ◌∷◌, ◌++◌, filter, sum_by, Option, Some, None, if◌then◌else◌, refl, ap, ap₂, ◌∙◌, arith}
 use Rattle.std.proofs.lemmas.List.Sums.{sum_by-cons, sum_by-append}
 use Rattle.codespan_base.specs.Labels.{LabelModel, has_message}

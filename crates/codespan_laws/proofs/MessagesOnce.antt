@@ -1,4 +1,5 @@
--- Each label's message has one slot, and with the slots filled the stream is the output.
+-- For `messages_appear_once`: each label's message has one slot, and with the slots filled the
+-- stream is the output.
 use Rattle.std.proofs.Common.{◌≡◌, ℕ, zero, suc, ◌+◌, ◌<◌, ◌≤◌, Bool, true, false, not, cond, ◌==◌, List, [], ◌∷◌, length, map, filter, Option, Some, None, option_map, slice_get, if◌then◌else◌, refl, sym, ap, ap₂, ◌∙◌, append-nil, arith}
 use Rattle.std.specs.Prelude.{sum_by, string_bytes}
 use Rattle.std.proofs.lemmas.Bool.Decides.{nat_tests}
@@ -20,7 +21,7 @@ use Rattle.codespan_picture.specs.Lines.{drawn_lines}
 use Rattle.codespan_picture.specs.Rows.{HeaderText, Locus, RowContext}
 use Rattle.codespan_picture.specs.RowStreams.{stream_of_rows}
 use Rattle.codespan_picture.specs.Snippets.{LabeledFileModel, InFile, file_ids, labeled_file_model, labeled_file_models, rich_rows}
-use Rattle.codespan_picture.specs.Picture.{AreLoci, IsLocus, heading_of, label_of, labels_of, context_of, notes_of, rendered, snippet_start}
+use Rattle.codespan_picture.specs.Picture.{AreLoci, IsLocus, header_text_of, label_of, labels_of, context_of, notes_of, rendered, snippet_start}
 use Rattle.codespan_picture.specs.Padding.{padding_of}
 use Rattle.codespan_laws.specs.MessageLaws.{slotted, all_slotted, message_text, slotted_output, MessagesAppearOnce}
 use Rattle.codespan_laws.proofs.Loci.{zip_length}
@@ -203,7 +204,7 @@ pub messages_appear_once : {Id : Type 0} (renderer view : Config) (files : FileD
 messages_appear_once {Id = Id} renderer view files d equal some_line loci are =
     let many = as_many files.same files.file (labels_of d) loci are in
     record {
-      once = each_once (context_of renderer d.severity (padding_of view (labeled_file_models files.same files.file (all_slotted (labels_of d))))) view files.same files.file (heading_of d) (notes_of d) (labels_of d) loci many equal some_line;
+      once = each_once (context_of renderer d.severity (padding_of view (labeled_file_models files.same files.file (all_slotted (labels_of d))))) view files.same files.file (header_text_of d) (notes_of d) (labels_of d) loci many equal some_line;
       whole = fill-is (message_text (labels_of d)) (slotted_output renderer view files d loci)
-          ∙ filled_output renderer view files.same files.file d.severity (heading_of d) loci (notes_of d) (labels_of d) many (plain d);
+          ∙ filled_output renderer view files.same files.file d.severity (header_text_of d) loci (notes_of d) (labels_of d) many (plain d);
     }

@@ -1,4 +1,5 @@
--- Two orders of a file's labels that its snippet shows alike: the same labels are there.
+-- For `order_is_free`: in two orders of a file's labels that its snippet shows alike, the same
+-- labels are there.
 use Rattle.std.proofs.Common.{◌≡◌, ℕ, min, Bool, true, false, not, ◌==◌, ◌&&◌, ◌||◌, nat_le, cond, List, [], ◌∷◌, map, filter, fold, reverse, ⊎_elim, refl, sym, ap, ◌∙◌, arith}
 use Rattle.std.specs.List.{list_any}
 use Rattle.std.proofs.Math.Bool.{or-false, or_assoc}

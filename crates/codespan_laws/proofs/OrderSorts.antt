@@ -1,5 +1,5 @@
--- The order of a line's labels: the labels of each range keep their order, and nothing else of the
--- order given counts.
+-- For `labels_are_sorted` and `order_is_free`: the order of a line's labels. The labels of each
+-- range keep their order, and nothing else of the order given counts.
 use mathlib.Core.Path.{fun_ext}
 use Rattle.std.proofs.Common.{◌≡◌, ℕ, Bool, true, false, ◌==◌, ◌&&◌, cond, List, [], ◌∷◌, filter, ⊎_elim, refl, sym, ap, subst, ◌∙◌, arith}
 use Rattle.std.proofs.lemmas.Bool.{both_ways, cases_Bool, cond_both, eq-eqb, false_from_ne_true}

@@ -1,4 +1,4 @@
--- The numbers of drawn lines fit the padding.
+-- For `padding_fits`: the numbers of drawn lines fit the padding.
 use Rattle.std.proofs.Common.{◌≡◌, ℕ, zero, suc, ◌+◌, ◌-◌, ◌<◌, ◌≤◌, ◌/◌, ◌%◌, max, Bool, true, false, cond, ◌&&◌, ◌||◌, nat_lt, nat_le, ◌⊎◌, inl, inr, ⊎_elim, List, [], ◌∷◌, ◌++◌, map, filter, flat_map, length, refl, sym, ap, subst, ◌∙◌, arith}
 use Rattle.std.specs.Prelude.{Contains, fold, ◌==◌, if◌then◌else◌}
 use Rattle.std.specs.Fmt.{digits, digits_onto, digit_glyph}
@@ -14,7 +14,7 @@ use Rattle.codespan_base.specs.Labels.{LabelModel, first_line, last_line}
 use Rattle.codespan_picture.specs.Lanes.{is_unbroken}
 use Rattle.codespan_picture.specs.Lines.{shows, is_shown, is_drawn, drawn_lines}
 use Rattle.codespan_picture.specs.Snippets.{LabeledFileModel}
-use Rattle.codespan_picture.specs.Padding.{spans, spanned_lines, digit_count, numbered_lines, digits_of, padding_of}
+use Rattle.codespan_picture.specs.Padding.{spans, spanned_lines, count_digits, numbered_lines, digits_of, padding_of}
 use Rattle.codespan_laws.specs.LineLaws.{NumbersAscend, PaddingFits}
 use Rattle.codespan_laws.proofs.RangeLemmas.{line_of-below}
 use Rattle.codespan_laws.proofs.Greatest.{greatest-low}
@@ -49,9 +49,9 @@ digits_rise (suc k) m n a b h l =
     by_tests later more false e false f = later
     by_tests later more false e true f = absurd (grind (arith, nat_tests))
 
-pub digit_count-rises : (m n : ℕ) → m ≤ n → digit_count m ≤ digit_count n
+pub count_digits-rises : (m n : ℕ) → m ≤ n → count_digits m ≤ count_digits n
 unfolding digits
-digit_count-rises m n h = digits_rise 64 m n [] [] h (omega arith)
+count_digits-rises m n h = digits_rise 64 m n [] [] h (omega arith)
 
 -- ---- elements
 
@@ -109,11 +109,11 @@ contained-le a x (y ∷ xs) (zero, low, same) = omega (arith, greatest-low (max 
 contained-le a x (y ∷ xs) (suc k, low, same) = contained-le (max a y) x xs (k, omega arith, same)
 
 -- a numbered line fits
-pub numbered-fits : (config : Config) (ss : List LabeledFileModel) (s : LabeledFileModel) (l : ℕ) → Contains ss s → Contains (numbered_lines config s) l → digit_count (s.file.number l) ≤ padding_of config ss
+pub numbered-fits : (config : Config) (ss : List LabeledFileModel) (s : LabeledFileModel) (l : ℕ) → Contains ss s → Contains (numbered_lines config s) l → count_digits (s.file.number l) ≤ padding_of config ss
 numbered-fits config ss s l here c =
-    contained-le 0 (digit_count (s.file.number l)) _
-    (contains-flat_map (λ (s : LabeledFileModel). digits_of s (numbered_lines config s)) s (digit_count (s.file.number l)) ss here
-    (contains-map (λ l. digit_count (s.file.number l)) l (numbered_lines config s) c))
+    contained-le 0 (count_digits (s.file.number l)) _
+    (contains-flat_map (λ (s : LabeledFileModel). digits_of s (numbered_lines config s)) s (count_digits (s.file.number l)) ss here
+    (contains-map (λ l. count_digits (s.file.number l)) l (numbered_lines config s) c))
 
 -- ---- drawn lines and spanned ones
 
@@ -208,7 +208,7 @@ padding_fits config ss given s l here c = by_layout config.layout refl
     numbered : (v : Layout) → config.layout ≡ v → numbered_lines config s ≡ numbered_lines (record config { layout = v }) s
     numbered v e = ap (λ v. numbered_lines (record config { layout = v }) s) e
 
-    by_layout : (v : Layout) → config.layout ≡ v → digit_count (s.file.number l) ≤ padding_of config ss
+    by_layout : (v : Layout) → config.layout ≡ v → count_digits (s.file.number l) ≤ padding_of config ss
     by_layout Unbroken e =
         let same : numbered_lines config s ≡ drawn_lines config s.file s.labels = numbered Unbroken e in
         numbered-fits config ss s l here (subst (λ ls. Contains ls l) (sym same) c)
@@ -218,6 +218,6 @@ padding_fits config ss given s l here c = by_layout config.layout refl
         let g = given broken in
         let drawn = filtered (is_drawn config s.file s.labels) 0 (line_count s.file) l c in
         let o = over-drawn config s l g.0 drawn.0 in
-        let fits : digit_count (s.file.number o.0) ≤ padding_of config ss = numbered-fits config ss s o.0 here (subst (λ ls. Contains ls o.0) (sym same) o.3) in
+        let fits : count_digits (s.file.number o.0) ≤ padding_of config ss = numbered-fits config ss s o.0 here (subst (λ ls. Contains ls o.0) (sym same) o.3) in
         let rise : s.file.number l ≤ s.file.number o.0 = ascends s.file (g.1 s here) l o.0 o.1 o.2 in
-        omega (arith, fits, digit_count-rises (s.file.number l) (s.file.number o.0) rise)
+        omega (arith, fits, count_digits-rises (s.file.number l) (s.file.number o.0) rise)

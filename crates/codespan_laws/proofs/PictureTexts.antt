@@ -1,4 +1,4 @@
--- The rows of an output are texts.
+-- For `outputs_are_texts`: the rows of an output are texts.
 use Rattle.std.proofs.Common.{◌≡◌, ℕ, ◌+◌, ◌-◌, Bool, true, false, not, ◌&&◌, ◌==◌, List, [], ◌∷◌, ◌++◌, map, filter, reverse, Option, Some, None, refl, sym, subst, ◌||◌}
 use Rattle.std.specs.Prelude.{if◌then◌else◌, IfSome, String, nat_lt, string_bytes}
 use Rattle.std.specs.List.{AllByRecursion, cons_option, enumerate_from, filter_map}
@@ -16,7 +16,7 @@ use Rattle.codespan_base.specs.LawfulFiles.{IsLawful}
 use Rattle.codespan_base.specs.Labels.{LabelModel, LaneMark, Top, Left, Bottom, drawn_label, first_line, has_message, is_single, lane_mark_of, multi_labels, part_at, part_on, insert_sorted, single_labels, sorted, range_precedes}
 use Rattle.codespan_picture.specs.Lines.{drawn_lines}
 use Rattle.codespan_picture.specs.Padding.{padding_of}
-use Rattle.codespan_picture.specs.Picture.{NamesAreTexts, files_of, heading_of, label_of, labels_of, context_of, notes_of, output, starts}
+use Rattle.codespan_picture.specs.Picture.{NamesAreTexts, files_of, header_text_of, label_of, labels_of, context_of, notes_of, output, starts}
 use Rattle.codespan_picture.specs.StatedPicture.{stated_loci, headers}
 use Rattle.codespan_picture.specs.Rows.{Line, Locus, Row, HeaderRow, EmptyRow, SourceRow, HangingRow, UnderlineRow, FinalRow, caret_rows, hanging, hanging_rows, has_underline, rows_of, underline_rows}
 use Rattle.codespan_picture.specs.CharMetrics.{leading_whitespace}
@@ -173,24 +173,24 @@ module _ {Id : Type 0} (files : FileDatabase Id) (d : Diagnostic Id) (lawful : (
 
   -- ---- whatever the names
 
-  rows-heading : (at : Option Locus) → IfSome at (λ p. IsUtf8 p.name) → IsTextRow (HeaderRow at (heading_of d))
+  rows-heading : (at : Option Locus) → IfSome at (λ p. IsUtf8 p.name) → IsTextRow (HeaderRow at (header_text_of d))
   rows-heading at named = (named, code-utf8 d.code, IsUtf8-string_bytes d.message)
 
   rows-rich : (view : Config) (loci : List Locus) → NamesAreTexts loci
-      → AllByRecursion IsTextRow (rich_rows view (heading_of d) loci (files_of files d) (notes_of d))
+      → AllByRecursion IsTextRow (rich_rows view (header_text_of d) loci (files_of files d) (notes_of d))
   rows-rich view loci named =
-      let first : List Row = HeaderRow None (heading_of d) ∷ snippets view (has_any (notes_of d)) loci (files_of files d) in
+      let first : List Row = HeaderRow None (header_text_of d) ∷ snippets view (has_any (notes_of d)) loci (files_of files d) in
       all-append IsTextRow (first ++ note_rows (notes_of d)) (FinalRow ∷ [])
       (all-append IsTextRow first (note_rows (notes_of d))
       (rows-heading None tt, rows-snippets view (has_any (notes_of d)) loci (files_of files d) named text-files)
       (rows-notes (notes_of d) text-notes))
       (tt, tt)
 
-  rows-headers : (loci : List Locus) → NamesAreTexts loci → AllByRecursion IsTextRow (headers (heading_of d) loci)
+  rows-headers : (loci : List Locus) → NamesAreTexts loci → AllByRecursion IsTextRow (headers (header_text_of d) loci)
   rows-headers [] named = tt
   rows-headers (p ∷ ps) named = (rows-heading (Some p) named.0, rows-headers ps named.1)
 
-  rows-header_rows : (loci : List Locus) → NamesAreTexts loci → AllByRecursion IsTextRow (header_rows (heading_of d) loci)
+  rows-header_rows : (loci : List Locus) → NamesAreTexts loci → AllByRecursion IsTextRow (header_rows (header_text_of d) loci)
   rows-header_rows [] named = (rows-heading None tt, tt)
   rows-header_rows (p ∷ ps) named = rows-headers (p ∷ ps) named
 
@@ -199,14 +199,14 @@ module _ {Id : Type 0} (files : FileDatabase Id) (d : Diagnostic Id) (lawful : (
       → (loci : List Locus) → NamesAreTexts loci → IsText (output style renderer view files d loci)
   text-output Rich renderer view ok loci named =
       text-rows (context_of renderer d.severity (padding_of view (files_of files d))) ok
-      (rich_rows view (heading_of d) loci (files_of files d) (notes_of d))
+      (rich_rows view (header_text_of d) loci (files_of files d) (notes_of d))
       (rows-rich view loci named)
   text-output Medium renderer view ok loci named =
-      text-rows (context_of renderer d.severity 0) ok (header_rows (heading_of d) loci ++ note_rows (notes_of d))
-      (all-append IsTextRow (header_rows (heading_of d) loci) (note_rows (notes_of d))
+      text-rows (context_of renderer d.severity 0) ok (header_rows (header_text_of d) loci ++ note_rows (notes_of d))
+      (all-append IsTextRow (header_rows (header_text_of d) loci) (note_rows (notes_of d))
       (rows-header_rows loci named) (rows-notes (notes_of d) text-notes))
   text-output Short renderer view ok loci named =
-      text-rows (context_of renderer d.severity 0) ok (header_rows (heading_of d) loci) (rows-header_rows loci named)
+      text-rows (context_of renderer d.severity 0) ok (header_rows (header_text_of d) loci) (rows-header_rows loci named)
 
 module _ {Id : Type 0} (style : DisplayStyle) (renderer view : Config) (files : FileDatabase Id) (d : Diagnostic Id) where
   pub output_is_text : OutputIsText style renderer view files d

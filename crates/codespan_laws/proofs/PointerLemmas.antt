@@ -1,4 +1,5 @@
--- Pointers are in the first cells of the characters in which hanging labels start.
+-- For `pointers_are_cells`: pointers are in the first cells of the characters in which hanging
+-- labels start.
 use Rattle.std.proofs.Common.{◌≡◌, ℕ, zero, suc, chars, ◌+◌, ◌-◌, ◌<◌, ◌≤◌, Bool, true, false, ◌&&◌, ◌==◌, cond, nat_lt, nat_le, List, [], ◌∷◌, ◌++◌, map, filter, flat_map, replicate, encode_utf8_all, refl, sym, ap, ap₂, ◌∙◌, arith, append-nil, ⊎_elim}
 use Rattle.std.specs.Prelude.{if◌then◌else◌, Contains}
 use Rattle.std.specs.List.{range_with_len, list_any}

@@ -1,4 +1,5 @@
--- A multi-line label begins on an earlier line than it ends on, where its range does.
+-- For `bars_are_labels` and `breaks_are_covered`: a multi-line label begins on an earlier line than
+-- it ends on, where its range does.
 use Rattle.std.proofs.Common.{◌≡◌, ℕ, zero, suc, ◌+◌, ◌-◌, ◌<◌, ◌≤◌, Bool, true, false, ◌⊎◌, inl, inr, ⊎_elim, cond, not, nat_le, nat_lt, List, [], ◌∷◌, filter, length, Some, slice_get, refl, sym, ap, ◌∙◌, arith}
 use Rattle.std.specs.Prelude.{Contains}
 use Rattle.std.specs.List.{list_any}

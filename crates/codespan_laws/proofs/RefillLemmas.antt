@@ -1,4 +1,5 @@
--- Other messages in the labels change only the messages in a row.
+-- For `messages_appear_once` and `order_is_free`: other messages in the labels change only the
+-- messages in a row.
 use Rattle.std.proofs.Common.{◌≡◌, ℕ, max, Bool, true, false, not, cond, ◌&&◌, ◌||◌, ◌==◌, nat_lt, List, [], ◌∷◌, ◌++◌, map, filter, fold, find, flat_map, Option, Some, None, option_map, if◌then◌else◌, refl, sym, ap, ap₂, ◌∙◌}
 use mathlib.Core.Path.{fun_ext}
 use Rattle.std.specs.List.{list_any, range_with_len}
@@ -13,7 +14,7 @@ use Rattle.codespan_picture.specs.declared.lanes.Shape.TheVariants.{Space, Bar, 
 use Rattle.codespan_picture.specs.Lanes.{source_shape, plain_shape, below_shape, underline_shape, lane_mark_in, corner_line, crossing_cells, lane_cells, Source, Plain, Below, Underline}
 use Rattle.codespan_picture.specs.Rows.{RowContext, Lanes, Line, trailing, hanging}
 use Rattle.codespan_picture.proofs.Rightmost.{Around, others, behind, around_with_end, around_trails, around_rightmost, trailing_of, hanging_of, trailing_is, hanging_is}
-use Rattle.codespan_picture.specs.RowParts.{styled, lane_of, lanes_in, row_lanes, line_metrics, part_covers, source_style, source_glyph, colored_text, caret_glyphs, carets, pointer_style, pointer_at, pointers, starts_in, max_label_start}
+use Rattle.codespan_picture.specs.RowParts.{styled, inner_gutter_column, lanes_in, inner_gutter, line_metrics, part_covers, source_style, source_glyph, colored_text, caret_glyphs, carets, pointer_style, pointer_at, pointers, starts_in, max_label_start}
 
 -- ---- lists
 
@@ -156,8 +157,8 @@ module _ (φ : Stream → Stream) (keeps : (s : Stream) → is_empty_stream (φ 
   char_metrics-re severity chars m style BottomCorner = simp (crossing_cells-re severity chars m 1)
 
   lane-re : (context : RowContext) (c m : Option LaneMark) (shape : MultiLabel → Shape) → ((part : MultiLabel) → shape (re_part φ part) ≡ shape part)
-      → lane_of context (option_map (re_lane_mark φ) c) shape (option_map (re_lane_mark φ) m) ≡ lane_of context c shape m
-  unfolding lane_of
+      → inner_gutter_column context (option_map (re_lane_mark φ) c) shape (option_map (re_lane_mark φ) m) ≡ inner_gutter_column context c shape m
+  unfolding inner_gutter_column
   lane-re context c None shape h = char_metrics-re context.severity context.chars c Primary _
   lane-re context c (Some m) shape h = simp (h m.part) (char_metrics-re context.severity context.chars c m.style (shape m.part))
 
@@ -168,9 +169,9 @@ module _ (φ : Stream → Stream) (keeps : (s : Stream) → is_empty_stream (φ 
   lanes-re context crossing crossing' shape lanes h same =
       ap (λ f. flat_map f (range_with_len 0 lanes.count)) (fun_ext each)
     where
-      each : (lane : ℕ) → lane_of context (crossing' lane) (shape lane) (lane_mark_in (map (re_lane_mark φ) lanes.marks) lane) ≡ lane_of context (crossing lane) (shape lane) (lane_mark_in lanes.marks lane)
+      each : (lane : ℕ) → inner_gutter_column context (crossing' lane) (shape lane) (lane_mark_in (map (re_lane_mark φ) lanes.marks) lane) ≡ inner_gutter_column context (crossing lane) (shape lane) (lane_mark_in lanes.marks lane)
       each lane =
-          ap₂ (λ c m. lane_of context c (shape lane) m) (h lane) (find-map (λ (m : LaneMark). m.lane == lane) (re_lane_mark φ) lanes.marks)
+          ap₂ (λ c m. inner_gutter_column context c (shape lane) m) (h lane) (find-map (λ (m : LaneMark). m.lane == lane) (re_lane_mark φ) lanes.marks)
           ∙ lane-re context (crossing lane) (lane_mark_in lanes.marks lane) (shape lane) (same lane)
 
   source_shape-re : (leading : ℕ) (part : MultiLabel) → source_shape leading (re_part φ part) ≡ source_shape leading part
@@ -194,21 +195,21 @@ module _ (φ : Stream → Stream) (keeps : (s : Stream) → is_empty_stream (φ 
   underline_shape-re layout leading corner_lane lane Left = refl
   underline_shape-re layout leading corner_lane lane (Bottom end message) = refl
 
-  pub source_lanes-re : (context : RowContext) (leading : ℕ) (lanes : Lanes) → row_lanes context leading Source (re_lanes φ lanes) ≡ row_lanes context leading Source lanes
-  unfolding row_lanes
+  pub source_lanes-re : (context : RowContext) (leading : ℕ) (lanes : Lanes) → inner_gutter context leading Source (re_lanes φ lanes) ≡ inner_gutter context leading Source lanes
+  unfolding inner_gutter
   source_lanes-re context leading lanes = lanes-re context (λ _. None) (λ _. None) (λ _. source_shape leading) lanes (λ _. refl) (λ _. source_shape-re leading)
 
-  pub plain_lanes-re : (context : RowContext) (lanes : Lanes) → row_lanes context 0 Plain (re_lanes φ lanes) ≡ row_lanes context 0 Plain lanes
-  unfolding row_lanes
+  pub plain_lanes-re : (context : RowContext) (lanes : Lanes) → inner_gutter context 0 Plain (re_lanes φ lanes) ≡ inner_gutter context 0 Plain lanes
+  unfolding inner_gutter
   plain_lanes-re context lanes = lanes-re context (λ _. None) (λ _. None) (λ _. plain_shape) lanes (λ _. refl) (λ _. plain_shape-re)
 
-  pub below_lanes-re : (context : RowContext) (leading : ℕ) (lanes : Lanes) → row_lanes context leading Below (re_lanes φ lanes) ≡ row_lanes context leading Below lanes
-  unfolding row_lanes
+  pub below_lanes-re : (context : RowContext) (leading : ℕ) (lanes : Lanes) → inner_gutter context leading Below (re_lanes φ lanes) ≡ inner_gutter context leading Below lanes
+  unfolding inner_gutter
   below_lanes-re context leading lanes = lanes-re context (λ _. None) (λ _. None) (λ _. below_shape context.layout leading) lanes (λ _. refl) (λ _. below_shape-re context.layout leading)
 
   pub underline_lanes-re : (context : RowContext) (leading : ℕ) (m : LaneMark) (lanes : Lanes)
-      → row_lanes context leading (Underline (re_lane_mark φ m)) (re_lanes φ lanes) ≡ row_lanes context leading (Underline m) lanes
-  unfolding row_lanes
+      → inner_gutter context leading (Underline (re_lane_mark φ m)) (re_lanes φ lanes) ≡ inner_gutter context leading (Underline m) lanes
+  unfolding inner_gutter
   underline_lanes-re context leading m lanes =
       lanes-re context (λ lane. if nat_lt m.lane lane then Some m else None) (λ lane. if nat_lt m.lane lane then Some (re_lane_mark φ m) else None)
       (underline_shape context.layout leading m.lane) lanes (λ lane. by_test (nat_lt m.lane lane)) (underline_shape-re context.layout leading m.lane)

@@ -1,4 +1,4 @@
--- A row whose slots are filled is the row of the filled labels.
+-- For `messages_appear_once`: a row whose slots are filled is the row of the filled labels.
 use Rattle.std.proofs.Common.{◌≡◌, ℕ, ◌+◌, ◌<◌, true, false, cond, ◌==◌, nat_le, List, [], ◌∷◌, ◌++◌, map, filter, Option, Some, None, option_map, refl, sym, ap, ap₂, ◌∙◌, append_assoc, arith}
 use Rattle.std.proofs.lemmas.List.Sums.{sum_by-cons}
 use Rattle.std.proofs.lemmas.Bool.Decides.{nat_tests}
@@ -10,7 +10,7 @@ use Rattle.codespan_base.specs.Labels.{LabelModel, is_empty_stream, MultiLabel, 
 use Rattle.codespan_picture.specs.declared.char_metrics.Metrics.{Metrics}
 use Rattle.codespan_picture.specs.CharMetrics.{width_of}
 use Rattle.codespan_picture.specs.Rows.{RowContext, Line, Row, HeaderRow, SnippetStartRow, EmptyRow, BreakRow, SourceRow, CaretRow, PointerRow, HangingRow, UnderlineRow, FirstNoteRow, LaterNoteRow, FinalRow, trailing}
-use Rattle.codespan_picture.specs.RowParts.{gutter, numbered_gutter, border, break_border, label_message, row_lanes, leading_of, line_metrics, line_metrics_to_end, carets, trailing_message, pointers, metrics_before, underline_message, underline, end_caret}
+use Rattle.codespan_picture.specs.RowParts.{outer_gutter, outer_gutter_number, border_left, border_left_break, label_message, inner_gutter, leading_of, line_metrics, line_metrics_to_end, carets, trailing_message, pointers, metrics_before, underline_message, underline, end_caret}
 use Rattle.codespan_picture.specs.RowStreams.{empty_row, break_row, source_row, row_start, caret_row, pointer_row, hanging_row, underline_row, stream_of, stream_of_rows}
 use Rattle.codespan_laws.specs.MessageLaws.{is_slot}
 use Rattle.codespan_laws.proofs.SlotLemmas as slot
@@ -95,7 +95,7 @@ module _ (m : ℕ → List ℕ) (full : (k : ℕ) → is_empty_stream (map Byte 
 
   row_start-re : (context : RowContext) (line : Line) → row_start context (re_line (fill m) line) ≡ row_start context line
   unfolding row_start
-  row_start-re context line = ap (λ s. gutter context.padding ++ border context.chars ++ s ++ space) (below_lanes-re (fill m) keeps context (leading_of line) line.lanes)
+  row_start-re context line = ap (λ s. outer_gutter context.padding ++ border_left context.chars ++ s ++ space) (below_lanes-re (fill m) keeps context (leading_of line) line.lanes)
 
   opened : (context : RowContext) (line : Line) → fill m (row_start context line) ≡ row_start context (re_line (fill m) line)
   opened context line = without_slots (row_start context line) (λ k. slot.slots-row_start k context line) (row_start-re context line)
@@ -139,12 +139,12 @@ module _ (m : ℕ → List ℕ) (full : (k : ℕ) → is_empty_stream (map Byte 
   fill-row context (HeaderRow at heading) = without_slots _ (λ k. slot.slots-stream_of k context (HeaderRow at heading)) refl
   fill-row context (SnippetStartRow at) = without_slots _ (λ k. slot.slots-stream_of k context (SnippetStartRow at)) refl
   fill-row context (EmptyRow lanes) =
-      without_slots (empty_row context lanes) (λ k. slot.slots-stream_of k context (EmptyRow lanes)) (ap (λ s. gutter context.padding ++ border context.chars ++ s) (plain_lanes-re (fill m) keeps context lanes))
+      without_slots (empty_row context lanes) (λ k. slot.slots-stream_of k context (EmptyRow lanes)) (ap (λ s. outer_gutter context.padding ++ border_left context.chars ++ s) (plain_lanes-re (fill m) keeps context lanes))
   fill-row context (BreakRow lanes) =
-      without_slots (break_row context lanes) (λ k. slot.slots-stream_of k context (BreakRow lanes)) (ap (λ s. gutter context.padding ++ break_border context.chars ++ s) (plain_lanes-re (fill m) keeps context lanes))
+      without_slots (break_row context lanes) (λ k. slot.slots-stream_of k context (BreakRow lanes)) (ap (λ s. outer_gutter context.padding ++ border_left_break context.chars ++ s) (plain_lanes-re (fill m) keeps context lanes))
   fill-row context (SourceRow line) =
       without_slots (source_row context line) (λ k. slot.slots-stream_of k context (SourceRow line))
-      (ap₂ (λ a b. numbered_gutter context.padding line.number ++ border context.chars ++ a ++ space ++ b)
+      (ap₂ (λ a b. outer_gutter_number context.padding line.number ++ border_left context.chars ++ a ++ space ++ b)
       (source_lanes-re (fill m) keeps context (leading_of line) line.lanes) (colored_text-re (fill m) keeps context line))
   fill-row context (CaretRow line) =
       join _ _ (join _ _ (opened context line)
@@ -162,9 +162,9 @@ module _ (m : ℕ → List ℕ) (full : (k : ℕ) → is_empty_stream (map Byte 
       (message-re context.severity x.style x.message)
   fill-row context (UnderlineRow line a) =
       join _ _ (join _ _ (join _ _ (join _ _ (join _ _
-      (without_slots (gutter context.padding) (λ k. slot.slots-gutter k context.padding) refl)
-      (without_slots (border context.chars) (λ k. slot.slots-border k context.chars) refl))
-      (without_slots (row_lanes context (leading_of line) (Underline a) line.lanes) (λ k. slot.slots-row_lanes k context (leading_of line) (Underline a) line.lanes)
+      (without_slots (outer_gutter context.padding) (λ k. slot.slots-outer_gutter k context.padding) refl)
+      (without_slots (border_left context.chars) (λ k. slot.slots-border_left k context.chars) refl))
+      (without_slots (inner_gutter context (leading_of line) (Underline a) line.lanes) (λ k. slot.slots-inner_gutter k context (leading_of line) (Underline a) line.lanes)
       (underline_lanes-re (fill m) keeps context (leading_of line) a line.lanes)))
       (one-lane_mark (LabelMark context.severity a.style)))
       (underline-re context.chars a.style (line_metrics context line) a.part))

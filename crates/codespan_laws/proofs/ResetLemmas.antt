@@ -1,4 +1,4 @@
--- A row leaves no style.
+-- For `rows_end_reset`: a row leaves no style.
 use Rattle.std.proofs.Common.{◌≡◌, ℕ, zero, suc, ◌+◌, ◌-◌, nat_le, nat_lt, Bool, true, false, List, [], ◌∷◌, ◌++◌, flat_map, Option, Some, None, refl, ap, ◌∙◌}
 use Rattle.std.specs.Prelude.{◌==◌, if◌then◌else◌}
 use Rattle.std.specs.List.{repeat, range_with_len, list_any}
@@ -14,7 +14,7 @@ use Rattle.codespan_picture.specs.declared.lanes.Shape.{Shape}
 use Rattle.codespan_picture.specs.declared.lanes.Shape.TheVariants.{Space, Bar, TopCorner, BottomCorner}
 use Rattle.codespan_picture.specs.Lanes.{crossing_cells, label_glyph, lane_cells, lane_mark_in}
 use Rattle.codespan_picture.specs.Rows.{Locus, RowContext, Lanes, Line, Row, HeaderRow, SnippetStartRow, EmptyRow, BreakRow, SourceRow, CaretRow, PointerRow, HangingRow, UnderlineRow, FirstNoteRow, LaterNoteRow, FinalRow, hanging}
-use Rattle.codespan_picture.specs.RowParts.{change, styled, lane_of, lanes_in, row_lanes, source_glyph, source_style, colored_text, caret_glyphs, carets, trailing_message, label_message, spaces_up_to, pointer_at, pointer_style, pointers, starts_in, max_label_start, gutter, numbered_gutter, border, break_border, locus, line_metrics}
+use Rattle.codespan_picture.specs.RowParts.{change, styled, inner_gutter_column, lanes_in, inner_gutter, source_glyph, source_style, colored_text, caret_glyphs, carets, trailing_message, label_message, spaces_up_to, pointer_at, pointer_style, pointers, starts_in, max_label_start, outer_gutter, outer_gutter_number, border_left, border_left_break, locus, line_metrics}
 use Rattle.codespan_picture.specs.RowStreams.{stream_of, header_row, snippet_start_row, empty_row, break_row, source_row, row_start, caret_row, pointer_row, hanging_row, underline_row, first_note_row, later_note_row}
 use Rattle.codespan_laws.specs.RowLaws.{is_reset, ends_reset, RowsEndReset}
 
@@ -76,10 +76,10 @@ closes-lane_cells severity chars crossing style Bar = closes-append _ _ (closes-
 closes-lane_cells severity chars crossing style TopCorner = closes-append _ _ (closes-crossing_cells severity chars crossing 1) (closes-label_glyph severity style chars.multi_top_left)
 closes-lane_cells severity chars crossing style BottomCorner = closes-append _ _ (closes-crossing_cells severity chars crossing 1) (closes-label_glyph severity style chars.multi_bottom_left)
 
-closes-lane_of : (context : RowContext) (crossing : Option LaneMark) (shape : MultiLabel → Shape) (lane_mark : Option LaneMark) → Closes (lane_of context crossing shape lane_mark)
-unfolding lane_of
-closes-lane_of context crossing shape None = closes-lane_cells context.severity context.chars crossing Primary Space
-closes-lane_of context crossing shape (Some m) = closes-lane_cells context.severity context.chars crossing m.style (shape m.part)
+closes-inner_gutter_column : (context : RowContext) (crossing : Option LaneMark) (shape : MultiLabel → Shape) (lane_mark : Option LaneMark) → Closes (inner_gutter_column context crossing shape lane_mark)
+unfolding inner_gutter_column
+closes-inner_gutter_column context crossing shape None = closes-lane_cells context.severity context.chars crossing Primary Space
+closes-inner_gutter_column context crossing shape (Some m) = closes-lane_cells context.severity context.chars crossing m.style (shape m.part)
 
 -- each part closes
 pub closes-flat_map : {X : Type 0} (f : X → Stream) → ((x : X) → Closes (f x)) → (xs : List X) → Closes (flat_map f xs)
@@ -88,8 +88,8 @@ closes-flat_map f each (x ∷ xs) = closes-append (f x) (flat_map f xs) (each x)
 
 pub closes-lanes_in : (context : RowContext) (crossing : ℕ → Option LaneMark) (shape : ℕ → MultiLabel → Shape) (lanes : Lanes) → Closes (lanes_in context crossing shape lanes)
 closes-lanes_in context crossing shape lanes =
-    closes-flat_map (λ lane. lane_of context (crossing lane) (shape lane) (lane_mark_in lanes.marks lane))
-    (λ lane. closes-lane_of context (crossing lane) (shape lane) (lane_mark_in lanes.marks lane)) (range_with_len 0 lanes.count)
+    closes-flat_map (λ lane. inner_gutter_column context (crossing lane) (shape lane) (lane_mark_in lanes.marks lane))
+    (λ lane. closes-inner_gutter_column context (crossing lane) (shape lane) (lane_mark_in lanes.marks lane)) (range_with_len 0 lanes.count)
 
 -- ---- styled characters
 
@@ -181,21 +181,21 @@ closes-pointers : (context : RowContext) (labels : List LabelModel) (cs : List M
 unfolding pointers
 closes-pointers context labels cs = closes-flat_map (pointer_at context labels (hanging labels)) (closes-pointer_at context labels (hanging labels)) cs
 
-closes-gutter : (n : ℕ) → Closes (gutter n)
-unfolding gutter
-closes-gutter n = record { closed = ends_reset-spaces true (n + 1) }
+closes-outer_gutter : (n : ℕ) → Closes (outer_gutter n)
+unfolding outer_gutter
+closes-outer_gutter n = record { closed = ends_reset-spaces true (n + 1) }
 
-closes-numbered_gutter : (padding n : ℕ) → Closes (numbered_gutter padding n)
-unfolding numbered_gutter
-closes-numbered_gutter padding n = closes-append _ space (closes-reset _) (closes-bytes _)
+closes-outer_gutter_number : (padding n : ℕ) → Closes (outer_gutter_number padding n)
+unfolding outer_gutter_number
+closes-outer_gutter_number padding n = closes-append _ space (closes-reset _) (closes-bytes _)
 
-closes-border : (chars : Chars) → Closes (border chars)
-unfolding border
-closes-border chars = closes-reset _
+closes-border_left : (chars : Chars) → Closes (border_left chars)
+unfolding border_left
+closes-border_left chars = closes-reset _
 
-closes-break_border : (chars : Chars) → Closes (break_border chars)
-unfolding break_border
-closes-break_border chars = closes-reset _
+closes-border_left_break : (chars : Chars) → Closes (border_left_break chars)
+unfolding border_left_break
+closes-border_left_break chars = closes-reset _
 
 closes-locus : (p : Locus) → Closes (locus p)
 unfolding locus
@@ -203,19 +203,19 @@ closes-locus p =
     closes-append _ _ (closes-append _ _ (closes-append _ _ (closes-append _ _ (closes-bytes _) (closes-bytes _)) (closes-bytes _)) (closes-bytes _)) (closes-bytes _)
 
 closes-row_start : (context : RowContext) (line : Line) → Closes (row_start context line)
-unfolding row_start row_lanes
+unfolding row_start inner_gutter
 closes-row_start context line =
-    closes-append _ space (closes-append _ _ (closes-append _ _ (closes-gutter _) (closes-border _)) (closes-lanes_in context _ _ line.lanes)) (closes-bytes _)
+    closes-append _ space (closes-append _ _ (closes-append _ _ (closes-outer_gutter _) (closes-border_left _)) (closes-lanes_in context _ _ line.lanes)) (closes-bytes _)
 
 closes-row : (context : RowContext) (row : Row) → Closes (stream_of context row)
-unfolding header_row snippet_start_row empty_row break_row source_row caret_row pointer_row hanging_row underline_row first_note_row later_note_row row_lanes
+unfolding header_row snippet_start_row empty_row break_row source_row caret_row pointer_row hanging_row underline_row first_note_row later_note_row inner_gutter
 closes-row context (HeaderRow at heading) = closes-reset _
 closes-row context (SnippetStartRow at) =
     closes-append _ (locus at) (closes-append _ space (closes-reset _) (closes-bytes _)) (closes-locus at)
-closes-row context (EmptyRow lanes) = closes-append _ _ (closes-append _ _ (closes-gutter _) (closes-border _)) (closes-lanes_in context _ _ lanes)
-closes-row context (BreakRow lanes) = closes-append _ _ (closes-append _ _ (closes-gutter _) (closes-break_border _)) (closes-lanes_in context _ _ lanes)
+closes-row context (EmptyRow lanes) = closes-append _ _ (closes-append _ _ (closes-outer_gutter _) (closes-border_left _)) (closes-lanes_in context _ _ lanes)
+closes-row context (BreakRow lanes) = closes-append _ _ (closes-append _ _ (closes-outer_gutter _) (closes-border_left_break _)) (closes-lanes_in context _ _ lanes)
 closes-row context (SourceRow line) =
-    closes-append _ _ (closes-append _ space (closes-append _ _ (closes-append _ _ (closes-numbered_gutter _ _) (closes-border _)) (closes-lanes_in context _ _ line.lanes)) (closes-bytes _)) (closes-colored_text context line)
+    closes-append _ _ (closes-append _ space (closes-append _ _ (closes-append _ _ (closes-outer_gutter_number _ _) (closes-border_left _)) (closes-lanes_in context _ _ line.lanes)) (closes-bytes _)) (closes-colored_text context line)
 closes-row context (CaretRow line) =
     closes-append _ _ (closes-append _ _ (closes-row_start context line) (closes-carets context line.labels _)) (closes-trailing_message context.severity _)
 closes-row context (PointerRow line) = closes-append _ _ (closes-row_start context line) (closes-pointers context line.labels _)
@@ -223,7 +223,7 @@ closes-row context (HangingRow line x) =
     closes-append _ _ (closes-append _ _ (closes-row_start context line) (closes-pointers context line.labels _)) (closes-label_message context.severity x.style x.message)
 closes-row context (UnderlineRow line m) = closes-reset _
 closes-row context (FirstNoteRow piece) = closes-append _ (bytes piece) (closes-append _ space (closes-reset _) (closes-bytes _)) (closes-bytes piece)
-closes-row context (LaterNoteRow piece) = closes-append _ (bytes piece) (closes-append _ space (closes-append _ space (closes-gutter _) (closes-bytes _)) (closes-bytes _)) (closes-bytes piece)
+closes-row context (LaterNoteRow piece) = closes-append _ (bytes piece) (closes-append _ space (closes-append _ space (closes-outer_gutter _) (closes-bytes _)) (closes-bytes _)) (closes-bytes piece)
 closes-row context FinalRow = record { closed = refl }
 
 pub rows_end_reset : RowsEndReset

@@ -1,4 +1,4 @@
--- A rich output means its labels: the laws of its parts, together.
+-- For `outputs_mean_labels`: a rich output means its labels, by the laws of its parts together.
 use Rattle.std.proofs.Common.{◌<◌}
 use Rattle.std.specs.Cmp.{IsEquivalence}
 use Rattle.codespan_base.specs.declared.term.config.Config.{Config}

@@ -1,4 +1,4 @@
--- The streams of rows are texts.
+-- For `outputs_are_texts`: the streams of rows are texts.
 use Rattle.std.proofs.Common.{◌≡◌, ℕ, ◌+◌, ◌-◌, Bool, true, false, ◌&&◌, ◌==◌, List, [], ◌∷◌, ◌++◌, Option, Some, None, refl, sym, subst, arith}
 use Rattle.std.specs.Prelude.{Contains, codes, nat_lt, nat_le, if◌then◌else◌, IfSome}
 use Rattle.std.specs.Char.{IsScalar, len_utf8}
@@ -22,13 +22,13 @@ use Rattle.codespan_picture.specs.Carets.{caret_for, max_label_end, style_under}
 use Rattle.codespan_picture.specs.CharMetrics.{char_metrics, metrics_then, width_of, width_at}
 use Rattle.codespan_picture.specs.Lanes.{LaneRow, Source, Plain, Below, Underline, corner_line, crossing_cells, label_glyph, lane_cells, lane_mark_in, row_crossing, row_shape, shape_of, style_of_lane_mark}
 use Rattle.codespan_picture.specs.Rows.{Locus, RowContext, Lanes, Line, Row, HeaderRow, SnippetStartRow, EmptyRow, BreakRow, SourceRow, CaretRow, PointerRow, HangingRow, UnderlineRow, FirstNoteRow, LaterNoteRow, FinalRow, hanging, trailing}
-use Rattle.codespan_picture.specs.RowParts.{locus, label_message, lane_of, row_lanes, leading_of, line_metrics, line_metrics_to_end, source_style, source_glyph, colored_text, caret_glyphs, carets, trailing_message, starts_in, max_label_start, spaces_up_to, pointer_style, pointer_at, pointers, metrics_before, metrics_up_to, start_caret, end_caret, underline_message, underline}
+use Rattle.codespan_picture.specs.RowParts.{locus, label_message, inner_gutter_column, inner_gutter, leading_of, line_metrics, line_metrics_to_end, source_style, source_glyph, colored_text, caret_glyphs, carets, trailing_message, starts_in, max_label_start, spaces_up_to, pointer_style, pointer_at, pointers, metrics_before, metrics_up_to, start_caret, end_caret, underline_message, underline}
 use Rattle.codespan_picture.specs.RowStreams.{bracketed, leading_locus, header_row, snippet_start_row, empty_row, break_row, source_row, row_start, caret_row, pointer_row, hanging_row, underline_row, first_note_row, later_note_row, stream_of, stream_of_rows}
 use Rattle.codespan_laws.specs.TextLaws.{IsText, AreCharacters}
 use Rattle.codespan_laws.proofs.LaneLineLemmas.{each_all}
 use Rattle.codespan_picture.proofs.Rightmost.{Around, around_trails, around_rightmost, trailing_of, around_is, trailing_is}
 use Rattle.codespan_laws.proofs.ListElements.{all-weaker}
-use Rattle.codespan_laws.proofs.StreamTexts.{pieces, text-none, text-both, followed, text-bytes, text-lane_mark, text-glyph, text-space, text-newline, text-colon_space, text-open, text-close, text-spaces, text-repeated, text-each, text-severity, text-locus, text-gutter, text-numbered_gutter, text-border, text-break_border, text-styled, text-label_message}
+use Rattle.codespan_laws.proofs.StreamTexts.{pieces, text-none, text-both, followed, text-bytes, text-lane_mark, text-glyph, text-space, text-newline, text-colon_space, text-open, text-close, text-spaces, text-repeated, text-each, text-severity, text-locus, text-outer_gutter, text-outer_gutter_number, text-border_left, text-border_left_break, text-styled, text-label_message}
 
 -- ---- lanes
 
@@ -157,17 +157,17 @@ text-trailing severity (x ∷ xs) h =
     by (Some a) is = tested a (here a (around_is (max_label_end (x ∷ xs)) (x ∷ xs) a is)) (around_trails a)
 
 module _ (context : RowContext) (ok : AreCharacters context.chars) where
-  text-lane_of : (crossing : Option LaneMark) (shape : MultiLabel → Shape) (lane_mark : Option LaneMark) → IsText (lane_of context crossing shape lane_mark)
-  unfolding lane_of
-  text-lane_of crossing shape lane_mark = text-lane_cells context.chars ok context.severity crossing (style_of_lane_mark lane_mark) (shape_of shape lane_mark)
+  text-inner_gutter_column : (crossing : Option LaneMark) (shape : MultiLabel → Shape) (lane_mark : Option LaneMark) → IsText (inner_gutter_column context crossing shape lane_mark)
+  unfolding inner_gutter_column
+  text-inner_gutter_column crossing shape lane_mark = text-lane_cells context.chars ok context.severity crossing (style_of_lane_mark lane_mark) (shape_of shape lane_mark)
 
-  text-row_lanes : (leading : ℕ) (row : LaneRow) (lanes : Lanes) → IsText (row_lanes context leading row lanes)
-  unfolding row_lanes
-  text-row_lanes leading row lanes =
-      let shown : ℕ → Stream = λ lane. lane_of context (row_crossing row lane) (row_shape context.layout leading row lane) (lane_mark_in lanes.marks lane) in
+  text-inner_gutter : (leading : ℕ) (row : LaneRow) (lanes : Lanes) → IsText (inner_gutter context leading row lanes)
+  unfolding inner_gutter
+  text-inner_gutter leading row lanes =
+      let shown : ℕ → Stream = λ lane. inner_gutter_column context (row_crossing row lane) (row_shape context.layout leading row lane) (lane_mark_in lanes.marks lane) in
       text-each shown (range_with_len 0 lanes.count)
       (each_all (λ lane. IsText (shown lane)) (range_with_len 0 lanes.count)
-      (λ lane. text-lane_of (row_crossing row lane) (row_shape context.layout leading row lane) (lane_mark_in lanes.marks lane)))
+      (λ lane. text-inner_gutter_column (row_crossing row lane) (row_shape context.layout leading row lane) (lane_mark_in lanes.marks lane)))
 
   -- the source
   text-colored : (line : Line) → IsUtf8 line.text → IsText (colored_text context line)
@@ -224,7 +224,7 @@ module _ (context : RowContext) (ok : AreCharacters context.chars) where
 
   text-row_start : (line : Line) → IsText (row_start context line)
   unfolding row_start
-  text-row_start line = followed (followed (followed (text-gutter context.padding) (text-border context.chars ok)) (text-row_lanes (leading_of line) Below line.lanes)) text-space
+  text-row_start line = followed (followed (followed (text-outer_gutter context.padding) (text-border_left context.chars ok)) (text-inner_gutter (leading_of line) Below line.lanes)) text-space
 
   -- the stream of a row is a text where what the row is of is
   pub text-row : (row : Row) → IsTextRow row → IsText (stream_of context row)
@@ -232,13 +232,13 @@ module _ (context : RowContext) (ok : AreCharacters context.chars) where
   text-row (HeaderRow at heading) h =
       followed (followed (followed (followed (followed (followed (followed (text-leading_locus at h.0) (text-lane_mark (Header context.severity))) (text-severity context.severity)) (text-bracketed heading.code h.1)) (text-lane_mark HeaderMessage)) text-colon_space) (text-bytes heading.message h.2)) (text-lane_mark Reset)
   text-row (SnippetStartRow at) h =
-      followed (followed (followed (followed (followed (text-gutter context.padding) (text-lane_mark SourceBorder)) (text-bytes (start_text context.chars.snippet_start) ok.snippet_start)) (text-lane_mark Reset)) text-space) (text-locus at h)
+      followed (followed (followed (followed (followed (text-outer_gutter context.padding) (text-lane_mark SourceBorder)) (text-bytes (start_text context.chars.snippet_start) ok.snippet_start)) (text-lane_mark Reset)) text-space) (text-locus at h)
   text-row (EmptyRow lanes) h =
-      followed (followed (text-gutter context.padding) (text-border context.chars ok)) (text-row_lanes 0 Plain lanes)
+      followed (followed (text-outer_gutter context.padding) (text-border_left context.chars ok)) (text-inner_gutter 0 Plain lanes)
   text-row (BreakRow lanes) h =
-      followed (followed (text-gutter context.padding) (text-break_border context.chars ok)) (text-row_lanes 0 Plain lanes)
+      followed (followed (text-outer_gutter context.padding) (text-border_left_break context.chars ok)) (text-inner_gutter 0 Plain lanes)
   text-row (SourceRow line) h =
-      followed (followed (followed (followed (text-numbered_gutter context.padding line.number) (text-border context.chars ok)) (text-row_lanes (leading_of line) Source line.lanes)) text-space) (text-colored line h)
+      followed (followed (followed (followed (text-outer_gutter_number context.padding line.number) (text-border_left context.chars ok)) (text-inner_gutter (leading_of line) Source line.lanes)) text-space) (text-colored line h)
   text-row (CaretRow line) h =
       followed (followed (text-row_start line) (text-carets line.labels (line_metrics_to_end context line))) (text-trailing context.severity line.labels h)
   text-row (PointerRow line) h =
@@ -246,11 +246,11 @@ module _ (context : RowContext) (ok : AreCharacters context.chars) where
   text-row (HangingRow line x) h =
       followed (followed (text-row_start line) (text-pointers line.labels (metrics_before x.start (line_metrics context line)))) (text-label_message context.severity x.style x.message h)
   text-row (UnderlineRow line m) h =
-      followed (followed (followed (followed (followed (text-gutter context.padding) (text-border context.chars ok)) (text-row_lanes (leading_of line) (Underline m) line.lanes)) (text-lane_mark (LabelMark context.severity m.style))) (text-underline m.style (line_metrics context line) m.part h)) (text-lane_mark Reset)
+      followed (followed (followed (followed (followed (text-outer_gutter context.padding) (text-border_left context.chars ok)) (text-inner_gutter (leading_of line) (Underline m) line.lanes)) (text-lane_mark (LabelMark context.severity m.style))) (text-underline m.style (line_metrics context line) m.part h)) (text-lane_mark Reset)
   text-row (FirstNoteRow piece) h =
-      followed (followed (followed (followed (followed (text-gutter context.padding) (text-lane_mark NoteBullet)) (text-glyph context.chars.note_bullet ok.note_bullet)) (text-lane_mark Reset)) text-space) (text-bytes piece h)
+      followed (followed (followed (followed (followed (text-outer_gutter context.padding) (text-lane_mark NoteBullet)) (text-glyph context.chars.note_bullet ok.note_bullet)) (text-lane_mark Reset)) text-space) (text-bytes piece h)
   text-row (LaterNoteRow piece) h =
-      followed (followed (followed (text-gutter context.padding) text-space) text-space) (text-bytes piece h)
+      followed (followed (followed (text-outer_gutter context.padding) text-space) text-space) (text-bytes piece h)
   text-row FinalRow h = text-none
 
   -- and so are those of many rows

@@ -1,4 +1,5 @@
--- Items in sequence: what holds of all their elements and of those between them.
+-- For `outputs_are_texts`: items in sequence, and what holds of all their elements and of those
+-- between them.
 use Rattle.std.proofs.Common.{◌≡◌, ℕ, ◌+◌, Bool, true, false, cond, ◌==◌, List, [], ◌∷◌, ◌++◌, flat_map, Option, Some, None, refl, ap, ap₂, ◌∙◌}
 use Rattle.std.specs.List.{AllByRecursion}
 use Rattle.std.proofs.lemmas.Bool.{cond_both}

@@ -1,4 +1,4 @@
--- The slots in each row.
+-- For `messages_appear_once`: the slots in each row.
 use Rattle.std.proofs.Common.{◌≡◌, ℕ, zero, suc, ◌+◌, ◌-◌, Bool, true, false, cond, ◌==◌, nat_lt, nat_le, List, [], ◌∷◌, ◌++◌, replicate, Option, Some, None, if◌then◌else◌, refl, ap₂, ◌∙◌, arith}
 use Rattle.std.specs.Prelude.{sum_by, count_by, flat_map}
 use Rattle.std.specs.List.{repeat, list_any, range_with_len}
@@ -15,7 +15,7 @@ use Rattle.codespan_picture.specs.declared.lanes.Shape.{Shape}
 use Rattle.codespan_picture.specs.declared.lanes.Shape.TheVariants.{Space, Bar, TopCorner, BottomCorner}
 use Rattle.codespan_picture.specs.Lanes.{lane_mark_in, label_glyph, crossing_cells, lane_cells, LaneRow}
 use Rattle.codespan_picture.specs.Rows.{Locus, RowContext, Lanes, Line, Row, HeaderRow, SnippetStartRow, EmptyRow, BreakRow, SourceRow, CaretRow, PointerRow, HangingRow, UnderlineRow, FirstNoteRow, LaterNoteRow, FinalRow, trailing, hanging}
-use Rattle.codespan_picture.specs.RowParts.{locus, gutter, numbered_gutter, border, break_border, change, styled, label_message, lane_of, lanes_in, row_lanes, line_metrics, source_style, source_glyph, colored_text, caret_glyphs, carets, trailing_message, spaces_up_to, pointer_at, pointers, pointer_style, starts_in, max_label_start, underline_message, underline}
+use Rattle.codespan_picture.specs.RowParts.{locus, outer_gutter, outer_gutter_number, border_left, border_left_break, change, styled, label_message, inner_gutter_column, lanes_in, inner_gutter, line_metrics, source_style, source_glyph, colored_text, caret_glyphs, carets, trailing_message, spaces_up_to, pointer_at, pointers, pointer_style, starts_in, max_label_start, underline_message, underline}
 use Rattle.codespan_picture.specs.RowStreams.{bracketed, leading_locus, header_row, snippet_start_row, empty_row, break_row, source_row, row_start, caret_row, pointer_row, hanging_row, underline_row, first_note_row, later_note_row, stream_of, stream_of_rows}
 use Rattle.codespan_laws.specs.MessageLaws.{is_slot}
 use Rattle.codespan_laws.specs.TrailingLaws.{weight_of}
@@ -79,39 +79,39 @@ slots-lane_cells k severity chars m style Bar = simp (slots_of_parts, slots-cros
 slots-lane_cells k severity chars m style TopCorner = simp (slots_of_parts, slots-crossing_cells, slots-label_glyph)
 slots-lane_cells k severity chars m style BottomCorner = simp (slots_of_parts, slots-crossing_cells, slots-label_glyph)
 
-pub slots-lane_of : (k : ℕ) (context : RowContext) (crossing : Option LaneMark) (shape : MultiLabel → Shape) (m : Option LaneMark) → slots k (lane_of context crossing shape m) ≡ 0
-unfolding lane_of
-slots-lane_of k context crossing shape None = slots-lane_cells k context.severity context.chars crossing Primary Space
-slots-lane_of k context crossing shape (Some m) = slots-lane_cells k context.severity context.chars crossing m.style (shape m.part)
+pub slots-inner_gutter_column : (k : ℕ) (context : RowContext) (crossing : Option LaneMark) (shape : MultiLabel → Shape) (m : Option LaneMark) → slots k (inner_gutter_column context crossing shape m) ≡ 0
+unfolding inner_gutter_column
+slots-inner_gutter_column k context crossing shape None = slots-lane_cells k context.severity context.chars crossing Primary Space
+slots-inner_gutter_column k context crossing shape (Some m) = slots-lane_cells k context.severity context.chars crossing m.style (shape m.part)
 
 pub slots-lanes_in : (k : ℕ) (context : RowContext) (crossing : ℕ → Option LaneMark) (shape : ℕ → MultiLabel → Shape) (lanes : Lanes) → slots k (lanes_in context crossing shape lanes) ≡ 0
 slots-lanes_in k context crossing shape lanes =
-    slots-flat_map k (λ lane. lane_of context (crossing lane) (shape lane) (lane_mark_in lanes.marks lane)) (range_with_len 0 lanes.count)
-    (λ lane. slots-lane_of k context (crossing lane) (shape lane) (lane_mark_in lanes.marks lane))
+    slots-flat_map k (λ lane. inner_gutter_column context (crossing lane) (shape lane) (lane_mark_in lanes.marks lane)) (range_with_len 0 lanes.count)
+    (λ lane. slots-inner_gutter_column k context (crossing lane) (shape lane) (lane_mark_in lanes.marks lane))
 
-pub slots-row_lanes : (k : ℕ) (context : RowContext) (leading : ℕ) (row : LaneRow) (lanes : Lanes) → slots k (row_lanes context leading row lanes) ≡ 0
-unfolding row_lanes
-slots-row_lanes k context leading row lanes = slots-lanes_in k context _ _ lanes
+pub slots-inner_gutter : (k : ℕ) (context : RowContext) (leading : ℕ) (row : LaneRow) (lanes : Lanes) → slots k (inner_gutter context leading row lanes) ≡ 0
+unfolding inner_gutter
+slots-inner_gutter k context leading row lanes = slots-lanes_in k context _ _ lanes
 
 pub slots-locus : (k : ℕ) (p : Locus) → slots k (locus p) ≡ 0
 unfolding locus
 slots-locus k p = simp slots_of_parts
 
-pub slots-gutter : (k n : ℕ) → slots k (gutter n) ≡ 0
-unfolding gutter
-slots-gutter k n = slots-spaces k (n + 1)
+pub slots-outer_gutter : (k n : ℕ) → slots k (outer_gutter n) ≡ 0
+unfolding outer_gutter
+slots-outer_gutter k n = slots-spaces k (n + 1)
 
-pub slots-numbered_gutter : (k p n : ℕ) → slots k (numbered_gutter p n) ≡ 0
-unfolding numbered_gutter
-slots-numbered_gutter k p n = simp slots_of_parts
+pub slots-outer_gutter_number : (k p n : ℕ) → slots k (outer_gutter_number p n) ≡ 0
+unfolding outer_gutter_number
+slots-outer_gutter_number k p n = simp slots_of_parts
 
-pub slots-border : (k : ℕ) (chars : Chars) → slots k (border chars) ≡ 0
-unfolding border
-slots-border k chars = simp slots_of_parts
+pub slots-border_left : (k : ℕ) (chars : Chars) → slots k (border_left chars) ≡ 0
+unfolding border_left
+slots-border_left k chars = simp slots_of_parts
 
-pub slots-break_border : (k : ℕ) (chars : Chars) → slots k (break_border chars) ≡ 0
-unfolding break_border
-slots-break_border k chars = simp slots_of_parts
+pub slots-border_left_break : (k : ℕ) (chars : Chars) → slots k (border_left_break chars) ≡ 0
+unfolding border_left_break
+slots-border_left_break k chars = simp slots_of_parts
 
 pub slots-change : (k : ℕ) (severity : Severity) (a b : Option LabelStyle) → slots k (change severity a b) ≡ 0
 unfolding change
@@ -178,7 +178,7 @@ pub slots-pointers : (k : ℕ) (context : RowContext) (labels : List LabelModel)
 unfolding pointers
 slots-pointers k context labels cs = slots-flat_map k (pointer_at context labels (hanging labels)) cs (slots-pointer_at k context labels (hanging labels))
 
-ruleset parts = (slots_of_parts, slots-row_lanes, slots-locus, slots-gutter, slots-numbered_gutter, slots-border, slots-break_border, slots-colored_text, slots-carets, slots-pointers)
+ruleset parts = (slots_of_parts, slots-inner_gutter, slots-locus, slots-outer_gutter, slots-outer_gutter_number, slots-border_left, slots-border_left_break, slots-colored_text, slots-carets, slots-pointers)
 
 pub slots-label_message : (k : ℕ) (severity : Severity) (style : LabelStyle) (message : Stream) → slots k (label_message severity style message) ≡ slots k message
 unfolding label_message

@@ -1,4 +1,4 @@
--- The streams of parts of rows are texts.
+-- For `outputs_are_texts`: the streams of parts of rows are texts.
 use Rattle.std.proofs.Common.{◌≡◌, ℕ, zero, suc, ◌+◌, ◌-◌, ◌<◌, ◌/◌, ◌%◌, Bool, true, false, ◌&&◌, ◌==◌, List, [], ◌∷◌, ◌++◌, flat_map, map, replicate, append_assoc, append-nil, Option, Some, None, refl, sym, subst, arith}
 use Rattle.std.specs.Prelude.{codes, decimal, nat_lt}
 use Rattle.std.specs.Char.{IsScalar, encode_utf8}
@@ -17,7 +17,7 @@ use Rattle.codespan_base.specs.declared.term.config.chars.Chars.{Chars}
 use Rattle.codespan_base.specs.Streams.{Stream, Byte, Mark, Slot, StyleMark, LabelMark, Reset, style_mark, glyph, bytes, spaces, space, repeated, newline, text_of}
 use Rattle.codespan_picture.specs.declared.char_metrics.Metrics.{Metrics}
 use Rattle.codespan_picture.specs.Rows.{Locus}
-use Rattle.codespan_picture.specs.RowParts.{severity_name, locus, gutter, numbered_gutter, border, break_border, change, styled, label_message}
+use Rattle.codespan_picture.specs.RowParts.{severity_name, locus, outer_gutter, outer_gutter_number, border_left, border_left_break, change, styled, label_message}
 use Rattle.codespan_laws.specs.TextLaws.{AreTextsAfter, IsText, AreCharacters}
 use Rattle.codespan_laws.proofs.Texts.{text_of-append, text_of-bytes, text_of-style_mark}
 
@@ -161,21 +161,21 @@ pub text-locus : (p : Locus) → IsUtf8 p.name → IsText (locus p)
 unfolding locus
 text-locus p u = search pieces
 
-pub text-gutter : (padding : ℕ) → IsText (gutter padding)
-unfolding gutter
-text-gutter padding = search pieces
+pub text-outer_gutter : (padding : ℕ) → IsText (outer_gutter padding)
+unfolding outer_gutter
+text-outer_gutter padding = search pieces
 
-pub text-numbered_gutter : (padding n : ℕ) → IsText (numbered_gutter padding n)
-unfolding numbered_gutter
-text-numbered_gutter padding n = search pieces
+pub text-outer_gutter_number : (padding n : ℕ) → IsText (outer_gutter_number padding n)
+unfolding outer_gutter_number
+text-outer_gutter_number padding n = search pieces
 
-pub text-border : (chars : Chars) → AreCharacters chars → IsText (border chars)
-unfolding border
-text-border chars ok = search (pieces, ok.source_border_left)
+pub text-border_left : (chars : Chars) → AreCharacters chars → IsText (border_left chars)
+unfolding border_left
+text-border_left chars ok = search (pieces, ok.source_border_left)
 
-pub text-break_border : (chars : Chars) → AreCharacters chars → IsText (break_border chars)
-unfolding break_border
-text-break_border chars ok = search (pieces, ok.source_border_left_break)
+pub text-border_left_break : (chars : Chars) → AreCharacters chars → IsText (border_left_break chars)
+unfolding border_left_break
+text-border_left_break chars ok = search (pieces, ok.source_border_left_break)
 
 text-change : (severity : Severity) (a b : Option LabelStyle) → IsText (change severity a b)
 unfolding change

@@ -11,7 +11,7 @@ use Rattle.codespan_picture.specs.declared.lanes.Shape.{Shape}
 use Rattle.codespan_picture.specs.declared.lanes.Shape.TheVariants.{Space, Bar, TopCorner, BottomCorner}
 use Rattle.codespan_picture.specs.Lanes.{LaneRow, Source, Plain, Below, Underline, row_shape, row_crossing, lane_mark_in, shape_of, style_of_lane_mark, is_unbroken, lane_cells}
 use Rattle.codespan_picture.specs.Rows.{Locus, RowContext, Lanes, Line, Row, EmptyRow, BreakRow, SourceRow, CaretRow, PointerRow, HangingRow, UnderlineRow}
-use Rattle.codespan_picture.specs.RowParts.{gutter, numbered_gutter, border, break_border, leading_of}
+use Rattle.codespan_picture.specs.RowParts.{outer_gutter, outer_gutter_number, border_left, border_left_break, leading_of}
 use Rattle.codespan_picture.specs.RowStreams.{stream_of}
 use Rattle.codespan_picture.specs.Snippets.{LabeledFileModel, line_at, row_after, snippet}
 
@@ -108,9 +108,10 @@ lanes_shown context row lanes =
 -- the source
 abbrev pub before_lanes : RowContext → Row → Stream
 before_lanes context (SourceRow line) =
-    numbered_gutter context.padding line.number ++ border context.chars
-before_lanes context (BreakRow lanes) = gutter context.padding ++ break_border context.chars
-before_lanes context _ = gutter context.padding ++ border context.chars
+    outer_gutter_number context.padding line.number ++ border_left context.chars
+before_lanes context (BreakRow lanes) =
+    outer_gutter context.padding ++ border_left_break context.chars
+before_lanes context _ = outer_gutter context.padding ++ border_left context.chars
 
 -- after the bar left of the source the stream of a row has what the row shows in each of these
 -- lanes

@@ -1,4 +1,5 @@
--- the definitions of the crates below: files, labels, streams, writers, tables
+-- the definitions of the crates below: files, labels, streams, writers, and the tables of
+-- characters and styles
 pub use Rattle.codespan_base.specs.FileModel
 pub use Rattle.codespan_base.specs.LawfulFiles
 pub use Rattle.codespan_base.specs.SimpleModel

@@ -9,7 +9,7 @@ use Rattle.codespan_picture.specs.Lanes.{is_unbroken}
 use Rattle.codespan_picture.specs.Lines.{drawn_lines, is_broken, is_shown}
 use Rattle.codespan_picture.specs.Rows.{Lanes, Locus, Row, BreakRow, SourceRow}
 use Rattle.codespan_picture.specs.Snippets.{LabeledFileModel, rows_after, rows_of_shown, line_at, snippet}
-use Rattle.codespan_picture.specs.Padding.{padding_of, digit_count}
+use Rattle.codespan_picture.specs.Padding.{padding_of, count_digits}
 use Rattle.codespan_laws.specs.LaneLaws.{shape_in, HasLane, IsCovered}
 
 -- the shown lines of a file, all of which it has
@@ -25,7 +25,7 @@ RowsOfShown config s =
 
 -- ---- breaks
 
--- of each two lines that follow each other with two or more between them the later one
+-- the later one of each two consecutive lines with two or more lines between them
 abbrev pub broken_before : List ℕ → List ℕ
 broken_before [] = []
 broken_before (c ∷ []) = []
@@ -37,7 +37,7 @@ abbrev pub break_lanes : Row → Option Lanes
 break_lanes (BreakRow lanes) = Some lanes
 break_lanes _ = None
 
--- there is a break row exactly where shown lines are three or more apart
+-- the snippet has one break row for each line of `broken_before`, in order, with that line's lanes
 abbrev pub BreaksAreGaps : Config → LabeledFileModel → Type 0
 BreaksAreGaps config s = (locus : Locus)
     → filter_map break_lanes (snippet config locus s)
@@ -59,13 +59,13 @@ abbrev pub is_source_row : Row → Bool
 is_source_row (SourceRow line) = true
 is_source_row _ = false
 
--- one label shows at most so many lines
+-- how many lines one label may show by the configuration: two, and all its context lines
 abbrev pub max_shown_lines : Config → ℕ
 max_shown_lines config =
     2 + config.before_label_lines + config.after_label_lines + config.start_context_lines
     + config.end_context_lines
 
--- the source rows of a file number at most twice what its labels show
+-- the source rows of a file number at most twice the lines that its labels may show
 abbrev pub SourceRowsAreFew : Config → LabeledFileModel → Type 0
 SourceRowsAreFew config s = (locus : Locus)
     → count_by is_source_row (snippet config locus s)
@@ -83,4 +83,4 @@ PaddingFits config ss =
     × ((s : LabeledFileModel) → Contains ss s → NumbersAscend s.file))
     → (s : LabeledFileModel) (l : ℕ) → Contains ss s
     → Contains (drawn_lines config s.file s.labels) l
-    → digit_count (s.file.number l) ≤ padding_of config ss
+    → count_digits (s.file.number l) ≤ padding_of config ss

@@ -8,19 +8,19 @@ use Rattle.codespan_base.specs.Labels.{has_message, is_empty_stream}
 use Rattle.codespan_base.specs.Streams.{Stream, Item, Slot, text_of, filled}
 use Rattle.codespan_picture.specs.Rows.{Locus}
 use Rattle.codespan_picture.specs.Snippets.{InFile, labeled_file_models}
-use Rattle.codespan_picture.specs.Picture.{heading_of, labels_of, notes_of, output, rendered}
+use Rattle.codespan_picture.specs.Picture.{header_text_of, labels_of, notes_of, output, rendered}
 
--- a label with a slot instead of its message
+-- a label with a slot instead of its message, where it has one
 abbrev pub slotted : {Id : Type 0} → ℕ → InFile Id → InFile Id
 slotted k x = record x {
   label = record x.label { message = if is_empty_stream x.label.message then [] else Slot k ∷ [] };
 }
 
--- the labels with slots instead of their messages
+-- the labels with slots, each named by its label's index, instead of their messages
 abbrev pub all_slotted : {Id : Type 0} → List (InFile Id) → List (InFile Id)
 all_slotted {Id} xs = map (λ (e : ℕ × InFile Id). slotted e.0 e.1) (enumerate_from 0 xs)
 
--- the item names the label
+-- the item is the slot of the label with this index
 abbrev pub is_slot : ℕ → Item → Bool
 is_slot k (Slot j) = j == k
 is_slot k _ = false
@@ -33,7 +33,7 @@ message_text xs k = option_map_or (λ x. text_of x.label.message) (slice_get xs 
 abbrev pub slotted_output : {Id : Type 0}
     → Config → Config → FileDatabase Id → Diagnostic Id → List Locus → Stream
 slotted_output renderer view files d loci =
-    rendered Rich renderer view d.severity (heading_of d) loci
+    rendered Rich renderer view d.severity (header_text_of d) loci
     (labeled_file_models files.same files.file (all_slotted (labels_of d))) (notes_of d)
 
 -- each message has one slot in the rich output, and with the slots filled that is the output

@@ -36,7 +36,7 @@ pub record SameOrders {Id : Type 0} (same : Id → Id → Bool) (file : Id → F
   pub one_line : (id : Id) (l start end : ℕ)
       → one_range_of same file xs id l start end ≡ one_range_of same file ys id l start end
 
--- the loci of one order are those of the other, and with any loci both render the same
+-- the starts of one order are those of the other, and with any loci both render the same
 pub record RenderSame {Id : Type 0} (same : Id → Id → Bool) (file : Id → FileModel)
     (xs ys : List (InFile Id)) : Type 0 where
   pub same_starts : starts same file xs Rich ≡ starts same file ys Rich
@@ -45,8 +45,8 @@ pub record RenderSame {Id : Type 0} (same : Id → Id → Bool) (file : Id → F
       → rendered Rich renderer view severity heading loci (labeled_file_models same file xs) notes
       ≡ rendered Rich renderer view severity heading loci (labeled_file_models same file ys) notes
 
--- where ids are equal as `Eq` says, and equal ids have one file, a reordering that keeps these
--- orders changes nothing in a rich output
+-- where `same` is an equivalence, and equal ids have one file, a reordering that keeps these orders
+-- changes nothing in a rich output
 abbrev pub OrderIsFree : {Id : Type 0} → (Id → Id → Bool) → (Id → FileModel) → Type 0
 OrderIsFree {Id} same file = (xs ys : List (InFile Id))
     → IsEquivalence same → ((i j : Id) → same i j ≡ true → file i ≡ file j)

@@ -15,7 +15,7 @@ is_continuation b = is_in_range 128 191 b
 abbrev pub character_count : List ℕ → ℕ
 character_count bs = count_by (λ b. not (is_continuation b)) bs
 
--- the characters of a row
+-- how many characters a row has
 abbrev pub row_length : Stream → ℕ
 row_length s = character_count (text_of s)
 

@@ -30,14 +30,15 @@ module _ {Id : Type 0} (files : FileDatabase Id) (d : Diagnostic Id) where
       → AreLoci files d style loci
       → output style renderer view files d loci ≡ picture style renderer view files d
 
-  -- the headers of those labels, which short and medium style have written by then
+  -- the headers of the primary labels before the first one for which a lookup fails: what short
+  -- and medium style have written when it fails
   abbrev pub headers_before_failure : Config → Stream
   headers_before_failure config =
       headers_at config d (map (λ (x : InFile Id). stated_locus (label_start files.file x))
       (labels_before_failure files.failure (labels_of d)))
 
-  -- the headers before a label for which a lookup fails are those of the labels before the first
-  -- one for which a lookup fails
+  -- the headers before a primary label for which a lookup fails are those of the primary labels
+  -- before the first one for which a lookup fails
   abbrev pub HeadersAreBeforeFailure : Type 0
   HeadersAreBeforeFailure = NamesAreStated
       → (config : Config) (loci : List Locus) → AreLoci files d Short loci

@@ -25,7 +25,7 @@ pub record IsText (s : Stream) : Type 0 where
   pub utf8 : IsUtf8 (text_of s)
   pub between_marks : AreTextsAfter [] s
 
--- each of the characters is one, and the text before a locus is UTF-8
+-- each character is a Unicode scalar value, and the text before a locus is UTF-8
 pub record AreCharacters (chars : Chars) : Type 0 where
   pub snippet_start : IsUtf8 (start_text chars.snippet_start)
   pub source_border_left : IsScalar chars.source_border_left
@@ -46,8 +46,8 @@ pub record AreCharacters (chars : Chars) : Type 0 where
 
 module _ {Id : Type 0} (style : DisplayStyle) (renderer view : Config)
     (files : FileDatabase Id) (d : Diagnostic Id) where
-  -- the output with any loci is a text where its characters are characters, its files are lawful,
-  -- and the names of the loci are texts
+  -- the output with any loci is a text where the characters of the configuration are Unicode
+  -- scalar values, its files are lawful, and the names of the loci are texts
   abbrev pub OutputIsText : Type 0
   OutputIsText = AreCharacters renderer.chars → ((id : Id) → IsLawful (files.file id))
       → (loci : List Locus) → NamesAreTexts loci → IsText (output style renderer view files d loci)

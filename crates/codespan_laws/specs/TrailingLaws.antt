@@ -8,8 +8,9 @@ abbrev pub weight_of : (LabelModel → ℕ) → Option LabelModel → ℕ
 weight_of weight None = 0
 weight_of weight (Some x) = weight x
 
--- the weights of the trailing label and the hanging ones sum to those of all labels, if labels
--- without a message weigh nothing
+-- whatever labels weigh, the weights of the trailing label and the hanging ones sum to those of all
+-- labels, if labels without a message weigh nothing; so each label with a message trails or hangs,
+-- and none does both
 abbrev pub EachTrailsOrHangs : Type 0
 EachTrailsOrHangs = (weight : LabelModel → ℕ) (labels : List LabelModel)
     → ((x : LabelModel) → has_message x ≡ false → weight x ≡ 0)

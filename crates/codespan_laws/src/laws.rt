@@ -27,15 +27,15 @@ ghost use Rattle.codespan_laws.specs.SortLaws.{SortsLabels};
 ghost use Rattle.codespan_laws.specs.StatedNames.{HeadersAreBeforeFailure, OutputIsPicture};
 ghost use Rattle.codespan_laws.specs.TextLaws.{OutputIsText, PictureIsText};
 ghost use Rattle.codespan_picture.specs.Lanes.{LaneRow};
-ghost use Rattle.codespan_picture.specs.RowParts.{line_metrics, row_lanes};
+ghost use Rattle.codespan_picture.specs.RowParts.{line_metrics, inner_gutter};
 ghost use Rattle.codespan_picture.specs.Picture.{AreLoci, output};
 ghost use Rattle.codespan_picture.specs.StatedPicture.{stated_loci};
 ghost use Rattle.codespan_picture.specs.Rows.{Locus, RowContext, Lanes, Line};
 ghost use Rattle.codespan_picture.specs.Snippets.{LabeledFileModel};
 
 /// States that a rich output means its labels, whatever the loci in it: all the laws of its lines,
-/// carets, lanes, breaks, messages and numbers together, where ids are compared by an equivalence
-/// and each file has a line.
+/// breaks, carets, pointers, lanes, messages and padding together, where ids are compared by an
+/// equivalence and each file has a line.
 pub fn outputs_mean_labels<Id>()
     ensures { (renderer view : Config) (files : FileDatabase Id) (d : Diagnostic Id)
         → IsEquivalence files.same → ((id : Id) → 0 < line_count (files.file id))
@@ -50,7 +50,8 @@ pub fn rows_are_of_shown_lines()
     ensures { (config : Config) (s : LabeledFileModel) → RowsOfShown config s }
 {}
 
-/// States that there is a break row exactly where shown lines are three or more apart.
+/// States that a snippet has one break row for each two consecutive shown lines that are three or
+/// more apart, in their order, with the lanes of the later line.
 pub fn breaks_are_gaps()
     ensures { (config : Config) (s : LabeledFileModel) → BreaksAreGaps config s }
 {}
@@ -62,7 +63,8 @@ pub fn breaks_are_covered()
         → StartsBeforeEnds s.labels → BreaksAreCovered config layout s }
 {}
 
-/// States that the source rows of a file number at most twice what its labels show.
+/// States that the source rows of a file number at most twice the lines that its labels may show by
+/// the configuration: of each label two, and all its context lines.
 pub fn source_rows_are_few()
     ensures { (config : Config) (s : LabeledFileModel) → SourceRowsAreFew config s }
 {}
@@ -109,7 +111,7 @@ pub fn lanes_are_shown()
 /// States that each lane takes two characters.
 pub fn lanes_take_two()
     ensures { (context : RowContext) (leading : ℕ) (row : LaneRow) (lanes : Lanes)
-        → row_length (row_lanes context leading row lanes) ≡ 2 * lanes.count }
+        → row_length (inner_gutter context leading row lanes) ≡ 2 * lanes.count }
 {}
 
 // ---- messages
@@ -139,7 +141,8 @@ pub fn order_is_free<Id>()
 {}
 
 /// States that `sorted` is the one list in the order of ranges, and of equal ranges in the order of
-/// its argument. That is a line's labels in reverse, so of equal ranges the last label comes first.
+/// its argument. Of a line the argument is its labels in reverse, so of equal ranges the last label
+/// comes first.
 pub fn labels_are_sorted()
     ensures { (labels : List LabelModel) → SortsLabels labels }
 {}
@@ -178,15 +181,15 @@ pub fn stated_names_make_the_picture<Id>()
     ensures { (files : FileDatabase Id) (d : Diagnostic Id) → OutputIsPicture files d }
 {}
 
-/// States that the headers before a failed lookup are those of the labels before the first one for
-/// which a lookup fails, where the names of the labels' files are stated.
+/// States that the headers before a failed lookup are those of the primary labels before the first
+/// one for which a lookup fails, where the names of the labels' files are stated.
 pub fn stated_names_make_the_headers<Id>()
     ensures { (files : FileDatabase Id) (d : Diagnostic Id) → HeadersAreBeforeFailure files d }
 {}
 
-/// States that an output is UTF-8, style marks aside, in each style: where its characters are
-/// characters, its files are lawful, and the names of its loci are UTF-8; and so is the picture,
-/// where the stated names are UTF-8.
+/// States that an output is UTF-8, style marks aside, in each style: where the characters of the
+/// configuration are Unicode scalar values, its files are lawful, and the names of its loci are
+/// UTF-8; and so is the picture, where the stated names are UTF-8.
 pub fn outputs_are_texts<Id>()
     ensures output { (style : DisplayStyle) (renderer view : Config)
         (files : FileDatabase Id) (d : Diagnostic Id) → OutputIsText style renderer view files d }

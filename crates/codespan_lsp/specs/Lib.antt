@@ -7,6 +7,5 @@ pub mod Ranges
 pub mod PositionLaws
 -- diagnostics
 pub mod Severities
-pub mod SeverityNumbers
 pub mod Messages
 pub mod LspDiagnostics

@@ -69,8 +69,8 @@ module _ {FileId : Type 0} (encoding : PositionEncoding) (database : FileDatabas
       label.range
 
   -- the related information of a label
-  abbrev pub related_of : Label FileId → RelatedView FileId
-  related_of label = record {
+  abbrev pub related_view_for : Label FileId → RelatedView FileId
+  related_view_for label = record {
     file_id = label.file_id;
     range = label_range label;
     message = string_bytes label.message;
@@ -78,14 +78,14 @@ module _ {FileId : Type 0} (encoding : PositionEncoding) (database : FileDatabas
 
   -- that of the labels that are not primary, and the error of their first lookup that fails
   abbrev pub related_views : List (Label FileId) → List (RelatedView FileId)
-  related_views labels = map related_of (secondary_labels labels)
+  related_views labels = map related_view_for (secondary_labels labels)
 
   abbrev pub related_failure : List (Label FileId) → Option Error
   related_failure labels = first_failure (map label_failure (secondary_labels labels))
 
   -- what is sent for a primary label, and the error of the first lookup for it that fails
-  abbrev pub lsp_view_of : Diagnostic FileId → Label FileId → LspView FileId
-  lsp_view_of d label = record {
+  abbrev pub lsp_view_for : Diagnostic FileId → Label FileId → LspView FileId
+  lsp_view_for d label = record {
     file_id = label.file_id;
     range = label_range label;
     severity = lsp_severity d.severity;
@@ -100,7 +100,7 @@ module _ {FileId : Type 0} (encoding : PositionEncoding) (database : FileDatabas
   -- what is sent for a diagnostic: one for each primary label, in their order; and the error of
   -- the first lookup that fails
   abbrev pub lsp_views : Diagnostic FileId → List (LspView FileId)
-  lsp_views d = map (lsp_view_of d) (primary_labels d.labels.items)
+  lsp_views d = map (lsp_view_for d) (primary_labels d.labels.items)
 
   abbrev pub views_failure : Diagnostic FileId → Option Error
   views_failure d = first_failure (map (lsp_failure d) (primary_labels d.labels.items))

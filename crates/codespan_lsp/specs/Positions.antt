@@ -34,14 +34,14 @@ column_error text start end byte =
     else Some (InvalidCharBoundary byte)
 
 -- the greatest number of a position
-abbrev pub greatest : ℕ
-greatest = 2 ^ 32 - 1
+abbrev pub u32_max : ℕ
+u32_max = 2 ^ 32 - 1
 
 -- the error of numbers that are too great for a position
-abbrev pub width_error : ℕ → ℕ → Option Error
-width_error line character =
-    if nat_lt greatest line then Some (LineTooLarge line greatest)
-    else if nat_lt greatest character then Some (ColumnTooLarge character greatest)
+abbrev pub overflow_error : ℕ → ℕ → Option Error
+overflow_error line character =
+    if nat_lt u32_max line then Some (LineTooLarge line u32_max)
+    else if nat_lt u32_max character then Some (ColumnTooLarge character u32_max)
     else None
 
 -- the error of a byte's position: of a lookup, of the byte, or of the numbers
@@ -51,7 +51,7 @@ position_failure encoding f failure byte =
     let i = line_of f.starts byte in
     first_failure (failure Source ∷ failure (LineIndex byte) ∷ failure (LineRange i)
     ∷ column_error f.text (line_start f i) (line_end f i) byte
-    ∷ width_error i (units_before encoding f i byte) ∷ [])
+    ∷ overflow_error i (units_before encoding f i byte) ∷ [])
 
 -- a byte is at a position: at a character boundary of its line, after so many code units
 pub record IsByteAt (encoding : PositionEncoding) (f : FileModel) (p : Position) (byte : ℕ)

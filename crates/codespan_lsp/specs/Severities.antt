@@ -1,4 +1,5 @@
 -- Severities as the protocol has them.
+use Rattle.std.specs.Prelude.{ℕ}
 use Rattle.codespan_base.specs.declared.diagnostic.Severity.{Severity}
 use Rattle.codespan_base.specs.declared.diagnostic.Severity.TheVariants.{Help, Note, Warning, Error, Bug}
 use Rattle.codespan_lsp.specs.declared.severity.DiagnosticSeverity.{DiagnosticSeverity}
@@ -11,3 +12,10 @@ lsp_severity Error = lsp.Error
 lsp_severity Warning = lsp.Warning
 lsp_severity Note = lsp.Information
 lsp_severity Help = lsp.Hint
+
+-- the protocol's number of its severity
+abbrev pub severity_number : DiagnosticSeverity → ℕ
+severity_number lsp.Error = 1
+severity_number lsp.Warning = 2
+severity_number lsp.Information = 3
+severity_number lsp.Hint = 4

@@ -11,7 +11,17 @@ use codespan_base::files::Error;
 use std::ops::Range;
 
 impl PositionEncoding {
-    /// Returns the code units of a line of the text before a byte.
+    /// Returns the number of code units of a line of the text before a byte.
+    ///
+    /// # Errors
+    ///
+    /// - [`Error::ColumnTooLarge`] past the line's end, in bytes from the line's start.
+    /// - [`Error::InvalidCharBoundary`] inside a character: `given` is the byte index.
+    ///
+    /// # Requires
+    ///
+    /// The line starts at a boundary of characters and does not end before its start. The byte is
+    /// not before the line's start.
     pub(crate) fn units_before(
         self,
         text: &str,
@@ -37,8 +47,18 @@ impl PositionEncoding {
         Ok(self.code_units(&text[line.start..byte_index]))
     }
 
-    /// Returns the byte index of a character of a line, whose text starts at this byte: that after
-    /// so many code units.
+    /// Returns the byte index of a character of a line, whose text starts at the byte `line_start`:
+    /// the one after `character` code units.
+    ///
+    /// # Errors
+    ///
+    /// - [`Error::ColumnTooLarge`] past the line's end, in code units.
+    /// - [`Error::InvalidCharBoundary`] between the code units of a character: `given` is the byte
+    ///   index of that character.
+    ///
+    /// # Requires
+    ///
+    /// The byte index of the line's end fits a `usize`.
     pub(crate) fn byte_of_character(
         self,
         line_start: usize,

@@ -3,7 +3,7 @@
 ghost use Rattle.std.specs.Prelude.{◌≡◌, IfOk, map};
 ghost use Rattle.codespan_base.specs.LawfulFiles.{FailsBy};
 ghost use Rattle.codespan_base.specs.Labels.{is_primary_style};
-ghost use Rattle.codespan_lsp.specs.LspDiagnostics.{lsp_view, lsp_views, lsp_view_of, lsp_failure, views_failure, related_view, related_views, related_failure};
+ghost use Rattle.codespan_lsp.specs.LspDiagnostics.{lsp_view, lsp_views, lsp_view_for, lsp_failure, views_failure, related_view, related_views, related_failure};
 ghost use Rattle.codespan_lsp.specs.declared.encoding.PositionEncoding.TheVariants.{Utf16};
 
 use crate::encoding::PositionEncoding;
@@ -67,7 +67,8 @@ impl PositionEncoding {
         Ok(found)
     }
 
-    /// Returns the diagnostic for a primary label.
+    /// Returns the diagnostic for a primary label. The labels that are not primary are its related
+    /// information.
     fn lsp_diagnostic<'files, F: Files<'files>>(
         self,
         files: &'files F,
@@ -75,7 +76,7 @@ impl PositionEncoding {
         label: &Label<F::FileId>,
     ) -> Result<LspDiagnostic<F::FileId>, Error>
         ensures value { IfOk result (λ found. lsp_view found
-            ≡ lsp_view_of self (F.database files.now) diagnostic.now label.now) }
+            ≡ lsp_view_for self (F.database files.now) diagnostic.now label.now) }
         ensures failed { FailsBy (lsp_failure self (F.database files.now) diagnostic.now label.now)
             result }
     {
@@ -121,7 +122,7 @@ impl PositionEncoding {
 }
 
 /// Returns the diagnostics that a language server sends for a diagnostic: one for each primary
-/// label, in the order of the labels. Their positions are in UTF-16 code units.
+/// label, in the order of the labels. Their positions count UTF-16 code units.
 ///
 /// - The range is the label's. Severity and code are the diagnostic's.
 /// - The message is the diagnostic's, then the label's, if it is not empty, and the notes, each

@@ -13,13 +13,13 @@ pub fn positions_ascend()
     ensures { PositionsAscend }
 {}
 
-/// States that the lookup of a line's position fails, memory and the file's own lookups aside,
-/// exactly where no byte is at it.
+/// States that on a line that exists `position_to_byte_index` fails, memory and the file's own
+/// lookups aside, exactly where no byte is at the position.
 pub fn errors_are_gaps()
     ensures { ErrorsAreGaps }
 {}
 
-/// States that a position between the code units of a character is an
+/// States that a position between the code units of a character has the error
 /// [`InvalidCharBoundary`](codespan_base::files::Error) with the character's byte, as in UTF-16 one
 /// between a pair of surrogates.
 pub fn inside_is_no_boundary()

@@ -9,6 +9,10 @@ use codespan_base::files::Error;
 
 /// Returns the diagnostic's message with the label's message, and with the notes below, each on a
 /// line of its own.
+///
+/// # Errors
+///
+/// [`Error::OutOfMemory`] where an allocation fails.
 pub(crate) fn full_message<FileId>(
     diagnostic: &Diagnostic<FileId>,
     label: &Label<FileId>,
@@ -53,6 +57,10 @@ fn push_line(text: &mut String, line: &str) -> Result<(), Error>
 }
 
 /// Returns an equal code.
+///
+/// # Errors
+///
+/// [`Error::OutOfMemory`] where an allocation fails.
 pub(crate) fn clone_code(code: &Option<String>) -> Result<Option<String>, Error>
     ensures code { IfOk result (λ copy.
         option_map string_bytes copy ≡ option_map string_bytes code.now) }

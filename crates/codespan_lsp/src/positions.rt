@@ -2,7 +2,7 @@
 
 ghost use Rattle.std.specs.Prelude.{◌≡◌, IfOk};
 ghost use Rattle.codespan_base.specs.LawfulFiles.{FailsBy};
-ghost use Rattle.codespan_lsp.specs.Positions.{position_of, position_failure, IsByteAt, byte_failure, width_error};
+ghost use Rattle.codespan_lsp.specs.Positions.{position_of, position_failure, IsByteAt, byte_failure, overflow_error};
 ghost use Rattle.codespan_lsp.specs.declared.encoding.PositionEncoding.TheVariants.{Utf16};
 
 use crate::encoding::PositionEncoding;
@@ -14,7 +14,7 @@ use std::convert::AsStr;
 pub struct Position {
     /// The index of the line, from 0.
     pub line: u32,
-    /// The code units of the line before the position.
+    /// The number of code units of the line before the position.
     pub character: u32,
 }
 
@@ -66,11 +66,15 @@ impl PositionEncoding {
     }
 }
 
-/// Returns the position of these numbers, which a `u32` holds.
+/// Returns the position of a line index and a number of code units.
+///
+/// # Errors
+///
+/// [`Error::LineTooLarge`] or [`Error::ColumnTooLarge`] where one of them does not fit a `u32`.
 fn position_at(line: usize, character: usize) -> Result<Position, Error>
     ensures value { IfOk result (λ position.
         position ≡ record { line = line; character = character }) }
-    ensures failed { FailsBy (width_error line character) result }
+    ensures failed { FailsBy (overflow_error line character) result }
 {
     let max = u32::MAX as usize;
     if line > max {
@@ -88,7 +92,8 @@ fn position_at(line: usize, character: usize) -> Result<Position, Error>
     })
 }
 
-/// Returns the position of a byte of a file, in UTF-16 code units. The byte index counts from 0.
+/// Returns the position of a byte of a file; its `character` counts UTF-16 code units. The byte
+/// index counts from 0.
 ///
 /// The byte after a newline is on the next line. The end of the text has a position too, on the
 /// last line.
@@ -127,7 +132,8 @@ pub fn byte_index_to_position<'files, F: Files<'files>>(
     PositionEncoding::Utf16.byte_index_to_position(files, id, byte_index)
 }
 
-/// Returns the byte index of a position of a file, in UTF-16 code units.
+/// Returns the byte index, from 0, of a position of a file, whose `character` counts UTF-16 code
+/// units.
 ///
 /// A position may be at the line's end, after its newline where its range has one; that byte is
 /// where the next line starts. The protocol lets a client send a greater character for the line's

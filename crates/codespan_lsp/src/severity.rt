@@ -21,7 +21,7 @@ pub enum DiagnosticSeverity {
 }
 
 impl DiagnosticSeverity {
-    ghost use Rattle.codespan_lsp.specs.SeverityNumbers.{severity_number};
+    ghost use Rattle.codespan_lsp.specs.Severities.{severity_number};
 
     /// Returns the protocol's number: 1 of an error, 2 of a warning, 3 of information and 4 of a
     /// hint.

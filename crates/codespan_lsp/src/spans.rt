@@ -63,9 +63,9 @@ impl PositionEncoding {
     }
 }
 
-/// Returns the range of a span of bytes of a file, in UTF-16 code units. The span is in bytes of
-/// the text, from 0, with an exclusive end; its start may be after its end, as that of the range is
-/// then.
+/// Returns the range of a span of bytes of a file; each `character` of it counts UTF-16 code units.
+/// The span is in bytes of the text, from 0, with an exclusive end; its start may be after its end,
+/// as that of the range is then.
 ///
 /// # Errors
 ///
@@ -83,8 +83,9 @@ pub fn byte_span_to_range<'files, F: Files<'files>>(
     PositionEncoding::Utf16.byte_span_to_range(files, id, span)
 }
 
-/// Returns the span of bytes of a range of a file, in UTF-16 code units. The span is in bytes of
-/// the text, from 0, with an exclusive end; its start is after its end where that of the range is.
+/// Returns the span of bytes of a range of a file, each `character` of which counts UTF-16 code
+/// units. The span is in bytes of the text, from 0, with an exclusive end; its start is after its
+/// end where that of the range is.
 ///
 /// # Errors
 ///

@@ -10,7 +10,7 @@ use Rattle.codespan_base.specs.declared.term.config.DisplayStyle.{DisplayStyle}
 use Rattle.codespan_base.specs.declared.term.config.DisplayStyle.TheVariants.{Rich}
 use Rattle.codespan_base.specs.Diagnostics.{DiagnosticView, diagnostic_view, label_view}
 use Rattle.codespan_base.specs.FileModel.{FileDatabase}
-use Rattle.codespan_base.specs.ConfigEquality.{IsConfig}
+use Rattle.codespan_base.specs.ConfigEquality.{IsEqualConfig}
 use Rattle.codespan_base.specs.SimpleModel.{missing_file}
 use Rattle.codespan_base.specs.Streams.{Spelling, Stream, spelled}
 use Rattle.codespan_base.specs.WriterLaw.{Sink, is_known, with_written, are_known, extended}
@@ -19,7 +19,7 @@ use Rattle.codespan_laws.specs.RichLaws.{MeansLabels}
 use Rattle.codespan_laws.specs.StatedNames.{NamesAreStated}
 use Rattle.codespan_laws.proofs.StatedNames.{output_stated}
 use Rattle.codespan_picture.proofs.EqualConfigs.{rendered_equal}
-use Rattle.codespan_picture.specs.Picture.{heading_of, label_of, labels_of, notes_of, rendered, starts}
+use Rattle.codespan_picture.specs.Picture.{header_text_of, label_of, labels_of, notes_of, rendered, starts}
 use Rattle.codespan_picture.specs.Snippets.{InFile, labeled_file_models}
 use Rattle.codespan_picture.specs.StatedPicture.{stated_locus}
 use Rattle.codespan_views.specs.WriteCalls.{WritesStyled}
@@ -78,30 +78,30 @@ labels_equal (x ∷ xs) = ap (λ rest. label_of x ∷ rest) (labels_equal xs)
 -- what is rendered of a diagnostic, by its labels
 abbrev rendered_of : DisplayStyle → Config → FileDatabase ℕ → Diagnostic ℕ → List (InFile ℕ) → Stream
 rendered_of style config files d xs =
-    rendered style config config d.severity (heading_of d)
+    rendered style config config d.severity (header_text_of d)
     (map stated_locus (starts files.same files.file xs style))
     (labeled_file_models files.same files.file xs) (notes_of d)
 
 -- the output of a configuration, of files and of a diagnostic is that of what they stand for
-pub output_is : (table config : Config) (ss ts : List SourceView) (d : Diagnostic ℕ)
-    (v : DiagnosticView ℕ) → IsConfig table config → ss ≡ ts → diagnostic_view d ≡ v
-    → stream_of_output config ss d ≡ output_in table (database_of ts) v
-output_is table config ss ts d v alike same viewed =
+pub output_is : (expected config : Config) (ss ts : List SourceView) (d : Diagnostic ℕ)
+    (v : DiagnosticView ℕ) → IsEqualConfig expected config → ss ≡ ts → diagnostic_view d ≡ v
+    → stream_of_output config ss d ≡ output_in expected (database_of ts) v
+output_is expected config ss ts d v alike same viewed =
     let files = database_of ss in
     ap (λ (style : DisplayStyle). rendered_of style config files d (labels_of d))
     (ap (λ (c : Config). c.display_style) alike.others)
-    ∙ rendered_equal table config alike d.severity (heading_of d)
-    (map stated_locus (starts files.same files.file (labels_of d) table.display_style))
-    (labeled_file_models files.same files.file (labels_of d)) (notes_of d) table.display_style
-    ∙ ap (λ xs. rendered_of table.display_style table files d xs) (labels_equal d.labels.items)
-    ∙ ap (λ ss. output_in table (database_of ss) (diagnostic_view d)) same
-    ∙ ap (λ v. output_in table (database_of ts) v) viewed
+    ∙ rendered_equal expected config alike d.severity (header_text_of d)
+    (map stated_locus (starts files.same files.file (labels_of d) expected.display_style))
+    (labeled_file_models files.same files.file (labels_of d)) (notes_of d) expected.display_style
+    ∙ ap (λ xs. rendered_of expected.display_style expected files d xs) (labels_equal d.labels.items)
+    ∙ ap (λ ss. output_in expected (database_of ss) (diagnostic_view d)) same
+    ∙ ap (λ v. output_in expected (database_of ts) v) viewed
 
 -- the bytes that are rendered are those that the structs describe
 pub bytes_are : (spelling : Spelling) (config : Config) (ss : List SourceView) (d : Diagnostic ℕ)
     (files : List RawFile) (diagnostic : RawDiagnostic) (raw : RawConfig) (bytes : List ℕ)
     → bytes ≡ spelled spelling (stream_of_output config ss d) → spelling ≡ spelling_of raw
-    → IsConfig (config_of raw) config → ss ≡ map source_in files
+    → IsEqualConfig (config_of raw) config → ss ≡ map source_in files
     → diagnostic_view d ≡ view_of files diagnostic → bytes ≡ output_bytes files diagnostic raw
 unfolding output_bytes
 bytes_are spelling config ss d files diagnostic raw bytes are spells alike same viewed =
@@ -115,7 +115,7 @@ pub result_is : (spelling : Spelling) (config : Config) (ss : List SourceView) (
     (files : List RawFile) (diagnostic : RawDiagnostic) (raw : RawConfig)
     (r : Result (Vec ℕ Global) OutOfMemory)
     → IfOk r (λ output. output.items ≡ spelled spelling (stream_of_output config ss d))
-    → spelling ≡ spelling_of raw → IsConfig (config_of raw) config → ss ≡ map source_in files
+    → spelling ≡ spelling_of raw → IsEqualConfig (config_of raw) config → ss ≡ map source_in files
     → diagnostic_view d ≡ view_of files diagnostic
     → IfOk r (λ output. output.items ≡ output_bytes files diagnostic raw)
 result_is spelling config ss d files diagnostic raw (Ok output) are spells alike same viewed =
@@ -126,7 +126,7 @@ result_is spelling config ss d files diagnostic raw (Err e) are spells alike sam
 pub means_is : {T : Type 0} (config : Config) (ss : List SourceView) (d : Diagnostic ℕ)
     (files : List RawFile) (diagnostic : RawDiagnostic) (raw : RawConfig) (r : Result T OutOfMemory)
     → IfOk r (λ _. config.display_style ≡ Rich → MeansLabels config config (database_of ss) d)
-    → IsConfig (config_of raw) config → ss ≡ map source_in files
+    → IsEqualConfig (config_of raw) config → ss ≡ map source_in files
     → diagnostic_view d ≡ view_of files diagnostic
     → IfOk r (λ _. raw.display_style ≡ 0 → Means files diagnostic raw)
 means_is config ss d files diagnostic raw (Ok output) means alike same viewed = λ zero_style.

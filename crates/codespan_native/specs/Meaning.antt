@@ -2,7 +2,7 @@
 use Rattle.std.specs.Prelude.{◌≡◌, ℕ, List, map}
 use Rattle.codespan_base.specs.Diagnostics.{DiagnosticView, LabelView, diagnostic_view}
 use Rattle.codespan_base.specs.FileModel.{FileDatabase}
-use Rattle.codespan_base.specs.ConfigEquality.{IsConfig}
+use Rattle.codespan_base.specs.ConfigEquality.{IsEqualConfig}
 use Rattle.codespan_base.specs.Streams.{Stream, bytes, spelled}
 use Rattle.codespan_base.specs.declared.diagnostic.Diagnostic.{Diagnostic}
 use Rattle.codespan_base.specs.declared.term.config.Config.{Config}
@@ -18,8 +18,8 @@ use Rattle.codespan_structs.specs.declared.raw.RawFile.{RawFile}
 use Rattle.codespan_structs.specs.Converted.{view_of, config_of, spelling_of, files_of}
 
 -- the code and the message, as outputs read them
-abbrev pub heading_in : DiagnosticView ℕ → HeaderText
-heading_in d = record { code = d.code; message = d.message }
+abbrev pub header_text_in : DiagnosticView ℕ → HeaderText
+header_text_in d = record { code = d.code; message = d.message }
 
 -- a label, as outputs read it
 abbrev pub label_in : LabelView ℕ → InFile ℕ
@@ -40,7 +40,7 @@ labels_in d = map label_in d.labels
 -- the output of a diagnostic over files, with the names that the files have
 abbrev pub output_in : Config → FileDatabase ℕ → DiagnosticView ℕ → Stream
 output_in config files d =
-    rendered config.display_style config config d.severity (heading_in d)
+    rendered config.display_style config config d.severity (header_text_in d)
     (map stated_locus (starts files.same files.file (labels_in d) config.display_style))
     (labeled_file_models files.same files.file (labels_in d)) d.notes
 
@@ -56,7 +56,7 @@ pub record Means (files : List RawFile) (diagnostic : RawDiagnostic) (config : R
   pub d : Diagnostic ℕ
   pub c : Config
   pub is_diagnostic : diagnostic_view d ≡ view_of files diagnostic
-  pub is_config : IsConfig (config_of config) c
+  pub is_config : IsEqualConfig (config_of config) c
   pub means : MeansLabels c c (files_of files) d
 
 -- no lookup of an output of the structs fails: whatever the configuration is, and whichever

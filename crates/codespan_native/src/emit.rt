@@ -16,12 +16,17 @@ use codespan_structs::validate::first_invalid;
 use std::alloc::Global;
 
 /// Renders a diagnostic over files into `out`, and returns a status, a constant of
-/// [`codespan_structs::status`].
+/// [`codespan_structs::status`]:
 ///
-/// The arguments are looked at first, in the order of their numbers. Where one is invalid nothing
-/// is rendered, and `detail` names the first such; otherwise it names none. Where the output fits
-/// it is the first `written` bytes of `out`; otherwise `out` is unchanged. If it is too small,
-/// `written` is the length of the output.
+/// - `OK`: the first `written` bytes of `out` are the output, and the rest of `out` is unchanged.
+/// - `TOO_SMALL`: `out` is too small for the output, whose length in bytes is `written`.
+/// - `OUT_OF_MEMORY`: an allocation failed.
+/// - `FILE_MISSING`: the first invalid argument is the file of a label.
+/// - `INVALID`: the first invalid argument is another one.
+///
+/// With any status but `OK`, `out` is unchanged; with the last three, `written` is 0. The arguments
+/// are checked before anything is allocated, in the order of their numbers. With the last two,
+/// `detail` names the first invalid one, with the others none.
 pub fn emit(
     alloc: Global,
     files: &[RawFile<'_>],

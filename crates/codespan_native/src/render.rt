@@ -6,7 +6,7 @@ ghost use Rattle.codespan_base.specs.WriterLaw.{is_known, with_written};
 ghost use Rattle.codespan_base.specs.declared.term.config.DisplayStyle.TheVariants.{Rich};
 ghost use Rattle.codespan_laws.specs.RichLaws.{MeansLabels};
 ghost use Rattle.codespan_structs.specs.StyleMarkBytes.{style_mark_spelling};
-ghost use Rattle.codespan_structs.specs.Converted.{ansi_spelling};
+ghost use Rattle.codespan_base.specs.StyleTables.{ansi_spelling};
 ghost use Rattle.codespan_structs.specs.SourceModel.{sources_of};
 ghost use Rattle.codespan_structs.specs.SourceTexts.{database_of};
 ghost use Rattle.codespan_structs.specs.Spellings.{spelling_by_kind};
@@ -87,7 +87,7 @@ fn render_ansi(
     Ok(writer.into_inner().into_inner())
 }
 
-/// Appends the output with its style marks in band.
+/// Appends the output with its style marks in band, each as the byte 255 and its number.
 fn render_style_marks(
     buffer: Vec<u8>,
     config: &Config<'_>,

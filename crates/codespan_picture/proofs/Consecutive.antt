@@ -1,4 +1,5 @@
--- The characters of a line, one after another.
+-- For `pointers_are_cells` and the cached pointers of `codespan_renderer`: the characters of a
+-- line, one after another.
 use Rattle.std.proofs.Common.{◌≡◌, ℕ, ◌+◌, ◌<◌, ◌≤◌, Bool, false, List, [], ◌∷◌, filter, refl, arith}
 use Rattle.std.specs.Char.{len_utf8}
 use Rattle.std.proofs.lemmas.Str.{len_utf8_bounds}

@@ -1,4 +1,5 @@
--- Equal configurations render the same.
+-- For the clauses `value` of `codespan_native`, and for the outputs of `report_runs`: equal
+-- configurations render the same.
 use Rattle.std.proofs.Common.{◌≡◌, ℕ, List, [], ◌∷◌, ◌++◌, refl, ap, ◌∙◌}
 use Rattle.codespan_base.specs.declared.term.config.Config.{Config}
 use Rattle.codespan_base.specs.declared.term.config.chars.SnippetStart.{SnippetStart}
@@ -6,10 +7,10 @@ use Rattle.codespan_base.specs.declared.diagnostic.Severity.{Severity}
 use Rattle.codespan_base.specs.SnippetStarts.{start_text}
 use Rattle.codespan_base.specs.declared.term.config.DisplayStyle.{DisplayStyle}
 use Rattle.codespan_base.specs.declared.term.config.DisplayStyle.TheVariants.{Rich, Medium, Short}
-use Rattle.codespan_base.specs.ConfigEquality.{IsConfig}
+use Rattle.codespan_base.specs.ConfigEquality.{IsEqualConfig}
 use Rattle.codespan_base.specs.Streams.{bytes, style_mark, Reset, SourceBorder, space}
 use Rattle.codespan_picture.specs.Rows.{HeaderText, Locus, RowContext, Row, HeaderRow, SnippetStartRow, EmptyRow, BreakRow, SourceRow, CaretRow, PointerRow, HangingRow, UnderlineRow, FirstNoteRow, LaterNoteRow, FinalRow}
-use Rattle.codespan_picture.specs.RowParts.{gutter, locus}
+use Rattle.codespan_picture.specs.RowParts.{outer_gutter, locus}
 use Rattle.codespan_picture.specs.RowStreams.{stream_of, stream_of_rows}
 use Rattle.codespan_picture.specs.RowDefinitions.{row_definitions}
 use Rattle.codespan_picture.specs.Padding.{padding_of}
@@ -21,7 +22,7 @@ abbrev with_start : Config → SnippetStart → Config
 with_start config start = record config { chars = record config.chars { snippet_start = start } }
 
 -- what is equal so differs in no more than where that text lies
-is_with_start : (table config : Config) → IsConfig table config → config ≡ with_start table config.chars.snippet_start
+is_with_start : (table config : Config) → IsEqualConfig table config → config ≡ with_start table config.chars.snippet_start
 is_with_start table config equal = equal.others ∙ ap (λ chars. record table { chars = chars }) equal.chars.others
 
 module _ (config : Config) (severity : Severity) (padding : ℕ) (start other : SnippetStart) (same : start_text start ≡ start_text other) where
@@ -34,7 +35,7 @@ module _ (config : Config) (severity : Severity) (padding : ℕ) (start other : 
   unfolding row_definitions
   row_equal (HeaderRow at heading) = refl
   row_equal (SnippetStartRow at) =
-      ap (λ text. gutter padding ++ style_mark SourceBorder ++ bytes text ++ style_mark Reset ++ space ++ locus at) same
+      ap (λ text. outer_gutter padding ++ style_mark SourceBorder ++ bytes text ++ style_mark Reset ++ space ++ locus at) same
   row_equal (EmptyRow lanes) = refl
   row_equal (BreakRow lanes) = refl
   row_equal (SourceRow line) = refl
@@ -52,7 +53,7 @@ module _ (config : Config) (severity : Severity) (padding : ℕ) (start other : 
   rows_equal (row ∷ rows) = cc (row_equal row, rows_equal rows)
 
 -- what is rendered is the same, in each style
-module _ (table config : Config) (equal : IsConfig table config) (severity : Severity) (heading : HeaderText) (loci : List Locus) (ss : List LabeledFileModel) (notes : List (List ℕ)) where
+module _ (table config : Config) (equal : IsEqualConfig table config) (severity : Severity) (heading : HeaderText) (loci : List Locus) (ss : List LabeledFileModel) (notes : List (List ℕ)) where
   -- rows of this padding width are the same
   all_equal : (padding : ℕ) (rows : List Row) → stream_of_rows (context_of config severity padding) rows ≡ stream_of_rows (context_of table severity padding) rows
   all_equal padding rows =

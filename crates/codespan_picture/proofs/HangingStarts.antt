@@ -1,4 +1,5 @@
--- Where labels that hang start: they are labels of the line.
+-- For `pointers_are_cells` and the pointer rows: where labels that hang start: they are labels of
+-- the line.
 use Rattle.std.proofs.Common.{◌≡◌, ℕ, ◌≤◌, max, Bool, true, false, ◌||◌, cond, List, [], ◌∷◌, ◌++◌, filter, fold, Option, Some, None, refl, sym, ap, subst, ◌∙◌, arith, ⊎_elim}
 use Rattle.std.specs.Prelude.{if◌then◌else◌}
 use Rattle.std.specs.List.{list_any}

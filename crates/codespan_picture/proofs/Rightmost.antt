@@ -1,4 +1,5 @@
--- The last label with the greatest end, with the labels around it.
+-- For `each_message_trails_or_hangs`: the last label with the greatest end, with the labels around
+-- it.
 use Rattle.std.proofs.Common.{◌≡◌, ◌≢◌, subst, ℕ, ◌+◌, max, Bool, true, false, not, ◌&&◌, ◌==◌, List, [], ◌∷◌, ◌++◌, length, filter, fold, Option, Some, None, if◌then◌else◌, cond, refl, ap, ◌∙◌, arith}
 use Rattle.std.specs.List.{enumerate_from, last_or, remove}
 use Rattle.std.specs.Option.{option_and_then, option_map, option_map_or}

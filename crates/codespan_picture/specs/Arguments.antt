@@ -46,7 +46,7 @@ multi_label_view (rust_variant.Bottom end message) = Bottom end (bytes message.n
 abbrev pub lane_mark_view : LaneMarkTuple → LaneMark
 lane_mark_view m = record { lane = m.0; style = m.1; part = multi_label_view m.2 }
 
--- the lane marks in a row's lanes
+-- how many lanes a row has, and the lane marks in them
 abbrev pub lanes_of : ℕ → List LaneMarkTuple → Lanes
 lanes_of count ms = record { count = count; marks = map lane_mark_view ms }
 

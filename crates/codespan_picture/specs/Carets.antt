@@ -7,7 +7,7 @@ use Rattle.codespan_base.specs.Labels.{LabelModel, is_primary}
 use Rattle.codespan_picture.specs.declared.char_metrics.Metrics.{Metrics}
 use Rattle.codespan_picture.specs.CharMetrics.{width_of}
 
--- the label has a byte from `start` to `end`
+-- the label has a byte from `start` to before `end`
 abbrev pub is_overlapping : LabelModel → ℕ → ℕ → Bool
 is_overlapping x start end = nat_lt (max x.start start) (min x.end end)
 

@@ -14,8 +14,8 @@ is_line_end b = (b == 10) || (b == 13) || (b == 0)
 abbrev pub text_without_line_end : List ℕ → List ℕ
 text_without_line_end text = take (length text - suffix_len is_line_end text) text
 
--- the cells of a character at a column: of a tab those up to its next stop, none where the tab
--- width is 0; of any other as many as `unicode_width` returns, none where it returns none
+-- the cells of a character at a column: of a tab those up to its next stop, none at tab width 0; of
+-- any other what `unicode_width` returns (`false`: not the CJK width), none where it returns none
 abbrev pub width_at : ℕ → ℕ → ℕ → ℕ
 width_at tab column c =
     if c == 9 then (if tab == 0 then 0 else tab - column % tab)

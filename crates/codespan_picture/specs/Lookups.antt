@@ -24,8 +24,8 @@ is_around config s e l =
     (nat_lt l s && nat_le s (l + config.before_label_lines))
     || (nat_lt e l && nat_le l (e + config.after_label_lines))
 
--- those of a filled line, with its file's snippet: its range, and its number where that is not
--- known before the header
+-- the lookups of a filled line, made with its file's snippet: its range, and its number where that
+-- is not known before the header
 abbrev pub filled_line_lookups : Layout → ℕ → List Lookup
 filled_line_lookups Classic l = line_lookups l
 filled_line_lookups Unbroken l = LineRange l ∷ []
@@ -35,8 +35,8 @@ abbrev pub ends_context : Option Error → Bool
 ends_context (Some (LineTooLarge given max)) = true
 ends_context _ = false
 
--- the line past the file's last one, where the context reaches it and the lookup of its range does
--- not fail with `LineTooLarge`
+-- the range of the line past the file's last one, where the context reaches it; a lookup of it that
+-- fails with `LineTooLarge` is made too, and is not listed, since it is no error of the output
 abbrev pub lookup_past_end : Config → FileModel → (Lookup → Option Error) → LabelModel → List Lookup
 lookup_past_end config f failure x =
     if nat_le (line_count f) (last_line f x + config.after_label_lines)
@@ -51,8 +51,8 @@ is_looked_up config f x l = spans f x l || is_around config (first_line f x) (la
 abbrev pub looked_up_lines : Config → FileModel → LabelModel → List ℕ
 looked_up_lines config f x = filter (is_looked_up config f x) (range_with_len 0 (line_count f))
 
--- those of one label: the lines of its ends, then the ranges and numbers of its lines and those
--- around them
+-- the lookups of one label: the line indices of its ends, then the ranges and numbers of its lines
+-- and of those around them
 abbrev pub label_line_lookups : Config → FileModel → (Lookup → Option Error) → LabelModel
     → List Lookup
 label_line_lookups config f failure x =

@@ -9,8 +9,8 @@ use Rattle.codespan_picture.specs.Lines.{drawn_lines}
 use Rattle.codespan_picture.specs.Snippets.{LabeledFileModel}
 
 -- how many digits a number has; 0 has one
-abbrev pub digit_count : ℕ → ℕ
-digit_count n = length (decimal n)
+abbrev pub count_digits : ℕ → ℕ
+count_digits n = length (decimal n)
 
 -- the line is an end of the label or is between its ends
 abbrev pub spans : FileModel → LabelModel → ℕ → Bool
@@ -32,7 +32,7 @@ numbered_lines config s =
 
 -- the digits of these lines' numbers
 abbrev pub digits_of : LabeledFileModel → List ℕ → List ℕ
-digits_of s ls = map (λ l. digit_count (s.file.number l)) ls
+digits_of s ls = map (λ l. count_digits (s.file.number l)) ls
 
 -- the greatest digit count among them, 0 where there is none
 abbrev pub padding_of : Config → List LabeledFileModel → ℕ

@@ -34,8 +34,11 @@ abbrev pub files_of : {Id : Type 0} → FileDatabase Id → Diagnostic Id → Li
 files_of files d = labeled_file_models files.same files.file (labels_of d)
 
 -- its code and message
-abbrev pub heading_of : {Id : Type 0} → Diagnostic Id → HeaderText
-heading_of d = record { code = option_map string_bytes d.code; message = string_bytes d.message }
+abbrev pub header_text_of : {Id : Type 0} → Diagnostic Id → HeaderText
+header_text_of d = record {
+  code = option_map string_bytes d.code;
+  message = string_bytes d.message;
+}
 
 -- its notes
 abbrev pub notes_of : {Id : Type 0} → Diagnostic Id → List (List ℕ)
@@ -58,8 +61,8 @@ abbrev pub label_start : {Id : Type 0} → (Id → FileModel) → InFile Id → 
 label_start file x = (file x.id, x.label.start)
 
 module _ {Id : Type 0} (same : Id → Id → Bool) (file : Id → FileModel) (xs : List (InFile Id)) where
-  -- what has a locus: in rich style each file's snippet, in medium and short style each primary
-  -- label
+  -- the starts that have a locus: in rich style that of each file's snippet, in medium and short
+  -- style that of each primary label
   abbrev pub starts : DisplayStyle → List (FileModel × ℕ)
   starts Rich = map snippet_start (labeled_file_models same file xs)
   starts _ = map (label_start file) (primary_of xs)
@@ -75,7 +78,7 @@ module _ {Id : Type 0} (files : FileDatabase Id) (d : Diagnostic Id) (style : Di
 
 -- ---- the output
 
--- what the rows of an output share
+-- what all rows of an output are rendered by
 abbrev pub context_of : Config → Severity → ℕ → RowContext
 context_of config severity padding = record {
   chars = config.chars;
@@ -102,4 +105,5 @@ module _ {Id : Type 0} (style : DisplayStyle) (renderer view : Config)
   -- the output of a diagnostic with these loci
   abbrev pub output : List Locus → Stream
   output loci =
-      rendered style renderer view d.severity (heading_of d) loci (files_of files d) (notes_of d)
+      rendered style renderer view d.severity (header_text_of d) loci (files_of files d)
+      (notes_of d)

@@ -30,22 +30,22 @@ locus p =
     ++ bytes (decimal p.location.column_number)
 
 -- spaces instead of a number
-unfoldable pub gutter : ℕ → Stream
-gutter padding = spaces (padding + 1)
+unfoldable pub outer_gutter : ℕ → Stream
+outer_gutter padding = spaces (padding + 1)
 
 -- a number, right-aligned
-unfoldable pub numbered_gutter : ℕ → ℕ → Stream
-numbered_gutter padding n =
+unfoldable pub outer_gutter_number : ℕ → ℕ → Stream
+outer_gutter_number padding n =
     style_mark LineNumber ++ spaces (padding - length (decimal n)) ++ bytes (decimal n)
     ++ style_mark Reset ++ space
 
 -- the bar left of the source
-unfoldable pub border : Chars → Stream
-border chars = style_mark SourceBorder ++ glyph chars.source_border_left ++ style_mark Reset
+unfoldable pub border_left : Chars → Stream
+border_left chars = style_mark SourceBorder ++ glyph chars.source_border_left ++ style_mark Reset
 
 -- the bar where lines are left out
-unfoldable pub break_border : Chars → Stream
-break_border chars =
+unfoldable pub border_left_break : Chars → Stream
+border_left_break chars =
     style_mark SourceBorder ++ glyph chars.source_border_left_break ++ style_mark Reset
 
 -- a style mark where a style begins, and a reset where it ends
@@ -72,21 +72,23 @@ label_message severity style message =
 -- ---- the lanes of a row
 
 -- one lane, from the lane mark in it
-unfoldable pub lane_of : RowContext → Option LaneMark → (MultiLabel → Shape) → Option LaneMark
-    → Stream
-lane_of context crossing shape lane_mark =
+unfoldable pub inner_gutter_column : RowContext → Option LaneMark → (MultiLabel → Shape)
+    → Option LaneMark → Stream
+inner_gutter_column context crossing shape lane_mark =
     lane_cells context.severity context.chars crossing (style_of_lane_mark lane_mark)
     (shape_of shape lane_mark)
 
 -- the lanes from left to right
 abbrev pub lanes_in : RowContext → (ℕ → Option LaneMark) → (ℕ → MultiLabel → Shape) → Lanes → Stream
 lanes_in context crossing shape lanes =
-    flat_map (λ lane. lane_of context (crossing lane) (shape lane) (lane_mark_in lanes.marks lane))
+    flat_map
+    (λ lane.
+    inner_gutter_column context (crossing lane) (shape lane) (lane_mark_in lanes.marks lane))
     (range_with_len 0 lanes.count)
 
 -- the lanes of a kind of row, of a line whose text begins with so many bytes of white space
-unfoldable pub row_lanes : RowContext → ℕ → LaneRow → Lanes → Stream
-row_lanes context leading row lanes =
+unfoldable pub inner_gutter : RowContext → ℕ → LaneRow → Lanes → Stream
+inner_gutter context leading row lanes =
     lanes_in context (row_crossing row) (row_shape context.layout leading row) lanes
 
 -- ---- the source text and the carets under it
@@ -103,7 +105,7 @@ line_metrics_to_end context line = char_metrics_to_end context.tab_width line.te
 abbrev pub leading_of : Line → ℕ
 leading_of line = leading_whitespace line.text
 
--- a multi-line label takes in the character on this line
+-- a multi-line label covers the character on this line
 abbrev pub part_covers : Metrics → MultiLabel → Bool
 part_covers c (Top start) = nat_le start c.byte_index
 part_covers c Left = true

@@ -7,7 +7,7 @@ use Rattle.codespan_base.specs.Labels.{LabelModel, LaneMark}
 use Rattle.codespan_base.specs.SnippetStarts.{start_text}
 use Rattle.codespan_picture.specs.Lanes.{Source, Plain, Below, Underline}
 use Rattle.codespan_picture.specs.Rows.{Locus, HeaderText, RowContext, Lanes, Line, Row, HeaderRow, SnippetStartRow, EmptyRow, BreakRow, SourceRow, CaretRow, PointerRow, HangingRow, UnderlineRow, FirstNoteRow, LaterNoteRow, FinalRow, trailing}
-use Rattle.codespan_picture.specs.RowParts.{severity_name, locus, gutter, numbered_gutter, border, break_border, label_message, row_lanes, leading_of, line_metrics, line_metrics_to_end, colored_text, carets, trailing_message, pointers, metrics_before, underline}
+use Rattle.codespan_picture.specs.RowParts.{severity_name, locus, outer_gutter, outer_gutter_number, border_left, border_left_break, label_message, inner_gutter, leading_of, line_metrics, line_metrics_to_end, colored_text, carets, trailing_message, pointers, metrics_before, underline}
 
 -- ---- rows, before their newlines
 
@@ -32,31 +32,32 @@ header_row severity at heading =
 -- the start of a file's snippet
 unfoldable pub snippet_start_row : Chars → ℕ → Locus → Stream
 snippet_start_row chars padding at =
-    gutter padding ++ style_mark SourceBorder ++ bytes (start_text chars.snippet_start)
+    outer_gutter padding ++ style_mark SourceBorder ++ bytes (start_text chars.snippet_start)
     ++ style_mark Reset ++ space ++ locus at
 
 -- an empty row of a snippet
 unfoldable pub empty_row : RowContext → Lanes → Stream
 empty_row context lanes =
-    gutter context.padding ++ border context.chars ++ row_lanes context 0 Plain lanes
+    outer_gutter context.padding ++ border_left context.chars ++ inner_gutter context 0 Plain lanes
 
 -- the row of a break
 unfoldable pub break_row : RowContext → Lanes → Stream
 break_row context lanes =
-    gutter context.padding ++ break_border context.chars ++ row_lanes context 0 Plain lanes
+    outer_gutter context.padding ++ border_left_break context.chars
+    ++ inner_gutter context 0 Plain lanes
 
 -- a line of the source
 unfoldable pub source_row : RowContext → Line → Stream
 source_row context line =
-    numbered_gutter context.padding line.number ++ border context.chars
-    ++ row_lanes context (leading_of line) Source line.lanes ++ space
+    outer_gutter_number context.padding line.number ++ border_left context.chars
+    ++ inner_gutter context (leading_of line) Source line.lanes ++ space
     ++ colored_text context line
 
--- what each row under a line begins with
+-- what the caret, pointer and hanging rows of a line begin with
 unfoldable pub row_start : RowContext → Line → Stream
 row_start context line =
-    gutter context.padding ++ border context.chars
-    ++ row_lanes context (leading_of line) Below line.lanes ++ space
+    outer_gutter context.padding ++ border_left context.chars
+    ++ inner_gutter context (leading_of line) Below line.lanes ++ space
 
 -- the carets under a line
 unfoldable pub caret_row : RowContext → Line → Stream
@@ -79,20 +80,20 @@ hanging_row context line x =
 -- the underline of a multi-line label's start or end
 unfoldable pub underline_row : RowContext → Line → LaneMark → Stream
 underline_row context line m =
-    gutter context.padding ++ border context.chars
-    ++ row_lanes context (leading_of line) (Underline m) line.lanes
+    outer_gutter context.padding ++ border_left context.chars
+    ++ inner_gutter context (leading_of line) (Underline m) line.lanes
     ++ style_mark (LabelMark context.severity m.style)
     ++ underline context.chars m.style (line_metrics context line) m.part ++ style_mark Reset
 
 -- the first row of a note
 unfoldable pub first_note_row : Chars → ℕ → List ℕ → Stream
 first_note_row chars padding piece =
-    gutter padding ++ style_mark NoteBullet ++ glyph chars.note_bullet ++ style_mark Reset ++ space
-    ++ bytes piece
+    outer_gutter padding ++ style_mark NoteBullet ++ glyph chars.note_bullet ++ style_mark Reset
+    ++ space ++ bytes piece
 
 -- a later row of a note
 unfoldable pub later_note_row : ℕ → List ℕ → Stream
-later_note_row padding piece = gutter padding ++ space ++ space ++ bytes piece
+later_note_row padding piece = outer_gutter padding ++ space ++ space ++ bytes piece
 
 -- the stream of a row
 abbrev pub stream_of : RowContext → Row → Stream

@@ -13,12 +13,12 @@ pub record Locus : Type 0 where
   pub name : List ℕ
   pub location : Location
 
--- what a header has besides the severity
+-- the code and the message of a header
 pub record HeaderText : Type 0 where
   pub code : Option (List ℕ)
   pub message : List ℕ
 
--- what all rows of an output share
+-- what all rows of an output are rendered by
 pub record RowContext : Type 0 where
   pub chars : Chars
   pub tab_width : ℕ
@@ -26,7 +26,7 @@ pub record RowContext : Type 0 where
   pub severity : Severity
   pub padding : ℕ
 
--- the lane marks in a row's lanes
+-- how many lanes a row has, and the lane marks in them
 pub record Lanes : Type 0 where
   pub count : ℕ
   pub marks : List LaneMark

@@ -19,7 +19,7 @@ pub record InFile (Id : Type 0) : Type 0 where
   pub id : Id
   pub label : LabelModel
 
--- the labels of one file
+-- one file with its labels
 abbrev pub labeled_file_model : {Id : Type 0}
     → (Id → Id → Bool) → (Id → FileModel) → List (InFile Id) → Id → LabeledFileModel
 labeled_file_model {Id} same file labels id = record {

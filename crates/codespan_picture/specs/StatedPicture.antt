@@ -5,7 +5,7 @@ use Rattle.codespan_base.specs.FileModel.{FileDatabase, FileModel, name_text}
 use Rattle.codespan_base.specs.Streams.{Stream}
 use Rattle.codespan_picture.specs.Rows.{HeaderText, HeaderRow, Locus, Row}
 use Rattle.codespan_picture.specs.RowStreams.{stream_of_rows}
-use Rattle.codespan_picture.specs.Picture.{heading_of, labels_of, context_of, output, starts}
+use Rattle.codespan_picture.specs.Picture.{header_text_of, labels_of, context_of, output, starts}
 
 -- the locus of a byte of a file with the name that the file states, and with an empty name where it
 -- states none
@@ -30,4 +30,4 @@ headers heading loci = map (λ (locus : Locus). HeaderRow (Some locus) heading) 
 -- the stream of these headers alone
 abbrev pub headers_at : {Id : Type 0} → Config → Diagnostic Id → List Locus → Stream
 headers_at renderer d loci =
-    stream_of_rows (context_of renderer d.severity 0) (headers (heading_of d) loci)
+    stream_of_rows (context_of renderer d.severity 0) (headers (header_text_of d) loci)

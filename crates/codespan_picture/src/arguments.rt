@@ -19,8 +19,9 @@ pub struct Locus {
 
 /// A label inside one line: its style, its range and its message.
 ///
-/// The range is in bytes from the line's start, the end exclusive. One without a byte has no caret;
-/// the views make it one byte long, as the Rust crate does. An empty message is not rendered.
+/// The range is in bytes from the line's start, the end exclusive. A range without a byte has no
+/// caret; the views make it one byte long, as the Rust crate does. An empty message is not
+/// rendered.
 ///
 /// ```text
 /// 1 │ retries = many

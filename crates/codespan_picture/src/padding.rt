@@ -1,12 +1,12 @@
 //! The padding of line numbers.
 
 ghost use Rattle.std.specs.Prelude.{◌≡◌};
-ghost use Rattle.codespan_picture.specs.Padding.{digit_count};
+ghost use Rattle.codespan_picture.specs.Padding.{count_digits};
 
 /// Returns how many digits a number has in decimal; 0 has one.
 #[tactic(auto, using(crate::proofs::Digits::counting))]
 pub fn count_digits(number: usize) -> usize
-    ensures { result ≡ digit_count number }
+    ensures { result ≡ count_digits number }
 {
     let mut digits = 1;
     let mut rest = number;

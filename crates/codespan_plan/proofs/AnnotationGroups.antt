@@ -1,5 +1,6 @@
--- The lines_from over annotations in order takes the snippet lines of the lines that have
--- annotations, from the first on.
+-- `lines_from` makes of annotations in order the snippet lines of the lines that have annotations,
+-- from the first on: for the clause `added` of `push_lines` and the clause `planned` of
+-- `plan_output`.
 use Rattle.std.proofs.Common.{◌≡◌, ℕ, zero, suc, ◌+◌, ◌<◌, ◌≤◌, Bool, true, false, cond, ◌==◌, nat_lt, if◌then◌else◌, List, [], ◌∷◌, ◌++◌, take, drop, filter, Option, Some, None, ⊎_elim, refl, sym, ◌∙◌, ap, subst, arith}
 use Rattle.std.specs.List.{prefix_len, range_with_len, AllByRecursion}
 use Rattle.std.proofs.lemmas.Bool.{cases_Bool, eqb-true, eqb-false, eq-eqb, ltb-true, ltb-false, lt-ltb, le-ltb}
@@ -149,22 +150,22 @@ groups-by_line (suc n) a xs h low high =
     ap groups cut ∙ groups-append a g ys (all-on_line a xs) (all-above_line a xs)
     ∙ ap (λ (q : List Group). some_group a g q) (inner ∙ groups_on-same _ _ n (a + 1) (λ l q. filter-above (λ (e : Annotation). e.line) a l (omega arith) xs))
 
--- ---- the lines_from over groups of lines
+-- ---- `lines_from` over groups of lines
 
--- the snippet lines of these shown lines, where each line has these annotations and `was` is shown
--- before them
+-- the snippet lines of these shown lines, where each line has these annotations and `previous` is
+-- shown before them
 abbrev pub lines_after : (ℕ → List Annotation) → Option ℕ → List ℕ → List SnippetLine
 lines_after m = in_sequence (λ l. l) (gap_between (λ l. Filled l (m l) ∷ []) (λ d. Break (m d) ∷ [])) (λ l. Labeled l (m l) ∷ [])
 
--- these are the annotations of the line before line `a`, where that is not shown, and `was` is
+-- these are the annotations of the line before line `a`, where that is not shown, and `previous` is
 -- shown before it
 abbrev IsHidden : (ℕ → List Annotation) → Option ℕ → ℕ → List Annotation → Type 0
 IsHidden m None a hidden = Unit {0}
 IsHidden m (Some c) a hidden = (c < a) × (c + 1 ≡ a → hidden ≡ []) × (c + 2 ≡ a → hidden ≡ m (c + 1))
 
 -- what is before a shown line
-before-shown : (m : ℕ → List Annotation) (was : Option ℕ) (a : ℕ) (hidden : List Annotation) → IsHidden m was a hidden
-    → before_line (lines_between hidden (m a)) was a ≡ before_line (gap_between (λ l. Filled l (m l) ∷ []) (λ d. Break (m d) ∷ [])) was a
+before-shown : (m : ℕ → List Annotation) (previous : Option ℕ) (a : ℕ) (hidden : List Annotation) → IsHidden m previous a hidden
+    → before_line (lines_between hidden (m a)) previous a ≡ before_line (gap_between (λ l. Filled l (m l) ∷ []) (λ d. Break (m d) ∷ [])) previous a
 before-shown m None a hidden h = refl
 before-shown m (Some c) a hidden h = by_test (a == c + 2) (λ t. h.2 (sym (eqb-true a (c + 2) t)))
   where
@@ -174,7 +175,7 @@ before-shown m (Some c) a hidden h = by_test (a == c + 2) (λ t. h.2 (sym (eqb-t
     by_test false same = refl
 
 -- the next line's are these, where they are its own if the one before has none
-hidden-next : (m : ℕ → List Annotation) (was : Option ℕ) (a : ℕ) (hidden next : List Annotation) → IsHidden m was a hidden → (hidden ≡ [] → next ≡ m a) → IsHidden m was (a + 1) next
+hidden-next : (m : ℕ → List Annotation) (previous : Option ℕ) (a : ℕ) (hidden next : List Annotation) → IsHidden m previous a hidden → (hidden ≡ [] → next ≡ m a) → IsHidden m previous (a + 1) next
 hidden-next m None a hidden next h own = tt
 hidden-next m (Some c) a hidden next h own =
     let low : c < a = h.0 in (
@@ -188,12 +189,12 @@ hidden-none : (m : ℕ → List Annotation) (a : ℕ) → IsHidden m (Some a) (a
 hidden-none m a = (omega arith, λ q. refl, λ q. absurd (omega (arith, q)))
 
 module _ (m : ℕ → List Annotation) where
-  -- the lines_from takes the lines that are shown
-  lines_from-lines : (n a : ℕ) (was : Option ℕ) (hidden : List Annotation) → IsHidden m was a hidden
-      → lines_from was hidden (groups_on m (range_with_len a n)) ≡ lines_after m was (filter (λ l. are_shown (m l)) (range_with_len a n))
-  lines_from-lines zero a was hidden h = refl
-  lines_from-lines (suc n) a was hidden h =
-      by_entries (λ w es. lines_from-lines n (a + 1) w es) (m a) refl
+  -- `lines_from` makes snippet lines of the lines that are shown
+  lines_from-lines : (n a : ℕ) (previous : Option ℕ) (hidden : List Annotation) → IsHidden m previous a hidden
+      → lines_from previous hidden (groups_on m (range_with_len a n)) ≡ lines_after m previous (filter (λ l. are_shown (m l)) (range_with_len a n))
+  lines_from-lines zero a previous hidden h = refl
+  lines_from-lines (suc n) a previous hidden h =
+      by_annotations (λ w es. lines_from-lines n (a + 1) w es) (m a) refl
     where
       gs : List Group
       gs = groups_on m (range_with_len (a + 1) n)
@@ -201,18 +202,18 @@ module _ (m : ℕ → List Annotation) where
       ds : List ℕ
       ds = filter (λ l. are_shown (m l)) (range_with_len (a + 1) n)
 
-      by_entries : ((w : Option ℕ) (es : List Annotation) → IsHidden m w (a + 1) es
+      by_annotations : ((w : Option ℕ) (es : List Annotation) → IsHidden m w (a + 1) es
           → lines_from w es gs ≡ lines_after m w ds) → (es : List Annotation) → m a ≡ es
-          → lines_from was hidden (some_group a es gs)
-          ≡ lines_after m was (cond (are_shown es) (a ∷ ds) ds)
-      by_entries rest [] e = rest was hidden (hidden-next m was a hidden hidden h (λ none. none ∙ sym e))
-      by_entries rest (x ∷ xs) e = by_test (shows_line x)
+          → lines_from previous hidden (some_group a es gs)
+          ≡ lines_after m previous (cond (are_shown es) (a ∷ ds) ds)
+      by_annotations rest [] e = rest previous hidden (hidden-next m previous a hidden hidden h (λ none. none ∙ sym e))
+      by_annotations rest (x ∷ xs) e = by_test (shows_line x)
         where
-          by_test : (b : Bool) → cond b (lines_to was hidden a (x ∷ xs) ++ lines_from (Some a) [] gs) (lines_from was (x ∷ xs) gs) ≡ lines_after m was (cond b (a ∷ ds) ds)
+          by_test : (b : Bool) → cond b (lines_to previous hidden a (x ∷ xs) ++ lines_from (Some a) [] gs) (lines_from previous (x ∷ xs) gs) ≡ lines_after m previous (cond b (a ∷ ds) ds)
           by_test true =
-              ap (λ (es : List Annotation). lines_to was hidden a es ++ lines_from (Some a) [] gs) (sym e)
-              ∙ (λ i. (before-shown m was a hidden h i ++ Labeled a (m a) ∷ []) ++ rest (Some a) [] (hidden-none m a) i)
-          by_test false = rest was (x ∷ xs) (hidden-next m was a hidden (x ∷ xs) h (λ none. sym e))
+              ap (λ (es : List Annotation). lines_to previous hidden a es ++ lines_from (Some a) [] gs) (sym e)
+              ∙ (λ i. (before-shown m previous a hidden h i ++ Labeled a (m a) ∷ []) ++ rest (Some a) [] (hidden-none m a) i)
+          by_test false = rest previous (x ∷ xs) (hidden-next m previous a hidden (x ∷ xs) h (λ none. sym e))
 
 -- the snippet lines of annotations whose lines do not fall, and are all below n, are those of the
 -- lines that are shown

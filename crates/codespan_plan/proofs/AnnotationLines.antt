@@ -1,4 +1,4 @@
--- What the annotations of all labels say of one line of one file.
+-- The annotations of all labels on one line of one file, for the clause `planned` of `plan_output`.
 use Rattle.std.proofs.Common.{◌≡◌, ℕ, ◌+◌, ◌<◌, ◌≤◌, Bool, true, false, not, cond, if◌then◌else◌, ◌==◌, nat_lt, ◌&&◌, ◌||◌, List, [], ◌∷◌, ◌++◌, length, map, filter, Option, Some, None, ⊎_elim, refl, sym, ◌∙◌, ap, subst, arith, length-append}
 use Rattle.std.specs.Option.{option_map}
 use Rattle.std.specs.List.{cons_option, list_any, AllByRecursion}
@@ -17,11 +17,11 @@ use Rattle.codespan_picture.specs.Lines.{shows}
 use Rattle.codespan_annotations.specs.FileIndices.{index_of_file}
 use Rattle.codespan_collect.specs.IndexedLabels.{indices_after, annotations_after}
 use Rattle.codespan_picture.specs.Snippets.{InFile}
-use Rattle.codespan_annotations.specs.LabeledFiles.{lanes_in}
+use Rattle.codespan_annotations.specs.LabeledFiles.{lane_count_of}
 use Rattle.codespan_plan.specs.SnippetLines.{single_labels_in}
 use Rattle.codespan_annotations.proofs.AnnotationOrder.{lane_mark_annotation, index_below}
-use Rattle.codespan_collect.proofs.LabelAnnotations.{is_kind, all-of_file, all-below, annotations-line_lookups, marks-line_lookups, single_labels-line_lookups, any-line_lookups}
-use Rattle.codespan_collect.proofs.LabelIndexing.{lanes_in-more, label_lanes}
+use Rattle.codespan_collect.proofs.LabelAnnotations.{is_kind, all-of_file, all-below, annotations-on_line, marks-on_line, single_labels-on_line, shown-on_line}
+use Rattle.codespan_collect.proofs.LabelIndexing.{lane_count_of-more, label_lanes}
 use Rattle.codespan_plan.proofs.LaneMarks.{marks_from}
 use Rattle.codespan_laws.proofs.OrderSorts.{has_range}
 use Rattle.codespan_laws.proofs.RangeLemmas.{line_of-below}
@@ -72,27 +72,27 @@ module _ {Id : Type 0} {same : Id → Id → Bool} {file : Id → FileModel} {id
   module _ (l : ℕ) where
     -- where a label of the file is after these
     abbrev indices_at : List (InFile Id) → LabelIndices
-    indices_at before = record { file = f; index = length before; lane = lanes_in same file before id }
+    indices_at before = record { file = f; index = length before; lane = lane_count_of same file before id }
 
     -- the annotations of a label on the line
     abbrev line_annotations_of : List (InFile Id) → InFile Id → List Annotation
     line_annotations_of before x = cond (same id x.id && nat_lt l (line_count own_file)) (line_annotations config own_file (indices_at before) x.label l) []
 
-    -- what labels after these say of the line
+    -- the annotations of labels after these on the line
     abbrev pub line_annotations_after : List (InFile Id) → List (InFile Id) → List Annotation
     line_annotations_after before [] = []
     line_annotations_after before (x ∷ xs) = line_annotations_of before x ++ line_annotations_after (before ++ x ∷ []) xs
 
     -- a label's annotations of the line of the file
-    one-annotation_if_any : (before : List (InFile Id)) (x : InFile Id)
+    one-line_annotations : (before : List (InFile Id)) (x : InFile Id)
         → filter (is_on_line l) (filter (is_of_file f) (annotations_of config (file x.id) (indices_after same file ids before x) x.label)) ≡ line_annotations_of before x
-    one-annotation_if_any before x =
+    one-line_annotations before x =
         ⊎_elim
         (λ (t : same id x.id ≡ true).
         let at : index_of_file same ids x.id ≡ f = eqb-true (index_of_file same ids x.id) f (here.index x.id ∙ t) in
         ap (filter (is_on_line l)) (filter-whole (is_of_file f) es (all-weaker (λ e. e.file ≡ index_of_file same ids x.id) (λ e. is_of_file f e ≡ true) (λ e h. eq-eqb e.file f (h ∙ at)) es of))
         ∙ (λ i. filter (is_on_line l) (annotations_of config (here.one_file x.id t i) (record { file = at i; index = length before; lane = here.lanes before x.id t i }) x.label))
-        ∙ annotations-line_lookups config own_file (indices_at before) x.label l
+        ∙ annotations-on_line config own_file (indices_at before) x.label l
         ∙ sym (ap (λ b. cond (b && nat_lt l (line_count own_file)) (line_annotations config own_file (indices_at before) x.label l) []) t))
         (λ (t : same id x.id ≡ false).
         ap (filter (is_on_line l)) (filter-nothing (is_of_file f) es (all-weaker (λ e. e.file ≡ index_of_file same ids x.id) (λ e. is_of_file f e ≡ false) (λ e h. ap (λ i. i == f) h ∙ here.index x.id ∙ t) es of))
@@ -106,15 +106,15 @@ module _ {Id : Type 0} {same : Id → Id → Bool} {file : Id → FileModel} {id
         of = all-of_file config (file x.id) (indices_after same file ids before x) x.label
 
     -- all annotations of the line of the file
-    pub all-annotation_if_any : (xs before : List (InFile Id)) → filter (is_on_line l) (filter (is_of_file f) (annotations_after same file config ids before xs)) ≡ line_annotations_after before xs
-    all-annotation_if_any [] before = refl
-    all-annotation_if_any (x ∷ xs) before =
+    pub all-line_annotations : (xs before : List (InFile Id)) → filter (is_on_line l) (filter (is_of_file f) (annotations_after same file config ids before xs)) ≡ line_annotations_after before xs
+    all-line_annotations [] before = refl
+    all-line_annotations (x ∷ xs) before =
         let es = annotations_of config (file x.id) (indices_after same file ids before x) x.label in
         let rest = annotations_after same file config ids (before ++ x ∷ []) xs in
         ap (filter (is_on_line l)) (filter-append (is_of_file f) es rest)
         ∙ filter-append (is_on_line l) (filter (is_of_file f) es) (filter (is_of_file f) rest)
-        ∙ ap (λ (r : List Annotation). r ++ filter (is_on_line l) (filter (is_of_file f) rest)) (one-annotation_if_any before x)
-        ∙ ap (λ (r : List Annotation). line_annotations_of before x ++ r) (all-annotation_if_any xs (before ++ x ∷ []))
+        ∙ ap (λ (r : List Annotation). r ++ filter (is_on_line l) (filter (is_of_file f) rest)) (one-line_annotations before x)
+        ∙ ap (λ (r : List Annotation). line_annotations_of before x ++ r) (all-line_annotations xs (before ++ x ∷ []))
 
     -- ---- labels inside the line
 
@@ -147,7 +147,7 @@ module _ {Id : Type 0} {same : Id → Id → Bool} {file : Id → FileModel} {id
         by_tests : (s t : Bool) → nat_lt l (line_count own_file) ≡ t
             → filter (is_kind 1) (cond (s && t) (line_annotations config own_file (indices_at before) x.label l) []) ≡ cond (s && on x.label) (single_label_at (length before) x.label ∷ []) []
         by_tests false t h = refl
-        by_tests true true h = single_labels-line_lookups config own_file (indices_at before) x.label l
+        by_tests true true h = single_labels-on_line config own_file (indices_at before) x.label l
         by_tests true false h = sym (ap (λ b. cond b (single_label_at (length before) x.label ∷ []) []) (on-outside x.label h))
 
     -- the annotations of all of them
@@ -215,9 +215,9 @@ module _ {Id : Type 0} {same : Id → Id → Bool} {file : Id → FileModel} {id
         by_test true rest = by_range (has_range start end (drawn_label own_file x.label)) refl rest
         by_test false rest = rest
 
-    -- ---- multi-line label marks
+    -- ---- lane marks
 
-    -- the label has no multi-line label mark on a line past the last
+    -- the label has no lane mark on a line past the last
     part-outside : (x : LabelModel) → nat_lt l (line_count own_file) ≡ false → part_on own_file l x ≡ None
     part-outside x h =
         let e = ends-below x in
@@ -233,13 +233,13 @@ module _ {Id : Type 0} {same : Id → Id → Bool} {file : Id → FileModel} {id
     abbrev multi_annotations_if : Bool → Option LaneMark → List Annotation
     multi_annotations_if a o = annotation_if_any f l (cond a None (option_map Multi o))
 
-    -- the multi-line label mark of a label that comes after these
+    -- the lane mark of a label that comes after these
     one-lane_mark : (before : List (InFile Id)) (x : InFile Id)
-        → filter (is_kind 2) (line_annotations_of before x) ≡ cond (same id x.id) (multi_annotations_if (is_single own_file x.label) (lane_mark_of (lanes_in same file before id) x.label (part_on own_file l x.label))) []
+        → filter (is_kind 2) (line_annotations_of before x) ≡ cond (same id x.id) (multi_annotations_if (is_single own_file x.label) (lane_mark_of (lane_count_of same file before id) x.label (part_on own_file l x.label))) []
     one-lane_mark before x = by_tests (same id x.id) (nat_lt l (line_count own_file)) refl
       where
         lane : ℕ
-        lane = lanes_in same file before id
+        lane = lane_count_of same file before id
 
         none : (a : Bool) → [] ≡ multi_annotations_if a (lane_mark_of lane x.label None)
         none true = refl
@@ -248,17 +248,17 @@ module _ {Id : Type 0} {same : Id → Id → Bool} {file : Id → FileModel} {id
         by_tests : (s t : Bool) → nat_lt l (line_count own_file) ≡ t
             → filter (is_kind 2) (cond (s && t) (line_annotations config own_file (indices_at before) x.label l) []) ≡ cond s (multi_annotations_if (is_single own_file x.label) (lane_mark_of lane x.label (part_on own_file l x.label))) []
         by_tests false t h = refl
-        by_tests true true h = marks-line_lookups config own_file (indices_at before) x.label l
+        by_tests true true h = marks-on_line config own_file (indices_at before) x.label l
         by_tests true false h = none (is_single own_file x.label) ∙ ap (λ o. multi_annotations_if (is_single own_file x.label) (lane_mark_of lane x.label o)) (sym (part-outside x.label h))
 
-    -- the multi-line label marks of labels that come after these, in their lanes
-    pub all-marks : (xs before : List (InFile Id)) (n : ℕ) → lanes_in same file before id ≡ n
+    -- the lane marks of labels that come after these, in their lanes
+    pub all-marks : (xs before : List (InFile Id)) (n : ℕ) → lane_count_of same file before id ≡ n
         → filter (is_kind 2) (line_annotations_after before xs) ≡ map (lane_mark_annotation f l) (marks_from own_file l n (multi_labels own_file (labels_in xs)))
     all-marks [] before n e = refl
     all-marks (x ∷ xs) before n e =
         filter-append (is_kind 2) (line_annotations_of before x) (line_annotations_after (before ++ x ∷ []) xs)
         ∙ (λ i. (one-lane_mark before x ∙ ap (λ k. cond (same id x.id) (multi_annotations_if (is_single own_file x.label) (lane_mark_of k x.label (part_on own_file l x.label))) []) e) i
-        ++ all-marks xs (before ++ x ∷ []) (n + (if same id x.id then label_lanes own_file x.label else 0)) (lanes_in-more same file before x id ∙ ap (λ k. k + (if same id x.id then label_lanes own_file x.label else 0)) e) i)
+        ++ all-marks xs (before ++ x ∷ []) (n + (if same id x.id then label_lanes own_file x.label else 0)) (lane_count_of-more same file before x id ∙ ap (λ k. k + (if same id x.id then label_lanes own_file x.label else 0)) e) i)
         ∙ by_tests (same id x.id) (is_single own_file x.label) refl
       where
         later : ℕ → List Annotation
@@ -280,12 +280,12 @@ module _ {Id : Type 0} {same : Id → Id → Bool} {file : Id → FileModel} {id
     -- ---- lines that are shown
 
     -- an annotation shows the lines that the file has and that some label shows
-    pub any-annotation_if_any : (xs before : List (InFile Id)) → list_any shows_line (line_annotations_after before xs)
+    pub any-line_annotations : (xs before : List (InFile Id)) → list_any shows_line (line_annotations_after before xs)
         ≡ (nat_lt l (line_count own_file) && list_any (λ x. shows config (first_line own_file x) (last_line own_file x) l) (labels_in xs))
-    any-annotation_if_any [] before = sym (and-false (nat_lt l (line_count own_file)))
-    any-annotation_if_any (x ∷ xs) before =
+    any-line_annotations [] before = sym (and-false (nat_lt l (line_count own_file)))
+    any-line_annotations (x ∷ xs) before =
         list_any-append shows_line (line_annotations_of before x) (line_annotations_after (before ++ x ∷ []) xs)
-        ∙ ap (λ b. list_any shows_line (line_annotations_of before x) || b) (any-annotation_if_any xs (before ++ x ∷ []))
+        ∙ ap (λ b. list_any shows_line (line_annotations_of before x) || b) (any-line_annotations xs (before ++ x ∷ []))
         ∙ by_tests (same id x.id) (nat_lt l (line_count own_file))
       where
         shows_it : LabelModel → Bool
@@ -295,4 +295,4 @@ module _ {Id : Type 0} {same : Id → Id → Bool} {file : Id → FileModel} {id
             ≡ (t && list_any shows_it (map (λ (y : InFile Id). y.label) (cond s (x ∷ own xs) (own xs))))
         by_tests false t = refl
         by_tests true false = refl
-        by_tests true true = ap (λ b. b || list_any shows_it (labels_in xs)) (any-line_lookups config own_file (indices_at before) x.label l)
+        by_tests true true = ap (λ b. b || list_any shows_it (labels_in xs)) (shown-on_line config own_file (indices_at before) x.label l)

@@ -1,5 +1,5 @@
--- From all annotations of a diagnostic in order the walk makes, for each file, the rows of its
--- snippet.
+-- From all annotations of a diagnostic in order `lines_of` makes, for each file, the rows of its
+-- snippet: for the clause `planned` of `plan_output`.
 use Rattle.std.proofs.Common.{◌≡◌, ℕ, ◌<◌, Bool, true, ◌==◌, ◌&&◌, List, [], map, filter, reverse, None, refl, sym, ◌∙◌, ap, subst}
 use Rattle.std.specs.List.{list_any, range_with_len, AllByRecursion}
 use Rattle.std.proofs.lemmas.Bool.{eqb-true}
@@ -30,11 +30,11 @@ use Rattle.codespan_annotations.proofs.FileIndices.{index_of_file-at}
 use Rattle.codespan_plan.proofs.LaneMarks.{ascend-climbs, marks-ascend}
 use Rattle.codespan_laws.proofs.FillLemmas.{none_past}
 use Rattle.codespan_collect.proofs.LabelAnnotations.{is_kind}
-use Rattle.codespan_collect.proofs.LabelIndexing.{AreFiles, lanes_in-equal}
+use Rattle.codespan_collect.proofs.LabelIndexing.{AreFiles, lane_count_of-equal}
 use Rattle.codespan_laws.proofs.OrderSorts.{has_range, ascending-same, sorted-ascends, sorted-keeps}
 use Rattle.codespan_laws.proofs.ListElements.{all-weaker, all-filter, all-both, all-pass, filter-filter, any-filtered}
 use Rattle.codespan_laws.proofs.SortedLists.{Rises, Climbs, Falls, filter-reverse, rises-filter, rises-from_sorted, filter-sorted_climbs, filter-sorted_falls}
-use Rattle.codespan_plan.proofs.LaneMarkOrder.{ascends-starts}
+use Rattle.codespan_plan.proofs.LabelStarts.{ascends-starts}
 use Rattle.codespan_plan.proofs.SnippetLineRows.{lines_of_snippet_lines, snippet_lines-rows, snippet_lines-fit, snippet_lines-lines, snippet_lines-fills}
 use Rattle.codespan_plan.proofs.GroupAnnotations.{single_labels-of_range, range-rank, marks-rank, marks-of_annotations, single_labels-reverse, first-shows, lines-rise}
 
@@ -75,7 +75,7 @@ module _ {Id : Type 0} {database : FileDatabase Id} (lawful : AreFiles database)
   here = record {
     index = index_of_file-at same lawful.equivalence xs f id at;
     one_file = λ i t. sym (lawful.one_file id i t);
-    lanes = λ before i t. sym (lanes_in-equal lawful before id i t);
+    lanes = λ before i t. sym (lane_count_of-equal lawful before id i t);
     some_line = lawful.some_line id;
   }
 
@@ -119,13 +119,13 @@ module _ {Id : Type 0} {database : FileDatabase Id} (lawful : AreFiles database)
   any-of_picked : (l : ℕ) (t : Annotation → Bool) (es : List Annotation) → list_any t (filter (is_on_line l) (filter (is_of_file f) es)) ≡ list_any (picks l t) es
   any-of_picked l t es = any-filtered t (is_on_line l) (filter (is_of_file f) es) ∙ any-filtered (λ e. is_on_line l e && t e) (is_of_file f) es
 
-  -- what the labels say of a line
-  abbrev annotation_if_any : ℕ → List Annotation
-  annotation_if_any l = annotation_lines.line_annotations_after here config l [] xs
+  -- the annotations of the labels on a line
+  abbrev line_annotations : ℕ → List Annotation
+  line_annotations l = annotation_lines.line_annotations_after here config l [] xs
 
   -- the annotations of a line as they were given
-  all_inside-annotation_if_any : (l : ℕ) → filter (is_on_line l) (filter (is_of_file f) all) ≡ annotation_if_any l
-  all_inside-annotation_if_any l = annotation_lines.all-annotation_if_any here config l xs []
+  line_annotations-are : (l : ℕ) → filter (is_on_line l) (filter (is_of_file f) all) ≡ line_annotations l
+  line_annotations-are l = annotation_lines.all-line_annotations here config l xs []
 
   -- ---- the labels of a line
 
@@ -144,45 +144,45 @@ module _ {Id : Type 0} {database : FileDatabase Id} (lawful : AreFiles database)
       from : List Annotation
       from = annotation_lines.single_labels_from here config l 0 xs
 
-      all_inside : (start end : ℕ) → filter (picks l (is_of_range start end)) all ≡ filter (is_of_range start end) from
-      all_inside start end =
-          sym (of_picked l (is_of_range start end) all) ∙ ap (filter (is_of_range start end)) (all_inside-annotation_if_any l)
-          ∙ sym (range-rank start end (annotation_if_any l))
+      all_in_range : (start end : ℕ) → filter (picks l (is_of_range start end)) all ≡ filter (is_of_range start end) from
+      all_in_range start end =
+          sym (of_picked l (is_of_range start end) all) ∙ ap (filter (is_of_range start end)) (line_annotations-are l)
+          ∙ sym (range-rank start end (line_annotations l))
           ∙ ap (filter (is_of_range start end)) (annotation_lines.all-single_labels here config l xs [] 0 refl)
 
       falls : (start end : ℕ) → Falls is_before (filter (picks l (is_of_range start end)) all)
       falls start end =
-          subst (Falls is_before) (sym (all_inside start end)) (annotation_lines.single_labels-fall here config l start end 0 xs)
+          subst (Falls is_before) (sym (all_in_range start end)) (annotation_lines.single_labels-fall here config l start end 0 xs)
 
       ranges : (start end : ℕ) → filter (has_range start end) (single_labels_in (bucket l)) ≡ filter (has_range start end) turned
       ranges start end =
           single_labels-of_range start end (bucket l)
           ∙ ap single_labels_in (of_picked l (is_of_range start end) annotations
           ∙ filter-sorted_falls is_before below_order all annotations known.permutation known.sorted (picks l (is_of_range start end)) (falls start end)
-          ∙ ap (λ (r : List Annotation). reverse r) (all_inside start end))
+          ∙ ap (λ (r : List Annotation). reverse r) (all_in_range start end))
           ∙ single_labels-reverse (filter (is_of_range start end) from)
           ∙ ap (λ (r : List LabelModel). reverse r) (sym (single_labels-of_range start end from)
           ∙ ap (filter (has_range start end)) (annotation_lines.single_labels-labels here config l 0 xs))
           ∙ sym (filter-reverse (has_range start end) of_line_labels)
 
-  -- ---- the multi-line label marks of a line
+  -- ---- the lane marks of a line
 
   -- those of the labels of the file
   abbrev marks : ℕ → List LaneMark
   marks l = lane_marks_on (file id) s.labels l
 
   -- their annotations as they were given
-  marks-all_inside : (l : ℕ) → filter (picks l (is_kind 2)) all ≡ map (lane_mark_annotation f l) (marks l)
-  marks-all_inside l = sym (of_picked l (is_kind 2) all) ∙ ap (filter (is_kind 2)) (all_inside-annotation_if_any l) ∙ annotation_lines.all-marks here config l xs [] 0 refl
+  marks-of_all : (l : ℕ) → filter (picks l (is_kind 2)) all ≡ map (lane_mark_annotation f l) (marks l)
+  marks-of_all l = sym (of_picked l (is_kind 2) all) ∙ ap (filter (is_kind 2)) (line_annotations-are l) ∙ annotation_lines.all-marks here config l xs [] 0 refl
 
-  -- the multi-line label marks of the annotations of a line
+  -- the lane marks of the annotations of a line
   marks-are : (l : ℕ) → lane_marks_in (bucket l) ≡ marks l
   marks-are l =
       marks-rank (bucket l)
       ∙ ap lane_marks_in (of_picked l (is_kind 2) annotations
       ∙ filter-sorted_climbs is_before below_order all annotations known.permutation known.sorted (picks l (is_kind 2))
-      (subst (Climbs is_before) (sym (marks-all_inside l)) (ascend-climbs f l (lane_count s) 0 (marks l) (marks-ascend s l)))
-      ∙ marks-all_inside l)
+      (subst (Climbs is_before) (sym (marks-of_all l)) (ascend-climbs f l (lane_count s) 0 (marks l) (marks-ascend s l)))
+      ∙ marks-of_all l)
       ∙ marks-of_annotations f l (marks l)
 
   -- a line is rendered with what its labels do on it
@@ -200,8 +200,8 @@ module _ {Id : Type 0} {database : FileDatabase Id} (lawful : AreFiles database)
   shown-is l =
       first-shows f l (bucket l) (bucket-on l) (bucket-rises l)
       ∙ any-of_picked l shows_line annotations ∙ sym (list_any-IsPermutation (picks l shows_line) all annotations known.permutation) ∙ sym (any-of_picked l shows_line all)
-      ∙ ap (list_any shows_line) (all_inside-annotation_if_any l)
-      ∙ annotation_lines.any-annotation_if_any here config l xs []
+      ∙ ap (list_any shows_line) (line_annotations-are l)
+      ∙ annotation_lines.any-line_annotations here config l xs []
 
   -- the shown lines
   abbrev shown : List ℕ
@@ -234,7 +234,7 @@ module _ {Id : Type 0} {database : FileDatabase Id} (lawful : AreFiles database)
   starts-ascend : (l : ℕ) → starts_in_order (single_labels_in (bucket l)) ≡ true
   starts-ascend l = ascends-starts (single_labels_in (bucket l)) (single_labels-ascend f l (bucket l) (bucket-on l) (bucket-rises l))
 
-  -- its multi-line label marks ascend in the lanes of the file
+  -- its lane marks ascend in the lanes of the file
   marks-fit : (l : ℕ) → do_lane_marks_fit (lane_count s) (bucket l) ≡ true
   marks-fit l = ap (ascend_from (lane_count s) 0) (marks-are l) ∙ marks-ascend s l
 

@@ -1,12 +1,12 @@
--- The labels of one range, and a file among those of a diagnostic, for what the annotations say of
--- a line.
+-- The labels of one range, and a file among those of a diagnostic, for the clause `planned` of
+-- `plan_output`.
 use Rattle.std.proofs.Common.{◌≡◌, ℕ, ◌<◌, Bool, true, false, ◌==◌, List, Option, Some, None}
 use Rattle.codespan_base.specs.FileModel.{FileModel, line_count}
 use Rattle.codespan_base.specs.Labels.{LabelModel}
 use Rattle.codespan_annotations.specs.Annotations.{Annotation}
 use Rattle.codespan_annotations.specs.FileIndices.{index_of_file}
 use Rattle.codespan_picture.specs.Snippets.{InFile}
-use Rattle.codespan_annotations.specs.LabeledFiles.{lanes_in}
+use Rattle.codespan_annotations.specs.LabeledFiles.{lane_count_of}
 use Rattle.codespan_plan.specs.SnippetLines.{single_label_of}
 use Rattle.codespan_laws.proofs.OrderSorts.{has_range}
 
@@ -29,5 +29,5 @@ is_of_range start end e = has_label_range start end (single_label_of e.kind)
 pub record HasFileIndex {Id : Type 0} (same : Id → Id → Bool) (file : Id → FileModel) (ids : List Id) (f : ℕ) (id : Id) : Type 0 where
   pub index : (i : Id) → (index_of_file same ids i == f) ≡ same id i
   pub one_file : (i : Id) → same id i ≡ true → file i ≡ file id
-  pub lanes : (before : List (InFile Id)) (i : Id) → same id i ≡ true → lanes_in same file before i ≡ lanes_in same file before id
+  pub lanes : (before : List (InFile Id)) (i : Id) → same id i ≡ true → lane_count_of same file before i ≡ lane_count_of same file before id
   pub some_line : 0 < line_count (file id)

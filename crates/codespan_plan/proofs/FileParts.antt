@@ -1,4 +1,5 @@
--- A loop over the files takes each file's part of the annotations in order.
+-- A loop over the files takes each file's part of the annotations in order, for the clause `plans`
+-- of `plan_snippets`.
 use Rattle.std.proofs.Common.{◌≡◌, ℕ, ◌+◌, ◌-◌, ◌≤◌, Bool, true, false, ◌&&◌, cond, ◌==◌, nat_lt, nat_le, List, [], ◌∷◌, ◌++◌, length, take, drop, map, filter, refl, sym, ◌∙◌, ap, arith, length-drop}
 use Rattle.std.specs.List.{prefix_len, AllByRecursion}
 use Rattle.std.specs.List.Sorted.{IsSortedBy}

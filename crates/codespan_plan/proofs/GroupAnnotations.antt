@@ -1,4 +1,5 @@
--- The annotations of a line, for the rows that are made of them.
+-- The annotations of a line, for the rows that are made of them and so for the clause `planned` of
+-- `plan_output`.
 use Rattle.std.proofs.Common.{◌≡◌, ℕ, ◌≤◌, Bool, true, false, cond, ◌==◌, ◌&&◌, ◌||◌, List, [], ◌∷◌, ◌++◌, map, filter, reverse, Option, Some, None, refl, sym, ◌∙◌, ap, arith}
 use Rattle.std.specs.List.{list_any, cons_option, AllByRecursion}
 use Rattle.std.proofs.lemmas.Bool.{le-ltb, ltb-false}
@@ -45,7 +46,7 @@ range-rank start end es = filter-filter (is_of_range start end) (is_kind 1) es �
     by_kind (Single p y) = refl
     by_kind (Multi m) = refl
 
--- the multi-line label marks are the annotations of their kind
+-- the lane marks are the annotations of their kind
 pub marks-rank : (es : List Annotation) → lane_marks_in es ≡ lane_marks_in (filter (is_kind 2) es)
 marks-rank [] = refl
 marks-rank (x ∷ xs) = by_kind x.kind (marks-rank xs)
@@ -56,7 +57,7 @@ marks-rank (x ∷ xs) = by_kind x.kind (marks-rank xs)
     by_kind (Single p y) rest = rest
     by_kind (Multi m) rest = ap (λ (ms : List LaneMark). m ∷ ms) rest
 
--- those of annotations of multi-line label marks
+-- those of annotations of lane marks
 pub marks-of_annotations : (f l : ℕ) (ms : List LaneMark) → lane_marks_in (map (lane_mark_annotation f l) ms) ≡ ms
 marks-of_annotations f l [] = refl
 marks-of_annotations f l (m ∷ ms) = ap (λ (ks : List LaneMark). m ∷ ks) (marks-of_annotations f l ms)

@@ -1,4 +1,4 @@
--- The lines_from over annotations in order, group by group.
+-- `lines_from` over annotations in order, group by group, for the clause `added` of `push_lines`.
 use Rattle.std.proofs.Common.{◌≡◌, ℕ, zero, suc, ◌+◌, ◌-◌, ◌<◌, ◌≤◌, true, false, cond, List, [], ◌∷◌, ◌++◌, length, take, drop, get_or, Option, Some, refl, sym, ◌∙◌, ap, subst, arith, length-drop}
 use Rattle.std.specs.List.{prefix_len}
 use Rattle.std.proofs.Math.Nat.{add-sub_cancel_left}
@@ -73,24 +73,24 @@ next_group xs at n d inside is' le' =
           ∙ (λ i. group_at l (sym front i) ∷ groups (drop-drop n at xs i));
     }
 
-module _ (xs : List Annotation) (at n : ℕ) (d : Annotation) (was : Option ℕ) (hidden : List Annotation) (next : IsGroup xs at n d) where
+module _ (xs : List Annotation) (at n : ℕ) (d : Annotation) (previous : Option ℕ) (hidden : List Annotation) (next : IsGroup xs at n d) where
   -- the snippet lines where the next line is shown
   abbrev where_shown : List SnippetLine
-  where_shown = lines_to was hidden (get_or xs at d).line (part xs at n) ++ lines_from (Some (get_or xs at d).line) [] (groups (drop (at + n) xs))
+  where_shown = lines_to previous hidden (get_or xs at d).line (part xs at n) ++ lines_from (Some (get_or xs at d).line) [] (groups (drop (at + n) xs))
 
   -- and where it is hidden
   abbrev where_hidden : List SnippetLine
-  where_hidden = lines_from was (part xs at n) (groups (drop (at + n) xs))
+  where_hidden = lines_from previous (part xs at n) (groups (drop (at + n) xs))
 
-  -- what the lines_from does with the next group
-  by_group : lines_from was hidden (groups (drop at xs)) ≡ cond (shows_line (get_or xs at d)) where_shown where_hidden
-  by_group = ap (lines_from was hidden) next.first ∙ ap (λ b. cond b where_shown where_hidden) next.shown
+  -- what `lines_from` makes of the next group
+  by_group : lines_from previous hidden (groups (drop at xs)) ≡ cond (shows_line (get_or xs at d)) where_shown where_hidden
+  by_group = ap (lines_from previous hidden) next.first ∙ ap (λ b. cond b where_shown where_hidden) next.shown
 
   -- a shown line is next: the snippet lines up to it, and then the others
-  pub snippet_lines-next : shows_line (get_or xs at d) ≡ true → lines_from was hidden (groups (drop at xs))
-      ≡ lines_to was hidden (get_or xs at d).line (part xs at n) ++ lines_from (Some (get_or xs at d).line) [] (groups (drop (at + n) xs))
+  pub snippet_lines-next : shows_line (get_or xs at d) ≡ true → lines_from previous hidden (groups (drop at xs))
+      ≡ lines_to previous hidden (get_or xs at d).line (part xs at n) ++ lines_from (Some (get_or xs at d).line) [] (groups (drop (at + n) xs))
   snippet_lines-next t = by_group ∙ ap (λ b. cond b where_shown where_hidden) t
 
   -- a hidden line is next: the others
-  pub snippet_lines-skip : shows_line (get_or xs at d) ≡ false → lines_from was hidden (groups (drop at xs)) ≡ lines_from was (part xs at n) (groups (drop (at + n) xs))
+  pub snippet_lines-skip : shows_line (get_or xs at d) ≡ false → lines_from previous hidden (groups (drop at xs)) ≡ lines_from previous (part xs at n) (groups (drop (at + n) xs))
   snippet_lines-skip f = by_group ∙ ap (λ b. cond b where_shown where_hidden) f

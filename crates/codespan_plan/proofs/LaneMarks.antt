@@ -1,4 +1,4 @@
--- The order of the multi-line label marks on a line.
+-- The order of the lane marks on a line, for the clause `planned` of `plan_output`.
 use Rattle.std.proofs.Common.{◌≡◌, ℕ, ◌+◌, ◌≤◌, Bool, true, false, ◌&&◌, List, [], ◌∷◌, length, map, Option, Some, None, refl, sym, ap, ◌∙◌, arith, nat_le, nat_lt, true≢false}
 use Rattle.std.specs.List.{AllByRecursion, enumerate_from, filter_map, cons_option}
 use Rattle.std.proofs.lemmas.Bool.{leb-true}
@@ -13,9 +13,9 @@ use Rattle.codespan_annotations.proofs.AnnotationOrder.{lane_below, lane_mark_an
 use Rattle.codespan_laws.proofs.ListElements.{all-weaker}
 use Rattle.codespan_laws.proofs.SortedLists.{Climbs}
 
--- ---- the multi-line label marks of a file's labels
+-- ---- the lane marks of a file's labels
 
--- the multi-line label marks on a line of these labels, whose lanes begin here
+-- the lane marks on a line of these labels, whose lanes begin here
 abbrev pub marks_from : FileModel → ℕ → ℕ → List LabelModel → List LaneMark
 marks_from f l n ys = filter_map (λ (annotation : ℕ × LabelModel). lane_mark_of annotation.0 annotation.1 (part_on f l annotation.1)) (enumerate_from n ys)
 
@@ -32,11 +32,11 @@ ascend-from f l count n least (y ∷ ys) low total = by_part (part_on f l y) (λ
         let b : nat_lt n count ≡ true = grind (arith, nat_tests) in
         rw (a, b) (rest (n + 1) (omega arith))
 
--- the multi-line label marks of a line ascend in the lanes of its file
+-- the lane marks of a line ascend in the lanes of its file
 pub marks-ascend : (s : LabeledFileModel) (l : ℕ) → ascend_from (lane_count s) 0 (lane_marks_on s.file s.labels l) ≡ true
 marks-ascend s l = ascend-from s.file l (lane_count s) 0 0 (multi_labels s.file s.labels) (omega arith) (omega arith)
 
--- ---- multi-line label marks that ascend
+-- ---- lane marks that ascend
 
 -- both of two are true
 pub both-true : (a b : Bool) → (a && b) ≡ true → (a ≡ true) × (b ≡ true)
@@ -62,6 +62,6 @@ ascend-climbs f l count least (m ∷ ms) up =
     later [] h = tt
     later (k ∷ ks) h = (lane_below f l m k (let low = h.0 in omega arith), later ks h.1)
 
--- a renderer takes multi-line label marks that ascend
+-- a renderer takes lane marks that ascend
 pub lanes_fit : (count : ℕ) (es : List Annotation) (ms : List LaneMarkTuple) → map lane_mark_view ms ≡ lane_marks_in es → do_lane_marks_fit count es ≡ true → lanes_in_order count ms ≡ true
 lanes_fit count es ms same fits = ap (ascend_from count 0) same ∙ fits

@@ -6,7 +6,7 @@ pub mod AnnotationLines
 pub mod GroupAnnotations
 pub mod AnnotationOutput
 pub mod FileParts
-pub mod LaneMarkOrder
+pub mod LabelStarts
 pub mod LaneMarks
 pub mod LinesFound
 pub mod GroupLines

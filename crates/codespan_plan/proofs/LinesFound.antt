@@ -1,5 +1,5 @@
--- Steps that a walk over annotations finds, one after another, and the lookups of numbers with
--- them.
+-- Snippet lines that are appended, one after another, and the lookups of numbers with them, for the
+-- clauses `added` and `failed` of `push_lines` and `push_shown`.
 use Rattle.std.proofs.Common.{◌≡◌, ℕ, List, [], ◌∷◌, ◌++◌, Option, None, Some, refl, sym, ap, subst, ◌∙◌, append-nil, append_assoc}
 use Rattle.std.proofs.lemmas.List.{map-append}
 use Rattle.std.proofs.lemmas.Grind.{flat_map-append}

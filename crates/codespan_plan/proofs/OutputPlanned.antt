@@ -1,4 +1,5 @@
--- What fails the lookups before the header: those of the labels, and then those of the plan.
+-- What fails the lookups before the header: those of the labels, and then those of the plan. For
+-- the clause `renders` of `RichDiagnostic::render_labels` in `codespan_views`.
 use Rattle.std.proofs.Common.{◌≡◌, List, Option, Some, None, ◌∙◌, ap, append_assoc}
 use Rattle.codespan_base.specs.declared.files.Error.{Error}
 use Rattle.codespan_base.specs.declared.term.config.Config.{Config}

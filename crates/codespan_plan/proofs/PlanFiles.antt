@@ -1,5 +1,5 @@
 -- The plans of files: the rows and the lookups of their snippet lines are those of the files'
--- snippets.
+-- snippets, for the clauses `planned` and `failed` of `plan_output`.
 use Rattle.std.proofs.Common.{◌≡◌, ℕ, suc, ◌+◌, Bool, List, [], ◌∷◌, ◌++◌, take, drop, map, max, Option, None, refl, sym, subst, ap, ◌∙◌, arith}
 use Rattle.std.specs.Prelude.{IfSome, flat_map, fold}
 use Rattle.std.specs.List.{AllByRecursion}
@@ -14,7 +14,7 @@ use Rattle.codespan_base.specs.FileModel.Lookup.{LocationAt, Name}
 use Rattle.codespan_picture.specs.Arguments.{locus_view}
 use Rattle.codespan_picture.specs.Lines.{drawn_lines}
 use Rattle.codespan_picture.specs.Lookups.{lookups_of_file, filled_lines, first_error, locus_lookups, numbers_for_padding, filled_line_lookups}
-use Rattle.codespan_picture.specs.Padding.{digit_count, digits_of, numbered_lines, padding_of}
+use Rattle.codespan_picture.specs.Padding.{count_digits, digits_of, numbered_lines, padding_of}
 use Rattle.codespan_annotations.specs.TextLoci.{IsTextLocus}
 use Rattle.codespan_picture.specs.Snippets.{InFile, LabeledFileModel, labeled_file_model, labeled_file_models, lane_count, locus_start, rows_after, file_ids}
 use Rattle.codespan_collect.specs.declared.collected.Collected.{Collected}
@@ -61,8 +61,8 @@ snippet_line-lookups Unbroken f (rust.Filled index number annotations) is = ap (
 snippet_line-lookups layout f (rust.Break next) is = refl
 
 -- in the unbroken layout the digits of its number are those of its line's
-snippet_line-digits : {Id : Type 0} (f : FileModel) (g : RustLine Id) → IsSnippetLineIn Unbroken f g → line_digits g ≡ map (λ l. digit_count (f.number l)) (line_of_snippet_line (line_view g))
-snippet_line-digits f (rust.Labeled line annotations) is = ap (λ n. digit_count n ∷ []) is.number_is
+snippet_line-digits : {Id : Type 0} (f : FileModel) (g : RustLine Id) → IsSnippetLineIn Unbroken f g → line_digits g ≡ map (λ l. count_digits (f.number l)) (line_of_snippet_line (line_view g))
+snippet_line-digits f (rust.Labeled line annotations) is = ap (λ n. count_digits n ∷ []) is.number_is
 snippet_line-digits {Id} f (rust.Filled index number annotations) is = ap (λ (o : Option ℕ). line_digits {Id = Id} (rust.Filled index o annotations)) is
 snippet_line-digits f (rust.Break next) is = refl
 
@@ -85,12 +85,12 @@ snippet_lines-lookups layout f (g ∷ gs) h =
 -- in the unbroken layout the digits of their numbers are those of their lines'
 snippet_lines-digits : {Id : Type 0} (f : FileModel) (gs : List (RustLine Id))
     → AllByRecursion (IsSnippetLineIn Unbroken f) gs
-    → flat_map line_digits gs ≡ map (λ l. digit_count (f.number l))
+    → flat_map line_digits gs ≡ map (λ l. count_digits (f.number l))
     (lines_of_snippet_lines (map line_view gs))
 snippet_lines-digits f [] h = refl
 snippet_lines-digits f (g ∷ gs) h =
     (λ i. snippet_line-digits f g h.0 i ++ snippet_lines-digits f gs h.1 i)
-    ∙ sym (map-append (λ l. digit_count (f.number l)) (line_of_snippet_line (line_view g)) (lines_of_snippet_lines (map line_view gs)))
+    ∙ sym (map-append (λ l. count_digits (f.number l)) (line_of_snippet_line (line_view g)) (lines_of_snippet_lines (map line_view gs)))
 
 -- ---- plans
 

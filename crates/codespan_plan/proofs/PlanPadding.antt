@@ -1,4 +1,4 @@
--- The greatest digit count of what a loop has gone over.
+-- The greatest digit count of what a loop has gone over, for the clause of `padding_of_lines`.
 use Rattle.std.proofs.Common.{◌≡◌, ℕ, ◌+◌, ◌<◌, max, List, [], ◌∷◌, ◌++◌, length, get_or, take, ap, ◌∙◌, append-nil, arith}
 use Rattle.std.specs.Prelude.{flat_map, fold}
 use Rattle.std.proofs.lemmas.Grind.{flat_map-append}

@@ -1,4 +1,5 @@
--- The files' plans that a loop finds, one after another.
+-- The plans of the files, one after another, for the clauses `plans` and `failed` of
+-- `plan_snippets`.
 use Rattle.std.proofs.Common.{◌≡◌, ◌≢◌, ℕ, suc, ◌+◌, ◌-◌, ◌≤◌, true, List, [], ◌∷◌, ◌++◌, length, take, drop, map, filter, Option, Some, None, Result, Ok, Err, refl, sym, ap, ◌∙◌, subst, subst₂, arith}
 use Rattle.std.specs.Prelude.{All, IfOk, flat_map}
 use Rattle.std.specs.List.{AllByRecursion, prefix_len}

@@ -1,4 +1,5 @@
--- The single-line labels of a line, whose annotations are in order.
+-- The single-line labels of a line, whose annotations are in order, for the clause `planned` of
+-- `plan_output`.
 use Rattle.std.proofs.Common.{◌≡◌, ℕ, false, List, [], ◌∷◌, refl, sym, ◌∙◌}
 use Rattle.std.specs.List.{AllByRecursion, cons_option}
 use Rattle.codespan_base.specs.Labels.{LabelModel, range_precedes}

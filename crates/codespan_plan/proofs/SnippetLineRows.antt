@@ -1,4 +1,5 @@
--- The rows of the snippet lines of shown lines, and the lines that they show and fill in.
+-- The rows of the snippet lines of shown lines, and the lines that they show and fill in, for the
+-- clause `planned` of `plan_output`.
 use Rattle.std.proofs.Common.{◌≡◌, ℕ, ◌≤◌, Bool, true, false, not, cond, ◌&&◌, if◌then◌else◌, List, [], ◌∷◌, ◌++◌, filter, flat_map, Option, None, refl, sym, ap, ◌∙◌}
 use Rattle.std.specs.List.{range_with_len, AllByRecursion}
 use Rattle.std.proofs.lemmas.List.{append-nil}
@@ -25,13 +26,13 @@ lines_of_snippet_lines snippet_lines = flat_map line_of_snippet_line snippet_lin
 -- ---- the elements of snippet lines
 
 -- the elements of the snippet lines of shown lines are those of the lines with what is between them
-snippet_lines-image : {A : Type 0} (image : SnippetLine → List A) (m : ℕ → List Annotation) (was : Option ℕ) (ds : List ℕ)
-    → flat_map image (lines_after m was ds)
-    ≡ in_sequence (λ l. l) (gap_between (λ l. image (Filled l (m l))) (λ d. image (Break (m d)))) (λ l. image (Labeled l (m l))) was ds
-snippet_lines-image {A} image m was ds =
-    flat_map-sequence image (λ l. l) (gap_between (λ l. Filled l (m l) ∷ []) (λ d. Break (m d) ∷ [])) (λ l. Labeled l (m l) ∷ []) was ds
-    ∙ (λ i. in_sequence (λ l. l) (λ c d. flat_map-gap image (λ l. Filled l (m l) ∷ []) (λ d. Break (m d) ∷ []) c d i) (λ l. append-nil (image (Labeled l (m l))) i) was ds)
-    ∙ (λ i. in_sequence (λ l. l) (gap_between (λ l. append-nil (image (Filled l (m l))) i) (λ d. append-nil (image (Break (m d))) i)) (λ l. image (Labeled l (m l))) was ds)
+snippet_lines-image : {A : Type 0} (image : SnippetLine → List A) (m : ℕ → List Annotation) (previous : Option ℕ) (ds : List ℕ)
+    → flat_map image (lines_after m previous ds)
+    ≡ in_sequence (λ l. l) (gap_between (λ l. image (Filled l (m l))) (λ d. image (Break (m d)))) (λ l. image (Labeled l (m l))) previous ds
+snippet_lines-image {A} image m previous ds =
+    flat_map-sequence image (λ l. l) (gap_between (λ l. Filled l (m l) ∷ []) (λ d. Break (m d) ∷ [])) (λ l. Labeled l (m l) ∷ []) previous ds
+    ∙ (λ i. in_sequence (λ l. l) (λ c d. flat_map-gap image (λ l. Filled l (m l) ∷ []) (λ d. Break (m d) ∷ []) c d i) (λ l. append-nil (image (Labeled l (m l))) i) previous ds)
+    ∙ (λ i. in_sequence (λ l. l) (gap_between (λ l. append-nil (image (Filled l (m l))) i) (λ d. append-nil (image (Break (m d))) i)) (λ l. image (Labeled l (m l))) previous ds)
 
 -- so they are those of the drawn lines with the breaks between them, where a line that is not shown
 -- has the elements of one that is
@@ -53,7 +54,7 @@ chosen false x y same = same refl
 -- ---- rows
 
 module _ (f : FileModel) (count : ℕ) (m : ℕ → List Annotation) where
-  -- a line with what its annotations say of it
+  -- a line with what its annotations do on it
   abbrev line : ℕ → Line
   line l = line_of_group f count l (m l)
 
@@ -65,9 +66,9 @@ module _ (f : FileModel) (count : ℕ) (m : ℕ → List Annotation) where
 
 -- ---- labels in order
 
--- the labels of all snippet lines are in order, and their multi-line label marks in so many lanes
+-- the labels of all snippet lines are in order, and their lane marks in so many lanes
 pub snippet_lines-fit : (count : ℕ) (m : ℕ → List Annotation) → ((l : ℕ) → do_annotations_fit count (m l) ≡ true) → ((l : ℕ) → do_lane_marks_fit count (m l) ≡ true)
-    → (was : Option ℕ) (ds : List ℕ) → AllByRecursion (λ snippet_line. does_line_fit count snippet_line ≡ true) (lines_after m was ds)
+    → (previous : Option ℕ) (ds : List ℕ) → AllByRecursion (λ snippet_line. does_line_fit count snippet_line ≡ true) (lines_after m previous ds)
 snippet_lines-fit count m fit lane_marks_fit =
     all-sequence (λ snippet_line. does_line_fit count snippet_line ≡ true) (λ l. l)
     (gap_between (λ l. Filled l (m l) ∷ []) (λ d. Break (m d) ∷ [])) (λ l. Labeled l (m l) ∷ [])

@@ -1,4 +1,5 @@
--- The snippet lines of annotations as a view has them.
+-- The snippet lines of annotations as a view has them, for the clauses `added` and `failed` of
+-- `push_lines`.
 use Rattle.std.proofs.Common.{◌≡◌, ℕ, ◌+◌, ◌-◌, ◌<◌, ◌≤◌, true, false, List, [], ◌++◌, map, length, take, drop, get_or, Option, Some, sym, ◌∙◌, ap, arith}
 use Rattle.std.specs.List.{prefix_len}
 use Rattle.std.proofs.lemmas.List.{drop-map, take-map, length-drop, length-map, length-take, get_or-map, at_drop_all}
@@ -63,34 +64,34 @@ group_of_views-len xs at n d counted =
 
 -- the snippet lines up to a shown line: what is before it, and the line itself
 abbrev pub lines_to_shown : {Id : Type 0} → List (RustAnnotation Id) → ℕ → ℕ → ℕ → RustAnnotation Id → Option ℕ → List SnippetLine
-lines_to_shown xs from at n d was = lines_to was (views_of (between xs from at)) (index_at xs at d) (views_of (next_part xs at n))
+lines_to_shown xs from at n d previous = lines_to previous (views_of (between xs from at)) (index_at xs at d) (views_of (next_part xs at n))
 
 -- the snippet lines of the annotations that are left, where those of a hidden line before them
 -- start at an index
 abbrev pub lines_left : {Id : Type 0} → List (RustAnnotation Id) → ℕ → ℕ → Option ℕ → List SnippetLine
-lines_left xs from at was = lines_from was (views_of (between xs from at)) (groups (drop at (views_of xs)))
+lines_left xs from at previous = lines_from previous (views_of (between xs from at)) (groups (drop at (views_of xs)))
 
 -- past the last annotation none are left
-pub lines_left-none : {Id : Type 0} (xs : List (RustAnnotation Id)) (from at : ℕ) (was : Option ℕ) → length xs ≤ at → lines_left xs from at was ≡ []
-lines_left-none xs from at was past =
-    at_drop_all (λ (es : List Annotation). lines_from was (views_of (between xs from at)) (groups es)) (views_of xs) at (omega (arith, past, length-map xs annotation_view))
+pub lines_left-none : {Id : Type 0} (xs : List (RustAnnotation Id)) (from at : ℕ) (previous : Option ℕ) → length xs ≤ at → lines_left xs from at previous ≡ []
+lines_left-none xs from at previous past =
+    at_drop_all (λ (es : List Annotation). lines_from previous (views_of (between xs from at)) (groups es)) (views_of xs) at (omega (arith, past, length-map xs annotation_view))
 
 -- no annotation is between an index and itself
 between-none : {Id : Type 0} (xs : List (RustAnnotation Id)) (k : ℕ) → between xs k k ≡ []
 between-none xs k = let e : k - k ≡ 0 = omega arith in ap (λ n. take n (drop k xs)) e
 
-module _ {Id : Type 0} (xs : List (RustAnnotation Id)) (from at n : ℕ) (d : RustAnnotation Id) (was : Option ℕ) (counted : IsCounted xs at n d) where
+module _ {Id : Type 0} (xs : List (RustAnnotation Id)) (from at n : ℕ) (d : RustAnnotation Id) (previous : Option ℕ) (counted : IsCounted xs at n d) where
   -- a shown line is next: the snippet lines up to it, and then the others
   pub views_of-shown : shows_line (annotation_view (get_or xs at d)) ≡ true
-      → lines_left xs from at was ≡ lines_to_shown xs from at n d was ++ lines_left xs (at + n) (at + n) (Some (index_at xs at d))
+      → lines_left xs from at previous ≡ lines_to_shown xs from at n d previous ++ lines_left xs (at + n) (at + n) (Some (index_at xs at d))
   views_of-shown t =
       let g = group_of_views xs at n d counted in
-      snippet_lines-next (views_of xs) at n (annotation_view d) was (views_of (between xs from at)) g.next (g.shown ∙ t)
-      ∙ (λ i. lines_to was (views_of (between xs from at)) (g.line i) (g.group i) ++ lines_from (Some (g.line i)) (views_of (sym (between-none xs (at + n)) i)) (groups (drop (at + n) (views_of xs))))
+      snippet_lines-next (views_of xs) at n (annotation_view d) previous (views_of (between xs from at)) g.next (g.shown ∙ t)
+      ∙ (λ i. lines_to previous (views_of (between xs from at)) (g.line i) (g.group i) ++ lines_from (Some (g.line i)) (views_of (sym (between-none xs (at + n)) i)) (groups (drop (at + n) (views_of xs))))
 
   -- a hidden line is next: the others
-  pub views_of-hidden : shows_line (annotation_view (get_or xs at d)) ≡ false → lines_left xs from at was ≡ lines_left xs at (at + n) was
+  pub views_of-hidden : shows_line (annotation_view (get_or xs at d)) ≡ false → lines_left xs from at previous ≡ lines_left xs at (at + n) previous
   views_of-hidden f =
       let g = group_of_views xs at n d counted in
-      snippet_lines-skip (views_of xs) at n (annotation_view d) was (views_of (between xs from at)) g.next (g.shown ∙ f)
-      ∙ ap (λ (es : List Annotation). lines_from was es (groups (drop (at + n) (views_of xs)))) g.group
+      snippet_lines-skip (views_of xs) at n (annotation_view d) previous (views_of (between xs from at)) g.next (g.shown ∙ f)
+      ∙ ap (λ (es : List Annotation). lines_from previous es (groups (drop (at + n) (views_of xs)))) g.group

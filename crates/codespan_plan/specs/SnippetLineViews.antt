@@ -30,8 +30,8 @@ gap_lines hidden next Lines = Break next ∷ []
 
 -- the gap is that between two shown lines, of which the first may be none
 abbrev pub IsGapBefore : Option ℕ → ℕ → Gap → Type 0
-IsGapBefore was d gap = (hidden next : List Annotation)
-    → before_line (lines_between hidden next) was d ≡ gap_lines hidden next gap
+IsGapBefore previous d gap = (hidden next : List Annotation)
+    → before_line (lines_between hidden next) previous d ≡ gap_lines hidden next gap
 
 -- the number of a line that is filled in is known before the header in the unbroken layout
 abbrev pub known_number : Layout → ℕ → Option ℕ

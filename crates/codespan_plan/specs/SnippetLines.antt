@@ -50,16 +50,17 @@ lines_between hidden next = gap_between (λ l. Filled l hidden ∷ []) (λ d. Br
 
 -- a shown line, after what is before it
 abbrev pub lines_to : Option ℕ → List Annotation → ℕ → List Annotation → List SnippetLine
-lines_to was hidden d es = before_line (lines_between hidden es) was d ++ Labeled d es ∷ []
+lines_to previous hidden d es =
+    before_line (lines_between hidden es) previous d ++ Labeled d es ∷ []
 
--- the lines of groups, where `was` is the shown line before them, and `hidden` are the annotations
--- of the line before them, where that is hidden
+-- the lines of groups, where `previous` is the shown line before them, and `hidden` are the
+-- annotations of the line before them, where that is hidden
 abbrev pub lines_from : Option ℕ → List Annotation → List Group → List SnippetLine
-lines_from was hidden [] = []
-lines_from was hidden (g ∷ gs) =
-    if are_shown g.annotations then lines_to was hidden g.line g.annotations
+lines_from previous hidden [] = []
+lines_from previous hidden (g ∷ gs) =
+    if are_shown g.annotations then lines_to previous hidden g.line g.annotations
     ++ lines_from (Some g.line) [] gs
-    else lines_from was g.annotations gs
+    else lines_from previous g.annotations gs
 
 -- the lines of the annotations of one file
 abbrev pub lines_of : List Annotation → List SnippetLine
@@ -139,7 +140,8 @@ does_line_fit count (Labeled l es) = do_annotations_fit count es
 does_line_fit count (Filled l es) = do_annotations_fit count es
 does_line_fit count (Break es) = do_lane_marks_fit count es
 
--- the single-line labels of each line are in order, and the multi-line ones have so many lanes
+-- the single-line labels of each line are in the order of their starts, and its lane marks ascend
+-- in so many lanes
 abbrev pub DoFit : ℕ → List SnippetLine → Type 0
 DoFit count snippet_lines = AllByRecursion (λ snippet_line. does_line_fit count snippet_line ≡ true)
     snippet_lines

@@ -5,7 +5,7 @@ use Rattle.codespan_picture.specs.Types.{Error, Layout, Classic, Unbroken}
 use Rattle.codespan_base.specs.FileModel.{FileModel, Lookup}
 use Rattle.codespan_picture.specs.Arguments.{locus_view}
 use Rattle.codespan_picture.specs.Lookups.{Failures, lookups_of_file, first_error}
-use Rattle.codespan_picture.specs.Padding.{digit_count}
+use Rattle.codespan_picture.specs.Padding.{count_digits}
 use Rattle.codespan_annotations.specs.declared.labeled_files.LabeledFile.{LabeledFile as RustFile}
 use Rattle.codespan_collect.specs.declared.collected.Collected.{Collected}
 use Rattle.codespan_plan.specs.declared.plan.snippet_plans.SnippetPlan.{SnippetPlan}
@@ -76,8 +76,8 @@ plans_failure layout failure collected = first_error failure (plan_lookups layou
 
 -- the digits of the known number of a line
 abbrev pub line_digits : {Id : Type 0} → RustLine Id → List ℕ
-line_digits (rust.Labeled line annotations) = digit_count line.number ∷ []
-line_digits (rust.Filled index (Some number) annotations) = digit_count number ∷ []
+line_digits (rust.Labeled line annotations) = count_digits line.number ∷ []
+line_digits (rust.Filled index (Some number) annotations) = count_digits number ∷ []
 line_digits (rust.Filled index None annotations) = []
 line_digits (rust.Break next) = []
 

@@ -1,4 +1,5 @@
--- A cursor over the characters of a line that passes its labels as they begin.
+-- For `LabelCursor::advance` and `StartCursor::best_start`: a cursor over the characters of a line
+-- that passes its labels as they begin.
 use Rattle.std.proofs.Props.{props}
 use Rattle.std.proofs.Math.Logic.{∥∥₁_elim}
 use Rattle.std.proofs.Common.{◌≡◌, ℕ, ◌+◌, ◌<◌, ◌≤◌, max, Bool, true, false, ◌&&◌, ◌||◌, nat_lt, nat_le, List, [], ◌∷◌, ◌++◌, length, drop, get_or, drop-cons, add-one, refl, sym, ap, subst, ◌∙◌, arith, Option, Some, None}

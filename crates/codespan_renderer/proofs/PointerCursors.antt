@@ -1,4 +1,4 @@
--- A cursor that finds the pointers of a line.
+-- For `find_pointers`: a cursor that finds the pointers of a line.
 use Rattle.std.proofs.Common.{◌≡◌, ℕ, ◌+◌, ◌<◌, ◌≤◌, Bool, true, false, arith, List, [], ◌∷◌, ◌++◌, Option, Some, None, refl, ◌∙◌, append_assoc, filter}
 use Rattle.codespan_base.specs.declared.diagnostic.LabelStyle.{LabelStyle}
 use Rattle.codespan_base.specs.Labels.{LabelModel, has_message}
@@ -6,7 +6,7 @@ use Rattle.codespan_picture.specs.declared.char_metrics.Metrics.{Metrics}
 use Rattle.codespan_renderer.specs.declared.term.renderer.cached.label_cursor.StartCursor.{StartCursor}
 use Rattle.codespan_renderer.specs.declared.term.renderer.cached.pointers.Pointer.{Pointer}
 use Rattle.codespan_picture.specs.Arguments.{SingleLabelTuple, single_label_views}
-use Rattle.codespan_renderer.specs.Private.PointerLists.{pointer_under, pointers_in, HasPassed}
+use Rattle.codespan_renderer.specs.Private.PointerLists.{pointer_under, pointers_in, HasPassedStarts}
 use Rattle.codespan_picture.specs.Rows.{hanging}
 use Rattle.codespan_picture.specs.RowParts.{max_label_start, starts_in}
 use Rattle.codespan_picture.proofs.HangingStarts.{any-below, any-hanging, starts_in-low}
@@ -20,8 +20,8 @@ use Rattle.codespan_picture.proofs.Consecutive.{AreConsecutive}
 pub record IsPassing (before after : List SingleLabelTuple) (s t : StartCursor) (left : List Metrics) : Type 0 where
   pub byte_index : ℕ
   pub column : ℕ
-  pub early : HasPassed byte_index s
-  pub late : HasPassed byte_index t
+  pub early : HasPassedStarts byte_index s
+  pub late : HasPassedStarts byte_index t
   pub same_early : s.labels.now ≡ before
   pub same_late : t.labels.now ≡ after
   pub consecutive : AreConsecutive byte_index column left
@@ -29,8 +29,8 @@ pub record IsPassing (before after : List SingleLabelTuple) (s t : StartCursor) 
 -- at the next cell
 pub record IsPassingAt (before after : List SingleLabelTuple) (s t : StartCursor) (c : Metrics) (left : List Metrics) : Type 0 where
   pub some : 1 ≤ c.bytes
-  pub early : HasPassed c.byte_index s
-  pub late : HasPassed c.byte_index t
+  pub early : HasPassedStarts c.byte_index s
+  pub late : HasPassedStarts c.byte_index t
   pub same_early : s.labels.now ≡ before
   pub same_late : t.labels.now ≡ after
   pub consecutive : AreConsecutive (c.byte_index + c.bytes) (c.column + c.width) left
@@ -51,7 +51,7 @@ passing-at before after s t cs left c step w =
     }
 
 pub passing-more : (before after : List SingleLabelTuple) (s t u v : StartCursor) (c : Metrics) (left : List Metrics) → IsPassingAt before after s t c left
-    → HasPassed (c.byte_index + c.bytes) u → HasPassed (c.byte_index + c.bytes) v → u.labels.now ≡ s.labels.now → v.labels.now ≡ t.labels.now
+    → HasPassedStarts (c.byte_index + c.bytes) u → HasPassedStarts (c.byte_index + c.bytes) v → u.labels.now ≡ s.labels.now → v.labels.now ≡ t.labels.now
     → IsPassing before after u v left
 passing-more before after s t u v c left w early late same same2 = record {
   byte_index = c.byte_index + c.bytes;
@@ -88,7 +88,7 @@ pub found-none : (labels : List LabelModel) (ps : List Pointer) (cs left : List 
 found-none labels ps cs left c step is = rw (step, is) refl
 
 -- both cursors are at the line's start
-pub passing-start : (before after : List SingleLabelTuple) (s t : StartCursor) (cs : List Metrics) → HasPassed 0 s → HasPassed 0 t → s.labels.now ≡ before → t.labels.now ≡ after
+pub passing-start : (before after : List SingleLabelTuple) (s t : StartCursor) (cs : List Metrics) → HasPassedStarts 0 s → HasPassedStarts 0 t → s.labels.now ≡ before → t.labels.now ≡ after
     → AreConsecutive 0 0 cs → IsPassing before after s t cs
 passing-start before after s t cs early late same_early same_late consecutive = record {
   byte_index = 0;

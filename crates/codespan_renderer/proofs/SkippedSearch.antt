@@ -1,4 +1,4 @@
--- The cached characters before the first one that is needed of a line.
+-- For `skipped_before`: the cached characters before the first one that is needed of a line.
 use Rattle.std.proofs.Common.{◌≡◌, Some, ℕ, zero, suc, ◌+◌, ◌<◌, ◌≤◌, true, List, [], ◌∷◌, take, length, get_or, refl, sym, ap, subst, ◌∙◌, arith, min, fold, add-zero}
 use Rattle.std.specs.Str.{chars}
 use Rattle.std.specs.Prelude.{nat_le, slice_get}

@@ -1,4 +1,4 @@
--- what is below: files, labels, streams, writers, file databases
+-- what is below: files, labels, streams, writers, and the tables of characters and styles
 pub use Rattle.codespan_base.specs.FileModel
 pub use Rattle.codespan_base.specs.SimpleModel
 pub use Rattle.codespan_base.specs.MappedModel

@@ -1,4 +1,4 @@
--- The carets under a line, run by run.
+-- For `write_carets`: the carets under a line, run by run.
 use Rattle.std.proofs.Common.{◌≡◌, ℕ, ◌+◌, ◌<◌, ◌≤◌, Bool, true, false, List, [], ◌∷◌, ◌++◌, Option, None, Some, refl, sym, ap, ◌∙◌, append_assoc, append-nil, add-zero, arith, le-ltb, lt-ltb}
 use Rattle.std.specs.Prelude.{nat_lt, if◌then◌else◌}
 use Rattle.codespan_base.specs.declared.diagnostic.Severity.{Severity}

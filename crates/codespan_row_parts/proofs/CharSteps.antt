@@ -1,4 +1,4 @@
--- A step over one character of a text.
+-- For `leading_whitespace` and `write_colored_text`: a step over one character of a text.
 use Rattle.std.proofs.Common.{◌≡◌, ℕ, ◌+◌, ◌-◌, ◌≤◌, true, false, cond, List, [], ◌∷◌, ◌++◌, length, drop, length-append, length-drop, ap, ◌∙◌, arith}
 use Rattle.std.specs.Prelude.{sum_by, take_while}
 use Rattle.std.specs.Char.{encode_utf8, len_utf8, is_whitespace}

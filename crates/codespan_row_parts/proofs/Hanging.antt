@@ -1,4 +1,4 @@
--- Which message trails, and which hang.
+-- For `Messages::of` and `write_hanging`: which message trails, and which hang.
 use Rattle.std.proofs.Common.{◌≡◌, ℕ, zero, suc, ◌+◌, ◌-◌, ◌<◌, Bool, true, false, cond, ◌==◌, ◌&&◌, ◌||◌, List, [], ◌∷◌, ◌++◌, length, get_or, take, drop, map, filter, reverse, Option, Some, None, refl, sym, ap, subst, ◌∙◌, arith, drop-cons, length-drop, add-one, append_assoc, append-nil, ◌⊎◌, ⊎_elim}
 use Rattle.std.proofs.Math.Seq.{take-length}
 use Rattle.std.specs.Prelude.{not}

@@ -1,4 +1,4 @@
--- A cursor over lane marks in order finds the mark of each lane.
+-- For `inner_gutter`: a cursor over lane marks in order finds the mark of each lane.
 use Rattle.std.proofs.Common.{◌≡◌, ℕ, suc, zero, ◌+◌, ◌-◌, ◌<◌, ◌≤◌, Bool, true, false, cond, eqb, leb, ltb, ◌&&◌, List, [], ◌∷◌, ◌++◌, map, length, get_or, drop, None, Some, refl, sym, ap, ◌∙◌, arith, add-one, drop-cons, max}
 use Rattle.std.specs.Prelude.{IsTrue, flat_map}
 use Rattle.std.specs.List.{range_with_len}
@@ -14,7 +14,7 @@ use Rattle.codespan_row_parts.specs.LineViews.{lane_of_view, row_lanes_view, lan
 use Rattle.codespan_row_parts.specs.LaneMarksLeft.{lane_mark_here, lane_marks_after}
 use Rattle.codespan_picture.specs.Lanes.{crossing_cells, lane_cells, lane_mark_in, row_shape, row_crossing}
 use Rattle.codespan_picture.specs.Rows.{RowContext, Lanes}
-use Rattle.codespan_picture.specs.RowParts.{lane_of, row_lanes}
+use Rattle.codespan_picture.specs.RowParts.{inner_gutter_column, inner_gutter}
 use Rattle.codespan_row_parts.proofs.RowEquations.{spaces-add}
 
 -- ---- the first of the remaining lane marks
@@ -124,7 +124,7 @@ cursor-end context leading row i n marks h = let e : n - i ≡ 0 = omega arith i
 
 -- a lane without a lane mark, and without a line through it, is spaces
 empty-lane : (context : RowContext) (leading : ℕ) (row : RustLaneRow) (lane : ℕ) → row_crossing (lane_row_view row) lane ≡ None → lane_of_view context leading row lane None ≡ spaces 2
-unfolding lane_of_view lane_of lane_cells crossing_cells
+unfolding lane_of_view inner_gutter_column lane_cells crossing_cells
 empty-lane context leading row lane clear = rw clear refl
 
 -- where no lane mark is taken all remain
@@ -173,17 +173,17 @@ cursor-empty context leading row marks count lane until empty inside high within
 cursor_is : (context : RowContext) (leading : ℕ) (row : RustLaneRow) (count : ℕ) (whole : Lanes) (lane n : ℕ) (marks : List LaneMarkTuple)
     → ((k : ℕ) → lane ≤ k → lane_mark_in whole.marks k ≡ lane_mark_in (map lane_mark_view marks) k) → IsTrue (ascend_from count lane (map lane_mark_view marks))
     → cursor context leading row lane n marks
-    ≡ flat_map (λ k. lane_of context (row_crossing (lane_row_view row) k) (row_shape context.layout leading (lane_row_view row) k) (lane_mark_in whole.marks k)) (range_with_len lane n)
+    ≡ flat_map (λ k. inner_gutter_column context (row_crossing (lane_row_view row) k) (row_shape context.layout leading (lane_row_view row) k) (lane_mark_in whole.marks k)) (range_with_len lane n)
 unfolding lane_of_view
 cursor_is context leading row count whole lane zero marks a h = refl
 cursor_is context leading row count whole lane (suc n) marks a h =
     let e : option_map lane_mark_view (lane_mark_here marks lane) ≡ lane_mark_in whole.marks lane = sym (a lane (omega arith) ∙ here count lane marks h) in
-    rw e (ap (λ (l : Stream). lane_of context (row_crossing (lane_row_view row) lane) (row_shape context.layout leading (lane_row_view row) lane) (lane_mark_in whole.marks lane) ++ l)
+    rw e (ap (λ (l : Stream). inner_gutter_column context (row_crossing (lane_row_view row) lane) (row_shape context.layout leading (lane_row_view row) lane) (lane_mark_in whole.marks lane) ++ l)
     (cursor_is context leading row count whole (lane + 1) n (lane_marks_after marks lane) (λ k b. a k (omega (arith, b)) ∙ left count lane marks k (omega (arith, b))) (order count lane marks h)))
 
 -- over all lanes it is the lanes of the row
 pub cursor-lanes : (context : RowContext) (leading : ℕ) (kind : RustLaneRow) (count : ℕ) (marks : List LaneMarkTuple) → IsTrue (lanes_in_order count marks)
     → cursor context leading kind 0 (count - 0) marks ≡ row_lanes_view context leading kind (lanes_of count marks)
-unfolding row_lanes_view row_lanes
+unfolding row_lanes_view inner_gutter
 cursor-lanes context leading kind count marks h =
     let e : count - 0 ≡ count = omega arith in rw e (cursor_is context leading kind count (lanes_of count marks) 0 count marks (λ k b. refl) h)

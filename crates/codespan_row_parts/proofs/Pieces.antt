@@ -1,4 +1,4 @@
--- Prefixes and suffixes of the labels of a line.
+-- For `Messages::of` and `write_hanging_rows`: prefixes and suffixes of the labels of a line.
 use Rattle.std.proofs.Common.{◌≡◌, ℕ, ◌-◌, ◌≤◌, max, List, [], ◌∷◌, ◌++◌, length, length-drop, take, drop, fold, sym, ap, ◌∙◌, arith}
 use Rattle.std.proofs.Math.Seq.{take-length}
 use Rattle.std.proofs.lemmas.List.{map-append, take-append-drop}

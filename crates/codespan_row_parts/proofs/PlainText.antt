@@ -1,4 +1,4 @@
--- Text of a line that is rendered as it is.
+-- For `is_plain` and `plain_from`: text of a line that is rendered unchanged.
 use Rattle.std.proofs.Common.{◌≡◌, ℕ, ◌+◌, ◌-◌, ◌<◌, ◌≤◌, Option, length, take, drop, length-append, length-drop, append_assoc, append-nil, arith, ◌++◌, Bool, true, false, ◌&&◌, ◌||◌, ◌==◌, List, [], ◌∷◌, None, refl, sym, ap, ◌∙◌}
 use Rattle.std.specs.Char.{encode_utf8, len_utf8}
 use Rattle.std.specs.Prelude.{not}

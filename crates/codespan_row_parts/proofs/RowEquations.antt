@@ -1,4 +1,5 @@
--- Equations of rows, as the calls that write them put them together.
+-- For `write_line`, `write_empty` and `write_break`: equations of rows, as the calls that write
+-- them put them together.
 use Rattle.std.proofs.Common.{◌≡◌, ℕ, ◌+◌, ◌-◌, ◌^◌, ◌<◌, ◌≤◌, ◌==◌, List, [], ◌∷◌, ◌++◌, true, false, nat_lt, lt-ltb, Option, None, Some, append_assoc, append-nil, length, replicate, refl, ap, sym, ◌∙◌, arith}
 use Rattle.std.proofs.lemmas.List.{replicate-append-replicate}
 use Rattle.codespan_base.specs.declared.diagnostic.LabelStyle.{LabelStyle}
@@ -19,24 +20,24 @@ use Rattle.codespan_picture.specs.declared.char_metrics.Metrics.{Metrics}
 use Rattle.codespan_picture.specs.CharMetrics.{char_metrics}
 use Rattle.codespan_row_parts.proofs.ScanState.{ConsecutiveWithin, scan_state-char_metrics}
 use Rattle.codespan_picture.specs.Lanes as kind
-use Rattle.codespan_picture.specs.RowParts.{metrics_before, change, gutter, row_lanes}
+use Rattle.codespan_picture.specs.RowParts.{metrics_before, change, outer_gutter, inner_gutter}
 
 -- a gutter is the padding's spaces and one more
-pub gutter_spaces : (n : ℕ) → gutter n ≡ spaces (n + 1)
-unfolding gutter spaces
+pub gutter_spaces : (n : ℕ) → outer_gutter n ≡ spaces (n + 1)
+unfolding outer_gutter spaces
 gutter_spaces n = refl
 
 -- the lanes of each kind of row are those of that kind
-pub source_lanes_are : (context : RowContext) (leading : ℕ) (lanes : Lanes) → row_lanes_view context leading Source lanes ≡ row_lanes context leading kind.Source lanes
-unfolding row_lanes_view row_lanes
+pub source_lanes_are : (context : RowContext) (leading : ℕ) (lanes : Lanes) → row_lanes_view context leading Source lanes ≡ inner_gutter context leading kind.Source lanes
+unfolding row_lanes_view inner_gutter
 source_lanes_are context leading lanes = refl
 
-pub plain_lanes_are : (context : RowContext) (leading : ℕ) (lanes : Lanes) → row_lanes_view context leading Plain lanes ≡ row_lanes context 0 kind.Plain lanes
-unfolding row_lanes_view row_lanes
+pub plain_lanes_are : (context : RowContext) (leading : ℕ) (lanes : Lanes) → row_lanes_view context leading Plain lanes ≡ inner_gutter context 0 kind.Plain lanes
+unfolding row_lanes_view inner_gutter
 plain_lanes_are context leading lanes = refl
 
-pub below_lanes_are : (context : RowContext) (leading : ℕ) (lanes : Lanes) → row_lanes_view context leading Below lanes ≡ row_lanes context leading kind.Below lanes
-unfolding row_lanes_view row_lanes
+pub below_lanes_are : (context : RowContext) (leading : ℕ) (lanes : Lanes) → row_lanes_view context leading Below lanes ≡ inner_gutter context leading kind.Below lanes
+unfolding row_lanes_view inner_gutter
 below_lanes_are context leading lanes = refl
 
 pub ruleset lanes_are = (source_lanes_are, plain_lanes_are, below_lanes_are)

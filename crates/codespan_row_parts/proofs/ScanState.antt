@@ -1,5 +1,5 @@
--- How the characters of a line follow one another: what a loop over them knows of byte indices and
--- columns.
+-- For `write_carets` and `find_pointers`: how the characters of a line follow one another, and what
+-- a loop over them knows of byte indices and columns.
 use Rattle.std.proofs.Common.{◌≡◌, ℕ, ◌+◌, ◌*◌, ◌-◌, ◌^◌, ◌<◌, ◌≤◌, List, [], ◌∷◌, length, refl, sym, ap, ◌∙◌, arith, length-append}
 use Rattle.std.specs.Char.{encode_utf8, len_utf8}
 use Rattle.std.specs.Str.{IsUtf8, chars}

@@ -1,4 +1,5 @@
--- The characters that a walk over a line leaves out, since no label has begun there.
+-- For `write_carets`: the characters that a walk over a line leaves out, since no label has begun
+-- there.
 use Rattle.std.proofs.Common.{◌≡◌, ℕ, ◌+◌, ◌-◌, ◌^◌, ◌<◌, ◌≤◌, Bool, true, false, ◌&&◌, ◌||◌, ◌==◌, ◌%◌, List, [], ◌∷◌, ◌++◌, None, refl, sym, ap, subst, ◌∙◌, arith, min, fold, add-zero}
 use Rattle.std.specs.List.{list_any}
 use Rattle.std.specs.Char.{len_utf8}

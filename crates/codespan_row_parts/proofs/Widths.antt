@@ -1,4 +1,4 @@
--- How wide the characters of a line are up to a byte index.
+-- For `width_before` and `width_up_to`: how wide the characters of a line are up to a byte index.
 use Rattle.std.proofs.Common.{◌≡◌, ℕ, ◌+◌, ◌≤◌, ◌<◌, Bool, true, false, cond, List, [], ◌∷◌, refl, ap, ◌∙◌, arith}
 use Rattle.std.specs.Prelude.{nat_lt, nat_le}
 use Rattle.std.proofs.lemmas.Bool.{le-leb, lt-leb, le-ltb}

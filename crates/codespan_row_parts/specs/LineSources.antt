@@ -4,7 +4,7 @@ use Rattle.codespan_picture.specs.declared.char_metrics.Metrics.{Metrics}
 use Rattle.codespan_picture.specs.CharMetrics.{char_metrics, char_metrics_to_end, width_of}
 use Rattle.codespan_picture.specs.Arguments.{SingleLabelTuple}
 use Rattle.codespan_row_parts.specs.declared.line.RowContext as context
-use Rattle.codespan_row_parts.specs.declared.line.Line as line
+use Rattle.codespan_row_parts.specs.declared.line.Line as rust_line
 
 -- the tab width, the text and the labels
 pub record CharInput : Type 0 where
@@ -12,12 +12,12 @@ pub record CharInput : Type 0 where
   pub text : List ℕ
   pub labels : List SingleLabelTuple
 
--- those of a rendered line
-abbrev pub char_input : context.RowContext → line.Line → CharInput
-char_input x row = record {
+-- those of a drawn line
+abbrev pub char_input : context.RowContext → rust_line.Line → CharInput
+char_input x line = record {
   tab_width = x.tab_width;
-  text = row.text.now;
-  labels = row.labels.now;
+  text = line.text.now;
+  labels = line.labels.now;
 }
 
 -- the characters of the line

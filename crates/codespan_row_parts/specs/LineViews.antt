@@ -10,9 +10,9 @@ use Rattle.codespan_row_parts.specs.declared.line.Line as line
 use Rattle.codespan_picture.specs.Arguments.{LaneMarkTuple, single_label_views, lanes_of, lane_mark_view}
 use Rattle.codespan_picture.specs.Lanes.{LaneRow, Source, Plain, Below, Underline, row_shape, row_crossing}
 use Rattle.codespan_picture.specs.Rows.{RowContext, Lanes, Line}
-use Rattle.codespan_picture.specs.RowParts.{lane_of, row_lanes}
+use Rattle.codespan_picture.specs.RowParts.{inner_gutter_column, inner_gutter}
 
--- what all rows of one call share
+-- what all rows of a line are rendered by
 abbrev pub context_view : context.RowContext → RowContext
 context_view x = record {
   chars = x.chars.now;
@@ -22,11 +22,11 @@ context_view x = record {
   padding = x.padding;
 }
 
--- the lane marks in a row's lanes
+-- how many lanes a row has, and the lane marks in them
 abbrev pub lanes_view : lanes.Lanes → Lanes
 lanes_view x = lanes_of x.count x.marks.now
 
--- a rendered line
+-- a drawn line
 abbrev pub line_view : line.Line → Line
 line_view x = record {
   number = x.number;
@@ -46,10 +46,10 @@ lane_row_view (rust_variant.Underline corner_lane style part) =
 -- one lane of a kind of row, from the lane mark in it
 unfoldable pub lane_of_view : RowContext → ℕ → RustLaneRow → ℕ → Option LaneMarkTuple → Stream
 lane_of_view context leading row lane lane_mark =
-    lane_of context (row_crossing (lane_row_view row) lane)
+    inner_gutter_column context (row_crossing (lane_row_view row) lane)
     (row_shape context.layout leading (lane_row_view row) lane)
     (option_map lane_mark_view lane_mark)
 
 -- the lanes of a kind of row
 unfoldable pub row_lanes_view : RowContext → ℕ → RustLaneRow → Lanes → Stream
-row_lanes_view context leading row lanes = row_lanes context leading (lane_row_view row) lanes
+row_lanes_view context leading row lanes = inner_gutter context leading (lane_row_view row) lanes

@@ -15,8 +15,7 @@ is_from (Some start) byte_index = nat_le start byte_index
 abbrev pub is_marked : PrimaryLaneMarks → Metrics → Bool
 is_marked m c = is_from m.from c.byte_index || nat_le (c.byte_index + c.bytes) m.to
 
--- they cover the characters that the labels of the primary ones of these lane marks
--- cover
+-- covered are the characters that a primary one of these lane marks covers
 abbrev pub CoversAsMarks : List LaneMark → PrimaryLaneMarks → Type 0
 CoversAsMarks marks covered =
     (c : Metrics) → 1 ≤ c.bytes → is_marked covered c

@@ -49,14 +49,14 @@ rendered_break config severity padding lane_count marks =
     break_row (context_of config severity padding) (lanes_of lane_count marks) ++ newline
 
 -- the later rows of a note
-abbrev pub later_notes : ℕ → List (List ℕ) → Stream
-later_notes padding pieces = flat_map (λ piece. later_note_row padding piece ++ newline) pieces
+abbrev pub later_note_rows : ℕ → List (List ℕ) → Stream
+later_note_rows padding pieces = flat_map (λ piece. later_note_row padding piece ++ newline) pieces
 
 -- the rows of a note of these pieces
 abbrev pub note_stream : Chars → ℕ → List (List ℕ) → Stream
 note_stream chars padding [] = []
 note_stream chars padding (p ∷ ps) =
-    first_note_row chars padding p ++ newline ++ later_notes padding ps
+    first_note_row chars padding p ++ newline ++ later_note_rows padding ps
 
 -- the rows of a note
 abbrev pub rendered_note : Config → ℕ → List ℕ → Stream

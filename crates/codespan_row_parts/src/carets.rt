@@ -88,7 +88,7 @@ fn write_carets<W: PutStyle, S: LineSource>(
     line: Line<'_, '_>,
     source: &S,
 ) -> Result<(), W::Error>
-    requires of { S.of source.now ≡ char_input context line }
+    requires input { S.input source.now ≡ char_input context line }
     ensures { Writes (W.sink w.old)
         (carets_view context.entry line.entry.labels.now
         (line_metrics_to_end_view context.entry line.entry))
@@ -152,14 +152,14 @@ fn write_trailing<W: PutStyle>(
 
 /// Writes the carets under a line, and the message that trails them.
 ///
+/// # Errors
+///
+/// The writer's error; a prefix has then been written.
+///
 /// # Requires
 ///
 /// - `source` has the context's tab width, and the text and labels of `line`.
 /// - `messages.trailing` is the label of `line` whose message trails, where there is one.
-///
-/// # Errors
-///
-/// The writer's error; a prefix has then been written.
 pub fn write_caret_row<W: PutStyle, S: LineSource>(
     w: &mut W,
     context: RowContext<'_>,
@@ -167,7 +167,7 @@ pub fn write_caret_row<W: PutStyle, S: LineSource>(
     source: &S,
     messages: Messages<'_, '_>,
 ) -> Result<(), W::Error>
-    requires of { S.of source.now ≡ char_input context line }
+    requires input { S.input source.now ≡ char_input context line }
     requires trailing { optional_label_view messages.trailing
         ≡ trailing (single_label_views line.labels.now) }
     ensures { Writes (W.sink w.old)

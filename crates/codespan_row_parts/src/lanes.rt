@@ -30,7 +30,7 @@ pub enum LaneRow<'d> {
     Plain,
     /// A caret, pointer or hanging row.
     Below,
-    /// The underline row of a lane mark: its lane, its style, and its part.
+    /// The underline row of a lane mark: its lane, its style, and what its label does on the line.
     Underline(usize, LabelStyle, MultiLabel<'d>),
 }
 
@@ -67,7 +67,7 @@ fn corner_line(chars: &Chars<'_>, part: MultiLabel<'_>) -> char
     }
 }
 
-/// Writes so many characters of a lane: the line of a corner to the left, or spaces.
+/// Writes `count` characters of a lane: the line of a corner to the left, or spaces.
 #[inline(always)]
 fn write_crossing_cells<W: PutStyle>(
     w: &mut W,
@@ -143,7 +143,7 @@ fn write_lane_cells<W: PutStyle>(
 }
 
 /// Writes one lane, from the lane mark in it.
-#[tactic(auto, unfolding(codespan_picture::specs::RowParts::lane_of, crate::specs::LineViews::lane_of_view))]
+#[tactic(auto, unfolding(codespan_picture::specs::RowParts::inner_gutter_column, crate::specs::LineViews::lane_of_view))]
 fn inner_gutter_column<W: PutStyle>(
     w: &mut W,
     context: RowContext<'_>,
@@ -216,7 +216,8 @@ fn num_empty_lanes(row: LaneRow<'_>, lane: usize, until: usize) -> usize
     end.saturating_sub(lane).min(MAX_EMPTY_LANES)
 }
 
-/// Writes the lanes of a row, from left to right. Most rows have none, which is tested before any
+/// Writes the lanes of a row, from left to right. `leading` is the length in bytes of the white
+/// space that the line's text begins with. Most rows have no lanes, which is tested before any
 /// call.
 ///
 /// # Errors

@@ -9,12 +9,12 @@ use codespan_base::diagnostic::{LabelStyle, Severity};
 use codespan_base::term::{Chars, Layout};
 use codespan_picture::arguments::{MultiLabel, SingleLabel};
 
-/// What all rows of one call share.
+/// What all rows of a line are rendered by.
 #[derive(Clone, Copy)]
 pub struct RowContext<'config> {
     /// The characters of borders, carets and lanes.
     pub chars: &'config Chars<'config>,
-    /// The number of cells from one tab stop to the next.
+    /// The number of cells from one tab stop to the next; where it is 0, a tab takes no cell.
     pub tab_width: usize,
     /// How lanes continue below a corner in a source row.
     pub layout: Layout,
@@ -24,17 +24,18 @@ pub struct RowContext<'config> {
     pub padding: usize,
 }
 
-/// The lane marks in a row's lanes, in the order of the lanes.
+/// How many lanes a row has, and the lane marks in them. The lanes of `marks` ascend strictly and
+/// are below `count`.
 #[derive(Clone, Copy)]
 pub struct Lanes<'row, 'd> {
     /// The number of lanes.
     pub count: usize,
-    /// The lane of each, counted from 0, its style, and what the label does on the line.
+    /// The lane of each label, counted from 0, its style, and what the label does on the line.
     pub marks: &'row [(usize, LabelStyle, MultiLabel<'d>)],
     ghost in_order: { IsTrue (lanes_in_order count marks.now) },
 }
 
-/// A rendered line with what its labels do on it.
+/// A drawn line with what its labels do on it.
 #[derive(Clone, Copy)]
 pub struct Line<'row, 'd> {
     /// The line number, as users see it.

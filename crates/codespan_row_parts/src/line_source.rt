@@ -24,29 +24,29 @@ pub trait LineSource {
     type Cursor: CharCursor;
 
     /// The tab width, the text and the labels of the line.
-    ghost of: { Self → CharInput };
+    ghost input: { Self → CharInput };
 
     /// Returns a cursor over the characters of the line.
     fn characters(&self) -> Self::Cursor
-        ensures left { Self.Cursor.left result ≡ characters_of (of self.now) }
-        ensures labels { Self.Cursor.labels result ≡ (of self.now).labels };
+        ensures left { Self.Cursor.left result ≡ characters_of (input self.now) }
+        ensures labels { Self.Cursor.labels result ≡ (input self.now).labels };
 
-    /// Returns a cursor over the characters of the line and the placeholder after the last one, and
-    /// the column at which it begins. It may leave out characters that end before all labels start
-    /// and before the byte index `end`.
+    /// Returns a column, in cells from the line's start, and a cursor over the characters of the
+    /// line from there on and the placeholder after the last one. The characters that are left out
+    /// end at or before the byte index `end`, and at or before the start of each label.
     fn characters_from_labels(&self, end: usize) -> (u128, Self::Cursor)
-        ensures left { LeavesOut (least_start end (single_label_views (of self.now).labels))
-            (characters_to_end_of (of self.now)) result.0 (Self.Cursor.left result.1) }
-        ensures labels { Self.Cursor.labels result.1 ≡ (of self.now).labels };
+        ensures left { LeavesOut (least_start end (single_label_views (input self.now).labels))
+            (characters_to_end_of (input self.now)) result.0 (Self.Cursor.left result.1) }
+        ensures labels { Self.Cursor.labels result.1 ≡ (input self.now).labels };
 
     /// Returns how many cells the characters take that begin at this byte index or before it.
     fn width_up_to(&self, byte_index: usize) -> u128
-        ensures { result ≡ width_of (metrics_up_to byte_index (characters_of (of self.now))) };
+        ensures { result ≡ width_of (metrics_up_to byte_index (characters_of (input self.now))) };
 
     /// Returns how many cells the characters take that begin before this byte index.
     #[tactic(auto, using(crate::proofs::Widths::widths_before))]
     fn width_before(&self, byte_index: usize) -> u128
-        ensures { result ≡ width_of (metrics_before byte_index (characters_of (of self.now))) }
+        ensures { result ≡ width_of (metrics_before byte_index (characters_of (input self.now))) }
     {
         match byte_index.checked_sub(1) {
             Some(last) => self.width_up_to(last),
@@ -56,15 +56,15 @@ pub trait LineSource {
 
     /// Writes all pointers of the line.
     ///
+    /// # Errors
+    ///
+    /// The writer's error; a prefix has then been written.
+    ///
     /// # Requires
     ///
     /// - This has the context's tab width, and the text and labels of `line`.
     /// - The labels with a message in `messages.before` and `messages.after` are those of `line`
     ///   that hang.
-    ///
-    /// # Errors
-    ///
-    /// The writer's error; a prefix has then been written.
     fn caret_pointers<W: PutStyle>(
         &self,
         w: &mut W,
@@ -72,7 +72,7 @@ pub trait LineSource {
         line: Line<'_, '_>,
         messages: Messages<'_, '_>,
     ) -> Result<(), W::Error>
-        requires of { of self.now ≡ char_input context line }
+        requires input { input self.now ≡ char_input context line }
         requires hanging { AreHanging line.labels.now messages.before.now messages.after.now }
         ensures { Writes (W.sink w.old)
             (pointers_view context.entry line.entry (line_metrics_view context.entry line.entry))
@@ -80,16 +80,16 @@ pub trait LineSource {
 
     /// Writes the pointers of the characters that begin before this byte index.
     ///
+    /// # Errors
+    ///
+    /// The writer's error; a prefix has then been written.
+    ///
     /// # Requires
     ///
     /// - This has the context's tab width, and the text and labels of `line`.
     /// - The labels with a message in `messages.before` and `messages.after` are those of `line`
     ///   that hang.
     /// - `before` is at most the greatest start of a label of `line`.
-    ///
-    /// # Errors
-    ///
-    /// The writer's error; a prefix has then been written.
     fn caret_pointers_before<W: PutStyle>(
         &self,
         w: &mut W,
@@ -98,7 +98,7 @@ pub trait LineSource {
         messages: Messages<'_, '_>,
         before: usize,
     ) -> Result<(), W::Error>
-        requires of { of self.now ≡ char_input context line }
+        requires input { input self.now ≡ char_input context line }
         requires hanging { AreHanging line.labels.now messages.before.now messages.after.now }
         requires near { before ≤ max_label_start (single_label_views line.labels.now) }
         ensures { Writes (W.sink w.old) (pointers_before_view context.entry line.entry before)

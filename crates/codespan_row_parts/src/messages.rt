@@ -11,7 +11,7 @@ ghost use Rattle.codespan_picture.specs.Rows.{trailing, last_with_end, overlaps_
 use crate::carets::{is_overlapping, max_label_end};
 use codespan_picture::arguments::SingleLabel;
 
-/// The messages of the labels of a line.
+/// Which label of a line trails, and which may hang.
 #[derive(Clone, Copy)]
 pub struct Messages<'row, 'd> {
     /// The label whose message trails.

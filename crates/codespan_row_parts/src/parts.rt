@@ -5,7 +5,7 @@ ghost use Rattle.codespan_base.specs.WriterLaw.{Writes};
 ghost use Rattle.codespan_picture.specs.Arguments.{locus_view};
 ghost use Rattle.codespan_row_parts.specs.LineViews.{context_view, line_view};
 ghost use Rattle.codespan_picture.specs.Lanes.{label_glyph};
-ghost use Rattle.codespan_picture.specs.RowParts.{gutter, numbered_gutter, border, break_border, locus, change};
+ghost use Rattle.codespan_picture.specs.RowParts.{outer_gutter, outer_gutter_number, border_left, border_left_break, locus, change};
 ghost use Rattle.codespan_picture.specs.RowStreams.{row_start};
 
 use crate::lanes::{LaneRow, inner_gutter};
@@ -47,7 +47,7 @@ pub fn write_space<W: PutStyle>(w: &mut W) -> Result<(), W::Error>
 /// The writer's error; a prefix has then been written.
 #[inline(always)]
 pub fn outer_gutter<W: PutStyle>(w: &mut W, padding: usize) -> Result<(), W::Error>
-    ensures { Writes (W.sink w.old) (gutter padding) result (W.sink w.new) }
+    ensures { Writes (W.sink w.old) (outer_gutter padding) result (W.sink w.new) }
 {
     write_spaces(w, padding as u128 + 1)
 }
@@ -64,7 +64,7 @@ pub fn outer_gutter_number<W: PutStyle>(
     padding: usize,
     number: usize,
 ) -> Result<(), W::Error>
-    ensures { Writes (W.sink w.old) (numbered_gutter padding number) result (W.sink w.new) }
+    ensures { Writes (W.sink w.old) (outer_gutter_number padding number) result (W.sink w.new) }
 {
     w.set_line_number()?;
     put_spaces(w, padding.saturating_sub(count_digits(number)))?;
@@ -80,7 +80,7 @@ pub fn outer_gutter_number<W: PutStyle>(
 /// The writer's error; a prefix has then been written.
 #[inline(always)]
 pub fn border_left<W: PutStyle>(w: &mut W, chars: &Chars<'_>) -> Result<(), W::Error>
-    ensures { Writes (W.sink w.old) (border chars.now) result (W.sink w.new) }
+    ensures { Writes (W.sink w.old) (border_left chars.now) result (W.sink w.new) }
 {
     w.set_source_border()?;
     put_char(w, chars.source_border_left)?;
@@ -93,7 +93,7 @@ pub fn border_left<W: PutStyle>(w: &mut W, chars: &Chars<'_>) -> Result<(), W::E
 ///
 /// The writer's error; a prefix has then been written.
 pub fn border_left_break<W: PutStyle>(w: &mut W, chars: &Chars<'_>) -> Result<(), W::Error>
-    ensures { Writes (W.sink w.old) (break_border chars.now) result (W.sink w.new) }
+    ensures { Writes (W.sink w.old) (border_left_break chars.now) result (W.sink w.new) }
 {
     w.set_source_border()?;
     put_char(w, chars.source_border_left_break)?;
@@ -159,7 +159,8 @@ pub fn snippet_locus<W: PutStyle>(w: &mut W, at: &Locus) -> Result<(), W::Error>
     Ok(())
 }
 
-/// Writes the start of each row under a line: outer gutter, left border, inner gutter and a space.
+/// Writes the start of a caret, pointer or hanging row: outer gutter, left border, inner gutter and
+/// a space.
 ///
 /// # Errors
 ///

@@ -55,7 +55,8 @@ impl PrimaryLaneMarks {
         }
     }
 
-    /// Returns the byte index from which on they cover no character of a text, whatever its length.
+    /// Returns the byte index from which on they cover no character: `usize::MAX`, at which none
+    /// begins, where one covers the line to its end.
     pub fn end(self) -> usize
         ensures { (c : metrics.Metrics) → result ≤ c.byte_index → c.byte_index + 1 < 2 ^ 64
             → 1 ≤ c.bytes

@@ -21,21 +21,27 @@ use codespan_picture::char_metrics::Metrics;
 
 /// Returns the style of a character of the source: primary where a primary label covers it, inside
 /// the line or by these lane marks.
+///
+/// # Requires
+///
+/// - The character has a byte, and `characters` has just returned it.
+/// - `characters` has the labels of `line`.
+/// - `primary` is [`PrimaryLaneMarks::of`] the lane marks of `line`.
 pub fn text_style<C: CharCursor>(
     characters: &mut C,
-    marks: PrimaryLaneMarks,
+    primary: PrimaryLaneMarks,
     line: Line<'_, '_>,
     metrics: Metrics,
 ) -> Option<LabelStyle>
     requires some { 1 ≤ metrics.bytes }
     requires returned { C.has_returned metrics characters.old }
     requires labels { C.labels characters.old ≡ line.labels.now }
-    requires marks { CoversAsMarks (map lane_mark_view line.lanes.marks.now) marks }
+    requires primary { CoversAsMarks (map lane_mark_view line.lanes.marks.now) primary }
     ensures left { C.left characters.new ≡ C.left characters.old }
     ensures labels { C.labels characters.new ≡ C.labels characters.old }
     ensures style { result ≡ source_style (line_view line.entry) metrics }
 {
-    if characters.has_primary(metrics) || marks.covers_char(metrics) {
+    if characters.has_primary(metrics) || primary.covers_char(metrics) {
         Some(LabelStyle::Primary)
     } else {
         None
@@ -87,16 +93,23 @@ pub fn is_plain(line: Line<'_, '_>) -> bool
 /// Returns the byte index from which on the text of a line is written unchanged: no primary label
 /// covers it, inside the line or by these lane marks, and it has no tab. It is the end of the text
 /// where there is no other.
+///
+/// # Requires
+///
+/// `primary` is [`PrimaryLaneMarks::of`] the lane marks of `line`.
 #[inline(always)]
-pub fn plain_from(line: Line<'_, '_>, marks: PrimaryLaneMarks) -> usize
-    requires marks { CoversAsMarks (map lane_mark_view line.lanes.marks.now) marks }
+pub fn plain_from(line: Line<'_, '_>, primary: PrimaryLaneMarks) -> usize
+    requires primary { CoversAsMarks (map lane_mark_view line.lanes.marks.now) primary }
     ensures style { (c : metrics.Metrics) → result ≤ c.byte_index
         → c.byte_index < length line.entry.text.now
         → 1 ≤ c.bytes → source_style (line_view line.entry) c ≡ None }
     ensures tab { list_any (λ b. b == 9) (drop result line.entry.text.now) ≡ false }
 {
     let text = line.text.as_bytes();
-    let end = marks.end().max(max_label_end(line.labels)).min(text.len());
+    let end = primary
+        .end()
+        .max(max_label_end(line.labels))
+        .min(text.len());
     if text[end..].contains(&b'\t') {
         text.len()
     } else {

@@ -1,4 +1,5 @@
--- The underlines of multi-line labels, and the rows of a note.
+-- For `write_underlines` and `write_note`: the underlines of multi-line labels, and the rows of a
+-- note.
 use Rattle.std.proofs.Common.{◌≡◌, ℕ, ◌+◌, ◌≤◌, ◌<◌, Bool, true, false, cond, List, [], ◌∷◌, ◌++◌, length, drop, None, Some, refl, sym, ap, ◌∙◌, arith, get_or, add-one, drop-cons}
 use Rattle.std.specs.Prelude.{nat_lt, nat_le, filter, map}
 use Rattle.std.specs.Borrow.{Bor}
@@ -22,17 +23,17 @@ use Rattle.codespan_picture.specs.Arguments.{LaneMarkTuple, lane_mark_view, mult
 use Rattle.codespan_row_parts.specs.LineViews.{row_lanes_view}
 use Rattle.codespan_picture.specs.Rows.{RowContext, Lanes, Line, UnderlineRow, has_underline}
 use Rattle.codespan_picture.specs.Lanes as kind
-use Rattle.codespan_picture.specs.RowParts.{row_lanes, underline, underline_message, metrics_before, metrics_up_to}
+use Rattle.codespan_picture.specs.RowParts.{inner_gutter, underline, underline_message, metrics_before, metrics_up_to}
 use Rattle.codespan_rows.specs.Underlines.{underline_by_width, underline_width}
 use Rattle.codespan_picture.specs.RowStreams.{underline_row, stream_of_rows}
-use Rattle.codespan_row_parts.specs.RenderedRows.{later_notes}
+use Rattle.codespan_row_parts.specs.RenderedRows.{later_note_rows}
 
 -- ---- the lanes of an underline row
 
 -- the lanes of the row of a lane mark are those of that kind of row
 pub underline_lanes_are : (context : RowContext) (leading : ℕ) (lane : ℕ) (style : LabelStyle) (part : rust_multi_label.MultiLabel) (lanes : Lanes)
-    → row_lanes_view context leading (Underline lane style part) lanes ≡ row_lanes context leading (kind.Underline (lane_mark_view (lane, style, part))) lanes
-unfolding row_lanes_view row_lanes
+    → row_lanes_view context leading (Underline lane style part) lanes ≡ inner_gutter context leading (kind.Underline (lane_mark_view (lane, style, part))) lanes
+unfolding row_lanes_view inner_gutter
 underline_lanes_are context leading lane style part lanes = refl
 
 -- ---- the message of an underline
@@ -93,7 +94,7 @@ HasLines s pieces = YieldsList lines_steps (λ (x : Bor (List ℕ)). x.now) s pi
 pub record NotesToWrite (s : Sink) (whole : Stream) (padding : ℕ) (left : TextLines) (t : Sink) : Type 0 where
   pub pieces : List (List ℕ)
   pub yields : HasLines left pieces
-  pub written_so_far : StillToWrite s whole (later_notes padding pieces) t
+  pub written_so_far : StillToWrite s whole (later_note_rows padding pieces) t
 
 -- one line is the next
 pub record Next (x : List ℕ) (t : TextLines) (pieces : List (List ℕ)) : Type 0 where

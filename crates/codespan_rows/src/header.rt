@@ -18,7 +18,7 @@ use codespan_base::term::{Chars, SnippetStart};
 use codespan_picture::arguments::Locus;
 use codespan_row_parts::parts::{outer_gutter, snippet_locus, write_newline, write_space};
 
-/// Returns the word for a severity.
+/// Returns the name of a severity.
 fn severity_name(severity: Severity) -> &'static str
     ensures { result.now ≡ severity_name severity }
 {

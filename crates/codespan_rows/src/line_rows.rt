@@ -27,7 +27,7 @@ fn write_caret_rows<W: PutStyle, S: LineSource>(
     source: &S,
     messages: Messages<'_, '_>,
 ) -> Result<(), W::Error>
-    requires of { S.of source.now ≡ char_input context line }
+    requires input { S.input source.now ≡ char_input context line }
     requires trailing { optional_label_view messages.trailing
         ≡ trailing (single_label_views line.labels.now) }
     ensures { Writes (W.sink w.old) (caret_rows_view context.entry line.entry) result
@@ -43,20 +43,20 @@ fn write_caret_rows<W: PutStyle, S: LineSource>(
 /// Writes all rows of a line: its source, its carets, pointers and hanging messages, and its
 /// underlines.
 ///
-/// # Requires
-///
-/// `source` has the context's tab width, and the text and labels of `line`.
-///
 /// # Errors
 ///
 /// The writer's error; a prefix has then been written.
+///
+/// # Requires
+///
+/// `source` has the context's tab width, and the text and labels of `line`.
 pub fn write_line<W: PutStyle, S: LineSource>(
     w: &mut W,
     context: RowContext<'_>,
     line: Line<'_, '_>,
     source: &S,
 ) -> Result<(), W::Error>
-    requires of { S.of source.now ≡ char_input context line }
+    requires input { S.input source.now ≡ char_input context line }
     ensures { Writes (W.sink w.old)
         (stream_of_rows (context_view context.entry) (rows_of (line_view line.entry)))
         result (W.sink w.new) }

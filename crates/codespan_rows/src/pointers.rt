@@ -33,7 +33,7 @@ pub fn max_label_start(labels: &[SingleLabel<'_>]) -> usize
     greatest
 }
 
-/// Writes the spaces before a pointer, and the pointer.
+/// Writes `pending` spaces, and then a pointer.
 ///
 /// # Errors
 ///
@@ -57,9 +57,13 @@ pub fn caret_pointer<W: PutStyle>(
 /// What the rows under the carets of a line are written from.
 #[derive(Drop)]
 struct RowsUnder<'row, 'd, S> {
+    /// What all rows of the line are rendered by.
     context: RowContext<'row>,
+    /// The line.
     line: Line<'row, 'd>,
+    /// Its characters, their widths and its pointers.
     source: &'row S,
+    /// Which of its labels trails, and which may hang.
     messages: Messages<'row, 'd>,
 }
 
@@ -68,7 +72,7 @@ fn write_pointer_row<W: PutStyle, S: LineSource>(
     w: &mut W,
     rows: &RowsUnder<'_, '_, S>,
 ) -> Result<(), W::Error>
-    requires of { S.of rows.now.source.now ≡ char_input rows.now.context rows.now.line }
+    requires input { S.input rows.now.source.now ≡ char_input rows.now.context rows.now.line }
     requires hanging { AreHanging rows.now.line.labels.now
         rows.now.messages.before.now rows.now.messages.after.now }
     ensures { Writes (W.sink w.old)
@@ -87,7 +91,7 @@ fn write_hanging_row<W: PutStyle, S: LineSource>(
     rows: &RowsUnder<'_, '_, S>,
     label: &SingleLabel<'_>,
 ) -> Result<(), W::Error>
-    requires of { S.of rows.now.source.now ≡ char_input rows.now.context rows.now.line }
+    requires input { S.input rows.now.source.now ≡ char_input rows.now.context rows.now.line }
     requires hanging { AreHanging rows.now.line.labels.now
         rows.now.messages.before.now rows.now.messages.after.now }
     requires near { (single_label_view label.now).start
@@ -110,7 +114,7 @@ fn write_hanging_rows<W: PutStyle, S: LineSource>(
     rows: &RowsUnder<'_, '_, S>,
     labels: &[SingleLabel<'_>],
 ) -> Result<(), W::Error>
-    requires of { S.of rows.now.source.now ≡ char_input rows.now.context rows.now.line }
+    requires input { S.input rows.now.source.now ≡ char_input rows.now.context rows.now.line }
     requires hanging { AreHanging rows.now.line.labels.now
         rows.now.messages.before.now rows.now.messages.after.now }
     requires near { max_label_start (single_label_views labels.now)
@@ -132,7 +136,7 @@ fn write_pointers_and_messages<W: PutStyle, S: LineSource>(
     w: &mut W,
     rows: &RowsUnder<'_, '_, S>,
 ) -> Result<(), W::Error>
-    requires of { S.of rows.now.source.now ≡ char_input rows.now.context rows.now.line }
+    requires input { S.input rows.now.source.now ≡ char_input rows.now.context rows.now.line }
     requires hanging { AreHanging rows.now.line.labels.now
         rows.now.messages.before.now rows.now.messages.after.now }
     requires pieces { ArePieces rows.now.line.labels.now
@@ -147,15 +151,15 @@ fn write_pointers_and_messages<W: PutStyle, S: LineSource>(
 
 /// Writes the pointers and a row for each hanging message, where there is one.
 ///
+/// # Errors
+///
+/// The writer's error; a prefix has then been written.
+///
 /// # Requires
 ///
 /// - `source` has the context's tab width, and the text and labels of `line`.
 /// - The labels with a message in `messages.before` and `messages.after` are those of `line` that
 ///   hang, and the two are a prefix and a suffix of its labels.
-///
-/// # Errors
-///
-/// The writer's error; a prefix has then been written.
 pub fn write_hanging<W: PutStyle, S: LineSource>(
     w: &mut W,
     context: RowContext<'_>,
@@ -163,7 +167,7 @@ pub fn write_hanging<W: PutStyle, S: LineSource>(
     source: &S,
     messages: Messages<'_, '_>,
 ) -> Result<(), W::Error>
-    requires of { S.of source.now ≡ char_input context line }
+    requires input { S.input source.now ≡ char_input context line }
     requires hanging { AreHanging line.labels.now messages.before.now messages.after.now }
     requires pieces { ArePieces line.labels.now messages.before.now messages.after.now }
     ensures { Writes (W.sink w.old) (hanging_rows_view context.entry line.entry)

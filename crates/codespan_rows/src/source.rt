@@ -38,8 +38,8 @@ fn write_colored_text<W: PutStyle, C: CharCursor>(
         result (W.sink w.new) }
 {
     let text = line.text.as_bytes();
-    let marks = PrimaryLaneMarks::of(line.lanes.marks);
-    let plain = plain_from(line, marks);
+    let primary = PrimaryLaneMarks::of(line.lanes.marks);
+    let plain = plain_from(line, primary);
     let mut previous = None;
     let mut start = 0;
     let mut end = 0;
@@ -47,7 +47,7 @@ fn write_colored_text<W: PutStyle, C: CharCursor>(
         if end >= plain {
             break;
         }
-        let style = text_style(&mut characters, marks, line, metrics);
+        let style = text_style(&mut characters, primary, line, metrics);
         let next = end + metrics.bytes;
         if metrics.code == '\t' {
             end_text_run(w, context, &text[start..end], previous, style)?;
@@ -72,7 +72,7 @@ fn write_text<W: PutStyle, S: LineSource>(
     line: Line<'_, '_>,
     source: &S,
 ) -> Result<(), W::Error>
-    requires of { S.of source.now ≡ char_input context line }
+    requires input { S.input source.now ≡ char_input context line }
     ensures { Writes (W.sink w.old)
         (colored_text (context_view context.entry) (line_view line.entry))
         result (W.sink w.new) }
@@ -118,20 +118,20 @@ fn write_source_lanes<W: PutStyle>(
 
 /// Writes the source row of a line.
 ///
-/// # Requires
-///
-/// `source` has the context's tab width, and the text and labels of `line`.
-///
 /// # Errors
 ///
 /// The writer's error; a prefix has then been written.
+///
+/// # Requires
+///
+/// `source` has the context's tab width, and the text and labels of `line`.
 pub fn write_source_row<W: PutStyle, S: LineSource>(
     w: &mut W,
     context: RowContext<'_>,
     line: Line<'_, '_>,
     source: &S,
 ) -> Result<(), W::Error>
-    requires of { S.of source.now ≡ char_input context line }
+    requires input { S.input source.now ≡ char_input context line }
     ensures { Writes (W.sink w.old)
         (source_row (context_view context.entry) (line_view line.entry) ++ newline)
         result (W.sink w.new) }

@@ -59,7 +59,7 @@ fn write_underline_message<W: PutStyle>(w: &mut W, message: &str) -> Result<(), 
 /// Returns how many cells an underline has between its corner and its caret.
 fn underline_width<S: LineSource>(source: &S, part: MultiLabel<'_>) -> u128
     ensures { result
-        ≡ underline_width (characters_of (S.of source.now)) (multi_label_view part.entry) }
+        ≡ underline_width (characters_of (S.input source.now)) (multi_label_view part.entry) }
 {
     match part {
         MultiLabel::Top(start) => source.width_up_to(start),
@@ -95,7 +95,7 @@ fn label_multi_caret<W: PutStyle>(
     }
 }
 
-/// Writes the start of an underline row: up to its lanes.
+/// Writes the start of an underline row: up to the end of its lanes.
 fn write_underline_lanes<W: PutStyle>(
     w: &mut W,
     context: RowContext<'_>,
@@ -154,20 +154,20 @@ fn has_underline(leading: usize, part: MultiLabel<'_>) -> bool
 
 /// Writes the underline rows of a line, in the order of the lanes.
 ///
-/// # Requires
-///
-/// `source` has the context's tab width, and the text and labels of `line`.
-///
 /// # Errors
 ///
 /// The writer's error; a prefix has then been written.
+///
+/// # Requires
+///
+/// `source` has the context's tab width, and the text and labels of `line`.
 pub fn write_underlines<W: PutStyle, S: LineSource>(
     w: &mut W,
     context: RowContext<'_>,
     line: Line<'_, '_>,
     source: &S,
 ) -> Result<(), W::Error>
-    requires of { S.of source.now ≡ char_input context line }
+    requires input { S.input source.now ≡ char_input context line }
     ensures { Writes (W.sink w.old)
         (stream_of_rows (context_view context.entry) (underline_rows (line_view line.entry)))
         result (W.sink w.new) }

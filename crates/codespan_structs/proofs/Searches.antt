@@ -1,4 +1,4 @@
--- What the binary searches of lines and loci find, for `LinedText::line_index` and
+-- What the binary searches of lines and loci find, for `StatedText::line_index` and
 -- `SourceFile::stated_location`, and the loci of which `ascend` looks at one.
 use Rattle.std.proofs.Common.{◌≡◌, ◌≢◌, ℕ, zero, suc, ◌+◌, ◌-◌, ◌<◌, ◌≤◌, Bool, true, false, List, [], ◌∷◌, length, Some, None, Result, Ok, Err, drop, get_or, refl, sym, ap, ◌∙◌, arith, inl, inr, lt-ltb, le-leb}
 use Rattle.std.specs.Prelude.{◌&&◌, ◌==◌, nat_lt, nat_le, slice_index, MatchResult}
@@ -120,7 +120,7 @@ module _ (first : ℕ) where
   rest_ascends byte [] e = refl
   rest_ascends byte (l ∷ ls) e = (both (nat_lt byte (l.byte - first)) _ e).1
 
-  -- a locus that stands before another is of a lower byte
+  -- a locus before another is of a lower byte
   sorted : (ls : List RawLocus) → ascends first ls ≡ true → (i j : ℕ) → i < j → j < length ls
       → byte_at ls i < byte_at ls j
   sorted [] e i j h k = absurd (omega (arith, k))

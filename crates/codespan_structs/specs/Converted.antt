@@ -1,12 +1,11 @@
 -- What the structs of C are converted to: a diagnostic, a configuration and its styles, and files.
 use Rattle.std.specs.Prelude.{ℕ, ◌-◌, ◌==◌, if◌then◌else◌, not, min, List, [], ◌∷◌, map, slice_get, Option, Some, None}
 use Rattle.std.specs.Option.{option_map_or}
-use Rattle.codespan_base.specs.Ansi.{ansi_style, ansi_reset}
 use Rattle.codespan_base.specs.Characters.{ascii, box_drawing}
 use Rattle.codespan_base.specs.Diagnostics.{DiagnosticView, LabelView}
 use Rattle.codespan_base.specs.FileModel.{FileDatabase}
 use Rattle.codespan_base.specs.Streams.{Spelling, no_style_marks}
-use Rattle.codespan_base.specs.StyleTables.{default_styles, spelling_by}
+use Rattle.codespan_base.specs.StyleTables.{ansi_spelling, default_styles}
 use Rattle.codespan_base.specs.declared.diagnostic.LabelStyle.{LabelStyle}
 use Rattle.codespan_base.specs.declared.diagnostic.LabelStyle.TheVariants.{Primary, Secondary}
 use Rattle.codespan_base.specs.declared.diagnostic.Severity.{Severity}
@@ -33,7 +32,7 @@ use Rattle.codespan_structs.specs.declared.raw.RawStyles.{RawStyles}
 use Rattle.codespan_structs.specs.declared.raw.RawText.{RawText}
 use Rattle.codespan_structs.specs.StyleMarkBytes.{style_mark_spelling}
 use Rattle.codespan_structs.specs.StatedLines.{locus_at}
-use Rattle.codespan_structs.specs.SourceTexts.{CutText, SourceView, database_of, lined_text, numbered_text}
+use Rattle.codespan_structs.specs.SourceTexts.{CutText, SourceView, database_of, stated_text, newline_text}
 
 -- ---- numbers of the header
 
@@ -170,10 +169,6 @@ custom_styles s = record {
   note_bullet = color_spec_of s.note_bullet;
 }
 
--- style marks as the escape sequences of these styles
-abbrev pub ansi_spelling : Styles → Spelling
-ansi_spelling styles = spelling_by styles ansi_style ansi_reset
-
 -- how style marks are spelled
 abbrev pub spelling_of : RawConfig → Spelling
 spelling_of c =
@@ -182,16 +177,16 @@ spelling_of c =
 
 -- ---- the files
 
--- a text cut into the lines that are given, or at newlines where there are none
+-- a text cut into the lines that the caller states, or at newlines where there are none
 abbrev pub cut_by : List ℕ → List ℕ → ℕ → ℕ → List RawLine → CutText
-cut_by name text first_byte first_line [] = numbered_text name text first_line
-cut_by name text first_byte first_line (l ∷ ls) = lined_text name text first_byte (l ∷ ls)
+cut_by name text first_byte first_line [] = newline_text name text first_line
+cut_by name text first_byte first_line (l ∷ ls) = stated_text name text first_byte (l ∷ ls)
 
 -- a file
 abbrev pub source_in : RawFile → SourceView
 source_in f = record {
   cut = cut_by f.name.now f.source.now f.first_byte f.first_line f.lines.now;
-  set = locus_at f.first_byte f.loci.now;
+  stated_location = locus_at f.first_byte f.loci.now;
 }
 
 -- the files

@@ -14,14 +14,16 @@ use Rattle.codespan_base.specs.SimpleModel.{simple_file}
 use Rattle.codespan_base.specs.Lemmas.Simple.{renumbered_lawful, simple_lawful}
 use Rattle.codespan_structs.specs.declared.raw.RawLine.{RawLine}
 use Rattle.codespan_structs.specs.StatedLines.{are_lines, ends_of, follow, starts_of}
-use Rattle.codespan_structs.specs.SourceTexts.{file_of, lined_text, numbered_text}
+use Rattle.codespan_structs.specs.SourceTexts.{file_of, stated_text, newline_text}
 
 -- a text cut at newlines makes a lawful file
-pub numbered_lawful : (name text : List ℕ) (first_line : ℕ) (set : ℕ → Option Location)
+pub newline_lawful : (name text : List ℕ) (first_line : ℕ) (stated : ℕ → Option Location)
     → IsUtf8 text → length text < 2 ^ 64
-    → IsLawful (file_of (record { cut = numbered_text name text first_line; set = set }))
-numbered_lawful name text first_line set u fits =
-    let f : FileModel = file_of (record { cut = numbered_text name text first_line; set = set }) in
+    → IsLawful (file_of
+    (record { cut = newline_text name text first_line; stated_location = stated }))
+newline_lawful name text first_line stated u fits =
+    let f : FileModel =
+    file_of (record { cut = newline_text name text first_line; stated_location = stated }) in
     renumbered_lawful (simple_file (Some name) text) f.number f.column f.location
     (simple_lawful (Some name) text u fits)
 
@@ -150,12 +152,13 @@ module _ (text : List ℕ) (first : ℕ) where
       chain_more l m ms s e h x.later x.apart (chain m ms x.start_cut x.end_cut x.inside x.rest)
 
 -- a text of lines that the test passes makes a lawful file
-pub lined_lawful : (name text : List ℕ) (first : ℕ) (lines : List RawLine)
-    (set : ℕ → Option Location) → IsUtf8 text → length text < 2 ^ 64
+pub stated_lawful : (name text : List ℕ) (first : ℕ) (lines : List RawLine)
+    (stated : ℕ → Option Location) → IsUtf8 text → length text < 2 ^ 64
     → are_lines text first lines ≡ true
-    → IsLawful (file_of (record { cut = lined_text name text first lines; set = set }))
-lined_lawful name text first [] set u fits t = absurd (cc)
-lined_lawful name text first (l ∷ ls) set u fits t =
+    → IsLawful (file_of
+    (record { cut = stated_text name text first lines; stated_location = stated }))
+stated_lawful name text first [] stated u fits t = absurd (cc)
+stated_lawful name text first (l ∷ ls) stated u fits t =
     let a = both text first (eqb (l.start - first) 0) _ t in
     let b = both text first (is_char_boundary text (l.end - first)) _ a.1 in
     let zero_start : l.start - first ≡ 0 = grind (arith, nat_tests, a.0) in

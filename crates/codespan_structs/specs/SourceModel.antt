@@ -11,32 +11,32 @@ use Rattle.codespan_base.specs.DatabaseViews.{name_of, source_of as simple_sourc
 use Rattle.codespan_base.specs.Lemmas.Simple.{past_end_is, text_fits, text_is_utf8}
 use Rattle.codespan_base.specs.Lemmas.Lines.{line_of_below}
 use Rattle.codespan_base.specs.Lemmas.Missing.{past_end_or, database_lawful}
-use Rattle.codespan_structs.specs.declared.source_file.lined.LinedText.{LinedText}
-use Rattle.codespan_structs.specs.declared.source_file.numbered.NumberedText.{NumberedText}
+use Rattle.codespan_structs.specs.declared.source_file.stated.StatedText.{StatedText}
+use Rattle.codespan_structs.specs.declared.source_file.newline.NewlineText.{NewlineText}
 use Rattle.codespan_structs.specs.declared.source_file.SourceFile.{SourceFile}
 use Rattle.codespan_structs.specs.declared.source_file.text.SourceText.{SourceText}
-use Rattle.codespan_structs.specs.declared.source_file.text.SourceText.TheVariants.{Numbered, Lined}
+use Rattle.codespan_structs.specs.declared.source_file.text.SourceText.TheVariants.{Newline, Stated}
 use Rattle.codespan_structs.specs.declared.source_files.SourceFiles.{SourceFiles}
 use Rattle.codespan_structs.specs.StatedLines.{locus_at}
-use Rattle.codespan_structs.specs.SourceTexts.{CutText, SourceView, database_of, failure_of, file_of, lined_text, numbered_text, past_last}
-use Rattle.codespan_structs.specs.Lemmas.{lined_lawful, numbered_lawful}
+use Rattle.codespan_structs.specs.SourceTexts.{CutText, SourceView, database_of, failure_of, file_of, stated_text, newline_text, past_last}
+use Rattle.codespan_structs.specs.Lemmas.{stated_lawful, newline_lawful}
 
 -- a text cut at newlines
-abbrev pub numbered_of : NumberedText → CutText
-numbered_of t = numbered_text (name_of t.file).now (simple_source_of t.file).now t.first_line
+abbrev pub newline_of : NewlineText → CutText
+newline_of t = newline_text (name_of t.file).now (simple_source_of t.file).now t.first_line
 
--- a text of given lines
-abbrev pub lined_of : LinedText → CutText
-lined_of t = lined_text t.name.now t.source.now t.first_byte t.lines.now
+-- a text of stated lines
+abbrev pub stated_of : StatedText → CutText
+stated_of t = stated_text t.name.now t.source.now t.first_byte t.lines.now
 
 -- either
 abbrev pub cut_of : SourceText → CutText
-cut_of (Numbered t) = numbered_of t
-cut_of (Lined t) = lined_of t
+cut_of (Newline t) = newline_of t
+cut_of (Stated t) = stated_of t
 
 -- a file
 abbrev pub source_of : SourceFile → SourceView
-source_of f = record { cut = cut_of f.text; set = locus_at f.first_byte f.loci.now }
+source_of f = record { cut = cut_of f.text; stated_location = locus_at f.first_byte f.loci.now }
 
 -- the files of a database
 abbrev pub sources_of : SourceFiles → List SourceView
@@ -44,22 +44,22 @@ sources_of files = map source_of files.files.items
 
 -- ---- lemmas: a reader may skip the rest
 
--- a text of given lines makes a lawful file, whatever its loci are
-lined_lawful_with : (t : LinedText) (set : ℕ → Option Location)
-    → IsLawful (file_of (record { cut = lined_of t; set = set }))
-lined_lawful_with t set =
-    lined_lawful _ _ t.first_byte t.lines.now set (IsUtf8-had _ t.utf8) t.fits t.cut
+-- a text of stated lines makes a lawful file, whatever its loci are
+stated_lawful_with : (t : StatedText) (stated : ℕ → Option Location)
+    → IsLawful (file_of (record { cut = stated_of t; stated_location = stated }))
+stated_lawful_with t stated =
+    stated_lawful _ _ t.first_byte t.lines.now stated (IsUtf8-had _ t.utf8) t.fits t.cut
 
-pub lined_is_lawful : (t : LinedText)
-    → IsLawful (file_of (record { cut = lined_of t; set = λ _. None }))
-lined_is_lawful t = lined_lawful_with t (λ _. None)
+pub stated_is_lawful : (t : StatedText)
+    → IsLawful (file_of (record { cut = stated_of t; stated_location = λ _. None }))
+stated_is_lawful t = stated_lawful_with t (λ _. None)
 
 -- a text makes a lawful file
-text_is_lawful : (t : SourceText) (set : ℕ → Option Location)
-    → IsLawful (file_of (record { cut = cut_of t; set = set }))
-text_is_lawful (Numbered t) set =
-    numbered_lawful _ _ t.first_line set (text_is_utf8 t.file) (text_fits t.file)
-text_is_lawful (Lined t) set = lined_lawful_with t set
+text_is_lawful : (t : SourceText) (stated : ℕ → Option Location)
+    → IsLawful (file_of (record { cut = cut_of t; stated_location = stated }))
+text_is_lawful (Newline t) stated =
+    newline_lawful _ _ t.first_line stated (text_is_utf8 t.file) (text_fits t.file)
+text_is_lawful (Stated t) stated = stated_lawful_with t stated
 
 -- the line of a byte is there
 pub byte_has_line : (f : SourceFile) (byte : ℕ)

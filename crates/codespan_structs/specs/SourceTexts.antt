@@ -25,8 +25,8 @@ pub record CutText : Type 0 where
 
 -- a text whose lines start after newlines, and whose numbers count on from the lines before it, up
 -- to the greatest usize
-abbrev pub numbered_text : List ℕ → List ℕ → ℕ → CutText
-numbered_text name text first_line = record {
+abbrev pub newline_text : List ℕ → List ℕ → ℕ → CutText
+newline_text name text first_line = record {
   name = name;
   text = text;
   starts = line_starts_of text;
@@ -34,9 +34,9 @@ numbered_text name text first_line = record {
   number = λ i. min (first_line + i + 1) (2 ^ 64 - 1);
 }
 
--- a text of given lines
-abbrev pub lined_text : List ℕ → List ℕ → ℕ → List RawLine → CutText
-lined_text name text first lines = record {
+-- a text of stated lines
+abbrev pub stated_text : List ℕ → List ℕ → ℕ → List RawLine → CutText
+stated_text name text first lines = record {
   name = name;
   text = text;
   starts = starts_of first lines;
@@ -57,12 +57,12 @@ cut_location t byte =
     let i = line_of t.starts byte in
     record { line_number = t.number i; column_number = cut_column t i byte }
 
--- a text with the locations that are set for some of its bytes
+-- a text with the locations that are stated for some of its bytes
 pub record SourceView : Type 0 where
   pub cut : CutText
-  pub set : ℕ → Option Location
+  pub stated_location : ℕ → Option Location
 
--- the file of it; a location that is set comes before the computed one
+-- the file of it; a location that is stated comes before the computed one
 abbrev pub file_of : SourceView → FileModel
 file_of s = record {
   exists = true;
@@ -72,7 +72,7 @@ file_of s = record {
   ends = s.cut.ends;
   number = s.cut.number;
   column = cut_column s.cut;
-  location = λ byte. unwrap_or (s.set byte) (cut_location s.cut byte);
+  location = λ byte. unwrap_or (s.stated_location byte) (cut_location s.cut byte);
 }
 
 -- the range of line i

@@ -3,7 +3,7 @@ use Rattle.codespan_base.specs.Streams.{Spelling as Spelled, no_style_marks}
 use Rattle.codespan_structs.specs.declared.convert.config.Spelling.{Spelling}
 use Rattle.codespan_structs.specs.declared.convert.config.Spelling.TheVariants.{Plain, Ansi, StyleMarks}
 use Rattle.codespan_structs.specs.StyleMarkBytes.{style_mark_spelling}
-use Rattle.codespan_structs.specs.Converted.{ansi_spelling}
+use Rattle.codespan_base.specs.StyleTables.{ansi_spelling}
 
 -- the bytes of each style mark
 abbrev pub spelling_by_kind : Spelling → Spelled

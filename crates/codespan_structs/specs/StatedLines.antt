@@ -36,7 +36,7 @@ ends_of first lines = map (λ l. l.end - first) lines
 abbrev pub numbers_of : List RawLine → List ℕ
 numbers_of lines = map (λ l. l.number) lines
 
--- the location that is set for a byte
+-- the location that is stated for a byte
 abbrev pub locus_at : ℕ → List RawLocus → ℕ → Option Location
 locus_at first [] byte = None
 locus_at first (l ∷ ls) byte =

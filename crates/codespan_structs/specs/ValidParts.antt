@@ -6,9 +6,7 @@ use Rattle.codespan_structs.specs.declared.raw.RawChars.{RawChars}
 use Rattle.codespan_structs.specs.declared.raw.RawConfig.{RawConfig}
 use Rattle.codespan_structs.specs.declared.raw.RawDiagnostic.{RawDiagnostic}
 use Rattle.codespan_structs.specs.declared.raw.RawFile.{RawFile}
-use Rattle.codespan_structs.specs.declared.raw.RawLabel.{RawLabel}
-use Rattle.codespan_structs.specs.declared.raw.RawStyles.{RawStyles}
-use Rattle.codespan_structs.specs.Validity.{HasLabelStyle, HasTextMessage, HasTextName, HasTextSource, HasValidLines, HasValidLoci, IsColorSpec, IsValidText}
+use Rattle.codespan_structs.specs.Validity.{HasTextMessage, HasTextName, HasTextSource, HasValidLines, HasValidLoci, IsValidText}
 
 -- the caller's characters
 pub record AreCustomChars (c : RawChars) : Type 0 where
@@ -34,37 +32,6 @@ pub record AreValidChars (c : RawConfig) : Type 0 where
   pub choice : c.characters ≤ 2
   pub custom : c.characters ≡ 2 → AreCustomChars c.chars
 
--- the caller's styles
-pub record AreColorSpecs (s : RawStyles) : Type 0 where
-  pub header_bug : IsColorSpec s.header_bug
-  pub header_error : IsColorSpec s.header_error
-  pub header_warning : IsColorSpec s.header_warning
-  pub header_note : IsColorSpec s.header_note
-  pub header_help : IsColorSpec s.header_help
-  pub header_message : IsColorSpec s.header_message
-  pub primary_label_bug : IsColorSpec s.primary_label_bug
-  pub primary_label_error : IsColorSpec s.primary_label_error
-  pub primary_label_warning : IsColorSpec s.primary_label_warning
-  pub primary_label_note : IsColorSpec s.primary_label_note
-  pub primary_label_help : IsColorSpec s.primary_label_help
-  pub secondary_label : IsColorSpec s.secondary_label
-  pub line_number : IsColorSpec s.line_number
-  pub source_border : IsColorSpec s.source_border
-  pub note_bullet : IsColorSpec s.note_bullet
-
--- the configuration
-pub record IsValidConfig (c : RawConfig) : Type 0 where
-  pub display_style : c.display_style ≤ 2
-  pub layout : c.layout ≤ 1
-  pub spelling : c.spelling ≤ 3
-  pub chars : AreValidChars c
-  pub styles : c.spelling ≡ 2 → AreColorSpecs c.styles
-
--- a label
-pub record IsValidLabel (l : RawLabel) : Type 0 where
-  pub style : HasLabelStyle l
-  pub message : HasTextMessage l
-
 -- a file
 pub record IsValidFile (f : RawFile) : Type 0 where
   pub name : HasTextName f
@@ -74,8 +41,7 @@ pub record IsValidFile (f : RawFile) : Type 0 where
 
 -- the diagnostic
 pub record IsValidDiagnostic (d : RawDiagnostic) : Type 0 where
-  pub severity : d.severity ≤ 4
   pub code : IsUtf8 d.code.now
   pub message : IsUtf8 d.message.now
-  pub labels : All IsValidLabel d.labels.now
+  pub labels : All HasTextMessage d.labels.now
   pub notes : All IsValidText d.notes.now

@@ -5,43 +5,45 @@ use std::alloc::{AllocError, AllocFailed};
 /// An argument that can be invalid, by its number in the header.
 #[derive(Clone, Copy, Debug, PartialEq, Eq)]
 pub enum Argument {
-    /// The ABI version is another one.
+    /// The ABI version. Invalid unless it is [`ABI`](crate::raw::ABI).
     Abi = 1,
-    /// The style of the output is invalid.
+    /// The display style. Invalid above 2.
     DisplayStyle = 2,
-    /// The layout is invalid.
+    /// The layout. Invalid above 1.
     Layout = 3,
-    /// The spelling of style marks is invalid.
+    /// The spelling of style marks. Invalid above 3.
     Spelling = 4,
-    /// The choice of characters is invalid.
+    /// The choice of characters. Invalid above 2.
     Characters = 5,
-    /// The text before a locus is not UTF-8.
+    /// The text before a locus, where the caller's characters are chosen. Invalid unless UTF-8.
     SnippetStart = 6,
-    /// A character is no Unicode scalar value.
+    /// One of the caller's characters, where they are chosen. Invalid unless it is a Unicode scalar
+    /// value.
     Character = 7,
-    /// A color is invalid.
+    /// One of the caller's styles, where they are chosen. Invalid where a color of it is above 8.
     Color = 8,
-    /// A file's name is not UTF-8.
+    /// A file's name. Invalid unless UTF-8.
     FileName = 9,
-    /// A file's source is not UTF-8.
+    /// A file's source. Invalid unless UTF-8.
     FileSource = 10,
-    /// A file's lines are not those of a text.
+    /// A file's lines. Invalid unless there are none or they start with its source, ascend without
+    /// overlap and end inside it, at boundaries of characters.
     FileLines = 11,
-    /// A file's loci do not ascend.
+    /// A file's loci. Invalid unless their bytes ascend strictly.
     FileLoci = 12,
-    /// The severity is invalid.
+    /// The severity. Invalid above 4.
     Severity = 13,
-    /// The code is not UTF-8.
+    /// The code. Invalid unless UTF-8.
     Code = 14,
-    /// The message is not UTF-8.
+    /// The message. Invalid unless UTF-8.
     Message = 15,
-    /// A label's style is invalid.
+    /// A label's style. Invalid above 1.
     LabelStyle = 16,
-    /// A label's message is not UTF-8.
+    /// A label's message. Invalid unless UTF-8.
     LabelMessage = 17,
-    /// A label's file is not one of the files.
+    /// A label's file. Invalid unless it is an index of the files.
     LabelFile = 18,
-    /// A note is not UTF-8.
+    /// A note. Invalid unless UTF-8.
     Note = 19,
 }
 
@@ -49,7 +51,7 @@ impl Argument {
     ghost use Rattle.std.specs.Prelude.{◌≡◌};
     ghost use Rattle.codespan_structs.specs.Validity.{number_of};
 
-    /// Returns the number.
+    /// Returns the number of the argument in the header.
     pub fn number(self) -> u32
         ensures { result ≡ number_of self }
     {

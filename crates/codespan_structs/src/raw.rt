@@ -6,7 +6,7 @@
 /// The ABI version of the layouts of these structs.
 pub const ABI: u32 = 1;
 
-/// A tab width above this one is taken as this one, in cells.
+/// The greatest tab width, in cells: one above it is taken as this one.
 pub const TAB_WIDTH_MAX: usize = 1024;
 
 /// A text, in UTF-8.
@@ -29,7 +29,7 @@ pub struct RawLine {
     pub number: usize,
 }
 
-/// The line and column number that are shown for a byte.
+/// The line and column number that are shown for a byte at which a label starts.
 #[derive(Drop)]
 #[repr(C)]
 pub struct RawLocus {
@@ -51,7 +51,7 @@ pub struct RawFile<'a> {
     pub source: &'a [u8],
     /// Byte index in the file of the first byte of `source`.
     pub first_byte: usize,
-    /// The lines of the file before `source`; not read where there are `lines`.
+    /// The number of lines of the file before `source`; not read where there are `lines`.
     pub first_line: usize,
     /// The lines of `source`; where there are none, a line starts after each newline.
     pub lines: &'a [RawLine],
@@ -65,7 +65,7 @@ pub struct RawFile<'a> {
 pub struct RawLabel<'a> {
     /// 0: primary, 1: secondary.
     pub style: u32,
-    /// The index of its file.
+    /// The index of its file, from 0.
     pub file: usize,
     /// Byte index in the file.
     pub start: usize,
@@ -190,19 +190,19 @@ pub struct RawConfig<'a> {
     /// 0: classic, 1: unbroken.
     pub layout: u32,
     /// How style marks are spelled. 0: as nothing, 1: as escape sequences of the default styles, 2:
-    /// as those of `styles`, 3: in band.
+    /// as those of `styles`, 3: in band, each as the byte 255 and its number.
     pub spelling: u32,
     /// 0: box drawing, 1: ASCII, 2: those of `chars`.
     pub characters: u32,
-    /// The cells between tab stops, up to [`TAB_WIDTH_MAX`].
+    /// The number of cells between tab stops; one above [`TAB_WIDTH_MAX`] is taken as that one.
     pub tab_width: usize,
-    /// The lines shown after the first line of a multi-line label.
+    /// The number of lines shown after the first line of a multi-line label.
     pub start_context_lines: usize,
-    /// The lines shown before its last line.
+    /// The number of lines shown before its last line.
     pub end_context_lines: usize,
-    /// The lines shown before a label.
+    /// The number of lines shown before a label.
     pub before_label_lines: usize,
-    /// The lines shown after a label.
+    /// The number of lines shown after a label.
     pub after_label_lines: usize,
     /// The caller's characters.
     pub chars: RawChars<'a>,
@@ -210,12 +210,13 @@ pub struct RawConfig<'a> {
     pub styles: RawStyles,
 }
 
-/// What was wrong.
+/// The first invalid argument, or none.
 #[derive(Drop)]
 #[repr(C)]
 pub struct Detail {
-    /// The number of an [`Argument`](crate::error::Argument), 0 where none is wrong.
+    /// The number of an [`Argument`](crate::error::Argument), 0 where none is invalid.
     pub argument: u32,
-    /// Which of several it is.
+    /// The index, from 0, of the character, style, file, label or note; 0 of an argument of which
+    /// there is only one.
     pub index: usize,
 }

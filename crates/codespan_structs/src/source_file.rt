@@ -6,22 +6,25 @@ ghost use Rattle.codespan_base.specs.LawfulFiles.{FailsBy};
 ghost use Rattle.codespan_structs.specs.StatedLines.{ascends, locus_at};
 ghost use Rattle.codespan_structs.specs.SourceTexts.{IsRangeIn, cut_column, file_of, past_last};
 
-mod lined;
-mod numbered;
+mod newline;
+mod stated;
 mod text;
 
 use crate::raw::RawLocus;
 use codespan_base::files::{Error, Location, column_index};
-pub use lined::LinedText;
-pub use numbered::NumberedText;
+pub use newline::NewlineText;
+pub use stated::StatedText;
 use std::ops::Range;
 pub use text::SourceText;
 
 /// A file: a text cut into lines, and loci of the caller.
 #[derive(Drop)]
 pub struct SourceFile<'a> {
+    /// The text, with its name and its lines.
     text: SourceText<'a>,
+    /// Byte index in the file of the first byte of the text.
     first_byte: usize,
+    /// The loci of the caller, in ascending order of their bytes.
     loci: &'a [RawLocus],
     ghost ascending: { ascends first_byte loci.now ≡ true },
 }
@@ -29,7 +32,8 @@ pub struct SourceFile<'a> {
 impl<'a> SourceFile<'a> {
     ghost use Rattle.codespan_structs.specs.SourceModel.{cut_of, source_of};
 
-    /// Returns the file of a text that starts at a byte of the file, with these loci.
+    /// Returns the file of a text, which starts at the byte `first_byte` of the file, with these
+    /// loci.
     ///
     /// # Requires
     ///
@@ -37,7 +41,7 @@ impl<'a> SourceFile<'a> {
     pub fn new(text: SourceText<'a>, first_byte: usize, loci: &'a [RawLocus]) -> SourceFile<'a>
         requires { ascends first_byte loci.now ≡ true }
         ensures cut { (source_of result).cut ≡ cut_of text.entry }
-        ensures set { (source_of result).set ≡ locus_at first_byte loci.now }
+        ensures stated { (source_of result).stated_location ≡ locus_at first_byte loci.now }
     {
         SourceFile {
             text,
@@ -102,7 +106,7 @@ impl<'a> SourceFile<'a> {
 
     /// Returns the caller's location of a byte, by binary search.
     fn stated_location(&self, byte_index: usize) -> Option<Location>
-        ensures { result ≡ (source_of self.now).set byte_index }
+        ensures { result ≡ (source_of self.now).stated_location byte_index }
     {
         let first_byte = self.first_byte;
         match self

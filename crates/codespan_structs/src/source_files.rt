@@ -11,6 +11,7 @@ use std::ops::Range;
 /// The files that are passed to the call. Ids are their indices.
 #[derive(Drop)]
 pub struct SourceFiles<'a> {
+    /// The files, each at the index that is its id.
     files: Vec<SourceFile<'a>>,
 }
 
@@ -47,7 +48,7 @@ impl<'a> SourceFiles<'a> {
         Ok(())
     }
 
-    /// Borrows the file of an id.
+    /// Returns the file of an id.
     ///
     /// # Errors
     ///

@@ -11,16 +11,16 @@ use crate::error::Argument;
 /// The output was written.
 pub const OK: u32 = 0;
 
-/// The output does not fit.
+/// The output does not fit into the caller's buffer.
 pub const TOO_SMALL: u32 = 1;
 
 /// An allocation failed.
 pub const OUT_OF_MEMORY: u32 = 2;
 
-/// A label is of no file, and each argument before is valid.
+/// The file of a label is no index of the files, and each argument of a lower number is valid.
 pub const FILE_MISSING: u32 = 3;
 
-/// An argument is invalid.
+/// An argument is invalid, and the first such is not the file of a label.
 pub const INVALID: u32 = 4;
 
 /// The number of no argument.
@@ -56,7 +56,8 @@ pub fn status_for(argument: Argument) -> u32
 /// Writes what a status means to `out`, as [`copy_out`] copies bytes, and returns [`OK`] or
 /// [`TOO_SMALL`].
 ///
-/// Of [`INVALID`] it says what the argument must be.
+/// Of [`INVALID`] it says what the argument must be: `argument` is the number of an [`Argument`],
+/// and is read for this status alone.
 pub fn write_status(status: u32, argument: u32, out: &mut [u8], written: &mut usize) -> u32
     ensures ok { result ≡ 0 → IsWritten (text_for status argument) out.old out.new written.new }
     ensures too_small { result ≡ 1

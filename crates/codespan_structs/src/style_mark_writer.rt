@@ -1,4 +1,4 @@
-//! A writer with style marks in band.
+//! A writer with style marks in band: each is the byte 255 and its number.
 
 ghost use Rattle.std.specs.Prelude.{◌≡◌, refl};
 ghost use Rattle.codespan_base.specs.Diagnostics.{severity_rank};
@@ -15,10 +15,12 @@ use std::io::Write;
 /// The byte before the number of a style mark. UTF-8 never has it.
 const STYLE_MARK_BYTE: u8 = 255;
 
-/// A writer that spells each style mark as the byte 255 and the number of the mark.
+/// A writer that spells each style mark as the byte 255 and its number.
 #[derive(Drop)]
 pub struct StyleMarkWriter<W> {
+    /// The writer to which it writes.
     inner: W,
+    /// Whether a style mark or a `put` has failed.
     failed: bool,
 }
 
@@ -26,7 +28,7 @@ impl<W: Write> StyleMarkWriter<W> {
     ghost use Rattle.codespan_base.specs.Writers.{fresh_sink};
     ghost use Rattle.codespan_structs.specs.StyleMarkBytes.{inner_writer, style_mark_spelling, style_mark_writer_sink};
 
-    /// Returns a writer over `writer`. Its flag is not set.
+    /// Returns a writer over `writer`. It has not failed.
     pub fn new(writer: W) -> StyleMarkWriter<W>
         ensures begins { style_mark_writer_sink W.contents result
             ≡ fresh_sink style_mark_spelling (W.contents writer) }
@@ -45,7 +47,7 @@ impl<W: Write> StyleMarkWriter<W> {
         inner
     }
 
-    /// Writes the style mark of this number, and sets the flag where that fails.
+    /// Writes the style mark of this number, and sets `failed` where that fails.
     fn write_style_mark(&mut self, number: u8) -> io::Result<()>
         ensures { Writes (style_mark_sink self.old.failed (W.contents self.old.inner))
             (bytes (style_mark_bytes number)) result
@@ -59,8 +61,8 @@ impl<W: Write> StyleMarkWriter<W> {
     }
 }
 
-/// Returns the number of a severity, from help to bug.
-fn severity_number(severity: Severity) -> u8
+/// Returns the rank of a severity, from 0 of help to 4 of bug.
+fn severity_rank(severity: Severity) -> u8
     ensures { result ≡ severity_rank severity }
 {
     match severity {
@@ -91,7 +93,7 @@ impl<W: Write> WriteStyle for StyleMarkWriter<W> {
     ghost sink = { λ w. style_mark_writer_sink W.contents w };
 
     fn set_header(&mut self, severity: Severity) -> io::Result<()> {
-        let number = severity_number(severity);
+        let number = severity_rank(severity);
         self.write_style_mark(number)
     }
 
@@ -112,7 +114,7 @@ impl<W: Write> WriteStyle for StyleMarkWriter<W> {
     }
 
     fn set_label(&mut self, severity: Severity, label_style: LabelStyle) -> io::Result<()> {
-        let number = severity_number(severity);
+        let number = severity_rank(severity);
         match label_style {
             LabelStyle::Primary => self.write_style_mark(9 + number),
             LabelStyle::Secondary => self.write_style_mark(14 + number),

@@ -10,7 +10,7 @@ mod values;
 
 use crate::error::Argument;
 use crate::raw::{ABI, RawConfig, RawDiagnostic, RawFile};
-use crate::validate::config::{character_index, color_index, has_snippet_start};
+use crate::validate::config::{character_index, color_index, is_snippet_start_valid};
 use crate::validate::diagnostic::{
     label_file_index, label_message_index, label_style_index, note_index,
 };
@@ -22,7 +22,8 @@ use crate::validate::values::is_text;
 pub struct Invalid {
     /// Which one it is.
     pub argument: Argument,
-    /// Its index, where there are several.
+    /// The index, from 0, of the character, style, file, label or note; 0 of an argument of which
+    /// there is only one.
     pub index: usize,
 }
 
@@ -83,7 +84,7 @@ fn invalid_index(
         Argument::Layout => index_unless(config.layout <= 1),
         Argument::Spelling => index_unless(config.spelling <= 3),
         Argument::Characters => index_unless(config.characters <= 2),
-        Argument::SnippetStart => index_unless(has_snippet_start(config)),
+        Argument::SnippetStart => index_unless(is_snippet_start_valid(config)),
         Argument::Character => character_index(config),
         Argument::Color => color_index(config),
         Argument::FileName => name_index(files),

@@ -6,9 +6,10 @@ use Rattle.codespan_base.specs.Streams.{Stream, StyleMark, Byte, Mark, Slot, Hea
 use Rattle.codespan_documents.specs.declared.style.Style.{Style}
 use Rattle.codespan_documents.specs.declared.style.Style.TheVariants as Kinds
 use Rattle.codespan_documents.specs.Runs.{runs_from, runs_of, style_after}
-use Rattle.codespan_terminal.specs.Terminal.{AreSafe, ansi_spelling, style_mark_of, runs_bytes, terminal_text}
+use Rattle.codespan_base.specs.StyleTables.{ansi_spelling}
+use Rattle.codespan_terminal.specs.Terminal.{AreSafe, style_mark_of, runs_bytes, terminal_text}
 
--- the mark of the style that a mark starts is that mark
+-- the style mark of the style that a style mark starts is that style mark
 style_mark_of-style_after : (m : StyleMark) → style_mark_of (style_after m) ≡ m
 style_mark_of-style_after (Header severity) = refl
 style_mark_of-style_after HeaderMessage = refl

@@ -23,7 +23,8 @@ use Rattle.codespan_documents.specs.declared.text.Run.{Run}
 use Rattle.codespan_documents.specs.Runs.{AreTexts, StyledRun, characters_of, run_view}
 use Rattle.codespan_documents.specs.declared.style.Style.{Style}
 use Rattle.codespan_documents.specs.declared.style.Style.TheVariants as Kinds
-use Rattle.codespan_terminal.specs.Terminal.{ansi_spelling, columns, is_safe, style_mark_of, next_reading, opening, reading_after, run_bytes, runs_bytes, safe_characters, safe_text, shown, terminal_text, ShowsSafe, Text, Escape, Parameters, Unknown}
+use Rattle.codespan_base.specs.StyleTables.{ansi_spelling}
+use Rattle.codespan_terminal.specs.Terminal.{columns, is_safe, style_mark_of, next_reading, first_sequences, reading_after, run_bytes, runs_bytes, safe_characters, safe_text, shown, terminal_text, ShowsSafe, Text, Escape, Parameters, Unknown}
 use Rattle.codespan_terminal.proofs.UnsafeCells.{columns_stay}
 
 -- ---- characters
@@ -228,14 +229,14 @@ ReadsText-mark styles Reset = ReadsText-reset
 
 -- ---- runs
 
-ReadsText-opening : (styles : Styles) (style : Style) → ReadsText (opening styles style) []
-ReadsText-opening styles Kinds.Plain = ReadsText-nil
-ReadsText-opening styles (Kinds.Header severity) = ReadsText-mark styles (Header severity)
-ReadsText-opening styles Kinds.HeaderMessage = ReadsText-mark styles HeaderMessage
-ReadsText-opening styles Kinds.LineNumber = ReadsText-mark styles LineNumber
-ReadsText-opening styles Kinds.NoteBullet = ReadsText-mark styles NoteBullet
-ReadsText-opening styles Kinds.SourceBorder = ReadsText-mark styles SourceBorder
-ReadsText-opening styles (Kinds.Label severity style) = ReadsText-mark styles (LabelMark severity style)
+ReadsText-first_sequences : (styles : Styles) (style : Style) → ReadsText (first_sequences styles style) []
+ReadsText-first_sequences styles Kinds.Plain = ReadsText-nil
+ReadsText-first_sequences styles (Kinds.Header severity) = ReadsText-mark styles (Header severity)
+ReadsText-first_sequences styles Kinds.HeaderMessage = ReadsText-mark styles HeaderMessage
+ReadsText-first_sequences styles Kinds.LineNumber = ReadsText-mark styles LineNumber
+ReadsText-first_sequences styles Kinds.NoteBullet = ReadsText-mark styles NoteBullet
+ReadsText-first_sequences styles Kinds.SourceBorder = ReadsText-mark styles SourceBorder
+ReadsText-first_sequences styles (Kinds.Label severity style) = ReadsText-mark styles (LabelMark severity style)
 
 -- the safe characters of a run and of those after it
 safe_split : (text : List ℕ) (runs : List StyledRun)
@@ -257,9 +258,9 @@ ReadsText-terminal styles [] texts = ReadsText-nil
 ReadsText-terminal styles (first ∷ rest) texts =
     let shown_first = safe_characters (chars first.text) in
     subst (ReadsText (terminal_text styles (first ∷ rest))) (safe_split first.text rest)
-    (ReadsText-append (opening styles first.style ++ safe_text first.text) shown_first (runs_bytes styles rest) (safe_characters (characters_of rest))
-    (ReadsText-append (opening styles first.style) [] (safe_text first.text) shown_first
-    (ReadsText-opening styles first.style) (ReadsText-safe first.text texts.0))
+    (ReadsText-append (first_sequences styles first.style ++ safe_text first.text) shown_first (runs_bytes styles rest) (safe_characters (characters_of rest))
+    (ReadsText-append (first_sequences styles first.style) [] (safe_text first.text) shown_first
+    (ReadsText-first_sequences styles first.style) (ReadsText-safe first.text texts.0))
     (ReadsText-runs styles rest texts.1))
 
 -- a text for a terminal shows the safe characters of its runs, each in its column
@@ -270,7 +271,7 @@ shows_safe styles runs texts =
     let safe = safe_characters (characters_of runs) in
     let shows : shown Text cs ≡ safe = ap (shown Text) (sym (append-nil cs)) ∙ read.shows [] ∙ append-nil safe in
     record {
-      after = ap (reading_after Text) (sym (append-nil cs)) ∙ read.after [];
+      ends_in_text = ap (reading_after Text) (sym (append-nil cs)) ∙ read.after [];
       shows = shows;
       in_columns = λ tab. ap (columns tab 0) shows ∙ columns_stay tab 0 (characters_of runs);
     }

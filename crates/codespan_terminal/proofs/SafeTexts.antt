@@ -9,7 +9,7 @@ use Rattle.std.proofs.lemmas.Str.{encodes-append}
 use Rattle.codespan_base.specs.declared.term.config.styles.Styles.{Styles}
 use Rattle.codespan_documents.specs.declared.text.Run.{Run}
 use Rattle.codespan_documents.specs.Runs.{run_view}
-use Rattle.codespan_terminal.specs.Terminal.{is_safe, opening, runs_bytes, safe_characters, safe_text, terminal_text}
+use Rattle.codespan_terminal.specs.Terminal.{is_safe, first_sequences, runs_bytes, safe_characters, safe_text, terminal_text}
 
 -- a safe character goes to the end
 pub pushed_safe : (start now next cs : List ℕ) (c : ℕ) → now ≡ start ++ encode_utf8_all (safe_characters cs) → is_safe c ≡ true
@@ -36,10 +36,10 @@ all_safe start now read cs h e = h ∙ ap (λ (l : List ℕ). start ++ encode_ut
 
 -- the first run, and the runs after it
 pub first-written : (styles : Styles) (runs : List Run) (first : Run) (old shown : List ℕ) → 1 ≤ length runs → first ≡ get_or runs 0 first
-    → shown ≡ old ++ (opening styles first.style ++ safe_text (string_bytes first.text)) → shown ++ runs_bytes styles (map run_view (take (length runs - 1) (drop 1 runs))) ≡ old ++ terminal_text styles (map run_view runs)
+    → shown ≡ old ++ (first_sequences styles first.style ++ safe_text (string_bytes first.text)) → shown ++ runs_bytes styles (map run_view (take (length runs - 1) (drop 1 runs))) ≡ old ++ terminal_text styles (map run_view runs)
 first-written styles [] first old shown some at is = absurd (omega arith)
 first-written styles (run ∷ rest) first old shown some at is =
     let more = runs_bytes styles (map run_view rest) in
-    let text = λ (r : Run). opening styles r.style ++ safe_text (string_bytes r.text) in
+    let text = λ (r : Run). first_sequences styles r.style ++ safe_text (string_bytes r.text) in
     ap (λ rs. shown ++ runs_bytes styles (map run_view rs)) (take_all (length (run ∷ rest) - 1) rest (omega arith))
     ∙ ap (λ s. s ++ more) (is ∙ ap (λ r. old ++ text r) at) ∙ append_assoc old (text run) more

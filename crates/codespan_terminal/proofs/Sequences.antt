@@ -4,7 +4,7 @@ use Rattle.codespan_base.specs.Streams.{Spelling, StyleMark, style_mark, spelled
 use Rattle.codespan_base.specs.WriterLaw.{Sink, are_known, extended, is_known, with_written}
 use Rattle.codespan_base.specs.Writers.{fresh_sink}
 
--- the bytes of the mark
+-- the bytes are those of the style mark
 pub written_sequence : (spelling : Spelling) (mark : StyleMark) (start end : Sink) (first : Option (List ℕ)) (bytes : List ℕ)
     → start ≡ fresh_sink spelling first → first ≡ Some [] → (is_known start ≡ true → end ≡ with_written start (style_mark mark))
     → end.contents ≡ Some bytes → bytes ≡ spelling mark

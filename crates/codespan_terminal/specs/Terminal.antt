@@ -4,9 +4,8 @@ use Rattle.std.specs.Char.{is_ascii_digit, is_control}
 use Rattle.std.specs.List.{AllByRecursion, flat_map}
 use Rattle.std.specs.Str.{chars, encode_utf8_all}
 use Rattle.ucd_props.specs.Binary.{is_bidi_control}
-use Rattle.codespan_base.specs.Ansi.{ansi_reset, ansi_style}
-use Rattle.codespan_base.specs.StyleTables.{spelling_by}
-use Rattle.codespan_base.specs.Streams.{Spelling, StyleMark, Header, HeaderMessage, LineNumber, NoteBullet, SourceBorder, LabelMark, Reset}
+use Rattle.codespan_base.specs.StyleTables.{ansi_spelling}
+use Rattle.codespan_base.specs.Streams.{StyleMark, Header, HeaderMessage, LineNumber, NoteBullet, SourceBorder, LabelMark, Reset}
 use Rattle.codespan_base.specs.declared.term.config.styles.Styles.{Styles}
 use Rattle.codespan_picture.specs.CharMetrics.{width_at}
 use Rattle.codespan_documents.specs.Runs.{StyledRun, characters_of}
@@ -39,10 +38,6 @@ style_mark_of Kinds.NoteBullet = NoteBullet
 style_mark_of Kinds.SourceBorder = SourceBorder
 style_mark_of (Kinds.Label severity style) = LabelMark severity style
 
--- how `Ansi` spells style marks
-abbrev pub ansi_spelling : Styles → Spelling
-ansi_spelling styles = spelling_by styles ansi_style ansi_reset
-
 -- a run: the escape sequences of its style, and its safe text
 abbrev pub run_bytes : Styles → StyledRun → List ℕ
 run_bytes styles run = ansi_spelling styles (style_mark_of run.style) ++ safe_text run.text
@@ -52,15 +47,15 @@ abbrev pub runs_bytes : Styles → List StyledRun → List ℕ
 runs_bytes styles runs = flat_map (run_bytes styles) runs
 
 -- the sequences before the first run: a terminal is in the style of plain text already
-abbrev pub opening : Styles → Style → List ℕ
-opening styles Kinds.Plain = []
-opening styles style = ansi_spelling styles (style_mark_of style)
+abbrev pub first_sequences : Styles → Style → List ℕ
+first_sequences styles Kinds.Plain = []
+first_sequences styles style = ansi_spelling styles (style_mark_of style)
 
 -- the text for a terminal
 abbrev pub terminal_text : Styles → List StyledRun → List ℕ
 terminal_text styles [] = []
 terminal_text styles (first ∷ rest) =
-    opening styles first.style ++ safe_text first.text ++ runs_bytes styles rest
+    first_sequences styles first.style ++ safe_text first.text ++ runs_bytes styles rest
 
 -- ---- what a terminal shows
 
@@ -117,8 +112,8 @@ safe_columns tab column cs = filter (λ (p : InColumn). is_safe p.0) (columns ta
 -- what a terminal makes of a text for these runs
 pub record ShowsSafe (text : List ℕ) (runs : List StyledRun) : Type 0 where
   -- no sequence but those of styles, no other control character but tab and newline, and no
-  -- directional control
-  pub after : reading_after Text (chars text) ≡ Text
+  -- directional control: after any of them a reader would not be in text again
+  pub ends_in_text : reading_after Text (chars text) ≡ Text
   -- it shows the safe characters of the runs
   pub shows : shown Text (chars text) ≡ safe_characters (characters_of runs)
   -- each has the column that it has among all characters of the runs

@@ -4,7 +4,8 @@ ghost use Rattle.std.specs.Prelude.{◌≡◌, ◌++◌, IfOk, OnOk, map, string
 ghost use Rattle.codespan_base.specs.Streams.{style_mark};
 ghost use Rattle.codespan_base.specs.WriterLaw.{Writes};
 ghost use Rattle.codespan_documents.specs.Runs.{run_view, styled_runs};
-ghost use Rattle.codespan_terminal.specs.Terminal.{ShowsSafe, ansi_spelling, is_safe, style_mark_of, runs_bytes, safe_text, terminal_text};
+ghost use Rattle.codespan_base.specs.StyleTables.{ansi_spelling};
+ghost use Rattle.codespan_terminal.specs.Terminal.{ShowsSafe, is_safe, style_mark_of, runs_bytes, safe_text, terminal_text};
 
 pub mod laws;
 
@@ -18,14 +19,14 @@ use ucd_props::is_bidi_control;
 /// Returns a styled text for a terminal: each run after the escape sequences of its style.
 ///
 /// The sequences are those that `Ansi` writes for these styles, and the reset for plain text; a
-/// plain first run has none. Of the texts each character that is not safe to print is left out:
-/// see [`is_safe`]. So no source text, name or message can start an escape sequence, lead back over
+/// plain first run has none. Characters that are not safe to print are left out of the texts: see
+/// [`is_safe`]. So no source text, name or message can start an escape sequence, lead back over
 /// text, or change its direction by a directional control; right-to-left letters stay. The
 /// characters left out take no cells, so each caret stays in its column.
 ///
 /// # Errors
 ///
-/// Returns [`AllocError`] where an allocation fails.
+/// [`AllocError`]: an allocation fails.
 ///
 /// # Example
 ///
@@ -48,7 +49,7 @@ pub fn to_terminal(alloc: Global, text: &StyledText, styles: &Styles) -> Result<
 ///
 /// # Errors
 ///
-/// Returns [`AllocError`] where an allocation fails.
+/// [`AllocError`]: an allocation fails.
 pub fn safe_text(alloc: Global, text: &str) -> Result<String, AllocError>
     ensures { IfOk result (λ safe. string_bytes safe ≡ safe_text text.now) }
 {
@@ -59,8 +60,8 @@ pub fn safe_text(alloc: Global, text: &str) -> Result<String, AllocError>
 
 /// Returns whether a character is safe to print on a terminal.
 ///
-/// It is unless it is a control character (C0, U+007F or C1) other than tab and newline, or a
-/// directional control, those of Unicode's property `Bidi_Control`.
+/// All characters are but control characters (C0, U+007F and C1) other than tab and newline, and
+/// directional controls, those of Unicode's property `Bidi_Control`.
 pub fn is_safe(c: char) -> bool
     ensures { result ≡ is_safe c }
 {

@@ -1,4 +1,4 @@
-//! The quick start of README.md.
+//! The quick start of README.md, and the rows by hand of docs/API.md.
 
 use crate::asserts::{assert_bytes, assert_text};
 use codespan_reporting::diagnostic::{Diagnostic, Label, LabelStyle, Severity};

@@ -81,26 +81,18 @@ impl Write for Output {
     }
 }
 
-/// What fails in a run.
-#[derive(Clone, Copy)]
+/// What fails in a run; by default nothing.
+#[derive(Clone, Copy, Default)]
 pub struct Failing {
-    /// The read of this number.
+    /// The read of this number, from 0.
     pub read: Option<usize>,
-    /// The write of this number to the output.
+    /// The write of this number to the output, from 0.
     pub write: Option<usize>,
     /// Each flush of the output.
     pub flush: bool,
-    /// The write of this number to the error output.
+    /// The write of this number to the error output, from 0.
     pub error_write: Option<usize>,
 }
-
-/// Nothing fails.
-pub const NO_FAILURES: Failing = Failing {
-    read: None,
-    write: None,
-    flush: false,
-    error_write: None,
-};
 
 /// What a run returned and wrote, and how often it read.
 #[derive(Drop)]
@@ -135,7 +127,7 @@ fn arguments(alloc: Global, words: &[&str]) -> Result<Vec<String>, AllocError> {
 }
 
 /// Runs over an input and outputs in which this fails.
-pub fn ran(
+pub fn run_over(
     alloc: Global,
     words: &[&str],
     text: &[u8],
@@ -178,15 +170,15 @@ pub fn assert_seen(rt: &impl Abort, outcome: &Outcome, run: &Run<'_>) {
     assert_eq!(rt; outcome.seen(), *expected, "{words:?} {text:?}");
 }
 
-/// Makes a run.
+/// Asserts what is seen of a run where nothing fails.
 pub fn check_run<R: Abort + AllocGlobal>(rt: &R, run: &Run<'_>) -> Result<(), Fail> {
     let (words, text, _) = run;
-    let outcome = ran(rt.alloc(), words, text, NO_FAILURES)?;
+    let outcome = run_over(rt.alloc(), words, text, Failing::default())?;
     assert_seen(rt, &outcome, run);
     Ok(())
 }
 
-/// Makes the runs.
+/// Asserts what is seen of each of these runs where nothing fails.
 fn check<R: Abort + AllocGlobal>(rt: &R, runs: &[Run<'_>]) -> Result<(), Fail> {
     for run in runs {
         check_run(rt, run)?;
@@ -262,29 +254,33 @@ static WRONG_ARGUMENTS: [&[&str]; 15] = [
 #[test]
 fn wrong_arguments(rt: HostRuntime) -> Result<(), Fail> {
     for words in &WRONG_ARGUMENTS {
-        let outcome = ran(rt.alloc(), words, b"abc\n", NO_FAILURES)?;
+        let outcome = run_over(rt.alloc(), words, b"abc\n", Failing::default())?;
         assert_seen(&rt, &outcome, &(words, b"abc\n", ("", USAGE, 2)));
         assert!(rt; outcome.reads == 0, "{words:?}");
     }
     Ok(())
 }
 
-/// The arguments of a run whose label ends at the greatest index.
-static GREATEST_END: [&str; 5] = ["rich", "f.txt", "0", "18446744073709551615", "bad"];
+/// The output of a label from the start of `abc` to the greatest index.
+const TO_GREATEST_INDEX: &str = "error: bad\n  ┌─ f.txt:1:1\n  │\n1 │ abc\n  │ ^^^^ bad\n\n";
 
-/// The runs of numbers with leading zeros.
-static LEADING_ZEROS: [Run<'static>; 1] = [(
-    &["rich", "f.txt", "000", "03", "bad"],
-    b"abc\n",
-    (OUTPUT, "", 0),
-)];
+/// The runs of `right_numbers`: the greatest number, and numbers with leading zeros.
+static RIGHT_NUMBERS: [Run<'static>; 2] = [
+    (
+        &["rich", "f.txt", "0", "18446744073709551615", "bad"],
+        b"abc",
+        (TO_GREATEST_INDEX, "", 0),
+    ),
+    (
+        &["rich", "f.txt", "000", "03", "bad"],
+        b"abc\n",
+        (OUTPUT, "", 0),
+    ),
+];
 
 #[test]
 fn right_numbers(rt: HostRuntime) -> Result<(), Fail> {
-    let greatest = ran(rt.alloc(), &GREATEST_END, b"abc", NO_FAILURES)?;
-    let (_, error_text, status) = greatest.seen();
-    assert!(rt; error_text == "" && status == 0);
-    check(&rt, &LEADING_ZEROS)
+    check(&rt, &RIGHT_NUMBERS)
 }
 
 /// The runs of `input_not_utf8`.

@@ -3,7 +3,9 @@
 use crate::asserts::assert_bytes;
 use codespan_base::diagnostic::{LabelStyle, Severity};
 use codespan_base::files::{Error, Location};
-use codespan_base::term::{Ansi, Config, PlainWriter, Styles, StylesWriter, WriteStyle};
+use codespan_base::term::{
+    Ansi, Config, PlainWriter, Styles, StylesWriter, WriteColor, WriteStyle,
+};
 use codespan_renderer::term::renderer::{Locus, MultiLabel, Renderer, lanes_in_order};
 use std::alloc::Global;
 use std::io;
@@ -14,20 +16,20 @@ use test_writers::counting::Counting;
 use test_writers::marks::set_styles;
 use test_writers::stopping::{Stop, Stopping};
 
-/// A lane of a multi-line label that goes on.
-type Lane = (usize, LabelStyle, MultiLabel<'static>);
+/// A lane mark: the lane, 0-based, the style of the label and its part on the line.
+type LaneMark = (usize, LabelStyle, MultiLabel<'static>);
 
-/// The first lane.
-const FIRST: Lane = (0, LabelStyle::Primary, MultiLabel::Left);
+/// A mark that goes through in the first lane.
+const FIRST: LaneMark = (0, LabelStyle::Primary, MultiLabel::Left);
 
-/// The second lane.
-const SECOND: Lane = (1, LabelStyle::Primary, MultiLabel::Left);
+/// One in the second lane.
+const SECOND: LaneMark = (1, LabelStyle::Primary, MultiLabel::Left);
 
-/// The third lane.
-const THIRD: Lane = (2, LabelStyle::Primary, MultiLabel::Left);
+/// One in the third lane.
+const THIRD: LaneMark = (2, LabelStyle::Primary, MultiLabel::Left);
 
-/// The number of lanes of a file, some of them, and whether these are in order.
-static LANES: [(usize, &[Lane], bool); 5] = [
+/// The number of lanes of a file, some lane marks, and whether these are in order.
+static LANES: [(usize, &[LaneMark], bool); 5] = [
     (0, &[], true),
     (2, &[FIRST, SECOND], true),
     (2, &[SECOND, FIRST], false),
@@ -74,16 +76,22 @@ fn render_header_and_marks<W: WriteStyle>(w: &mut W) -> Result<(), Error> {
     Ok(())
 }
 
+/// Renders a header and the style marks over a writer of colors, and returns that writer.
+fn render_colored<C: WriteColor + Drop>(colors: C) -> Result<C, Error> {
+    let styles = Styles::default();
+    let mut colored = StylesWriter::new(colors, &styles);
+    render_header_and_marks(&mut colored)?;
+    Ok(colored.into_inner())
+}
+
 /// A renderer passes on the style marks and the text that are written to it.
 #[test]
 fn coloured_header(rt: HostRuntime) -> Result<(), Fail> {
-    let styles = Styles::default();
-    let mut colored = StylesWriter::new(Ansi::new(Vec::new(rt.alloc())), &styles);
-    render_header_and_marks(&mut colored)?;
+    let colored = render_colored(Ansi::new(Vec::new(rt.alloc())))?;
     let expected = "\x1b[0m\x1b[1m\x1b[38;5;9merror\x1b[0m\x1b[1m: m\x1b[0m\n\
                 \x1b[0m\x1b[1m\x1b[38;5;9m\x1b[0m\x1b[1m\x1b[0m\x1b[36m\x1b[0m\x1b[36m\
                 \x1b[0m\x1b[36m\x1b[0m\x1b[31m\x1b[0m\x1b[36m\x1b[0mtext\n";
-    assert_bytes(&rt, colored.into_inner().into_inner().as_slice(), expected);
+    assert_bytes(&rt, colored.into_inner().as_slice(), expected);
     Ok(())
 }
 

@@ -1,4 +1,4 @@
--- Emitting an output as text.
+-- Emitting an output as text, for the clauses of `emit_into_string` and `emit_to_io_write`.
 use Rattle.std.proofs.Common.{◌≡◌, ℕ, Bool, true, false, if◌then◌else◌, List, [], ◌∷◌, Option, Some, Ok, Err, Result, ⊎_elim, inl, inr, refl, sym, subst, ap, ◌∙◌}
 use Rattle.std.proofs.lemmas.Bool.{true≢false}
 use Rattle.std.specs.Borrow.{GName}

@@ -1,10 +1,11 @@
--- Where some of the lookups fails, the first one that does is known.
+-- Where one of the lookups fails, the first one that does is known: for the clause `renders` of
+-- `RichDiagnostic::render_labels`.
 use Rattle.std.proofs.Common.{◌≡◌, List, None}
 use Rattle.codespan_base.specs.FileModel.{FileDatabase, Lookup}
 use Rattle.codespan_picture.specs.Lookups.{first_error}
 use Rattle.codespan_collect.proofs.FirstErrors.{all_succeed}
 use Rattle.codespan_views.specs.Failures.{SomeFails}
 
--- where some of these lookups fails, there is a first one
+-- where one of these lookups fails, there is a first one
 pub some_fails : {Id : Type 0} (files : FileDatabase Id) (ls : List (Id × Lookup)) → first_error files.failure ls ≡ None → SomeFails files ls → ⊥
 some_fails files ls h (error, p) = let succeeded = all_succeed files.failure ls h p.id p.lookup p.is_made in let fails = p.fails in cc

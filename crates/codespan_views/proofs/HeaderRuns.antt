@@ -1,4 +1,5 @@
--- Headers of labels, one after another.
+-- Headers of labels, one after another, for the clauses `renders` of `render_headers` and
+-- `render_medium`.
 use Rattle.std.proofs.Common.{◌≡◌, ◌≢◌, ◌<◌, true, false, List, [], ◌∷◌, ◌++◌, length, map, flat_map, take, None, Some, Result, Ok, Err, ⊎_elim, inl, inr, sym, subst, ap, ◌∙◌, append-nil, arith}
 use Rattle.std.specs.Prelude.{IfErr}
 use Rattle.std.specs.List.{AllZip}
@@ -15,7 +16,7 @@ use Rattle.codespan_base.specs.Streams.{Stream}
 use Rattle.codespan_base.specs.WriterLaw.{Sink, with_written, is_known, PrefixWritten, Writes, failing}
 use Rattle.codespan_base.proofs.Writes.{is_known-with_written, with_written-append, with_written-nil, PrefixWritten-first, PrefixWritten-last}
 use Rattle.codespan_picture.specs.Lookups.{first_error, header_lookups_of}
-use Rattle.codespan_picture.specs.Picture.{AreLoci, IsLocus, heading_of, label_start, notes_of}
+use Rattle.codespan_picture.specs.Picture.{AreLoci, IsLocus, header_text_of, label_start, notes_of}
 use Rattle.codespan_annotations.specs.TextLoci.{IsLocusOfLabel}
 use Rattle.codespan_picture.specs.Rows.{Locus, Row}
 use Rattle.codespan_picture.specs.RowStreams.{stream_of_rows}
@@ -162,7 +163,7 @@ module _ {Id : Type 0} {config : Config} (files : FileDatabase Id) {d : Diagnost
     are_loci = label_loci files d written.loci written.are;
     received = λ known. written.written known
         ∙ ap (λ (rows : List Row). with_written old (stream_of_rows (context config d) rows))
-        (sym (some_headers (IsLocusOfLabel files.file) (heading_of d) (primary_labels d)
+        (sym (some_headers (IsLocusOfLabel files.file) (header_text_of d) (primary_labels d)
         written.loci some written.are));
     on_end = (written.frame, all_lookups_succeed);
   }
@@ -208,7 +209,7 @@ medium_failed {config = config} {d = d} {old = old} {new = new} rendered = recor
   loci = rendered.loci;
   are_loci = rendered.are_loci;
   received = λ known.
-      subst (λ (s : Stream). PrefixWritten old s new) (sym (noted-after config d (header_rows (heading_of d) rendered.loci)))
+      subst (λ (s : Stream). PrefixWritten old s new) (sym (noted-after config d (header_rows (header_text_of d) rendered.loci)))
       (PrefixWritten-first old (short config d rendered.loci) new (noted config d) (rendered.received known));
   on_end = record { error_is = rendered.on_end.error_is; early = λ rich. cc };
 }
@@ -228,8 +229,8 @@ module _ {Id : Type 0} {config : Config} {files : FileDatabase Id} {d : Diagnost
       → WritesOutput Medium config config files d old r new
   medium_written {now} {new} r equal writes io = by r (write_at (λ (k : Config). noted k d) equal mid new r writes) io
     where
-      rows : stream_of_rows (context config d) (header_rows (heading_of d) rendered.loci ++ note_rows (notes_of d)) ≡ before ++ notes
-      rows = noted-after config d (header_rows (heading_of d) rendered.loci)
+      rows : stream_of_rows (context config d) (header_rows (header_text_of d) rendered.loci ++ note_rows (notes_of d)) ≡ before ++ notes
+      rows = noted-after config d (header_rows (header_text_of d) rendered.loci)
 
       by : (r : Result (Unit {0}) Error) → Writes mid notes r new → IfErr r IsIo → WritesOutput Medium config config files d old r new
       by (Ok x) writes io = record {

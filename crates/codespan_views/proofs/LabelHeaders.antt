@@ -1,4 +1,5 @@
--- The header of one label, and one run of headers after another.
+-- The header of one label, and one run of headers after another, for the clauses `renders` of
+-- `render_header_if_primary` and `render_located_headers`.
 use Rattle.std.proofs.Common.{◌≡◌, ◌≢◌, ℕ, ◌+◌, ◌≤◌, Bool, true, false, cond, ◌||◌, List, [], ◌∷◌, ◌++◌, length, map, filter, flat_map, take, drop, Option, None, Some, Ok, Err, ⊎_elim, inl, inr, refl, sym, subst, ap, ap₂, ◌∙◌, append_assoc, append-nil}
 use Rattle.std.specs.Prelude.{Contains}
 use Rattle.std.specs.List.{AllZip}
@@ -17,7 +18,7 @@ use Rattle.codespan_base.specs.Streams.{Stream, newline}
 use Rattle.codespan_base.specs.WriterLaw.{Sink, with_written, is_known, PrefixWritten, Writes}
 use Rattle.codespan_base.proofs.Writes.{is_known-with_written, with_written-append, with_written-nil}
 use Rattle.codespan_picture.specs.Lookups.{Failures, first_error, header_lookups_of}
-use Rattle.codespan_picture.specs.Picture.{heading_of, label_of, label_start, labels_of, context_of, notes_of}
+use Rattle.codespan_picture.specs.Picture.{header_text_of, label_of, label_start, labels_of, context_of, notes_of}
 use Rattle.codespan_picture.specs.StatedPicture.{stated_locus, headers}
 use Rattle.codespan_annotations.specs.TextLoci.{IsLocusOfLabel}
 use Rattle.codespan_picture.specs.Rows.{HeaderRow, HeaderText, RowContext, Locus, Row}
@@ -109,21 +110,21 @@ module _ {Id : Type 0} (config : Config) (d : Diagnostic Id) where
 
   -- headers with loci
   abbrev pub headers_stream : List Locus → Stream
-  headers_stream ps = stream_of_rows context (headers (heading_of d) ps)
+  headers_stream ps = stream_of_rows context (headers (header_text_of d) ps)
 
   -- those of some loci, and then of others
   pub headers_stream-append : (ps qs : List Locus) → headers_stream (ps ++ qs) ≡ headers_stream ps ++ headers_stream qs
   headers_stream-append ps qs =
-      ap (stream_of_rows context) (map-append (λ (p : Locus). HeaderRow (Some p) (heading_of d)) ps qs)
-      ∙ flat_map-append (λ (row : Row). stream_of context row ++ newline) (headers (heading_of d) ps) (headers (heading_of d) qs)
+      ap (stream_of_rows context) (map-append (λ (p : Locus). HeaderRow (Some p) (header_text_of d)) ps qs)
+      ∙ flat_map-append (λ (row : Row). stream_of context row ++ newline) (headers (header_text_of d) ps) (headers (header_text_of d) qs)
 
   -- the header with a locus
   abbrev pub header : Option Locus → Stream
-  header locus = header_row d.severity locus (heading_of d) ++ newline
+  header locus = header_row d.severity locus (header_text_of d) ++ newline
 
   -- a short output with these loci
   abbrev pub short : List Locus → Stream
-  short ps = stream_of_rows context (header_rows (heading_of d) ps)
+  short ps = stream_of_rows context (header_rows (header_text_of d) ps)
 
   -- where there is one, it has a header for each
   pub short-some : (ps : List Locus) (p : Locus) (qs : List Locus) → short (ps ++ p ∷ qs) ≡ headers_stream (ps ++ p ∷ qs)

@@ -1,4 +1,5 @@
--- Snippet lines that are rendered one after another: what is written and what is looked up.
+-- Snippet lines that are rendered one after another, what is written and what is looked up, for the
+-- clauses of `render_lines`, `render_snippet_line` and `render_line`.
 use Rattle.std.proofs.Common.{◌≡◌, ℕ, ◌+◌, ◌≤◌, List, [], ◌∷◌, ◌++◌, length, take, drop, map, Option, None, Result, Ok, Err, sym, subst, ap, ◌∙◌, append-nil}
 use Rattle.std.proofs.lemmas.List.{map-append, take-append-drop, take_all}
 use Rattle.std.proofs.lemmas.Grind.{flat_map-append}

@@ -1,4 +1,5 @@
--- The rows of notes, one note after another.
+-- The rows of notes, one note after another, for the clauses of `render_notes`, `render_closing`
+-- and `render_without_labels`.
 use Rattle.std.proofs.Common.{◌≡◌, ℕ, ◌+◌, ◌<◌, ◌≤◌, List, [], ◌∷◌, ◌++◌, length, take, drop, get_or, map, refl, sym, ap, ◌∙◌}
 use Rattle.std.specs.Str.Lines.{lines}
 use Rattle.std.proofs.lemmas.Grind.{flat_map-append}
@@ -6,7 +7,7 @@ use Rattle.std.proofs.lemmas.List.{append-nil, map-append, take-append-drop, tak
 use Rattle.codespan_base.specs.Streams.{Stream, newline}
 use Rattle.codespan_picture.specs.Rows.{RowContext, Row, FinalRow, LaterNoteRow}
 use Rattle.codespan_picture.specs.RowStreams.{first_note_row, later_note_row, stream_of, stream_of_rows}
-use Rattle.codespan_row_parts.specs.RenderedRows.{later_notes, note_stream}
+use Rattle.codespan_row_parts.specs.RenderedRows.{later_note_rows, note_stream}
 use Rattle.codespan_picture.specs.Snippets.{note_rows, piece_rows}
 
 module _ (context : RowContext) where
@@ -15,7 +16,7 @@ module _ (context : RowContext) where
   ended row = stream_of context row ++ newline
 
   -- the later rows of a note
-  later-rows : (ps : List (List ℕ)) → stream_of_rows context (map LaterNoteRow ps) ≡ later_notes context.padding ps
+  later-rows : (ps : List (List ℕ)) → stream_of_rows context (map LaterNoteRow ps) ≡ later_note_rows context.padding ps
   later-rows [] = refl
   later-rows (p ∷ ps) = ap (λ (s : Stream). (later_note_row context.padding p ++ newline) ++ s) (later-rows ps)
 
@@ -57,5 +58,5 @@ module _ {N : Type 0} (text : N → List ℕ) (context : RowContext) where
   notes-all notes i past = ap (λ (ns : List N). stream_of_notes ns) (take_all i notes past)
 
   -- the rows of the notes, and the empty line
-  pub notes-blank : (notes : List N) → stream_of_rows context (note_rows (map text notes) ++ FinalRow ∷ []) ≡ stream_of_notes notes ++ newline
-  notes-blank notes = flat_map-append (ended context) (note_rows (map text notes)) (FinalRow ∷ []) ∙ ap (λ (s : Stream). stream_of_notes notes ++ s) (append-nil newline)
+  pub notes-empty : (notes : List N) → stream_of_rows context (note_rows (map text notes) ++ FinalRow ∷ []) ≡ stream_of_notes notes ++ newline
+  notes-empty notes = flat_map-append (ended context) (note_rows (map text notes)) (FinalRow ∷ []) ∙ ap (λ (s : Stream). stream_of_notes notes ++ s) (append-nil newline)

@@ -1,4 +1,4 @@
--- The snippets of an output plan, one after another.
+-- The snippets of an output plan, one after another, for the clause of `render_snippets`.
 use Rattle.std.proofs.Common.{◌≡◌, ℕ, ◌+◌, ◌≤◌, Bool, ◌||◌, List, [], ◌∷◌, ◌++◌, length, drop, map, Option, None, Result, Ok, Err, refl, sym, subst, subst₂, ap, ◌∙◌, arith}
 use Rattle.std.specs.Prelude.{IfErr, flat_map, nat_lt}
 use Rattle.std.proofs.lemmas.List.{append-nil, append_assoc}

@@ -1,4 +1,4 @@
--- The files of an output plan, by their indices.
+-- The files of an output plan, by their indices, for the clause of `render_snippets`.
 use Rattle.std.proofs.Common.{◌≡◌, ℕ, zero, suc, ◌+◌, ◌-◌, ◌<◌, ◌≤◌, Bool, true, false, ◌||◌, List, [], ◌∷◌, ◌++◌, length, take, drop, get_or, map, refl, sym, subst, ap, ◌∙◌, arith, lt-ltb}
 use Rattle.std.specs.Prelude.{nat_lt, if◌then◌else◌}
 use Rattle.std.proofs.lemmas.Grind.{common_steps}
@@ -45,7 +45,7 @@ followed-at has_notes xs k =
 
 -- ---- the file at an index
 
--- each file has one name
+-- there are as many ids as plans
 pub ids-count : {Id : Type 0} (snippet_plans : List (SnippetPlan Id)) → length (ids_of snippet_plans) ≡ length snippet_plans
 ids-count {Id} snippet_plans = length-map snippet_plans (λ (snippet_plan : SnippetPlan Id). snippet_plan.file.now.id)
 

@@ -1,4 +1,5 @@
--- Calls that render by a renderer, one after another, some with lookups on the way.
+-- Calls that render by a renderer, one after another, some with lookups on the way: for the clauses
+-- of `render_snippets`, `render_snippet`, `render_lines`, `render_notes` and what these call.
 use Rattle.std.proofs.Common.{◌≡◌, ◌≢◌, [], ◌++◌, Option, None, Some, Result, Ok, Err, refl, sym, subst, ◌∙◌}
 use Rattle.codespan_base.specs.declared.files.Error.{Error}
 use Rattle.codespan_base.specs.declared.files.Error.TheVariants.{OutOfMemory}

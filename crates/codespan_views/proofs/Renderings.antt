@@ -1,4 +1,5 @@
--- Rendering in rich style: what has been written, for each way to end.
+-- Rendering in rich style, what has been written for each way to end: for the clause `renders` of
+-- `RichDiagnostic::render_labels`.
 use Rattle.std.proofs.Common.{◌≡◌, ◌≢◌, true, ◌<◌, List, [], ◌++◌, length, Option, None, Some, Ok, Err, Result, inl, inr, refl, sym, subst, ap, ◌∙◌, arith}
 use Rattle.std.proofs.lemmas.List.{length-append}
 use Rattle.std.specs.Prelude.{IfErr}

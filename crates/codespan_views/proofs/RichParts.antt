@@ -1,4 +1,5 @@
--- A rich output, rendered part by part: its header, its snippets, and its notes.
+-- A rich output, rendered part by part, its header, its snippets and its notes: for the clauses
+-- `renders` of `RichDiagnostic::render` and `RichDiagnostic::render_labels`.
 use Rattle.std.proofs.Common.{◌≡◌, ◌≢◌, ◌<◌, true, List, [], ◌∷◌, ◌++◌, length, drop, map, None, Some, Result, Ok, Err, ⊎_elim, refl, sym, subst, ap, ◌∙◌, arith}
 use Rattle.std.specs.Prelude.{IfErr}
 use Rattle.std.specs.List.{AllZip}
@@ -23,7 +24,7 @@ use Rattle.codespan_views.specs.Private.LookupsWhileRendering.{WroteStream, Wrot
 use Rattle.codespan_plan.specs.OutputPlans.{AreSnippetPlans, IsOutputPlan, ids_of, loci_of, output_plan_failure}
 use Rattle.codespan_views.specs.WriteCalls.{WritesOutput}
 use Rattle.codespan_picture.specs.Lookups.{early_lookups, first_error, late_lookups}
-use Rattle.codespan_picture.specs.Picture.{heading_of, label_of, labels_of, context_of, notes_of}
+use Rattle.codespan_picture.specs.Picture.{header_text_of, label_of, labels_of, context_of, notes_of}
 use Rattle.codespan_picture.specs.Padding.{padding_of}
 use Rattle.codespan_picture.specs.Snippets.{snippets, InFile, has_any, labeled_file_model, labeled_file_models, note_rows}
 use Rattle.codespan_annotations.specs.TextLoci.{IsLocusOfFile}
@@ -62,11 +63,11 @@ module _ {Id : Type 0} (view : Config) (files : FileDatabase Id) (d : Diagnostic
 -- without labels the output is its header and its notes
 pub bare-whole : {Id : Type 0} {renderer view : Config} {files : FileDatabase Id} {d : Diagnostic Id} {old new : Sink} (r : Result (Unit {0}) Error)
     → length d.labels.items ≡ 0
-    → Writes old (header_row d.severity None (heading_of d) ++ newline ++ whole_of_notes (context_of renderer d.severity 0) (notes_of d)) r new → IfErr r IsIo
+    → Writes old (header_row d.severity None (header_text_of d) ++ newline ++ whole_of_notes (context_of renderer d.severity 0) (notes_of d)) r new → IfErr r IsIo
     → WritesOutput Rich renderer view files d old r new
 bare-whole {renderer = renderer} {view = view} {files = files} {d = d} {old = old} r no_labels writes io =
     let none : labels_of d ≡ [] = ap (map label_of) (nil_from_length d.labels.items no_labels) in
-    finished [] (header_row d.severity None (heading_of d) ++ newline ++ whole_of_notes (context_of renderer d.severity 0) (notes_of d)) r
+    finished [] (header_row d.severity None (header_text_of d) ++ newline ++ whole_of_notes (context_of renderer d.severity 0) (notes_of d)) r
     (ap (λ (xs : List (InFile _)). first_error files.failure (early_lookups files xs view)) none)
     (ap (λ (xs : List (InFile _)). first_error files.failure (late_lookups files xs view)) none, (refl, λ known. sym (with_written-nil old)))
     writes io
@@ -74,7 +75,7 @@ bare-whole {renderer = renderer} {view = view} {files = files} {d = d} {old = ol
       loci = [];
       are = subst (λ (xs : List (InFile _)). AllZip IsLocusOfFile (labeled_file_models files.same files.file xs) []) (sym none) tt;
       holds = ap (λ (xs : List (InFile _)). stream_of_rows (context_of renderer d.severity (padding_of view (labeled_file_models files.same files.file xs)))
-          (HeaderRow None (heading_of d) ∷ (note_rows (notes_of d) ++ (FinalRow ∷ [])))) none;
+          (HeaderRow None (header_text_of d) ∷ (note_rows (notes_of d) ++ (FinalRow ∷ [])))) none;
     })
 
 -- ---- before the header
@@ -133,7 +134,7 @@ module _ {Id : Type 0} {view : Config} {database : FileDatabase Id} {d : Diagnos
 module _ {Id : Type 0} {view : Config} {database : FileDatabase Id} {d : Diagnostic Id} {output_plan : OutputPlan Id} (ready : IsReady view database d output_plan) where
   -- the header, with the end of its row
   abbrev header : Stream
-  header = header_row d.severity None (heading_of d) ++ newline
+  header = header_row d.severity None (header_text_of d) ++ newline
 
   -- the snippets, as a configuration renders them
   abbrev middle : Config → Stream
@@ -175,9 +176,9 @@ module _ {Id : Type 0} {view : Config} {database : FileDatabase Id} {d : Diagnos
       record {
         loci = loci_of output_plan.snippet_plans.items;
         are = loci-are;
-        holds = ap (λ n. stream_of_rows (context_of renderer d.severity n) ((HeaderRow None (heading_of d) ∷ rows) ++ note_rows (notes_of d) ++ (FinalRow ∷ []))) (sym ready.planned.padding_is)
-            ∙ ap (stream_of_rows context) (append_assoc (HeaderRow None (heading_of d) ∷ rows) (note_rows (notes_of d)) (FinalRow ∷ []))
-            ∙ flat_map-append ended (HeaderRow None (heading_of d) ∷ rows) (note_rows (notes_of d) ++ (FinalRow ∷ []));
+        holds = ap (λ n. stream_of_rows (context_of renderer d.severity n) ((HeaderRow None (header_text_of d) ∷ rows) ++ note_rows (notes_of d) ++ (FinalRow ∷ []))) (sym ready.planned.padding_is)
+            ∙ ap (stream_of_rows context) (append_assoc (HeaderRow None (header_text_of d) ∷ rows) (note_rows (notes_of d)) (FinalRow ∷ []))
+            ∙ flat_map-append ended (HeaderRow None (header_text_of d) ∷ rows) (note_rows (notes_of d) ++ (FinalRow ∷ []));
       }
 
   -- a prefix of that is one of the output

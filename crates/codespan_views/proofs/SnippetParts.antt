@@ -1,4 +1,5 @@
--- A snippet, rendered part by part: the lookup of its source, its first rows, and its lines.
+-- A snippet, rendered part by part, the lookup of its source, its first rows and its lines: for the
+-- clause of `render_snippet`.
 use Rattle.std.proofs.Common.{◌≡◌, List, ◌++◌, map, Option, None, Result, Ok, Err, refl, sym, subst}
 use Rattle.std.proofs.lemmas.Grind.{flat_map-append}
 use Rattle.codespan_base.specs.declared.files.Error.{Error}

@@ -1,4 +1,5 @@
--- What a view renders is what the call renders whose style is the view's.
+-- What a view renders is what the call renders whose style is the view's: for the clause of
+-- `emit_to_write_style`.
 use mathlib.Core.Path.{transport}
 use Rattle.std.proofs.Common.{◌≡◌, Result}
 use Rattle.codespan_base.specs.declared.diagnostic.Diagnostic.{Diagnostic}

@@ -17,7 +17,7 @@ pub record FailsWith {Id : Type 0} (files : FileDatabase Id) (lookups : List (Id
   pub is_made : Contains lookups (id, lookup)
   pub fails : files.failure id lookup ≡ Some error
 
--- some of these lookups fails
+-- one of these lookups fails
 abbrev pub SomeFails : {Id : Type 0} → FileDatabase Id → List (Id × Lookup) → Type 0
 SomeFails files lookups = (error : Error) × FailsWith files lookups error
 
@@ -37,7 +37,7 @@ module _ {Id : Type 0} (view : Config) (files : FileDatabase Id) (d : Diagnostic
     pub fails : IsLookupError files (header_lookups_of here) e
     pub wrote : Wrote (take (length before) loci)
 
-  -- where the error is one of lookups; in rich style nothing has been written where it is
+  -- what has been written where the error is one of lookups: in rich style nothing where it is
   -- `FormatError`, unless that is the error of the first lookup after the header that fails
   abbrev pub WrittenBefore : DisplayStyle → Type 0
   WrittenBefore Rich =

@@ -204,7 +204,7 @@ pub fn emit_to_write_style<'files, F: Files<'files>, W: WriteStyle>(
     }
 }
 
-/// Calls [`emit_to_io_write`]: its old name, as in the Rust crate.
+/// Calls [`emit_to_io_write`]: its former name, which the Rust crate has deprecated since 0.13.0.
 ///
 /// # Errors
 ///

@@ -11,7 +11,7 @@ ghost use Rattle.codespan_views.specs.Private.Rendering.{RendersRows};
 ghost use Rattle.codespan_views.specs.Private.ViewRendering.{RendersSnippets, RendersView, output_without_labels, closing_rows};
 
 use crate::parts::{render_diagnostic_header, render_notes};
-use crate::snippet::line_labels::LineLabels;
+use crate::snippet::line_buffers::LineBuffers;
 use crate::snippet::lines::SnippetContext;
 use crate::snippet::{render_snippet, render_trailing_border};
 use codespan_base::diagnostic::Diagnostic;
@@ -26,9 +26,9 @@ use codespan_renderer::term::renderer::Renderer;
 /// Renders a diagnostic in rich style: a header, a snippet for each file with a label, and the
 /// notes.
 ///
-/// Files are in the order of their first labels. Which lines a snippet has is by the context lines
-/// of the configuration, and a single line between two of them is filled in; both as in the Rust
-/// crate.
+/// Files are in the order of their first labels. The context lines of the configuration decide
+/// which lines a snippet shows, and a single line between two of them is filled in; both as in the
+/// Rust crate.
 ///
 /// # Example
 ///
@@ -107,6 +107,14 @@ impl<'diagnostic, 'config, FileId: Copy + Eq> RichDiagnostic<'diagnostic, 'confi
     }
 
     /// Renders a diagnostic with labels.
+    ///
+    /// # Errors
+    ///
+    /// As [`RichDiagnostic::render`].
+    ///
+    /// # Requires
+    ///
+    /// The diagnostic has a label.
     fn render_labels<'files, F, W>(
         &self,
         files: &'files F,
@@ -133,6 +141,14 @@ impl<'diagnostic, 'config, FileId: Copy + Eq> RichDiagnostic<'diagnostic, 'confi
 
     /// Renders the snippets of all files, with an empty row after each, but after the last one only
     /// where notes follow.
+    ///
+    /// # Errors
+    ///
+    /// As [`render_snippet`].
+    ///
+    /// # Requires
+    ///
+    /// The plan is that of the diagnostic, by the view's configuration and over these files.
     fn render_snippets<'files, F, W>(
         &self,
         files: &'files F,
@@ -154,7 +170,7 @@ impl<'diagnostic, 'config, FileId: Copy + Eq> RichDiagnostic<'diagnostic, 'confi
             padding: output_plan.padding,
             severity: diagnostic.severity,
         };
-        let mut labels = LineLabels::new(*diagnostic.labels.allocator());
+        let mut labels = LineBuffers::new(*diagnostic.labels.allocator());
         let notes_follow = has_notes(diagnostic);
         let mut start = 0;
         for (index, snippet_plan) in output_plan.snippet_plans.iter().enumerate() {
@@ -168,7 +184,11 @@ impl<'diagnostic, 'config, FileId: Copy + Eq> RichDiagnostic<'diagnostic, 'confi
     }
 }
 
-/// Returns the lines of a file's snippet, which start at this index.
+/// Returns the lines of a file's snippet, which start at this 0-based index.
+///
+/// # Requires
+///
+/// From this index on, the output plan has at least as many lines as the snippet.
 #[inline(always)]
 fn lines_of_file<'p, 'e, 'd, FileId>(
     output_plan: &'p OutputPlan<'e, 'd, FileId>,
@@ -182,7 +202,11 @@ fn lines_of_file<'p, 'e, 'd, FileId>(
     &output_plan.snippet_lines[start..start + snippet_plan.line_total]
 }
 
-/// Returns whether another file follows the one at this index.
+/// Returns whether another file follows the one at this 0-based index.
+///
+/// # Requires
+///
+/// There is a file at this index.
 #[inline(always)]
 fn has_next_file<FileId>(output_plan: &OutputPlan<'_, '_, FileId>, index: usize) -> bool
     requires { index < length output_plan.now.snippet_plans.items }
@@ -198,7 +222,11 @@ fn has_notes<FileId>(diagnostic: &Diagnostic<FileId>) -> bool
     !diagnostic.notes.is_empty()
 }
 
-/// Renders the notes, and the empty line at the end.
+/// Renders the notes, with this padding width, in characters, and the empty line at the end.
+///
+/// # Errors
+///
+/// `Io` alone: the writer fails or takes no bytes.
 #[inline(always)]
 fn render_closing<FileId, W: WriteStyle>(
     diagnostic: &Diagnostic<FileId>,
@@ -213,6 +241,10 @@ fn render_closing<FileId, W: WriteStyle>(
 }
 
 /// Renders a diagnostic without labels: its header and its notes. Nothing is looked up.
+///
+/// # Errors
+///
+/// `Io` alone: the writer fails or takes no bytes.
 fn render_without_labels<FileId, W: WriteStyle>(
     diagnostic: &Diagnostic<FileId>,
     renderer: &mut Renderer<'_, '_, W>,

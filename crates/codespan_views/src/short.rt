@@ -98,6 +98,10 @@ impl<'diagnostic, FileId: Copy + Eq> ShortDiagnostic<'diagnostic, FileId> {
 }
 
 /// Renders the headers, and then the notes.
+///
+/// # Errors
+///
+/// As [`ShortDiagnostic::render`].
 fn render_medium<'files, F: Files<'files>, W: WriteStyle>(
     files: &'files F,
     diagnostic: &Diagnostic<F::FileId>,
@@ -112,6 +116,10 @@ fn render_medium<'files, F: Files<'files>, W: WriteStyle>(
 }
 
 /// Renders a header for each primary label, or one without a locus.
+///
+/// # Errors
+///
+/// As [`ShortDiagnostic::render`].
 fn render_headers<'files, F: Files<'files>, W: WriteStyle>(
     files: &'files F,
     diagnostic: &Diagnostic<F::FileId>,
@@ -121,7 +129,7 @@ fn render_headers<'files, F: Files<'files>, W: WriteStyle>(
     ensures renders { RendersInStyle W.sink (F.database files.now)
         Short diagnostic.now renderer.old result renderer.new }
 {
-    if render_located(files, diagnostic, renderer)? {
+    if render_located_headers(files, diagnostic, renderer)? {
         Ok(())
     } else {
         render_diagnostic_header(diagnostic, renderer, None)
@@ -129,7 +137,11 @@ fn render_headers<'files, F: Files<'files>, W: WriteStyle>(
 }
 
 /// Renders a header for each primary label, in their order, and returns whether there is one.
-fn render_located<'files, F: Files<'files>, W: WriteStyle>(
+///
+/// # Errors
+///
+/// As [`ShortDiagnostic::render`].
+fn render_located_headers<'files, F: Files<'files>, W: WriteStyle>(
     files: &'files F,
     diagnostic: &Diagnostic<F::FileId>,
     renderer: &mut Renderer<'_, '_, W>,
@@ -138,15 +150,19 @@ fn render_located<'files, F: Files<'files>, W: WriteStyle>(
     ensures renders { RendersHeadersOf W.sink (F.database files.now)
         diagnostic.now (labels_of diagnostic.now) renderer.old result renderer.new }
 {
-    let mut is_located = false;
+    let mut has_primary = false;
     for label in &diagnostic.labels {
-        is_located |= render_if_primary(files, diagnostic, renderer, label)?;
+        has_primary |= render_header_if_primary(files, diagnostic, renderer, label)?;
     }
-    Ok(is_located)
+    Ok(has_primary)
 }
 
 /// Renders the header of a label, where it is a primary one, and returns whether it is.
-fn render_if_primary<'files, F: Files<'files>, W: WriteStyle>(
+///
+/// # Errors
+///
+/// As [`ShortDiagnostic::render`]. Nothing has been written where a lookup fails.
+fn render_header_if_primary<'files, F: Files<'files>, W: WriteStyle>(
     files: &'files F,
     diagnostic: &Diagnostic<F::FileId>,
     renderer: &mut Renderer<'_, '_, W>,
@@ -165,6 +181,10 @@ fn render_if_primary<'files, F: Files<'files>, W: WriteStyle>(
 }
 
 /// Looks up the locus of a label's header: the name of its file, and the location of its start.
+///
+/// # Errors
+///
+/// As [`SourceFile::locus`].
 #[inline(always)]
 fn label_locus<'files, F: Files<'files>>(
     files: &'files F,

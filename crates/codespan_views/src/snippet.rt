@@ -4,7 +4,7 @@ ghost use Rattle.codespan_views.specs.Private.SnippetRows.{RendersSnippet, trail
 ghost use Rattle.codespan_views.specs.Private.Rendering.{RendersRows};
 ghost use Rattle.codespan_views.specs.Private.LineRendering.{AreLinesOf};
 
-use crate::snippet::line_labels::LineLabels;
+use crate::snippet::line_buffers::LineBuffers;
 use crate::snippet::lines::{Snippet, SnippetContext};
 use codespan_annotations::source_file::SourceFile;
 use codespan_base::files::{Error, Files};
@@ -14,7 +14,7 @@ use codespan_plan::plan::snippet_plans::SnippetPlan;
 use codespan_renderer::term::renderer::Renderer;
 use std::convert::AsStr;
 
-pub mod line_labels;
+pub mod line_buffers;
 pub mod lines;
 
 /// Renders the first rows of a snippet: its locus, and a row without source.
@@ -56,7 +56,7 @@ fn render_start<F, FileId, W: WriteStyle>(
 pub fn render_snippet<'files, 'd, F: Files<'files>, W: WriteStyle>(
     context: &SnippetContext<'files, F>,
     renderer: &mut Renderer<'_, '_, W>,
-    labels: &mut LineLabels<'d>,
+    labels: &mut LineBuffers<'d>,
     snippet_plan: &SnippetPlan<'_, F::FileId>,
     snippet_lines: &[SnippetLine<'_, 'd, F::FileId>],
 ) -> Result<(), Error>

@@ -10,8 +10,8 @@ use Rattle.codespan_base.specs.FileModel.{FileModel, line_of}
 use Rattle.codespan_base.specs.SimpleModel.{simple_file, missing_file}
 use Rattle.codespan_base.specs.MappedModel.{mapped_file}
 use Rattle.codespan_base.specs.Streams.{Stream, Spelling, bytes}
-use Rattle.codespan_base.specs.StyleTables.{default_styles, spelling_by}
-use Rattle.codespan_base.specs.Ansi.{ansi_style, ansi_reset, escape, ansi_bold, ansi_color}
+use Rattle.codespan_base.specs.StyleTables.{ansi_spelling, default_styles}
+use Rattle.codespan_base.specs.Ansi.{ansi_reset, escape, ansi_bold, ansi_color, ansi_style}
 use Rattle.codespan_picture.specs.declared.arguments.MultiLabel.TheVariants as rust_variant
 use Rattle.codespan_picture.specs.Arguments.{LaneMarkTuple}
 use Rattle.codespan_picture.specs.Rows.{Line}
@@ -106,9 +106,9 @@ medium config diagnostic files labels = shown Medium config diagnostic files lab
 abbrev pub short : Config → DiagnosticText → List FileModel → List (InFile ℕ) → Stream
 short config diagnostic files labels = shown Short config diagnostic files labels
 
--- ---- texts of several of them
+-- ---- texts of several worked outputs
 
--- an example of the crate: two files
+-- an example of the Rust crate: two files
 abbrev pub nat_files : List FileModel
 nat_files =
     text_file (codes "Data/Nat.fun") (codes "module Data.Nat where\n\n"
@@ -178,4 +178,4 @@ rows rs = flat_map (λ r. encode_utf8_all r ++ 10 ∷ []) rs
 
 -- how a writer of escape sequences in the default styles spells style marks
 abbrev pub ansi : Spelling
-ansi = spelling_by default_styles ansi_style ansi_reset
+ansi = ansi_spelling default_styles

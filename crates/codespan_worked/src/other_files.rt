@@ -1,11 +1,14 @@
 //! Worked outputs over files whose line numbers are set, and of many labels in several orders.
 
-ghost use Rattle.std.specs.Prelude.{◌≡◌, ◌∷◌, [], ◌++◌, codes, reverse};
+ghost use Rattle.std.specs.Prelude.{◌≡◌, ℕ, List, ◌∷◌, [], ◌++◌, codes, reverse, Some, None};
 ghost use Rattle.codespan_base.specs.Defaults.{default_config};
 ghost use Rattle.codespan_base.specs.MappedModel.{with_number};
+ghost use Rattle.codespan_base.specs.SimpleModel.{database_failure};
 ghost use Rattle.codespan_base.specs.Streams.{text_of};
 ghost use Rattle.codespan_base.specs.declared.diagnostic.Severity.TheVariants.{Error};
 ghost use Rattle.codespan_base.specs.declared.diagnostic.LabelStyle.TheVariants.{Primary};
+ghost use Rattle.codespan_base.specs.declared.files.Error.TheVariants.{FileMissing};
+ghost use Rattle.codespan_picture.specs.Lookups.{first_error, header_lookups_of};
 ghost use Rattle.codespan_worked.specs.Worked.{text_file, mapped_text, from_zero, label, message_only, rich, short, rows, many_lines, many_labels, evens, odds};
 
 /// Computes the output of a line whose number is set, and of those after it.
@@ -36,12 +39,19 @@ fn line_number_zero()
         ∷ [] ∷ []) }
 {}
 
-/// Computes the one header of the one label in short style: what is written before a missing file.
+/// Computes what short style has written before a label in a missing file: the header of the label
+/// before it, whose lookups succeed.
 fn missing_file_short()
-    ensures { text_of (short default_config (message_only Error (codes "m"))
+    ensures header { text_of (short default_config (message_only Error (codes "m"))
         (text_file (codes "f") (codes "ab") ∷ [])
         (label Primary 0 0 1 [] ∷ []))
         ≡ rows (codes "f:1:1: error: m" ∷ []) }
+    ensures succeeds { first_error
+        (database_failure (λ (text : List ℕ). text) ((codes "f", codes "ab") ∷ []))
+        (header_lookups_of (label Primary 0 0 1 [])) ≡ None }
+    ensures fails { first_error
+        (database_failure (λ (text : List ℕ). text) ((codes "f", codes "ab") ∷ []))
+        (header_lookups_of (label Primary 7 0 1 [])) ≡ Some FileMissing }
 {}
 
 /// Computes the output of two hundred labels on fifty lines: neither the reverse order nor the odd

@@ -96,7 +96,7 @@ fn crossing_lanes()
         ∷ [] ∷ []) }
 {}
 
-/// Computes the output of `report` over two lines.
+/// Computes the output of one label that ends on the line after the one where it starts.
 fn report_two_lines()
     ensures { text_of (rich default_config (message_only Error (codes "bad"))
         (text_file (codes "f.txt") (codes "abc\nd") ∷ [])
@@ -110,7 +110,7 @@ fn report_two_lines()
         ∷ [] ∷ []) }
 {}
 
-/// Shows that the characters of a label's end are those of its end.
+/// Shows that the underline and the caret of a bottom corner have characters of their own.
 fn other_bottom_characters()
     ensures { text_of (rich (record default_config {
       chars = record box_drawing {

@@ -267,7 +267,7 @@ fn greatest_positions_reversed()
         ∷ [] ∷ []) }
 {}
 
-/// Computes the output of `report` in its stored run.
+/// Computes the output of one label that covers a line.
 fn report_run()
     ensures { text_of (rich default_config (message_only Error (codes "bad"))
         (text_file (codes "f.txt") (codes "abc\n") ∷ [])

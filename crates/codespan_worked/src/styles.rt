@@ -34,7 +34,7 @@ fn short()
 {}
 
 /// Shows that an empty code is not written.
-fn short_without_code()
+fn short_empty_code()
     ensures { text_of (short default_config
         (with_code (codes "") (message_only Error (codes "where did my errorcode go?"))) [] [])
         ≡ rows (codes "error: where did my errorcode go?" ∷ []) }

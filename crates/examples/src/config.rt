@@ -45,9 +45,9 @@ fn read_line(
     match parse(SETTINGS, settings, line) {
         Ok(None) => {}
         Ok(Some(setting)) => settings.push(setting)?,
-        Err(problem) => {
-            let error = problem.diagnostic(rt.alloc())?;
-            emit_to_io_write(&mut rt.stdout(), &Config::default(), file, &error)?;
+        Err(error) => {
+            let diagnostic = error.diagnostic(rt.alloc())?;
+            emit_to_io_write(&mut rt.stdout(), &Config::default(), file, &diagnostic)?;
         }
     }
     Ok(())

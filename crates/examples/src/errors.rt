@@ -1,4 +1,4 @@
-//! Reports three errors of an application's error type, over one text of settings.
+//! Reports two errors and a warning, all of an application's error type, over one text of settings.
 
 mod settings;
 
@@ -6,7 +6,7 @@ use codespan_reporting::files::{Error, SimpleFile};
 use codespan_reporting::term::{Config, emit_to_io_write};
 use settings::{Key, SettingsError};
 
-/// The settings, with three errors.
+/// The settings: a value that is not a number, an unknown key, and a key that is set twice.
 const SETTINGS: &str = "\
 port = 8080
 workers = four

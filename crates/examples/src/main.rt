@@ -2,9 +2,9 @@
 //! line with its name.
 //!
 //! Each module is one example, which starts in its `run`: [`preview`] has styles and colors,
-//! [`errors`] an error type of its own, [`several`] a list of diagnostics, [`files`] a file
-//! database of its own, and [`config`] the front end of a language of settings. What [`several`]
-//! and [`config`] call is in [`examples_library`], by modules of the same names.
+//! [`errors`] a custom error type, [`several`] a list of diagnostics, [`files`] a custom file
+//! database, and [`config`] the front end of a language of settings. What [`several`] and
+//! [`config`] call is in [`examples_library`], by modules of the same names.
 #![tactic(auto)]
 
 mod config;

@@ -1,4 +1,4 @@
-//! Reports two diagnostics, each over a file of its own, in one text.
+//! Reports two diagnostics, each over another file, in one text.
 
 use codespan_reporting::diagnostic::{Diagnostic, Label};
 use codespan_reporting::files::{Error, SimpleFiles};

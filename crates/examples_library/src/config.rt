@@ -28,30 +28,30 @@ pub struct Setting {
     pub value: u16,
 }
 
-/// An error in a line.
+/// The error of a line.
 #[derive(Clone, Copy)]
-pub struct Problem {
+pub struct ParseError {
     /// Its message.
-    pub error: &'static str,
+    pub message: &'static str,
     /// The word that it is about.
     pub word: Word,
     /// The same name, where it is set first, if that is the error.
     pub first: Option<Word>,
 }
 
-impl Problem {
+impl ParseError {
     /// Returns the diagnostic of the error, whose first label is on the word.
     ///
     /// # Errors
     ///
-    /// `OutOfMemory` if an allocation fails.
+    /// `OutOfMemory`: an allocation fails.
     pub fn diagnostic(&self, alloc: Global) -> Result<Diagnostic<()>, Error>
         ensures { IfOk result (λ d. IfSome (slice_get d.labels.items 0) (λ label.
             (label.style ≡ LabelStyle.Primary) × (label.range ≡ bytes self.now.word))) }
     {
         let label = Label::primary(alloc, (), self.word.start..self.word.end);
         let error = Diagnostic::error(alloc)
-            .with_message(self.error)?
+            .with_message(self.message)?
             .with_label(label)?;
         let Some(word) = self.first else {
             return Ok(error);
@@ -66,7 +66,7 @@ impl Problem {
 ///
 /// # Errors
 ///
-/// `AllocError` if an allocation fails.
+/// `AllocError`: an allocation fails.
 pub fn lex(alloc: Global, text: &str) -> Result<Vec<Word>, AllocError>
     ensures { IfOk result (λ words. All (λ w. w.end ≤ length text.now) words.items) }
 {
@@ -92,7 +92,7 @@ pub fn lex(alloc: Global, text: &str) -> Result<Vec<Word>, AllocError>
     Ok(words)
 }
 
-/// Returns the text of a word; an empty one if the word is not inside the text.
+/// Returns the text of a word; an empty one if the word is not inside the text or cuts a character.
 pub fn text_of(text: &str, word: Word) -> &str {
     text.get(word.start..word.end).unwrap_or("")
 }
@@ -110,8 +110,8 @@ fn find(text: &str, settings: &[Setting], name: Word) -> Option<Setting> {
 /// The first of these: the line begins with `=`; its second word is not `=`; it has more than three
 /// words; its name is set above; its value is neither a number from 0 to 65535 nor a name that is
 /// set above; it has no value.
-pub fn parse(text: &str, above: &[Setting], line: &[Word]) -> Result<Option<Setting>, Problem> {
-    let (error, word, first) = match line {
+pub fn parse(text: &str, above: &[Setting], line: &[Word]) -> Result<Option<Setting>, ParseError> {
+    let (message, word, first) = match line {
         [] => return Ok(None),
         [name, ..] if text_of(text, *name) == "=" => ("expected a name", *name, None),
         [_, equals, ..] if text_of(text, *equals) != "=" => ("expected `=`", *equals, None),
@@ -123,7 +123,11 @@ pub fn parse(text: &str, above: &[Setting], line: &[Word]) -> Result<Option<Sett
         },
         [name, ..] => ("expected `=` and a value after this name", *name, None),
     };
-    Err(Problem { error, word, first })
+    Err(ParseError {
+        message,
+        word,
+        first,
+    })
 }
 
 /// Returns the value of a word: its number, or the value of the setting of this name.

@@ -9,8 +9,10 @@
 //! | status | standard output | standard error |
 //! |---|---|---|
 //! | 0 | every case, the document of the named one, or the style sheet | nothing |
-//! | 1 | nothing, or a prefix if writing failed | the error, with its line if the input has it |
+//! | 1 | nothing, or a prefix if writing failed | one line: the error |
 //! | 2 | nothing: the arguments are wrong | one line: the usage |
+//!
+//! The line of an error has the number of the line of the input that is wrong, if one is.
 #![tactic(auto)]
 
 use gallery_cases::run::run;

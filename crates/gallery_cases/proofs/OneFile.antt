@@ -1,19 +1,20 @@
--- What holds over the file database of a case.
+-- For the clauses of `rendering::render` and `rendering::runs_of_case`: what holds over the file
+-- database of a case.
 use Rattle.std.proofs.Common.{◌≡◌, ℕ, List, [], map, Result, Ok, Err, OnOk, IfOk, sym, subst}
 use Rattle.codespan_base.specs.declared.diagnostic.Diagnostic.{Diagnostic}
 use Rattle.codespan_base.specs.FileModel.{FileDatabase}
 use Rattle.gallery_script.specs.declared.case.Case.{Case}
-use Rattle.gallery_script.specs.declared.case.Table.TheVariants.{One, Several, Mapped}
+use Rattle.gallery_script.specs.declared.case.DatabaseKind.TheVariants.{One, Several, Mapped}
 use Rattle.gallery_script.specs.Cases.{file_view}
-use Rattle.gallery_cases.specs.CaseOutputs.{InTable, HoldsOfOnlyFile, HoldsOfAllFiles, Property, mapped_database, several_database, simple_database}
+use Rattle.gallery_cases.specs.CaseOutputs.{InDatabase, HoldsOfOnlyFile, HoldsOfAllFiles, Property, mapped_database, several_database, simple_database}
 use Rattle.gallery_script.specs.Database.{BorrowedFile, IsOnlyFile, borrowed_view, with_numbers}
 
 -- it holds over all files of a case
-pub over_several : (case : Case) (files : List BorrowedFile) (Holds : Property) → case.table ≡ Several → map borrowed_view files ≡ map file_view case.files.items
-    → Holds ℕ (several_database files) case.diagnostic → InTable case.table case Holds
-over_several case files Holds table same holds =
+pub over_several : (case : Case) (files : List BorrowedFile) (Holds : Property) → case.database_kind ≡ Several → map borrowed_view files ≡ map file_view case.files.items
+    → Holds ℕ (several_database files) case.diagnostic → InDatabase case.database_kind case Holds
+over_several case files Holds kind same holds =
     let among : HoldsOfAllFiles case Holds = record { files = files; same = same; holds = holds } in
-    subst (λ t. InTable t case Holds) (sym table) among
+    subst (λ k. InDatabase k case Holds) (sym kind) among
 
 module _ (case : Case) (name source : List ℕ) (diagnostic : Diagnostic (Unit {0})) (by_unit_id : IsOnlyFile case name source diagnostic) (Holds : Property) where
   -- it holds over such a database of its only file
@@ -22,16 +23,16 @@ module _ (case : Case) (name source : List ℕ) (diagnostic : Diagnostic (Unit {
   over_one_file database holds = record { name = name; source = source; diagnostic = diagnostic; only = by_unit_id.only; same = by_unit_id.same; holds = holds }
 
   -- it holds over a simple file
-  pub over_one : case.table ≡ One → Holds (Unit {0}) (simple_database name source) diagnostic
-      → InTable case.table case Holds
-  over_one table holds =
-      subst (λ t. InTable t case Holds) (sym table) (over_one_file simple_database holds)
+  pub over_one : case.database_kind ≡ One → Holds (Unit {0}) (simple_database name source) diagnostic
+      → InDatabase case.database_kind case Holds
+  over_one kind holds =
+      subst (λ k. InDatabase k case Holds) (sym kind) (over_one_file simple_database holds)
 
   -- it holds over a file whose line numbers are set
-  pub over_mapped : case.table ≡ Mapped → (numbers : List (ℕ × ℕ)) → numbers ≡ with_numbers [] case.numbers.items
-      → Holds (Unit {0}) (mapped_database numbers name source) diagnostic → InTable case.table case Holds
-  over_mapped table numbers set holds =
-      subst (λ t. InTable t case Holds) (sym table)
+  pub over_mapped : case.database_kind ≡ Mapped → (numbers : List (ℕ × ℕ)) → numbers ≡ with_numbers [] case.numbers.items
+      → Holds (Unit {0}) (mapped_database numbers name source) diagnostic → InDatabase case.database_kind case Holds
+  over_mapped kind numbers set holds =
+      subst (λ k. InDatabase k case Holds) (sym kind)
       (subst (λ ns. HoldsOfOnlyFile (mapped_database ns) case Holds) set
       (over_one_file (mapped_database numbers) holds))
 

@@ -1,4 +1,4 @@
--- What the outcome of a run says.
+-- For the clauses of `run::run` and its parts: what the outcome of a run says.
 use Rattle.std.proofs.Common.{◌≤◌, IfErr, IfSome, OnOk, IsErrOf, Result, refl, sym, ap, ◌∙◌, ◌≡◌, ◌≢◌, ℕ, List, [], Option, Some, None, Ok, Err, subst, arith}
 use Rattle.std.specs.Option.{ok_or, option_map}
 use Rattle.std.specs.Str.Lines.{lines}

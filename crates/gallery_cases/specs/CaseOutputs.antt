@@ -8,8 +8,8 @@ use Rattle.codespan_base.specs.MappedModel.{mapped_file, mapped_failure}
 use Rattle.codespan_base.specs.SimpleModel.{simple_file, simple_failure, database_file, database_failure}
 use Rattle.codespan_views.specs.Output.{IsRendered}
 use Rattle.gallery_script.specs.declared.case.Case.{Case}
-use Rattle.gallery_script.specs.declared.case.Table.{Table}
-use Rattle.gallery_script.specs.declared.case.Table.TheVariants.{One, Several, Mapped}
+use Rattle.gallery_script.specs.declared.case.DatabaseKind.{DatabaseKind}
+use Rattle.gallery_script.specs.declared.case.DatabaseKind.TheVariants.{One, Several, Mapped}
 use Rattle.gallery_script.specs.Cases.{file_view}
 use Rattle.gallery_script.specs.Database.{BorrowedFile, borrowed_view, by_unit_id, with_numbers}
 
@@ -59,17 +59,17 @@ pub record HoldsOfAllFiles (case : Case) (Holds : Property) : Type 0 where
   pub holds : Holds ℕ (several_database files) case.diagnostic
 
 -- this holds of the diagnostic of a case over its file database
-abbrev pub InTable : Table → Case → Property → Type 0
-InTable One case Holds = HoldsOfOnlyFile simple_database case Holds
-InTable Several case Holds = HoldsOfAllFiles case Holds
-InTable Mapped case Holds =
+abbrev pub InDatabase : DatabaseKind → Case → Property → Type 0
+InDatabase One case Holds = HoldsOfOnlyFile simple_database case Holds
+InDatabase Several case Holds = HoldsOfAllFiles case Holds
+InDatabase Mapped case Holds =
     HoldsOfOnlyFile (mapped_database (with_numbers [] case.numbers.items)) case Holds
 
 -- the text is the output of a case in plain text
 abbrev pub IsOutput : Case → List ℕ → Type 0
 IsOutput case text =
-    InTable case.table case (λ Id database diagnostic. IsRendered case.config database diagnostic
-    text)
+    InDatabase case.database_kind case (λ Id database diagnostic.
+    IsRendered case.config database diagnostic text)
 
 -- the output of a case in plain text has been appended
 abbrev pub AppendsOutput : Case → List ℕ → List ℕ → Type 0

@@ -9,11 +9,11 @@ use Rattle.gallery_cases.specs.CaseOutputs.{IsOutput}
 use Rattle.gallery_cases.specs.Documents.{IsSvg}
 
 -- the heading of a case
-abbrev pub title : List ℕ → List ℕ
-title name = codes "== " ++ name ++ 10 ∷ []
+abbrev pub heading : List ℕ → List ℕ
+heading name = codes "== " ++ name ++ 10 ∷ []
 
--- a byte of an output as it is shown: the escape character, the character of the number 0, the
--- carriage return and the tab by a backslash
+-- a byte of an output as it is shown: the escape character, the null character, the carriage
+-- return and the tab by a backslash
 abbrev pub shown_byte : ℕ → List ℕ
 shown_byte b =
     if b == 27 then codes "\\e"
@@ -48,5 +48,5 @@ pub record IsSection (case : Case) (text : List ℕ) : Type 0 where
 abbrev pub IsGallery : List Case → List ℕ → Type 0
 IsGallery [] text = text ≡ []
 IsGallery (case ∷ cases) text =
-    (section : List ℕ) × (left : List ℕ) × (text ≡ title case.name.now ++ section ++ left)
+    (section : List ℕ) × (left : List ℕ) × (text ≡ heading case.name.now ++ section ++ left)
     × IsSection case section × IsGallery cases left

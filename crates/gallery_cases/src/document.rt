@@ -17,7 +17,7 @@ use std::alloc::Global;
 ///
 /// # Errors
 ///
-/// Those of [`runs_of_case`], and `OutOfMemory`.
+/// Those of [`runs_of_case`], and `OutOfMemory` if an allocation fails.
 pub fn document(alloc: Global, case: &Case<'_>, format: Format) -> Result<String, Error>
     ensures { IfOk result (λ document. IsDocument format case.now (string_bytes document)) }
 {
@@ -33,7 +33,7 @@ pub fn document(alloc: Global, case: &Case<'_>, format: Format) -> Result<String
 ///
 /// # Errors
 ///
-/// `OutOfMemory`.
+/// `OutOfMemory` if an allocation fails.
 pub fn default_style_sheet(alloc: Global) -> Result<String, Error>
     ensures { IfOk result (λ css. string_bytes css ≡ style_sheet default_styles) }
 {

@@ -4,7 +4,7 @@ ghost use Rattle.std.specs.Prelude.{◌≡◌, ℕ, List, ◌++◌, IfOk, OnOk};
 ghost use Rattle.gallery_script.specs.declared.case.Colors.TheVariants.{Plain, Svg};
 ghost use Rattle.gallery_cases.specs.CaseOutputs.{AppendsOutput};
 ghost use Rattle.gallery_cases.specs.Documents.{AppendsSvg};
-ghost use Rattle.gallery_cases.specs.Galleries.{title, shown, IsSection, IsGallery, IsErrorLine};
+ghost use Rattle.gallery_cases.specs.Galleries.{heading, shown, IsSection, IsGallery, IsErrorLine};
 
 use crate::document::document;
 use crate::rendering::render;
@@ -23,15 +23,15 @@ pub fn render_cases(alloc: Global, cases: &[Case<'_>]) -> Result<Vec<u8>, AllocE
 {
     let mut gallery = Vec::new(alloc);
     for case in cases {
-        add_title(&mut gallery, case.name)?;
+        add_heading(&mut gallery, case.name)?;
         add_output(alloc, &mut gallery, case)?;
     }
     Ok(gallery)
 }
 
 /// Appends the heading of a case.
-fn add_title(gallery: &mut Vec<u8>, name: &str) -> Result<(), AllocError>
-    ensures { OnOk result (gallery.new.items ≡ gallery.old.items ++ title name.now) }
+fn add_heading(gallery: &mut Vec<u8>, name: &str) -> Result<(), AllocError>
+    ensures { OnOk result (gallery.new.items ≡ gallery.old.items ++ heading name.now) }
 {
     gallery.extend_from_slice(b"== ")?;
     gallery.extend_from_slice(name.as_bytes())?;
@@ -90,8 +90,8 @@ fn add_failure(
     }
 }
 
-/// Appends an output as it is shown: the escape character, the character of the number 0, the
-/// carriage return and the tab by a backslash and a letter or digit, all else as it is.
+/// Appends an output as it is shown: the escape character, the null character, the carriage return
+/// and the tab by a backslash and a letter or digit, all else unchanged.
 fn add_shown(gallery: &mut Vec<u8>, rendered: &[u8]) -> Result<(), AllocError>
     ensures { OnOk result (gallery.new.items ≡ gallery.old.items ++ shown rendered.now) }
 {

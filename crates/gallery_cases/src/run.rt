@@ -9,7 +9,7 @@ use crate::document::{default_style_sheet, document};
 use crate::gallery::render_cases;
 use codespan_base::files::Error;
 use gallery_script::case::Case;
-use gallery_script::cases::{named, parse_cases};
+use gallery_script::cases::{case_named, parse_cases};
 use gallery_script::errors::{RunError, conclude};
 use gallery_script::request::Request;
 use program_io::input::read_text;
@@ -39,11 +39,11 @@ pub fn run<R: Read, W: Write, E: Write>(
         (response : List ℕ) × IsResponse request text response
         × Appends (W.contents output.old) (W.contents output.new) response)) }
 {
-    conclude(show(alloc, args, input, output), error_output)
+    conclude(respond(alloc, args, input, output), error_output)
 }
 
 /// Reads the cases, renders what is requested, and writes it.
-fn show<R: Read, W: Write>(
+fn respond<R: Read, W: Write>(
     alloc: Global,
     args: &[String],
     input: &mut R,
@@ -91,7 +91,7 @@ fn response(alloc: Global, request: Request<'_>, cases: &[Case<'_>]) -> Result<V
         Request::All => Ok(render_cases(alloc, cases)?),
         Request::Styles => bytes_of(default_style_sheet(alloc)),
         Request::Document(format, name) => {
-            let Some(case) = named(cases, name) else {
+            let Some(case) = case_named(cases, name) else {
                 return Err(RunError::UnknownCase(String::from_str(alloc, name)?));
             };
             bytes_of(document(alloc, case, format))

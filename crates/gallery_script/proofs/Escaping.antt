@@ -1,4 +1,5 @@
--- What is parsed of escapes, and of escaped texts.
+-- For the clauses of `escape::unescape`, `read_escape` and `read_numbered`: what is parsed of
+-- escapes, and of escaped texts.
 use Rattle.std.proofs.Common.{◌≡◌, ◌<◌, ℕ, List, [], ◌∷◌, ◌++◌, Option, Some, None, refl, sym, ◌∙◌, ap, subst, append_assoc, arith}
 use Rattle.std.specs.Borrow.{Bor}
 use Rattle.std.specs.Prelude.{encode_utf8, MatchOption}
@@ -71,17 +72,17 @@ numbered text inner x c is split number =
 -- ---- escaped texts
 
 -- what the rest of a text means follows what precedes it
-abbrev pub ContinuesSource : List ℕ → List ℕ → List ℕ → Type 0
-ContinuesSource text unescaped rest = (outcome : Option (List ℕ)) → Unescapes rest outcome → Unescapes text (after_bytes unescaped outcome)
+abbrev pub ContinuesUnescaped : List ℕ → List ℕ → List ℕ → Type 0
+ContinuesUnescaped text unescaped rest = (outcome : Option (List ℕ)) → Unescapes rest outcome → Unescapes text (after_bytes unescaped outcome)
 
 -- nothing precedes the start
-pub none_unescaped : (text unescaped : List ℕ) → unescaped ≡ [] → ContinuesSource text unescaped text
+pub none_unescaped : (text unescaped : List ℕ) → unescaped ≡ [] → ContinuesUnescaped text unescaped text
 none_unescaped text unescaped empty None h = h
 none_unescaped text unescaped empty (Some bytes) h = subst (λ front. Unescapes text (Some (front ++ bytes))) (sym empty) h
 
 -- what precedes an escape, and its character, precede what is left
-pub one_more : (text unescaped new rest left : List ℕ) (c : ℕ) (x : Bor (List ℕ) × Bor (List ℕ)) → ContinuesSource text unescaped rest → IsSplitOnceResult 92 rest (Some x)
-    → ReadsEscape x.1.now (Some (c, left)) → new ≡ (unescaped ++ x.0.now) ++ encode_utf8 c → ContinuesSource text new left
+pub one_more : (text unescaped new rest left : List ℕ) (c : ℕ) (x : Bor (List ℕ) × Bor (List ℕ)) → ContinuesUnescaped text unescaped rest → IsSplitOnceResult 92 rest (Some x)
+    → ReadsEscape x.1.now (Some (c, left)) → new ≡ (unescaped ++ x.0.now) ++ encode_utf8 c → ContinuesUnescaped text new left
 one_more text unescaped new rest left c x before split read is outcome h =
     let parts = split_parts 92 rest (Some x) split (omega arith) in
     let whole_rest : Unescapes rest (after_bytes (x.0.now ++ encode_utf8 c) outcome) =
@@ -94,13 +95,13 @@ one_more text unescaped new rest left c x before split read is outcome h =
     joined unescaped plain character new (Some bytes) is = ap Some (sym (ap (λ front. front ++ bytes) is ∙ simp append_assoc))
 
 -- a rest without a backslash means itself
-pub all_unescaped : (text unescaped rest new : List ℕ) → ContinuesSource text unescaped rest → IsSplitOnceResult 92 rest None → new ≡ unescaped ++ rest → Unescapes text (Some new)
+pub all_unescaped : (text unescaped rest new : List ℕ) → ContinuesUnescaped text unescaped rest → IsSplitOnceResult 92 rest None → new ≡ unescaped ++ rest → Unescapes text (Some new)
 all_unescaped text unescaped rest new before split is =
     let plain : IsPlain rest = split_parts 92 rest None split (omega arith) in
     subst (λ bytes. Unescapes text (Some bytes)) (sym is) (before (Some rest) (whole rest plain))
 
 -- a backslash that begins no escape
-pub nothing_unescaped : (text unescaped rest : List ℕ) (x : Bor (List ℕ) × Bor (List ℕ)) → ContinuesSource text unescaped rest → IsSplitOnceResult 92 rest (Some x) → ReadsEscape x.1.now None → Unescapes text None
+pub nothing_unescaped : (text unescaped rest : List ℕ) (x : Bor (List ℕ) × Bor (List ℕ)) → ContinuesUnescaped text unescaped rest → IsSplitOnceResult 92 rest (Some x) → ReadsEscape x.1.now None → Unescapes text None
 nothing_unescaped text unescaped rest x before split unread =
     let parts = split_parts 92 rest (Some x) split (omega arith) in
     before None (subst (λ t. Unescapes t None) (sym parts.0) (broken x.0.now x.1.now parts.1 unread))

@@ -1,4 +1,4 @@
--- Cases that are parsed line by line.
+-- For the clauses of `cases::apply_lines`: cases that are parsed line by line.
 use Rattle.std.proofs.Common.{◌≡◌, ◌+◌, ◌<◌, ℕ, Bor, List, [], ◌∷◌, ◌++◌, length, map, take, get_or, Some, refl, sym, ◌∙◌, ap, subst}
 use Rattle.std.specs.List.{slice_get}
 use Rattle.std.specs.Option.{option_map}

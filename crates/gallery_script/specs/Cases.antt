@@ -4,17 +4,17 @@ use Rattle.std.specs.Str.{bytes_eq}
 use Rattle.codespan_base.specs.declared.diagnostic.Severity.TheVariants as severities
 use Rattle.codespan_base.specs.Defaults.{default_config}
 use Rattle.codespan_base.specs.Diagnostics.{diagnostic_view}
-use Rattle.codespan_base.specs.ConfigEquality.{IsChars, IsConfig}
+use Rattle.codespan_base.specs.ConfigEquality.{IsEqualChars, IsEqualConfig}
 use Rattle.gallery_script.specs.declared.case.Case.{Case}
 use Rattle.gallery_script.specs.declared.case.Colors.TheVariants.{Plain}
 use Rattle.gallery_script.specs.declared.case.File.{File}
-use Rattle.gallery_script.specs.declared.case.Table.TheVariants.{Several}
+use Rattle.gallery_script.specs.declared.case.DatabaseKind.TheVariants.{Several}
 use Rattle.gallery_script.specs.declared.errors.RunError.{RunError}
 use Rattle.gallery_script.specs.declared.errors.RunError.TheVariants as run_error
 use Rattle.gallery_script.specs.declared.errors.LineError.{LineError}
 use Rattle.gallery_script.specs.declared.errors.LineError.TheVariants.{NoCase, NoFile, OutOfMemory}
 use Rattle.gallery_script.specs.declared.statement.Line.{Line}
-use Rattle.gallery_script.specs.declared.statement.Line.TheVariants.{Ignored, Title, Description}
+use Rattle.gallery_script.specs.declared.statement.Line.TheVariants.{Ignored, NewCase, Description}
 use Rattle.gallery_script.specs.declared.statement.Statement.{Statement}
 use Rattle.gallery_script.specs.declared.statement.Statement.TheVariants as statements
 use Rattle.gallery_script.specs.Statements.{ParsesTo, IsWrongLine}
@@ -29,10 +29,10 @@ file_view file = (string_bytes file.name, string_bytes file.source)
 -- a case of this name alone
 pub record IsNew (name : List ℕ) (case : Case) : Type 0 where
   pub called : case.name.now ≡ name
-  pub table : case.table ≡ Several
+  pub database_kind : case.database_kind ≡ Several
   pub files : case.files.items ≡ []
   pub numbers : case.numbers.items ≡ []
-  pub config : IsConfig default_config case.config
+  pub config : IsEqualConfig default_config case.config
   pub colors : case.colors ≡ Plain
   pub diagnostic : diagnostic_view case.diagnostic
       ≡ record { severity = severities.Error; code = None; message = []; labels = []; notes = [] }
@@ -47,7 +47,7 @@ pub record ContinuesSource (text : List ℕ) (old new : List (List ℕ × List �
 
 -- the new case is the old one, with the statement applied
 abbrev pub Applies : Statement → Case → Case → Type 0
-Applies (statements.Table table) old new = new ≡ record old { table = table }
+Applies (statements.Database kind) old new = new ≡ record old { database_kind = kind }
 Applies (statements.File name) old new =
     (new ≡ record old { files = new.files })
     × (map file_view new.files.items
@@ -75,7 +75,7 @@ Applies (statements.Context context) old new = new ≡ record old {
 }
 Applies (statements.Characters set) old new =
     (new ≡ record old { config = record old.config { chars = new.config.chars } })
-    × IsChars (chars_of set) new.config.chars
+    × IsEqualChars (chars_of set) new.config.chars
 Applies (statements.Colors colors) old new = new ≡ record old { colors = colors }
 Applies (statements.Severity severity) old new =
     new ≡ record old { diagnostic = record old.diagnostic { severity = severity } }
@@ -113,16 +113,16 @@ pub record Begins (name : List ℕ) (before after : List Case) : Type 0 where
   pub new : IsNew name case
 
 -- what a line does to the cases before it
-abbrev pub Adds : Line → List Case → List Case → Type 0
-Adds Ignored before after = after ≡ before
-Adds (Title name) before after = Begins name.now before after
-Adds (Description statement) before after = AppliesToLast statement before after
+abbrev pub AppliesParsedLine : Line → List Case → List Case → Type 0
+AppliesParsedLine Ignored before after = after ≡ before
+AppliesParsedLine (NewCase name) before after = Begins name.now before after
+AppliesParsedLine (Description statement) before after = AppliesToLast statement before after
 
 -- the cases after a line are those before it, with the line applied
 pub record AppliesLine (line : List ℕ) (before after : List Case) : Type 0 where
   pub parsed_line : Line
   pub parsed : ParsesTo line parsed_line
-  pub adds : Adds parsed_line before after
+  pub applied : AppliesParsedLine parsed_line before after
 
 -- the cases after some lines, parsed one after another
 abbrev pub AppliesLines : List (List ℕ) → List Case → List Case → Type 0
@@ -148,8 +148,8 @@ IsLineError line before line_error =
     ⊎ ((statement : Statement) × ParsesTo line (Description statement)
     × FailsAtLast statement before line_error))
 
--- the error is the first line that has an error, by its number from 1, and the error; or a
--- failed allocation
+-- the error has the number, from 1, of the first line that is wrong, and what is wrong with it; or
+-- an allocation failed
 abbrev pub IsFirstLineError : List (List ℕ) → RunError → Type 0
 IsFirstLineError lines (run_error.Line number line_error) =
     (k : ℕ) × (line : List ℕ) × (before : List Case) × (number ≡ k + 1)

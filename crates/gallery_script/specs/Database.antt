@@ -6,7 +6,7 @@ use Rattle.codespan_base.specs.Diagnostics.{DiagnosticView, LabelView, diagnosti
 use Rattle.codespan_base.specs.MappedModel.{with_number}
 use Rattle.codespan_base.specs.DatabaseViews.{entries, mapped_name_of, mapped_source_of, name_of, settings_of, source_of}
 use Rattle.gallery_script.specs.declared.case.Case.{Case}
-use Rattle.gallery_script.specs.declared.case.Table.TheVariants as database
+use Rattle.gallery_script.specs.declared.case.DatabaseKind.TheVariants as kinds
 use Rattle.gallery_script.specs.declared.database.Database.{Database}
 use Rattle.gallery_script.specs.declared.database.Database.TheVariants.{One, Several, Mapped}
 use Rattle.gallery_script.specs.Cases.{file_view}
@@ -51,11 +51,12 @@ pub record IsOnlyFile (case : Case) (name source : List ℕ)
 -- this is the file database of a case
 abbrev pub IsDatabaseOf : Case → Database → Type 0
 IsDatabaseOf case (One file diagnostic) =
-    (case.table ≡ database.One) × IsOnlyFile case (name_of file).now (source_of file).now diagnostic
+    (case.database_kind ≡ kinds.One)
+    × IsOnlyFile case (name_of file).now (source_of file).now diagnostic
 IsDatabaseOf case (Several files) =
-    (case.table ≡ database.Several)
+    (case.database_kind ≡ kinds.Several)
     × (map borrowed_view (entries files) ≡ map file_view case.files.items)
 IsDatabaseOf case (Mapped file diagnostic) =
-    (case.table ≡ database.Mapped) × IsOnlyFile case (mapped_name_of file).now
+    (case.database_kind ≡ kinds.Mapped) × IsOnlyFile case (mapped_name_of file).now
     (mapped_source_of file).now diagnostic
     × (settings_of file ≡ with_numbers [] case.numbers.items)

@@ -5,7 +5,7 @@ use Rattle.std.specs.Option.{option_map}
 use Rattle.std.specs.Str.Parse.{ParsesUnsigned}
 
 -- the character of a letter: that of `n` is the newline, and those of `r`, `t`, `0` and the
--- backslash are the carriage return, the tab, the character of the number 0 and the backslash
+-- backslash are the carriage return, the tab, the null character and the backslash
 abbrev pub letter_character : ℕ → Option ℕ
 letter_character letter =
     if letter == 110 then Some 10

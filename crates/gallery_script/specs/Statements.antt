@@ -5,16 +5,16 @@ use Rattle.codespan_base.specs.declared.diagnostic.LabelStyle.{LabelStyle}
 use Rattle.codespan_base.specs.declared.diagnostic.LabelStyle.TheVariants as styles
 use Rattle.gallery_script.specs.declared.errors.LineError.{LineError}
 use Rattle.gallery_script.specs.declared.errors.LineError.TheVariants.{UnknownWord, UnknownName, BadNumber, BadEscape, NoCase, NoFile, OutOfMemory}
-use Rattle.gallery_script.specs.declared.statement.Context as contexts
+use Rattle.gallery_script.specs.declared.statement.ContextLines as context_lines
 use Rattle.gallery_script.specs.declared.statement.Line.{Line}
-use Rattle.gallery_script.specs.declared.statement.Line.TheVariants.{Ignored, Title, Description}
+use Rattle.gallery_script.specs.declared.statement.Line.TheVariants.{Ignored, NewCase, Description}
 use Rattle.gallery_script.specs.declared.statement.Statement.{Statement}
 use Rattle.gallery_script.specs.declared.statement.Statement.TheVariants as statements
 use Rattle.gallery_script.specs.declared.words.Word.{Word}
-use Rattle.gallery_script.specs.declared.words.Word.TheVariants.{Table, File, Source, Number, Style, Layout, Tab, Context, Characters, Colors, Severity, Code, Message, Primary, Secondary, Note}
+use Rattle.gallery_script.specs.declared.words.Word.TheVariants.{Database, File, Source, Number, Style, Layout, Tab, Context, Characters, Colors, Severity, Code, Message, Primary, Secondary, Note}
 use Rattle.gallery_script.specs.Escapes.{Unescapes}
 use Rattle.gallery_script.specs.Fields.{field_of, past_space, IsNumber, IsNoNumber, is_ignored}
-use Rattle.gallery_script.specs.Words.{word_named, table_named, style_named, layout_named, characters_named, colors_named, severity_named}
+use Rattle.gallery_script.specs.Words.{word_named, database_kind_named, style_named, layout_named, characters_named, colors_named, severity_named}
 
 -- ---- what a line describes
 
@@ -34,9 +34,9 @@ abbrev pub style_word : LabelStyle → Word
 style_word styles.Primary = Primary
 style_word styles.Secondary = Secondary
 
--- the rest has the numbers of lines that are shown: after a first line, before a last one, before a
+-- the rest has the numbers of context lines: after a first line, before a last one, before a
 -- label and after it
-pub record IsContext (rest : List ℕ) (context : contexts.Context) : Type 0 where
+pub record AreContextLines (rest : List ℕ) (context : context_lines.ContextLines) : Type 0 where
   pub start : IsNumber (field_of rest) context.start
   pub end : IsNumber (field_of (past_space rest)) context.end
   pub before : IsNumber (field_of (past_two rest)) context.before
@@ -51,7 +51,8 @@ pub record IsLabel (rest : List ℕ) (label : Label ℕ) : Type 0 where
 
 -- what the word and the rest of a line state of a case
 abbrev pub Describes : Option Word → List ℕ → Statement → Type 0
-Describes word rest (statements.Table table) = (word ≡ Some Table) × (table_named rest ≡ Some table)
+Describes word rest (statements.Database kind) =
+    (word ≡ Some Database) × (database_kind_named rest ≡ Some kind)
 Describes word rest (statements.File name) =
     (word ≡ Some File) × UnescapesTo rest (string_bytes name)
 Describes word rest (statements.Source text) =
@@ -62,7 +63,8 @@ Describes word rest (statements.Style style) = (word ≡ Some Style) × (style_n
 Describes word rest (statements.Layout layout) =
     (word ≡ Some Layout) × (layout_named rest ≡ Some layout)
 Describes word rest (statements.Tab width) = (word ≡ Some Tab) × IsNumber rest width
-Describes word rest (statements.Context context) = (word ≡ Some Context) × IsContext rest context
+Describes word rest (statements.Context context) =
+    (word ≡ Some Context) × AreContextLines rest context
 Describes word rest (statements.Characters set) =
     (word ≡ Some Characters) × (characters_named rest ≡ Some set)
 Describes word rest (statements.Colors colors) =
@@ -81,7 +83,7 @@ Describes word rest (statements.Note note) =
 -- what a line is: ignored, the first of a case of this name, or a statement of the last case
 abbrev pub ParsesTo : List ℕ → Line → Type 0
 ParsesTo line Ignored = is_ignored line ≡ true
-ParsesTo line (Title name) =
+ParsesTo line (NewCase name) =
     (is_ignored line ≡ false) × (field_of line ≡ codes "case") × (name.now ≡ past_space line)
 ParsesTo line (Description statement) =
     (is_ignored line ≡ false) × Describes (word_named (field_of line)) (past_space line) statement
@@ -89,18 +91,18 @@ ParsesTo line (Description statement) =
 -- ---- what is wrong with a line
 
 -- the rest is none of the names that may follow its word
-abbrev pub IsUnnamed : List ℕ → Word → Type 0
-IsUnnamed rest Table = table_named rest ≡ None
-IsUnnamed rest Style = style_named rest ≡ None
-IsUnnamed rest Layout = layout_named rest ≡ None
-IsUnnamed rest Characters = characters_named rest ≡ None
-IsUnnamed rest Colors = colors_named rest ≡ None
-IsUnnamed rest Severity = severity_named rest ≡ None
-IsUnnamed rest _ = ⊥
+abbrev pub HasUnknownName : List ℕ → Word → Type 0
+HasUnknownName rest Database = database_kind_named rest ≡ None
+HasUnknownName rest Style = style_named rest ≡ None
+HasUnknownName rest Layout = layout_named rest ≡ None
+HasUnknownName rest Characters = characters_named rest ≡ None
+HasUnknownName rest Colors = colors_named rest ≡ None
+HasUnknownName rest Severity = severity_named rest ≡ None
+HasUnknownName rest _ = ⊥
 
 -- one of the first three fields of the rest is no number
-abbrev pub LacksOfThree : List ℕ → Type 0
-LacksOfThree rest =
+abbrev pub LacksOneOfThree : List ℕ → Type 0
+LacksOneOfThree rest =
     IsNoNumber (field_of rest)
     ⊎ (IsNoNumber (field_of (past_space rest)) ⊎ IsNoNumber (field_of (past_two rest)))
 
@@ -108,28 +110,28 @@ LacksOfThree rest =
 abbrev pub LacksNumber : List ℕ → Word → Type 0
 LacksNumber rest Number = IsNoNumber (field_of rest) ⊎ IsNoNumber (past_space rest)
 LacksNumber rest Tab = IsNoNumber rest
-LacksNumber rest Context = LacksOfThree rest ⊎ IsNoNumber (past_three rest)
-LacksNumber rest Primary = LacksOfThree rest
-LacksNumber rest Secondary = LacksOfThree rest
+LacksNumber rest Context = LacksOneOfThree rest ⊎ IsNoNumber (past_three rest)
+LacksNumber rest Primary = LacksOneOfThree rest
+LacksNumber rest Secondary = LacksOneOfThree rest
 LacksNumber rest _ = ⊥
 
 -- the text of the rest has a backslash that begins no escape
-abbrev pub IsBroken : List ℕ → Word → Type 0
-IsBroken rest File = Unescapes rest None
-IsBroken rest Source = Unescapes rest None
-IsBroken rest Code = Unescapes rest None
-IsBroken rest Message = Unescapes rest None
-IsBroken rest Note = Unescapes rest None
-IsBroken rest Primary = Unescapes (past_three rest) None
-IsBroken rest Secondary = Unescapes (past_three rest) None
-IsBroken rest _ = ⊥
+abbrev pub HasBadEscape : List ℕ → Word → Type 0
+HasBadEscape rest File = Unescapes rest None
+HasBadEscape rest Source = Unescapes rest None
+HasBadEscape rest Code = Unescapes rest None
+HasBadEscape rest Message = Unescapes rest None
+HasBadEscape rest Note = Unescapes rest None
+HasBadEscape rest Primary = Unescapes (past_three rest) None
+HasBadEscape rest Secondary = Unescapes (past_three rest) None
+HasBadEscape rest _ = ⊥
 
 -- what is wrong with a line of this word and this rest, whatever precedes it
 abbrev pub IsWrong : Option Word → List ℕ → LineError → Type 0
 IsWrong word rest UnknownWord = word ≡ None
-IsWrong word rest UnknownName = IsSomeAnd word (IsUnnamed rest)
+IsWrong word rest UnknownName = IsSomeAnd word (HasUnknownName rest)
 IsWrong word rest BadNumber = IsSomeAnd word (LacksNumber rest)
-IsWrong word rest BadEscape = IsSomeAnd word (IsBroken rest)
+IsWrong word rest BadEscape = IsSomeAnd word (HasBadEscape rest)
 IsWrong word rest NoCase = ⊥
 IsWrong word rest NoFile = ⊥
 IsWrong word rest OutOfMemory = Unit {0}
@@ -137,5 +139,5 @@ IsWrong word rest OutOfMemory = Unit {0}
 -- what is wrong with a line that is neither ignored nor the first of a case
 pub record IsWrongLine (line : List ℕ) (line_error : LineError) : Type 0 where
   pub not_ignored : is_ignored line ≡ false
-  pub not_title : field_of line ≢ codes "case"
+  pub not_new_case : field_of line ≢ codes "case"
   pub wrong : IsWrong (word_named (field_of line)) (past_space line) line_error

@@ -9,19 +9,19 @@ use Rattle.codespan_base.specs.declared.term.config.Layout as layouts
 use Rattle.codespan_base.specs.declared.term.config.Layout.TheVariants.{Classic, Unbroken}
 use Rattle.codespan_base.specs.declared.term.config.chars.Chars.{Chars}
 use Rattle.codespan_base.specs.Characters.{box_drawing, ascii}
-use Rattle.gallery_script.specs.declared.case.Table as database
-use Rattle.gallery_script.specs.declared.case.Table.TheVariants.{One, Several, Mapped}
+use Rattle.gallery_script.specs.declared.case.DatabaseKind.{DatabaseKind}
+use Rattle.gallery_script.specs.declared.case.DatabaseKind.TheVariants.{One, Several, Mapped}
 use Rattle.gallery_script.specs.declared.case.Colors as colors
 use Rattle.gallery_script.specs.declared.case.Colors.TheVariants.{Plain, Ansi, Svg}
 use Rattle.gallery_script.specs.declared.case.CharacterSet.{CharacterSet}
 use Rattle.gallery_script.specs.declared.case.CharacterSet.TheVariants as sets
 use Rattle.gallery_script.specs.declared.words.Word.{Word}
-use Rattle.gallery_script.specs.declared.words.Word.TheVariants.{Table, File, Source, Number, Style, Layout, Tab, Context, Characters, Colors, Severity, Code, Message, Primary, Secondary, Note}
+use Rattle.gallery_script.specs.declared.words.Word.TheVariants.{Database, File, Source, Number, Style, Layout, Tab, Context, Characters, Colors, Severity, Code, Message, Primary, Secondary, Note}
 
 -- the word of this spelling
 unfoldable pub word_named : List ℕ → Option Word
 word_named text =
-    if bytes_eq text (codes "table") then Some Table
+    if bytes_eq text (codes "database") then Some Database
     else if bytes_eq text (codes "file") then Some File
     else if bytes_eq text (codes "|") then Some Source
     else if bytes_eq text (codes "number") then Some Number
@@ -30,7 +30,7 @@ word_named text =
     else if bytes_eq text (codes "tab") then Some Tab
     else if bytes_eq text (codes "context") then Some Context
     else if bytes_eq text (codes "characters") then Some Characters
-    else if bytes_eq text (codes "colours") then Some Colors
+    else if bytes_eq text (codes "colors") then Some Colors
     else if bytes_eq text (codes "severity") then Some Severity
     else if bytes_eq text (codes "code") then Some Code
     else if bytes_eq text (codes "message") then Some Message
@@ -40,8 +40,8 @@ word_named text =
     else None
 
 -- the kind of file database of this name
-unfoldable pub table_named : List ℕ → Option database.Table
-table_named text =
+unfoldable pub database_kind_named : List ℕ → Option DatabaseKind
+database_kind_named text =
     if bytes_eq text (codes "one") then Some One
     else if bytes_eq text (codes "several") then Some Several
     else if bytes_eq text (codes "mapped") then Some Mapped

@@ -1,20 +1,20 @@
 //! A case: a diagnostic, its files, and a configuration.
 
 ghost use Rattle.std.specs.Prelude.{◌≡◌, ◌⊎◌, [], ◌∷◌, ◌++◌, map, OnOk, IfErr, string_bytes};
-ghost use Rattle.codespan_base.specs.ConfigEquality.{IsChars};
+ghost use Rattle.codespan_base.specs.ConfigEquality.{IsEqualChars};
 ghost use Rattle.gallery_script.specs.Cases.{IsNew, Applies, IsSource, ContinuesSource, file_view};
 ghost use Rattle.gallery_script.specs.Words.{chars_of};
 ghost use Rattle.gallery_script.specs.declared.errors.LineError.TheVariants.{NoFile, OutOfMemory};
 
 use crate::errors::LineError;
-use crate::statement::{Context, Statement};
+use crate::statement::{ContextLines, Statement};
 use codespan_base::diagnostic::Diagnostic;
 use codespan_base::term::{Chars, Config};
 use std::alloc::Global;
 
-/// The type of the file database of a case.
+/// The kind of the file database of a case.
 #[derive(Clone, Copy)]
-pub enum Table {
+pub enum DatabaseKind {
     /// A `SimpleFile`.
     One,
     /// `SimpleFiles`.
@@ -35,7 +35,7 @@ pub enum CharacterSet {
 impl CharacterSet {
     /// Returns the characters of this set.
     pub fn chars<'chars>(self) -> Chars<'chars>
-        ensures { IsChars (chars_of self) result }
+        ensures { IsEqualChars (chars_of self) result }
     {
         match self {
             CharacterSet::Box => Chars::box_drawing(),
@@ -67,10 +67,10 @@ pub struct File {
 /// A diagnostic to be rendered.
 #[derive(Drop)]
 pub struct Case<'input> {
-    /// The name of the case, its heading.
+    /// The name of the case.
     pub name: &'input str,
-    /// The type of the file database.
-    pub table: Table,
+    /// The kind of the file database.
+    pub database_kind: DatabaseKind,
     /// The files in their order.
     pub files: Vec<File>,
     /// The lines whose numbers are set, by their indices from 0, with these numbers. Only a
@@ -92,7 +92,7 @@ impl<'input> Case<'input> {
     {
         Case {
             name,
-            table: Table::Several,
+            database_kind: DatabaseKind::Several,
             files: Vec::new(alloc),
             numbers: Vec::new(alloc),
             config: Config::default(),
@@ -114,7 +114,7 @@ impl<'input> Case<'input> {
             ⊎ ((line_error ≡ NoFile) × IsSource statement × (self.old.files.items ≡ []))) }
     {
         match statement {
-            Statement::Table(table) => self.table = table,
+            Statement::Database(kind) => self.database_kind = kind,
             Statement::File(name) => self.add_file(name)?,
             Statement::Source(text) => self.add_source(text.as_str())?,
             Statement::Number(line, number) => self.numbers.push((line, number))?,
@@ -161,8 +161,8 @@ impl<'input> Case<'input> {
         Ok(())
     }
 
-    /// Sets how many lines are shown around those of labels.
-    fn set_context(&mut self, context: Context)
+    /// Sets how many context lines are shown.
+    fn set_context(&mut self, context: ContextLines)
         ensures { self.new ≡ record self.old {
           config = record self.old.config {
             start_context_lines = context.start;

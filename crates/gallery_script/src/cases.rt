@@ -22,8 +22,9 @@ use std::alloc::Global;
 ///
 /// # Errors
 ///
-/// The error of the first line that has one, with the line's number from 1, and `OutOfMemory` if
-/// an allocation fails.
+/// - `Line`: the first line that has an error, by its number from 1, and that error, also a failed
+///   allocation for it.
+/// - `OutOfMemory`: an allocation for the list of lines fails.
 pub fn parse_cases(alloc: Global, input: &str) -> Result<Vec<Case<'_>>, RunError>
     ensures cases { IfOk result (λ cases. AppliesLines (lines input.now) [] cases.items) }
     ensures line_error { IfErr result (IsFirstLineError (lines input.now)) }
@@ -58,7 +59,7 @@ fn apply_line<'input>(
 {
     match parse_line(alloc, line)? {
         Line::Ignored => {}
-        Line::Title(name) => cases.push(Case::new(alloc, name))?,
+        Line::NewCase(name) => cases.push(Case::new(alloc, name))?,
         Line::Description(statement) => apply_to_last(cases, statement)?,
     }
     Ok(())
@@ -76,7 +77,7 @@ fn apply_to_last(cases: &mut Vec<Case<'_>>, statement: Statement) -> Result<(), 
 }
 
 /// Returns the first case of a name.
-pub fn named<'cases, 'input>(
+pub fn case_named<'cases, 'input>(
     cases: &'cases [Case<'input>],
     name: &str,
 ) -> Option<&'cases Case<'input>>

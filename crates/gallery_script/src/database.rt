@@ -6,7 +6,7 @@ ghost use Rattle.codespan_base.specs.DatabaseViews.{entries, mapped_name_of, map
 ghost use Rattle.gallery_script.specs.Cases.{file_view};
 ghost use Rattle.gallery_script.specs.Database.{IsDatabaseOf, by_unit_id, label_by_unit_id, borrowed_view, with_numbers};
 
-use crate::case::{Case, File, Table};
+use crate::case::{Case, DatabaseKind, File};
 use codespan_base::diagnostic::{Diagnostic, Label};
 use codespan_base::files::{Error, MappedFile, SimpleFile, SimpleFiles};
 use std::alloc::Global;
@@ -32,17 +32,19 @@ pub enum Database<'case> {
 pub fn database_of<'case>(alloc: Global, case: &'case Case<'_>) -> Result<Database<'case>, Error>
     ensures { IfOk result (IsDatabaseOf case.now) }
 {
-    match case.table {
-        Table::One => {
+    match case.database_kind {
+        DatabaseKind::One => {
             let file = only_file(case.files.as_slice())?;
             let files = SimpleFile::new(alloc, file.name.as_str(), file.source.as_str())?;
-            Ok(Database::One(files, in_one_file(alloc, &case.diagnostic)?))
+            Ok(Database::One(files, with_unit_ids(alloc, &case.diagnostic)?))
         }
-        Table::Several => Ok(Database::Several(several_files(alloc, case.files.as_slice())?)),
-        Table::Mapped => {
+        DatabaseKind::Several => {
+            Ok(Database::Several(several_files(alloc, case.files.as_slice())?))
+        }
+        DatabaseKind::Mapped => {
             let file = only_file(case.files.as_slice())?;
             let files = mapped_file(alloc, file, case.numbers.as_slice())?;
-            Ok(Database::Mapped(files, in_one_file(alloc, &case.diagnostic)?))
+            Ok(Database::Mapped(files, with_unit_ids(alloc, &case.diagnostic)?))
         }
     }
 }
@@ -59,13 +61,14 @@ fn only_file(files: &[File]) -> Result<&File, Error>
 
 /// Returns a database of the files.
 fn several_files(alloc: Global, files: &[File]) -> Result<SimpleFiles<&str, &str>, Error>
-    ensures { IfOk result (λ table. map borrowed_view (entries table) ≡ map file_view files.now) }
+    ensures { IfOk result (λ database.
+        map borrowed_view (entries database) ≡ map file_view files.now) }
 {
-    let mut table = SimpleFiles::new(alloc);
+    let mut database = SimpleFiles::new(alloc);
     for file in files {
-        table.add(file.name.as_str(), file.source.as_str())?;
+        database.add(file.name.as_str(), file.source.as_str())?;
     }
-    Ok(table)
+    Ok(database)
 }
 
 /// Returns the file, with the line numbers that are set.
@@ -85,15 +88,16 @@ fn mapped_file<'case>(
     Ok(mapped)
 }
 
-/// Returns the diagnostic by the id of a database of one file.
-fn in_one_file(alloc: Global, diagnostic: &Diagnostic<usize>) -> Result<Diagnostic<()>, Error>
+/// Returns the diagnostic with the file id `()`. Fails with `FileMissing` if a label is not in file
+/// 0, and with `OutOfMemory`.
+fn with_unit_ids(alloc: Global, diagnostic: &Diagnostic<usize>) -> Result<Diagnostic<()>, Error>
     ensures { IfOk result (λ converted. diagnostic_view converted
         ≡ by_unit_id (diagnostic_view diagnostic.now)) }
 {
     let diagnostic = diagnostic.clone()?;
     let mut labels = Vec::new(alloc);
     for label in diagnostic.labels.as_slice() {
-        labels.push(in_this_file(label)?)?;
+        labels.push(label_with_unit_id(label)?)?;
     }
     Ok(Diagnostic {
         severity: diagnostic.severity,
@@ -104,8 +108,9 @@ fn in_one_file(alloc: Global, diagnostic: &Diagnostic<usize>) -> Result<Diagnost
     })
 }
 
-/// Returns the label by the id of a database of one file.
-fn in_this_file(label: &Label<usize>) -> Result<Label<()>, Error>
+/// Returns the label with the file id `()`. Fails with `FileMissing` if it is not in file 0, and
+/// with `OutOfMemory`.
+fn label_with_unit_id(label: &Label<usize>) -> Result<Label<()>, Error>
     ensures { IfOk result (λ converted. label_view converted
         ≡ label_by_unit_id (label_view label.now)) }
 {

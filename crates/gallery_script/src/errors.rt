@@ -46,7 +46,7 @@ pub enum RunError {
     UnknownCase(String),
     /// Rendering the case failed.
     CannotRender(Error),
-    /// An allocation for the output failed.
+    /// An allocation failed, outside the parsing of a line and the rendering of a document.
     OutOfMemory,
     /// Writing or flushing the output failed.
     CannotWriteOutput,
@@ -63,8 +63,8 @@ impl RunError {
     }
 }
 
-/// Writes the error, if there is one, in one line, and returns the program's status. An error of
-/// `error_output` is ignored.
+/// Writes the error, if there is one, in one line, and returns the program's status: 0 without an
+/// error, 2 for wrong arguments, 1 for any other. An error of `error_output` is ignored.
 pub fn conclude<E: Write>(outcome: Result<(), RunError>, error_output: &mut E) -> u8
     ensures status { IsStatusOf outcome result }
     ensures no_error { OnOk outcome (error_output.new ≡ error_output.old) }
@@ -99,7 +99,7 @@ impl<T: Drop> From<AllocFailed<T>> for LineError {
     }
 }
 
-/// Arguments that are not UTF-8 are wrong.
+/// Converts an error of the arguments: those that are not UTF-8 are wrong.
 impl From<ArgumentsError> for RunError {
     ghost use Rattle.gallery_script.specs.Errors.{arguments_error};
 
@@ -113,7 +113,7 @@ impl From<ArgumentsError> for RunError {
     }
 }
 
-/// An input that is no text.
+/// Converts an error of reading the input.
 impl From<InputError> for RunError {
     ghost use Rattle.gallery_script.specs.Errors.{input_error};
 

@@ -15,9 +15,9 @@ use std::alloc::Global;
 /// | `\n` | the newline |
 /// | `\r` | the carriage return |
 /// | `\t` | the tab |
-/// | `\0` | the character of the number 0 |
+/// | `\0` | the null character |
 /// | `\\` | the backslash |
-/// | `\u{HEX}` | the character of a number in hexadecimal digits |
+/// | `\u{HEX}` | the character U+HEX; HEX is hexadecimal digits, which may follow a plus sign |
 ///
 /// # Errors
 ///

@@ -6,13 +6,13 @@ ghost use Rattle.gallery_script.specs.Statements.{ParsesTo, Describes, IsWrong, 
 ghost use Rattle.gallery_script.specs.declared.errors.LineError.TheVariants.{UnknownName};
 ghost use Rattle.gallery_script.specs.declared.words.Word.TheVariants as words;
 
-use crate::case::{CharacterSet, Colors, Table};
+use crate::case::{CharacterSet, Colors, DatabaseKind};
 use crate::errors::LineError;
 use crate::escape::unescape;
 use crate::fields::{cut, cut_number, is_ignored, parse_number};
 use crate::words::{
-    Word, parse_characters, parse_colors, parse_layout, parse_severity, parse_style, parse_table,
-    parse_word,
+    Word, parse_characters, parse_colors, parse_database_kind, parse_layout, parse_severity,
+    parse_style, parse_word,
 };
 use codespan_base::diagnostic::{Label, LabelStyle, Severity};
 use codespan_base::term::{DisplayStyle, Layout};
@@ -24,7 +24,7 @@ pub enum Line<'input> {
     /// It is empty or begins with `#`, and is ignored.
     Ignored,
     /// `case NAME`: it begins a case of this name.
-    Title(&'input str),
+    NewCase(&'input str),
     /// It describes the last case.
     Description(Statement),
 }
@@ -32,9 +32,9 @@ pub enum Line<'input> {
 /// A part of the description of a case.
 #[derive(Drop)]
 pub enum Statement {
-    /// `table KIND`: the type of its file database.
-    Table(Table),
-    /// `file NAME`: one more file.
+    /// `database KIND`: the kind of its file database.
+    Database(DatabaseKind),
+    /// `file TEXT`: one more file, of this name.
     File(String),
     /// `| TEXT`: the continuation of the source of the last file.
     Source(String),
@@ -46,11 +46,12 @@ pub enum Statement {
     Layout(Layout),
     /// `tab WIDTH`: the cells between tab stops.
     Tab(usize),
-    /// `context START END BEFORE AFTER`: how many lines are shown around those of labels.
-    Context(Context),
+    /// `context START END BEFORE AFTER`: how many context lines are shown, around labels and inside
+    /// multi-line labels.
+    Context(ContextLines),
     /// `characters NAME`: the characters of borders, carets and lanes.
     Characters(CharacterSet),
-    /// `colours NAME`: how colors are written.
+    /// `colors NAME`: how colors are written.
     Colors(Colors),
     /// `severity NAME`: the severity.
     Severity(Severity),
@@ -64,9 +65,9 @@ pub enum Statement {
     Note(String),
 }
 
-/// How many lines are shown around those of labels.
+/// How many context lines are shown: around labels, and inside multi-line labels.
 #[derive(Clone, Copy)]
-pub struct Context {
+pub struct ContextLines {
     /// After the first line of a multi-line label.
     pub start: usize,
     /// Before the last line of a multi-line label.
@@ -81,7 +82,11 @@ pub struct Context {
 ///
 /// # Errors
 ///
-/// The error of the line, and `OutOfMemory` if an allocation fails.
+/// - `UnknownWord`: the line begins with an unknown word.
+/// - `UnknownName`: its rest is none of the names that may follow its word.
+/// - `BadNumber`: a number is missing or malformed.
+/// - `BadEscape`: a backslash of its text begins no escape.
+/// - `OutOfMemory`: an allocation fails.
 pub fn parse_line<'input>(alloc: Global, line: &'input str) -> Result<Line<'input>, LineError>
     ensures parsed { IfOk result (ParsesTo line.now) }
     ensures wrong { IfErr result (IsWrongLine line.now) }
@@ -91,7 +96,7 @@ pub fn parse_line<'input>(alloc: Global, line: &'input str) -> Result<Line<'inpu
     }
     let (word, rest) = cut(line);
     if word == "case" {
-        return Ok(Line::Title(rest));
+        return Ok(Line::NewCase(rest));
     }
     let word = parse_word(word).ok_or(LineError::UnknownWord)?;
     Ok(Line::Description(parse_statement(alloc, word, rest)?))
@@ -103,17 +108,17 @@ fn parse_statement(alloc: Global, word: Word, rest: &str) -> Result<Statement, L
     ensures wrong { IfErr result (IsWrong (Some word) rest.now) }
 {
     match word {
-        Word::Table => Ok(Statement::Table(known(parse_table(rest))?)),
+        Word::Database => Ok(Statement::Database(or_unknown_name(parse_database_kind(rest))?)),
         Word::File => Ok(Statement::File(unescape(alloc, rest)?)),
         Word::Source => Ok(Statement::Source(unescape(alloc, rest)?)),
         Word::Number => parse_line_number(rest),
-        Word::Style => Ok(Statement::Style(known(parse_style(rest))?)),
-        Word::Layout => Ok(Statement::Layout(known(parse_layout(rest))?)),
+        Word::Style => Ok(Statement::Style(or_unknown_name(parse_style(rest))?)),
+        Word::Layout => Ok(Statement::Layout(or_unknown_name(parse_layout(rest))?)),
         Word::Tab => Ok(Statement::Tab(parse_number(rest)?)),
         Word::Context => parse_context(rest),
-        Word::Characters => Ok(Statement::Characters(known(parse_characters(rest))?)),
-        Word::Colors => Ok(Statement::Colors(known(parse_colors(rest))?)),
-        Word::Severity => Ok(Statement::Severity(known(parse_severity(rest))?)),
+        Word::Characters => Ok(Statement::Characters(or_unknown_name(parse_characters(rest))?)),
+        Word::Colors => Ok(Statement::Colors(or_unknown_name(parse_colors(rest))?)),
+        Word::Severity => Ok(Statement::Severity(or_unknown_name(parse_severity(rest))?)),
         Word::Code => Ok(Statement::Code(unescape(alloc, rest)?)),
         Word::Message => Ok(Statement::Message(unescape(alloc, rest)?)),
         Word::Primary => parse_label(alloc, LabelStyle::Primary, rest),
@@ -123,7 +128,7 @@ fn parse_statement(alloc: Global, word: Word, rest: &str) -> Result<Statement, L
 }
 
 /// Returns what a name stands for, or `UnknownName`.
-fn known<T: Drop>(named: Option<T>) -> Result<T, LineError>
+fn or_unknown_name<T: Drop>(named: Option<T>) -> Result<T, LineError>
     ensures { result ≡ ok_or named UnknownName }
 {
     named.ok_or(LineError::UnknownName)
@@ -146,7 +151,7 @@ fn parse_context(rest: &str) -> Result<Statement, LineError>
     let (start, left) = cut_number(rest)?;
     let (end, left) = cut_number(left)?;
     let (before, left) = cut_number(left)?;
-    Ok(Statement::Context(Context {
+    Ok(Statement::Context(ContextLines {
         start,
         end,
         before,

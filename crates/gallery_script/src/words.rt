@@ -1,17 +1,17 @@
 //! The words of lines, and the names that may follow them.
 
 ghost use Rattle.std.specs.Prelude.{◌≡◌};
-ghost use Rattle.gallery_script.specs.Words.{word_named, table_named, style_named, layout_named, characters_named, colors_named, severity_named};
+ghost use Rattle.gallery_script.specs.Words.{word_named, database_kind_named, style_named, layout_named, characters_named, colors_named, severity_named};
 
-use crate::case::{CharacterSet, Colors, Table};
+use crate::case::{CharacterSet, Colors, DatabaseKind};
 use codespan_base::diagnostic::Severity;
 use codespan_base::term::{DisplayStyle, Layout};
 
 /// The first word of a line that describes a case.
 #[derive(Clone, Copy)]
 pub enum Word {
-    /// The type of the file database.
-    Table,
+    /// The kind of the file database.
+    Database,
     /// The name of one more file.
     File,
     /// The continuation of a source.
@@ -24,7 +24,7 @@ pub enum Word {
     Layout,
     /// The cells between tab stops.
     Tab,
-    /// How many lines are shown around those of labels.
+    /// How many context lines are shown.
     Context,
     /// The characters of borders, carets and lanes.
     Characters,
@@ -50,7 +50,7 @@ pub fn parse_word(text: &str) -> Option<Word>
     ensures { result ≡ word_named text.now }
 {
     match text {
-        "table" => Some(Word::Table),
+        "database" => Some(Word::Database),
         "file" => Some(Word::File),
         "|" => Some(Word::Source),
         "number" => Some(Word::Number),
@@ -59,7 +59,7 @@ pub fn parse_word(text: &str) -> Option<Word>
         "tab" => Some(Word::Tab),
         "context" => Some(Word::Context),
         "characters" => Some(Word::Characters),
-        "colours" => Some(Word::Colors),
+        "colors" => Some(Word::Colors),
         "severity" => Some(Word::Severity),
         "code" => Some(Word::Code),
         "message" => Some(Word::Message),
@@ -71,14 +71,14 @@ pub fn parse_word(text: &str) -> Option<Word>
 }
 
 /// Returns the kind of file database of this name, or `None`.
-#[tactic(auto, unfolding(crate::specs::Words::table_named))]
-pub fn parse_table(text: &str) -> Option<Table>
-    ensures { result ≡ table_named text.now }
+#[tactic(auto, unfolding(crate::specs::Words::database_kind_named))]
+pub fn parse_database_kind(text: &str) -> Option<DatabaseKind>
+    ensures { result ≡ database_kind_named text.now }
 {
     match text {
-        "one" => Some(Table::One),
-        "several" => Some(Table::Several),
-        "mapped" => Some(Table::Mapped),
+        "one" => Some(DatabaseKind::One),
+        "several" => Some(DatabaseKind::Several),
+        "mapped" => Some(DatabaseKind::Mapped),
         _ => None,
     }
 }

@@ -4,7 +4,7 @@ use std::env;
 use std::io::ErrorKind;
 use std::rt::Env;
 
-/// Why the arguments are not known.
+/// An error of reading the program's arguments.
 #[derive(Clone, Copy, Debug, PartialEq, Eq)]
 pub enum ArgumentsError {
     /// An argument is not UTF-8.

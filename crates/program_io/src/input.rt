@@ -7,7 +7,7 @@ ghost use Rattle.std.specs.Str.{IsUtf8};
 use std::alloc::Global;
 use std::io::Read;
 
-/// Why the input is no text.
+/// An error of reading the input as text.
 #[derive(Clone, Copy, Debug, PartialEq, Eq)]
 pub enum InputError {
     /// Reading it failed, or an allocation for it.
@@ -27,7 +27,7 @@ pub fn read_text<R: Read>(alloc: Global, input: &mut R) -> Result<String, InputE
         IfSome (R.remaining input.old) (λ bytes. string_bytes text ≡ bytes)) }
     ensures text { IfOk result (λ text. IsUtf8 (string_bytes text)) }
     ensures end { OnOk result (IsAtEnd (R.remaining input.new)) }
-    ensures odd { IsErrOf result InputError.NotUtf8
+    ensures not_utf8 { IsErrOf result InputError.NotUtf8
         → IfSome (R.remaining input.old) (λ bytes. ¬ (IsUtf8 bytes)) }
 {
     let mut bytes = Vec::new(alloc);

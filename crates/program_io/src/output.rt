@@ -11,7 +11,7 @@ use std::io::{ErrorKind, Write};
 ///
 /// # Errors
 ///
-/// What the writer returns; `WriteZero` where it takes nothing. A prefix of the bytes has then
+/// Those of [`write_whole`], and that of the flush. A prefix of the bytes, or all of them, has then
 /// been written.
 pub fn write_and_flush<W: Write>(output: &mut W, bytes: &[u8]) -> io::Result<()>
     ensures written { OnOk result (Appends (W.contents output.old)
@@ -28,8 +28,11 @@ pub fn write_and_flush<W: Write>(output: &mut W, bytes: &[u8]) -> io::Result<()>
 ///
 /// # Errors
 ///
-/// What the writer returns; `WriteZero` where it takes nothing. A prefix of the bytes has then
-/// been written.
+/// - The error of a write, if it is not `Interrupted`.
+/// - `WriteZero`: a write takes nothing.
+/// - `Other`: there were `u64::MAX` writes.
+///
+/// A prefix of the bytes has then been written.
 pub fn write_whole<W: Write>(writer: &mut W, bytes: &[u8]) -> io::Result<()>
     ensures written { OnOk result (Appends (W.contents writer.old)
         (W.contents writer.new) bytes.now) }

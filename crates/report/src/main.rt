@@ -6,12 +6,16 @@
 //! range of the label in the source. `NAME` is the file's name, and `MESSAGE` the message of both
 //! the error and the label. [`report_script::script`] says what a script is.
 //!
-//! | status | what was done | standard error |
+//! | status | standard output | standard error |
 //! |---|---|---|
-//! | 0 | the output was written to standard output | nothing |
-//! | 1 | the input is unreadable or not UTF-8, or rendering or writing failed | one line: which |
+//! | 0 | the output | nothing |
+//! | 1 | nothing, or a prefix of the output if writing it failed | one line: which error |
 //! | 2 | nothing: the arguments are wrong | one line: the usage |
-//! | 3 | nothing: the script has an error | its whole diagnostic; status 1 if that fails |
+//! | 3 | nothing: the script has an error | its whole diagnostic |
+//!
+//! The status is 1 if the input is unreadable or not UTF-8, or if rendering, an allocation or
+//! writing failed; where writing the diagnostic of a script's error failed, standard error has a
+//! prefix of it and no line. The usage names the first form of the arguments alone.
 //!
 //! Nothing is written to standard output before the whole output is rendered. Arguments that are
 //! not UTF-8 are wrong; where memory for them runs out, the status is 1.

@@ -1,4 +1,4 @@
--- What the outcome of a run says.
+-- For the clauses of `run::run`: what the outcome of a run says.
 use Rattle.std.proofs.Common.{◌≤◌, IfErr, OnOk, Result, refl, ◌≡◌, ◌≢◌, ◌⊎◌, inl, inr, ℕ, List, Option, Some, None, Ok, Err, IfSome, IsErrOf, subst, arith, string_bytes}
 use Rattle.std.specs.Str.{IsUtf8}
 use Rattle.report_runs.specs.declared.run_error.RunError.{RunError}

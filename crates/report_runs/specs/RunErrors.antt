@@ -27,21 +27,23 @@ IsStatusOf (Err (CannotRender error)) status = status ≡ 1
 IsStatusOf (Err (BadScript text)) status = (status ≡ 3) ⊎ (status ≡ 1)
 IsStatusOf (Err CannotWriteOutput) status = status ≡ 1
 
--- the line of an error, without its newline; that of rendering has the text of its error, that of a
--- script its diagnostic
-abbrev pub error_line : RunError → Option (List ℕ)
-error_line WrongArguments = Some (codes "usage: report STYLE NAME START END MESSAGE")
-error_line CannotReadInput = Some (codes "report: cannot read input")
-error_line NotUtf8 = Some (codes "report: input is not UTF-8")
-error_line (CannotRender error) = option_map (λ text. codes "report: " ++ text) (error_text error)
-error_line (BadScript text) = Some (string_bytes text)
-error_line CannotWriteOutput = Some (codes "report: cannot write output")
+-- what an error's `Display` writes: a line without its newline, or the rendered diagnostic of a
+-- script's error
+abbrev pub displayed_error : RunError → Option (List ℕ)
+displayed_error WrongArguments = Some (codes "usage: report STYLE NAME START END MESSAGE")
+displayed_error CannotReadInput = Some (codes "report: cannot read input")
+displayed_error NotUtf8 = Some (codes "report: input is not UTF-8")
+displayed_error (CannotRender error) =
+    option_map (λ text. codes "report: " ++ text) (error_text error)
+displayed_error (BadScript text) = Some (string_bytes text)
+displayed_error CannotWriteOutput = Some (codes "report: cannot write output")
 
--- the error of arguments that are not known, and of an input that is no text
+-- the error of a run whose arguments can not be read
 abbrev pub arguments_error : ArgumentsError → RunError
 arguments_error arguments.NotUtf8 = WrongArguments
 arguments_error arguments.OutOfMemory = CannotRender OutOfMemory
 
+-- the error of a run whose input can not be read as text
 abbrev pub input_error : InputError → RunError
 input_error input.Unreadable = CannotReadInput
 input_error input.NotUtf8 = NotUtf8

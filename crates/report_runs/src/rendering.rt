@@ -1,7 +1,7 @@
 //! Renders the diagnostic that the arguments request.
 
 ghost use Rattle.std.specs.Prelude.{◌≡◌, IfOk, IfErr, Ok, string_bytes};
-ghost use Rattle.codespan_base.specs.ConfigEquality.{IsConfig};
+ghost use Rattle.codespan_base.specs.ConfigEquality.{IsEqualConfig};
 ghost use Rattle.codespan_base.specs.Diagnostics.{diagnostic_view};
 ghost use Rattle.report_runs.specs.RenderedTexts.{config_of, rendering_of, rendering_of_script, output_text, IsRenderFailure};
 ghost use Rattle.report_script.specs.Requests.{command_view};
@@ -21,9 +21,9 @@ use std::alloc::Global;
 ///
 /// # Errors
 ///
-/// - `BadScript` if a script is requested and the input is none: the rendered diagnostic of its
-///   first error.
-/// - `CannotRender` if rendering fails.
+/// - `BadScript` if a script is requested and the input is no script: the rendered diagnostic of
+///   its first error.
+/// - `CannotRender` if rendering fails, or an allocation for the script.
 pub fn render(alloc: Global, command: &Command<'_>, input: &str) -> Result<String, RunError>
     ensures text { IfOk result (λ text. rendering_of (command_view command.now) input.now
         ≡ Ok (string_bytes text)) }
@@ -92,7 +92,7 @@ fn render_over(
 
 /// Returns the default configuration, in a display style.
 fn config_in(style: DisplayStyle) -> Config<'static>
-    ensures { IsConfig (config_of style) result }
+    ensures { IsEqualConfig (config_of style) result }
 {
     Config {
         display_style: style,

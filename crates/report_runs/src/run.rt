@@ -19,8 +19,10 @@ use std::io::{Read, Write};
 /// Renders what the arguments request over the input, and returns the program's status.
 ///
 /// If nothing is rendered, or writing the output fails, the error is written to `error_output`:
-/// that of a script as a rendered diagnostic, any other in one line. The status is 3 where a
-/// script's error was written whole; any other failure of `error_output` is ignored.
+/// that of a script as a rendered diagnostic, any other in one line. The status is 0 if the output
+/// was written; 2 if the arguments are wrong, before anything is read; 3 if a script's error was
+/// written whole; and 1 otherwise, also where writing a script's error failed. Any other failure of
+/// `error_output` is ignored.
 ///
 /// The output is changed only after the whole of it was rendered: with status 0, or with status 1
 /// where `error_output` has received nothing but the line of a failed output or a prefix of it.
@@ -64,7 +66,8 @@ pub fn run<R: Read, W: Write, E: Write>(
 }
 
 /// Writes the error, if there is one, and returns the program's status: the error of a script as a
-/// rendered diagnostic, any other in one line.
+/// rendered diagnostic, any other in one line. The status is 0 without an error, 2 for wrong
+/// arguments, 3 for a script's error, and 1 for any other.
 ///
 /// A failure of `error_output` is ignored, except that the status of a script's error is then 1.
 pub fn conclude<E: Write>(outcome: Result<(), RunError>, error_output: &mut E) -> u8

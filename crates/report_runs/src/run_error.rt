@@ -17,11 +17,11 @@ use std::{fmt, io};
 pub enum RunError {
     /// The number or the form of the arguments is wrong.
     WrongArguments,
-    /// Reading the input failed, or memory for it ran out.
+    /// Reading the input failed, or an allocation for it.
     CannotReadInput,
     /// The input is not UTF-8.
     NotUtf8,
-    /// Rendering failed.
+    /// Rendering failed, or an allocation for the arguments or the script.
     CannotRender(Error),
     /// The input is no script: the rendered diagnostic of its first error.
     BadScript(String),
@@ -31,16 +31,16 @@ pub enum RunError {
 
 impl RunError {
     ghost use Rattle.program_io.specs.Output.{AppendsPrefix};
-    ghost use Rattle.report_runs.specs.RunErrors.{error_line, failed_output_line};
+    ghost use Rattle.report_runs.specs.RunErrors.{displayed_error, failed_output_line};
 
-    /// Writes the error's line.
+    /// Writes the error and a newline.
     ///
     /// # Errors
     ///
     /// An [`io::Error`] if a write fails. Of the line of a failed output a prefix has then been
-    /// written; what has been written of another line is unspecified.
+    /// written; what has been written of another error is unspecified.
     pub fn write_line<W: Write>(&self, error_output: &mut W) -> io::Result<()>
-        ensures written { OnOk result (IfSome (with_newline (error_line self.now))
+        ensures written { OnOk result (IfSome (with_newline (displayed_error self.now))
             (Appends (W.contents error_output.old) (W.contents error_output.new))) }
         ensures prefix { self.now ≡ CannotWriteOutput
             → AppendsPrefix (W.contents error_output.old) (W.contents error_output.new)
@@ -57,7 +57,7 @@ impl RunError {
     }
 }
 
-/// Arguments that are not UTF-8 are wrong.
+/// Converts an error of the arguments: those that are not UTF-8 are wrong.
 impl From<ArgumentsError> for RunError {
     ghost use Rattle.report_runs.specs.RunErrors.{arguments_error};
 
@@ -71,7 +71,7 @@ impl From<ArgumentsError> for RunError {
     }
 }
 
-/// An input that is no text.
+/// Converts an error of reading the input.
 impl From<InputError> for RunError {
     ghost use Rattle.report_runs.specs.RunErrors.{input_error};
 
@@ -85,7 +85,7 @@ impl From<InputError> for RunError {
     }
 }
 
-/// An error of rendering becomes `CannotRender`.
+/// Converts an error of rendering to `CannotRender`.
 impl From<Error> for RunError {
     ghost from_gives = { λ error run_error. run_error ≡ CannotRender error };
 
@@ -94,11 +94,11 @@ impl From<Error> for RunError {
     }
 }
 
-/// The error's line, without its newline.
+/// Writes the error's line, without its newline; of a script's error the rendered diagnostic.
 impl fmt::Display for RunError {
-    ghost use Rattle.report_runs.specs.RunErrors.{error_line};
+    ghost use Rattle.report_runs.specs.RunErrors.{displayed_error};
 
-    ghost output = { error_line };
+    ghost output = { displayed_error };
 
     fn fmt<W: fmt::Write>(&self, f: &mut fmt::Formatter<W>) -> fmt::Result {
         match self {

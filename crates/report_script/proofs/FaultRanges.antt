@@ -1,4 +1,4 @@
--- Where the errors of an input that is UTF-8 are.
+-- For the clause of `laws::faults_lie_inside`: where the errors of an input that is UTF-8 are.
 use Rattle.std.proofs.Common.{◌≡◌, ℕ, ◌+◌, ◌-◌, ◌<◌, ◌≤◌, ◌==◌, Bool, true, false, List, [], ◌∷◌, ◌++◌, length, get_or, take, drop, Option, Some, None, IfSome, IfErr, is_some, IsCharBoundary, IsUtf8, bytes_eq, refl, sym, ap, ◌∙◌, inl, inr, arith, if◌then◌else◌, eqb-true, length-append, length-drop, length-take-le, get_or-drop, get_or-take}
 use Rattle.std.specs.List.{AllByRecursion, join_with_byte, position_or_len, slice_split}
 use Rattle.std.specs.Option.{option_map}

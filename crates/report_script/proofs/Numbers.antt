@@ -1,4 +1,4 @@
--- What `parse` reads of digits alone is their number.
+-- For the clause of `request::parse_number`: what `parse` reads of digits alone is their number.
 use Rattle.std.proofs.Common.{◌≡◌, ℕ, ◌<◌, ◌^◌, ◌&&◌, nat_lt, true, false, List, [], ◌∷◌, length, get_or, decimal, Option, Some, None, Result, Ok, Err, refl, ap, sym, ◌∙◌, if◌then◌else◌, arith}
 use Rattle.std.specs.Char.{is_ascii_digit}
 use Rattle.std.specs.Int.{IsInRange}

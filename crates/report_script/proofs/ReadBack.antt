@@ -1,4 +1,5 @@
--- What is read of a script that is written out from its statements.
+-- For the clause of `laws::scripts_read_back`: what is read of a script that is written out from
+-- its statements.
 use Rattle.std.proofs.Common.{◌≡◌, ℕ, suc, ◌+◌, ◌-◌, ◌^◌, ◌<◌, ◌≤◌, Bool, true, false, List, [], ◌∷◌, ◌++◌, length, map, Option, Some, None, Ok, codes, is_some, bytes_eq, refl, sym, ap, ◌∙◌, subst, arith, if◌then◌else◌, append_assoc, length-append, unwrap_or, All, option_map, option_and_then, slice_get, filter_map}
 use Rattle.std.specs.List.{AllByRecursion, cons_option, slice_split}
 use Rattle.std.specs.declared.ops.Range.{Range}
@@ -13,7 +14,7 @@ use Rattle.report_script.specs.declared.script.FaultNumber.TheVariants.{UnknownS
 use Rattle.report_script.specs.Requests.{number_of}
 use Rattle.report_script.specs.ScriptFaults.{fault_at, fault_from, line_of_word, line_fault, number_fault, or_fault, repetition, severity_fault}
 use Rattle.report_script.specs.ScriptLaws.{ScriptReadsBack}
-use Rattle.report_script.specs.Statements.{IsStatable, Statement, code_stated, label_fields, label_stated, message_stated, note_stated, one_stated, stated_diagnostic, severity_name, severity_stated, statement_line, written}
+use Rattle.report_script.specs.Statements.{IsStatable, Statement, code_stated, label_fields, label_stated, message_stated, note_stated, first_stated, stated_diagnostic, severity_name, severity_stated, statement_line, written}
 use Rattle.report_script.specs.Statements.Statement.{SeverityLine, CodeLine, MessageLine, LabelLine, NoteLine, CommentLine, EmptyLine}
 use Rattle.report_script.specs.ScriptLines.{ScriptLine, field_of, is_newline, lines_from, lines_of, past_space, range_at, rest_of, source_of, word_of, word_range}
 use Rattle.report_script.specs.ScriptWords.{severity_named, word_named}
@@ -136,17 +137,17 @@ module _ (ss : List Statement) (can : AllByRecursion IsStatable ss) where
   names_read : filter_map (rest_by (codes "severity")) (statement_lines 0 ss) ≡ map severity_name (filter_map severity_stated ss)
   names_read = all_read (rest_by (codes "severity")) (λ s. option_map severity_name (severity_stated s)) severity_read 0 ss can ∙ severities_read ss
 
-  severity_same : parsed_severity (statement_lines 0 ss) ≡ unwrap_or (one_stated severity_stated ss) Error
+  severity_same : parsed_severity (statement_lines 0 ss) ≡ unwrap_or (first_stated severity_stated ss) Error
   unfolding parsed_severity
   severity_same =
       ap (λ name. unwrap_or (option_and_then severity_named name) Error)
       (rest_of_word_first (codes "severity") (statement_lines 0 ss) ∙ ap (λ names. slice_get names 0) names_read ∙ slice_get-map severity_name (filter_map severity_stated ss) 0)
-      ∙ ap (λ severity. unwrap_or severity Error) (named_again (one_stated severity_stated ss))
+      ∙ ap (λ severity. unwrap_or severity Error) (named_again (first_stated severity_stated ss))
 
-  code_same : rest_of_word (codes "code") (statement_lines 0 ss) ≡ one_stated code_stated ss
+  code_same : rest_of_word (codes "code") (statement_lines 0 ss) ≡ first_stated code_stated ss
   code_same = rest_of_word_first (codes "code") (statement_lines 0 ss) ∙ ap (λ rests. slice_get rests 0) (all_read (rest_by (codes "code")) code_stated code_read 0 ss can)
 
-  message_same : rest_of_word (codes "message") (statement_lines 0 ss) ≡ one_stated message_stated ss
+  message_same : rest_of_word (codes "message") (statement_lines 0 ss) ≡ first_stated message_stated ss
   message_same = rest_of_word_first (codes "message") (statement_lines 0 ss) ∙ ap (λ rests. slice_get rests 0) (all_read (rest_by (codes "message")) message_stated message_read 0 ss can)
 
   -- the lines say what the statements do

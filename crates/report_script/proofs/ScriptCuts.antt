@@ -1,4 +1,5 @@
--- A text, cut into lines, and a line that is cut.
+-- For the clauses of `lines::first_line` and `lines::without_return`, and for both laws: a text,
+-- cut into lines, and a line that is cut.
 use Rattle.std.proofs.Common.{◌≡◌, ◌≢◌, ℕ, ◌+◌, ◌-◌, ◌<◌, ◌≤◌, ◌==◌, true, false, List, [], ◌∷◌, ◌++◌, length, get_or, take, drop, refl, sym, ap, ◌∙◌, arith, if◌then◌else◌}
 use Rattle.std.specs.List.{slice_split}
 use Rattle.std.specs.Str.Lines.{strip_carriage_return}

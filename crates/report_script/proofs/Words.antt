@@ -1,8 +1,9 @@
--- What the arguments request, word by word.
+-- For the clauses of `Request::from_arguments` and `Command::from_arguments`: what the arguments
+-- request, word by word.
 use Rattle.std.proofs.Common.{◌≡◌, ℕ, ◌<◌, ◌≤◌, ◌⊎◌, inl, inr, List, [], ◌∷◌, length, get_or, map, Option, None, refl, ap, sym, ◌∙◌, arith}
 use Rattle.codespan_base.specs.declared.term.config.DisplayStyle.{DisplayStyle}
 use Rattle.std.specs.Option.{option_map}
-use Rattle.report_script.specs.Requests.{command_of, number_of, request_of, style_of, with_parts}
+use Rattle.report_script.specs.Requests.{command_of, number_of, request_of, style_named, with_parts}
 use Rattle.report_script.specs.Requests.CommandView.{OneLabel, OfScript}
 
 -- five words by their indices
@@ -32,7 +33,7 @@ other_words text (v ∷ w ∷ x ∷ y ∷ z ∷ u ∷ more) others = refl
 pub five_arguments : {A : Type 0} (text : A → List ℕ) (xs : List A) (style name start end message : A) → 5 ≤ length xs → length xs < 6
     → style ≡ get_or xs 0 style → name ≡ get_or xs 1 name → start ≡ get_or xs 2 start → end ≡ get_or xs 3 end → message ≡ get_or xs 4 message
     → (named : Option DisplayStyle) (first last : Option ℕ)
-    → named ≡ style_of (text style) → first ≡ number_of (text start) → last ≡ number_of (text end)
+    → named ≡ style_named (text style) → first ≡ number_of (text start) → last ≡ number_of (text end)
     → with_parts (text name) (text message) named first last ≡ request_of (map text xs)
 unfolding request_of
 five_arguments text xs style name start end message least most p q r s t named first last x y z =
@@ -51,7 +52,7 @@ two_words (v ∷ w ∷ x ∷ more) a b least most p q = absurd (omega arith)
 
 -- the request of two words
 pub two_arguments : {A : Type 0} (text : A → List ℕ) (xs : List A) (style name : A) → 2 ≤ length xs → length xs < 3
-    → style ≡ get_or xs 0 style → name ≡ get_or xs 1 name → (named : Option DisplayStyle) → named ≡ style_of (text style)
+    → style ≡ get_or xs 0 style → name ≡ get_or xs 1 name → (named : Option DisplayStyle) → named ≡ style_named (text style)
     → option_map (λ s. OfScript s (text name)) named ≡ command_of (map text xs)
 unfolding command_of
 two_arguments text xs style name least most p q named x =

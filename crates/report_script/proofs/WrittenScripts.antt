@@ -1,4 +1,5 @@
--- The lines of a script that is written out from its statements.
+-- For the clause of `laws::scripts_read_back`: the lines of a script that is written out from its
+-- statements.
 use Rattle.std.proofs.Common.{◌≡◌, ◌≢◌, ℕ, suc, zero, ◌+◌, ◌-◌, ◌^◌, ◌<◌, true, false, List, [], ◌∷◌, ◌++◌, length, get_or, take, drop, Option, Some, None, IfSome, codes, bytes_eq, ltb, refl, sym, ap, ◌∙◌, arith, if◌then◌else◌, append_assoc, append-nil, eq-eqb, ne_eqb, length-append, take_all, take_at, All, decimal}
 use Rattle.std.specs.List.{AllByRecursion, list_all, position_or_len, slice_split}
 use Rattle.std.specs.Str.Lines.{strip_carriage_return}

@@ -41,17 +41,18 @@ fault_message RepeatedWord = codes "repeated word"
 fault_message MissingEnd = codes "missing end of script"
 
 -- the message of its primary label
-abbrev pub fault_note : FaultNumber → List ℕ
-fault_note UnknownWord = codes "expected severity, code, message, primary, secondary or note"
-fault_note UnknownSeverity = codes "expected bug, error, warning, note or help"
-fault_note BadNumber = codes "expected a decimal number"
-fault_note RepeatedWord = codes "given again"
-fault_note MissingEnd = codes "expected ---"
+abbrev pub fault_label_message : FaultNumber → List ℕ
+fault_label_message UnknownWord =
+    codes "expected severity, code, message, primary, secondary or note"
+fault_label_message UnknownSeverity = codes "expected bug, error, warning, note or help"
+fault_label_message BadNumber = codes "expected a decimal number"
+fault_label_message RepeatedWord = codes "given again"
+fault_label_message MissingEnd = codes "expected ---"
 
 -- the label over the first occurrence of a repeated word, if there is one
-abbrev pub first_label : Option (Range ℕ) → List (LabelView (Unit {0}))
-first_label None = []
-first_label (Some range) =
+abbrev pub label_of_first : Option (Range ℕ) → List (LabelView (Unit {0}))
+label_of_first None = []
+label_of_first (Some range) =
     record { style = Secondary; file_id = tt; range = range; message = codes "first given here" }
     ∷ []
 
@@ -65,7 +66,7 @@ fault_diagnostic fault = record {
     style = Primary;
     file_id = tt;
     range = fault.range;
-    message = fault_note fault.number;
-  } ∷ first_label fault.first;
+    message = fault_label_message fault.number;
+  } ∷ label_of_first fault.first;
   notes = [];
 }

@@ -34,9 +34,9 @@ number_of (d ∷ ds) =
     if all_ascii_digits (d ∷ ds) && nat_lt (digits_value 10 (d ∷ ds)) (2 ^ 64)
     then Some (digits_value 10 (d ∷ ds)) else None
 
--- the style that a word names
-unfoldable pub style_of : List ℕ → Option DisplayStyle
-style_of word =
+-- the style of this name
+unfoldable pub style_named : List ℕ → Option DisplayStyle
+style_named word =
     if bytes_eq word (codes "rich") then Some Rich
     else if bytes_eq word (codes "medium") then Some Medium
     else if bytes_eq word (codes "short") then Some Short
@@ -54,7 +54,7 @@ with_parts name message None start end = None
 -- the request of the arguments: a style, a name, two numbers and a message
 unfoldable pub request_of : List (List ℕ) → Option RequestView
 request_of (style ∷ name ∷ start ∷ end ∷ message ∷ []) =
-    with_parts name message (style_of style) (number_of start) (number_of end)
+    with_parts name message (style_named style) (number_of start) (number_of end)
 request_of _ = None
 
 -- what a run renders: an error with one label over the input, or the script at the input's start,
@@ -70,7 +70,7 @@ command_view (variants.OfScript style name) = OfScript style name.now
 
 -- what the arguments request: two of them a script, others an error with one label
 unfoldable pub command_of : List (List ℕ) → Option CommandView
-command_of (style ∷ name ∷ []) = option_map (λ s. OfScript s name) (style_of style)
+command_of (style ∷ name ∷ []) = option_map (λ s. OfScript s name) (style_named style)
 command_of words = option_map OneLabel (request_of words)
 
 -- the fact holds of what the words request and of the bytes that the reader has, where both are

@@ -23,7 +23,7 @@ abbrev pub or_fault : Option Fault → Option Fault → Option Fault
 or_fault (Some fault) other = Some fault
 or_fault None other = other
 
--- the first line that begins with the word
+-- the first line whose word is this
 abbrev pub line_of_word : List ℕ → List ScriptLine → Option ScriptLine
 line_of_word word [] = None
 line_of_word word (line ∷ lines) =

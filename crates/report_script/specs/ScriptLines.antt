@@ -53,7 +53,7 @@ source_of input [] = None
 source_of input (line ∷ lines) =
     if is_end line then Some (drop line.next input) else source_of input lines
 
--- the lines of the end that is left of an input of so many bytes, if one is left
+-- the lines of the suffix that is left of an input of this many bytes; none if none is left
 abbrev pub lines_left : ℕ → Option (List ℕ) → List ScriptLine
 lines_left size None = []
 lines_left size (Some text) = lines_from (size - length text) (slice_split is_newline text)

@@ -6,7 +6,7 @@ use Rattle.codespan_base.specs.declared.diagnostic.Severity.TheVariants as sever
 use Rattle.report_script.specs.declared.script.words.Word.{Word}
 use Rattle.report_script.specs.declared.script.words.Word.TheVariants.{Severity, Code, Message, Primary, Secondary, Note}
 
--- the word that is spelled so
+-- the word of this spelling
 unfoldable pub word_named : List ℕ → Option Word
 word_named text =
     if bytes_eq text (codes "severity") then Some Severity
@@ -17,7 +17,7 @@ word_named text =
     else if bytes_eq text (codes "note") then Some Note
     else None
 
--- the severity that is called so
+-- the severity of this name
 unfoldable pub severity_named : List ℕ → Option severities.Severity
 severity_named text =
     if bytes_eq text (codes "bug") then Some severity.Bug

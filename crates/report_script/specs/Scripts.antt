@@ -42,7 +42,7 @@ script_view script = record {
   source = script.source.now;
 }
 
--- the rest of the first line that begins with the word
+-- the rest of the first line whose word is this
 abbrev pub rest_of_word : List ℕ → List ScriptLine → Option (List ℕ)
 rest_of_word word lines = option_map rest_of (line_of_word word lines)
 

@@ -66,16 +66,16 @@ note_stated (NoteLine text) = Some text
 note_stated _ = None
 
 -- the first thing of its kind that statements have, if they have one
-abbrev pub one_stated : {T : Type 0} → (Statement → Option T) → List Statement → Option T
-one_stated stated statements = slice_get (filter_map stated statements) 0
+abbrev pub first_stated : {T : Type 0} → (Statement → Option T) → List Statement → Option T
+first_stated stated statements = slice_get (filter_map stated statements) 0
 
 -- what statements state: an error without a severity, an empty message without one, and the labels
 -- and notes in their order
 abbrev pub stated_diagnostic : List Statement → DiagnosticView (Unit {0})
 stated_diagnostic statements = record {
-  severity = unwrap_or (one_stated severity_stated statements) Error;
-  code = one_stated code_stated statements;
-  message = unwrap_or (one_stated message_stated statements) [];
+  severity = unwrap_or (first_stated severity_stated statements) Error;
+  code = first_stated code_stated statements;
+  message = unwrap_or (first_stated message_stated statements) [];
   labels = filter_map label_stated statements;
   notes = filter_map note_stated statements;
 }

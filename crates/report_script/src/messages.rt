@@ -87,7 +87,7 @@ fn notes(alloc: Global, stated: &[&str]) -> Result<Vec<String>, Error>
 pub fn of_fault(alloc: Global, fault: script::Fault) -> Result<Diagnostic<()>, Error>
     ensures { IfOk result (λ d. diagnostic_view d ≡ fault_diagnostic fault) }
 {
-    let label = Label::primary(alloc, (), fault.range).with_message(fault.number.note())?;
+    let label = Label::primary(alloc, (), fault.range).with_message(fault.number.label_message())?;
     let diagnostic = Diagnostic::error(alloc)
         .with_code(fault.number.code())?
         .with_message(fault.number.message())?

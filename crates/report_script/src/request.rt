@@ -2,7 +2,7 @@
 
 ghost use Rattle.std.specs.Prelude.{◌≡◌, map, string_bytes};
 ghost use Rattle.std.specs.Option.{option_map};
-ghost use Rattle.report_script.specs.Requests.{number_of, style_of};
+ghost use Rattle.report_script.specs.Requests.{number_of, style_named};
 
 use codespan_base::term::DisplayStyle;
 
@@ -68,9 +68,9 @@ impl<'args> Command<'args> {
 }
 
 /// Parses `rich`, `medium` or `short`; `None` for any other word.
-#[tactic(auto, unfolding(crate::specs::Requests::style_of))]
+#[tactic(auto, unfolding(crate::specs::Requests::style_named))]
 fn parse_style(text: &str) -> Option<DisplayStyle>
-    ensures { result ≡ style_of text.now }
+    ensures { result ≡ style_named text.now }
 {
     match text {
         "rich" => Some(DisplayStyle::Rich),

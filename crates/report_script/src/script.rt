@@ -2,7 +2,8 @@
 //!
 //! A script is a text of lines, up to the first line that is `---`; the source follows that line.
 //! Each line begins with a word, which ends at the first space; its rest is what follows that
-//! space. Lines that are empty or begin with `#` are ignored.
+//! space. A carriage return right before a newline is no part of its line. Lines that are empty or
+//! begin with `#` are ignored. `docs/SCRIPT.md` lists the words and their rests.
 
 ghost use Rattle.std.specs.Prelude.{◌≡◌, MatchResult};
 ghost use Rattle.report_script.specs.Scripts.{read_script, script_view};
@@ -18,7 +19,7 @@ mod words;
 use codespan_base::diagnostic::{LabelStyle, Severity};
 use faults::first_fault;
 use lines::read_lines;
-use parts::{labels, notes, parsed_severity, rest_of_word};
+use parts::{parsed_labels, parsed_notes, parsed_severity, rest_of_word};
 use std::alloc::{AllocError, Global};
 use std::ops::Range;
 
@@ -42,7 +43,7 @@ pub struct Script<'input> {
     pub source: &'input str,
 }
 
-/// The kinds of errors in scripts, in the order of their numbers, from 1.
+/// A kind of error in scripts; the kinds are in the order of their numbers, from 1.
 #[derive(Clone, Copy)]
 pub enum FaultNumber {
     /// A line begins with a word that scripts do not have.
@@ -58,7 +59,7 @@ pub enum FaultNumber {
 }
 
 impl FaultNumber {
-    ghost use Rattle.report_script.specs.Messages.{fault_code, fault_message, fault_note};
+    ghost use Rattle.report_script.specs.Messages.{fault_code, fault_message, fault_label_message};
 
     /// Returns the code of the diagnostic, `S1` for the first kind.
     pub fn code(self) -> &'static str
@@ -87,8 +88,8 @@ impl FaultNumber {
     }
 
     /// Returns the message of the label over the error.
-    pub fn note(self) -> &'static str
-        ensures { result.now ≡ fault_note self }
+    pub fn label_message(self) -> &'static str
+        ensures { result.now ≡ fault_label_message self }
     {
         match self {
             FaultNumber::UnknownWord => {
@@ -118,11 +119,11 @@ pub struct Fault {
 pub enum ScriptError {
     /// The text is no script.
     Fault(Fault),
-    /// Memory ran out.
+    /// An allocation failed.
     OutOfMemory,
 }
 
-/// A failed allocation becomes `OutOfMemory`.
+/// Converts a failed allocation.
 impl From<AllocError> for ScriptError {
     ghost from_gives = { λ _ error. error ≡ OutOfMemory };
 
@@ -137,7 +138,7 @@ impl From<AllocError> for ScriptError {
 ///
 /// - `Fault` if the text is no script: its first error, by lines, and within a line from left to
 ///   right.
-/// - `OutOfMemory` if memory runs out.
+/// - `OutOfMemory` if an allocation fails.
 pub fn parse_script(alloc: Global, input: &str) -> Result<Script<'_>, ScriptError>
     ensures { MatchResult result (λ script. read_script input.now ≡ Ok (script_view script))
         (λ error. IsFaultOf (read_script input.now) error) }
@@ -157,8 +158,8 @@ pub fn parse_script(alloc: Global, input: &str) -> Result<Script<'_>, ScriptErro
         severity: parsed_severity(lines.as_slice()),
         code: rest_of_word("code", lines.as_slice()),
         message: rest_of_word("message", lines.as_slice()).unwrap_or(""),
-        labels: labels(alloc, lines.as_slice())?,
-        notes: notes(alloc, lines.as_slice())?,
+        labels: parsed_labels(alloc, lines.as_slice())?,
+        notes: parsed_notes(alloc, lines.as_slice())?,
         source,
     })
 }

@@ -1,10 +1,10 @@
-//! Every style mark.
+//! A style mark of each kind.
 
 use codespan_base::diagnostic::{LabelStyle, Severity};
 use codespan_base::term::WriteStyle;
 use std::io;
 
-/// Sets each style, those of an error, and then resets it.
+/// Writes a style mark of each kind, those with a severity as of an error, and the reset last.
 ///
 /// # Errors
 ///

@@ -25,10 +25,13 @@ pub enum Stop {
 pub struct Stopping {
     /// What it has taken.
     pub text: Vec<u8>,
+    // The most bytes that a write takes.
     most: usize,
+    // The number of writes before it stops.
     writes_left: usize,
     stop: Stop,
-    has_failed: bool,
+    has_stopped: bool,
+    // The number of writes after the one that stopped it.
     writes_after: usize,
 }
 
@@ -41,24 +44,20 @@ impl Stopping {
             most,
             writes_left: writes,
             stop,
-            has_failed: false,
+            has_stopped: false,
             writes_after: 0,
         }
     }
 
-    /// Returns whether it has stopped.
-    pub fn has_failed(&self) -> bool {
-        self.has_failed
-    }
-
-    /// Returns whether it holds what it should of the whole text: all of it, where it has not
-    /// stopped, and else a prefix, and no write has followed the failed one.
+    /// Returns whether it did as expected, where the writing of the whole text has or has not
+    /// `succeeded`: that is so exactly where the writer has not stopped, it then holds the whole
+    /// text, and else a prefix, and no write has followed the one that stopped it.
     pub fn is_right(&self, succeeded: bool, whole: &[u8]) -> bool {
         let text = self.text.as_slice();
-        succeeded != self.has_failed
+        succeeded != self.has_stopped
             && self.writes_after == 0
             && whole.starts_with(text)
-            && (self.has_failed || text.len() == whole.len())
+            && (self.has_stopped || text.len() == whole.len())
     }
 
     /// Takes the first of these bytes, as many as it may.
@@ -73,7 +72,7 @@ impl Stopping {
 
 impl Write for Stopping {
     fn write(&mut self, buf: &[u8]) -> io::Result<usize> {
-        if self.has_failed {
+        if self.has_stopped {
             self.writes_after = self.writes_after.saturating_add(1);
         }
         if self.writes_left > 0 {
@@ -86,15 +85,15 @@ impl Write for Stopping {
                 self.take(buf, 1)
             }
             Stop::Fails => {
-                self.has_failed = true;
+                self.has_stopped = true;
                 Err(io::Error::from(ErrorKind::PermissionDenied))
             }
             Stop::IsInterrupted => {
-                self.has_failed = true;
+                self.has_stopped = true;
                 Err(io::Error::from(ErrorKind::Interrupted))
             }
             Stop::TakesNothing => {
-                self.has_failed = true;
+                self.has_stopped = true;
                 Ok(0)
             }
         }
@@ -105,11 +104,12 @@ impl Write for Stopping {
     }
 }
 
-/// Returns whether rendering failed with `Io`; `None` if it failed otherwise.
-pub fn is_failed(returned: &Result<(), Error>) -> Option<bool> {
+/// Returns whether rendering into a writer ended as it should: with `Io` where the writer has
+/// stopped, and else without an error.
+pub fn is_as_expected(returned: &Result<(), Error>, is_stopped: bool) -> bool {
     match returned {
-        Ok(()) => Some(false),
-        Err(Error::Io(_)) => Some(true),
-        Err(_) => None,
+        Ok(()) => !is_stopped,
+        Err(Error::Io(_)) => is_stopped,
+        Err(_) => false,
     }
 }

@@ -10,7 +10,7 @@ use std::io;
 pub enum RunError {
     /// The input is malformed.
     Input,
-    /// Reading the input or writing the output failed.
+    /// Reading the input or the clock, or writing the output, failed.
     Io(io::Error),
     /// Rendering or an allocation failed.
     CannotRender(Error),

@@ -25,14 +25,22 @@ impl<'a> Fields<'a> {
     }
 
     /// Reads a line.
+    ///
+    /// # Errors
+    ///
+    /// `Malformed` if no newline is left, or the line is not UTF-8.
     pub fn line(&mut self) -> Result<&'a str, Malformed> {
         match self.left.iter().position(|byte| *byte == b'\n') {
-            Some(length) => self.ended(length),
+            Some(length) => self.bytes_and_newline(length),
             None => Err(Malformed),
         }
     }
 
     /// Reads a number.
+    ///
+    /// # Errors
+    ///
+    /// `Malformed` if there is no line, or it is no number.
     pub fn number(&mut self) -> Result<usize, Malformed> {
         match self.line()?.parse() {
             Ok(number) => Ok(number),
@@ -41,13 +49,18 @@ impl<'a> Fields<'a> {
     }
 
     /// Reads a text.
+    ///
+    /// # Errors
+    ///
+    /// `Malformed` if its length, the text or its newline is not there, or the text is not UTF-8.
     pub fn text(&mut self) -> Result<&'a str, Malformed> {
         let length = self.number()?;
-        self.ended(length)
+        self.bytes_and_newline(length)
     }
 
-    /// Reads this many bytes and the newline after them.
-    fn ended(&mut self, length: usize) -> Result<&'a str, Malformed> {
+    /// Reads this many bytes and the newline after them. Fails with `Malformed` if they are not
+    /// there, or the bytes are not UTF-8.
+    fn bytes_and_newline(&mut self, length: usize) -> Result<&'a str, Malformed> {
         let Some((taken, rest)) = self.left.split_at_checked(length) else {
             return Err(Malformed);
         };

@@ -7,17 +7,17 @@
 //! 1.
 #![tactic(auto)]
 
+mod diagnostic;
 mod error;
 mod fields;
-mod request;
 
 use codespan_base::diagnostic::Diagnostic;
 use codespan_base::files::{Error, SimpleFiles};
 use codespan_base::term::Config;
 use codespan_views::emitting::emit_into_string;
+use diagnostic::{read_diagnostic, read_files};
 use error::RunError;
 use fields::Fields;
-use request::{read_diagnostic, read_files};
 use std::io::{Read, Write};
 use std::time::Instant;
 

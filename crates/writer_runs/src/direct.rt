@@ -52,7 +52,7 @@ pub enum RowCall<'text> {
     Note(usize, &'text str),
 }
 
-/// Returns the name of the call.
+/// Writes the name of the call.
 impl fmt::Display for RowCall<'_> {
     fn fmt<W: fmt::Write>(&self, f: &mut fmt::Formatter<W>) -> fmt::Result {
         f.write_str(match self {
@@ -75,7 +75,11 @@ pub struct Direct<'text> {
 }
 
 impl<'text> Direct<'text> {
-    /// Returns the call, with the first locus of `f.txt`. Fails with `OutOfMemory`.
+    /// Returns the call, with the first locus of `f.txt`.
+    ///
+    /// # Errors
+    ///
+    /// `OutOfMemory` if an allocation fails.
     pub fn new(alloc: Global, call: RowCall<'text>) -> Result<Self, Error> {
         Ok(Direct {
             call,
@@ -90,7 +94,7 @@ impl<'text> Direct<'text> {
     }
 }
 
-/// Writes a source line. Fails if the lanes are not in order.
+/// Writes a source line. Fails with `FormatError` if the lanes are not in order.
 fn render_line<W: WriteStyle>(
     renderer: &mut Renderer<'_, '_, W>,
     line: Line<'_>,
@@ -109,7 +113,7 @@ fn render_line<W: WriteStyle>(
     )
 }
 
-/// Writes a break. Fails if the lanes are not in order.
+/// Writes a break. Fails with `FormatError` if the lanes are not in order.
 fn render_break<W: WriteStyle>(
     renderer: &mut Renderer<'_, '_, W>,
     padding: usize,

@@ -1,7 +1,7 @@
 //! What is wrong in a run, and the errors that end the program.
 
-use crate::path::Path;
-use crate::rendering::Call;
+use crate::rendering::RenderCall;
+use crate::style_writers::StyleWriterKind;
 use codespan_base::files::Error;
 use codespan_base::term::DisplayStyle;
 use gallery_script::errors::LineError;
@@ -30,30 +30,30 @@ pub enum Failure {
     OtherRowText,
     /// A string to which the text was appended is not its old text followed by the new one.
     OtherString,
-    /// The bytes written on a path differ from the text.
-    OtherText(Path),
+    /// The bytes written by way of a writer of styles differ from the text.
+    OtherText(StyleWriterKind),
     /// The text in escape sequences differs from what the row states.
     OtherColors,
-    /// On a path, with a writer that stops in this way after this many writes or style marks: the
-    /// result is not `Io`, the writer does not hold exactly what it accepted before, or it was
-    /// called again.
-    Stopped(Path, Ending, usize),
+    /// By way of a writer of styles, with a writer that stops in this way after this many writes or
+    /// style marks: the result is not the expected one (`Io` if the writer stopped, and else `Ok`),
+    /// the writer does not hold exactly what it accepted, or it was called again.
+    Stopped(StyleWriterKind, Ending, usize),
 }
 
 /// An error, with the style and the call in which it occurred.
 #[derive(Drop)]
 pub struct FailureAt {
-    /// The style; `None` before any text is rendered.
+    /// The style; `None` for a direct call, and before any text is rendered.
     pub style: Option<DisplayStyle>,
-    /// The call; `None` before one to a writer.
-    pub call: Option<Call>,
+    /// The call; `None` for a direct call, and before a call writes to a writer.
+    pub call: Option<RenderCall>,
     /// The error.
     pub failure: Failure,
 }
 
 /// An error that ends the program.
 #[derive(Drop)]
-pub enum RunError {
+pub enum ProgramError {
     /// Reading the input failed, or it is not UTF-8.
     NoText(InputError),
     /// The line of this number, from 1, has an error.
@@ -62,26 +62,26 @@ pub enum RunError {
     CannotWriteOutput,
 }
 
-impl From<InputError> for RunError {
-    fn from(error: InputError) -> RunError {
-        RunError::NoText(error)
+impl From<InputError> for ProgramError {
+    fn from(error: InputError) -> ProgramError {
+        ProgramError::NoText(error)
     }
 }
 
-impl From<io::Error> for RunError {
-    fn from(_error: io::Error) -> RunError {
-        RunError::CannotWriteOutput
+impl From<io::Error> for ProgramError {
+    fn from(_error: io::Error) -> ProgramError {
+        ProgramError::CannotWriteOutput
     }
 }
 
 /// Writes a few words.
-impl fmt::Display for RunError {
+impl fmt::Display for ProgramError {
     fn fmt<W: Write>(&self, f: &mut fmt::Formatter<W>) -> fmt::Result {
         match self {
-            RunError::NoText(InputError::Unreadable) => f.write_str("cannot read input"),
-            RunError::NoText(InputError::NotUtf8) => f.write_str("input is not UTF-8"),
-            RunError::Line(number, line_error) => write!(f, "line {number}: {line_error}"),
-            RunError::CannotWriteOutput => f.write_str("cannot write output"),
+            ProgramError::NoText(InputError::Unreadable) => f.write_str("cannot read input"),
+            ProgramError::NoText(InputError::NotUtf8) => f.write_str("input is not UTF-8"),
+            ProgramError::Line(number, line_error) => write!(f, "line {number}: {line_error}"),
+            ProgramError::CannotWriteOutput => f.write_str("cannot write output"),
         }
     }
 }
@@ -113,10 +113,13 @@ impl fmt::Display for Failure {
             Failure::Failed(error) => write!(f, "error: {error}"),
             Failure::OtherRowText => f.write_str("another text than stated"),
             Failure::OtherString => f.write_str("another string"),
-            Failure::OtherText(path) => write!(f, "by {path}: another text"),
+            Failure::OtherText(style_writer) => write!(f, "by {style_writer}: another text"),
             Failure::OtherColors => f.write_str("other colors than stated"),
-            Failure::Stopped(path, ending, after) => {
-                write!(f, "by {path}: wrong where a writer {ending}, after {after}")
+            Failure::Stopped(style_writer, ending, after) => {
+                write!(
+                    f,
+                    "by {style_writer}: wrong where a writer {ending}, after {after}"
+                )
             }
         }
     }

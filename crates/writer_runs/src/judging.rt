@@ -3,10 +3,10 @@
 use crate::direct::Direct;
 use crate::direct::rows::DirectRow;
 use crate::failure::{Failure, FailureAt};
-use crate::path::{PATHS, Path};
-use crate::rendering::{CALLS, Call, Input, Render, RenderCall};
-use crate::row::{Colors, Row};
+use crate::rendering::{CALLS, Input, Render, RenderCall, Rendering};
+use crate::row::{ExpectedColors, Row};
 use crate::stops::{judge_stops, judge_style_marks};
+use crate::style_writers::{STYLE_WRITERS, StyleWriterKind};
 use codespan_base::diagnostic::Diagnostic;
 use codespan_base::files::{Error, Files};
 use codespan_base::term::{Config, DisplayStyle};
@@ -22,6 +22,10 @@ pub const STYLES: [DisplayStyle; 3] = [
 ];
 
 /// Makes all runs of a row, and returns their number.
+///
+/// # Errors
+///
+/// The first error of a run, with its style and its call.
 pub fn judge_row(alloc: Global, row: &Row<'_>) -> Result<usize, FailureAt> {
     let database = prepared(database_of(alloc, &row.case))?;
     judge_styles(alloc, row, &database)
@@ -37,7 +41,7 @@ fn judge_styles(alloc: Global, row: &Row<'_>, database: &Database<'_>) -> Result
     Ok(runs)
 }
 
-/// Returns what a run is made of, or that making it failed.
+/// Adds to an error that it occurred before any call.
 fn prepared<T: Drop>(made: Result<T, Error>) -> Result<T, FailureAt> {
     match made {
         Ok(made) => Ok(made),
@@ -74,11 +78,11 @@ fn judge_calls(
     alloc: Global,
     input: Input<'_, '_>,
     text: &str,
-    colors: Colors<'_>,
+    colors: ExpectedColors<'_>,
 ) -> Result<usize, FailureAt> {
     let mut runs = 0usize;
     for call in CALLS {
-        let more = judge_render_call(alloc, RenderCall { call, input }, text, colors)?;
+        let more = judge_render_call(alloc, Rendering { call, input }, text, colors)?;
         runs = runs.saturating_add(more);
     }
     Ok(runs)
@@ -87,22 +91,22 @@ fn judge_calls(
 /// Makes all runs in a style by one call.
 fn judge_render_call(
     alloc: Global,
-    render_call: RenderCall<'_, '_>,
+    rendering: Rendering<'_, '_>,
     text: &str,
-    colors: Colors<'_>,
+    colors: ExpectedColors<'_>,
 ) -> Result<usize, FailureAt> {
-    let (style, call) = (render_call.input.config.display_style, render_call.call);
+    let (style, call) = (rendering.input.config.display_style, rendering.call);
     at(
         Some(style),
         Some(call),
-        judge_call(alloc, &render_call, text, colors),
+        judge_call(alloc, &rendering, text, colors),
     )
 }
 
 /// Adds the style and the call to an error.
 fn at<T: Drop>(
     style: Option<DisplayStyle>,
-    call: Option<Call>,
+    call: Option<RenderCall>,
     judged: Result<T, Failure>,
 ) -> Result<T, FailureAt> {
     match judged {
@@ -165,17 +169,20 @@ fn judge_call<D: Render>(
     alloc: Global,
     output: &D,
     text: &str,
-    colors: Colors<'_>,
+    colors: ExpectedColors<'_>,
 ) -> Result<usize, Failure> {
     let mut runs = 0usize;
-    for path in PATHS {
-        let record = path.record(alloc, output, text)?;
-        let more = match path {
-            Path::Ansi => judge_colors(output, record.text.as_slice(), colors)?,
-            Path::Custom => judge_style_marks(alloc, output, record.text.as_slice())?,
-            Path::Plain | Path::NoColor => 0,
+    for style_writer in STYLE_WRITERS {
+        let recording = style_writer.record(alloc, output, text)?;
+        let more = match style_writer {
+            StyleWriterKind::Ansi => {
+                judge_colors(output, recording.text.as_slice(), colors)?;
+                0
+            }
+            StyleWriterKind::Custom => judge_style_marks(alloc, output, recording.text.as_slice())?,
+            StyleWriterKind::Plain | StyleWriterKind::NoColor => 0,
         };
-        let stops = judge_stops(alloc, path, output, &record)?;
+        let stops = judge_stops(alloc, style_writer, output, &recording)?;
         runs = runs.saturating_add(more).saturating_add(stops);
     }
     Ok(runs)
@@ -183,20 +190,28 @@ fn judge_call<D: Render>(
 
 /// Compares the text in escape sequences with what the row states, if the call writes style marks.
 /// This is no run of its own.
-fn judge_colors<D: Render>(output: &D, bytes: &[u8], colors: Colors<'_>) -> Result<usize, Failure> {
-    if !output.has_style_marks() || colors.are_those(bytes) {
-        Ok(0)
+fn judge_colors<D: Render>(
+    output: &D,
+    bytes: &[u8],
+    colors: ExpectedColors<'_>,
+) -> Result<(), Failure> {
+    if !output.has_style_marks() || colors.is_met_by(bytes) {
+        Ok(())
     } else {
         Err(Failure::OtherColors)
     }
 }
 
 /// Makes all runs of a direct call, and returns their number.
+///
+/// # Errors
+///
+/// The first error of a run, without a style or a call.
 pub fn judge_direct(alloc: Global, row: &DirectRow<'_>) -> Result<usize, FailureAt> {
     at(None, None, judge_direct_call(alloc, row))
 }
 
-/// Makes all runs of a direct call, and returns their number.
+/// Makes all runs of a direct call, and returns their number, or the first error.
 fn judge_direct_call(alloc: Global, row: &DirectRow<'_>) -> Result<usize, Failure> {
     let direct = Direct::new(alloc, row.call)?;
     judge_call(alloc, &direct, row.text, row.colors)

@@ -3,12 +3,12 @@
 //!
 //! It makes the product of tables, so that no run needs a proof of its own: the rows of the input
 //! ([`rows`]) in each style ([`judging`]); the calls ([`rendering`]), and those of `Renderer`
-//! ([`direct`]); the writers of styles between ([`path`]); and the writers of bytes below, each
-//! stopped at each write that rendering makes, or at each style mark ([`stops`]). Of each run it
-//! checks the result, and that the writer holds exactly the prefix of the output that it accepted.
-//! The output is known: its text is what `emit_into_string` returns, which is compared with the
-//! text that the row states, and in colors it is the same text once the escape sequences are
-//! removed.
+//! ([`direct`]); the writers of styles between ([`style_writers`]); and the writers of bytes below,
+//! each stopped at each write that rendering makes, or at each style mark ([`stops`]). Of each run
+//! it checks the result, and that the writer holds exactly the prefix of the output that it
+//! accepted. The output is known: its text is what `emit_into_string` returns, which is compared
+//! with the text that the row states, and in colors it is the same text once the escape sequences
+//! are removed.
 //!
 //! A line per row states by how many calls and into how many writers it was rendered, or the error.
 //! The number of runs is written to standard error, after an error of the input.
@@ -23,13 +23,13 @@ mod direct;
 mod failing_writer;
 mod failure;
 mod judging;
-mod path;
-mod record;
+mod recording;
 mod rendering;
 mod row;
 mod rows;
 mod run;
 mod stops;
+mod style_writers;
 
 use run::run;
 use std::process::ExitCode;

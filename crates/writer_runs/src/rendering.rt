@@ -13,7 +13,7 @@ use std::io::Write;
 
 /// A call that renders to a writer.
 #[derive(Clone, Copy)]
-pub enum Call {
+pub enum RenderCall {
     /// `render` of the view of the style: `RichDiagnostic`, or `ShortDiagnostic` with notes or
     /// without.
     Render,
@@ -26,21 +26,21 @@ pub enum Call {
 }
 
 /// The calls.
-pub const CALLS: [Call; 4] = [
-    Call::Render,
-    Call::EmitToWriteStyle,
-    Call::EmitToIoWrite,
-    Call::Emit,
+pub const CALLS: [RenderCall; 4] = [
+    RenderCall::Render,
+    RenderCall::EmitToWriteStyle,
+    RenderCall::EmitToIoWrite,
+    RenderCall::Emit,
 ];
 
-/// Returns the name of the call.
-impl fmt::Display for Call {
+/// Writes the name of the call.
+impl fmt::Display for RenderCall {
     fn fmt<W: fmt::Write>(&self, f: &mut fmt::Formatter<W>) -> fmt::Result {
         f.write_str(match self {
-            Call::Render => "render",
-            Call::EmitToWriteStyle => "emit_to_write_style",
-            Call::EmitToIoWrite => "emit_to_io_write",
-            Call::Emit => "emit",
+            RenderCall::Render => "render",
+            RenderCall::EmitToWriteStyle => "emit_to_write_style",
+            RenderCall::EmitToIoWrite => "emit_to_io_write",
+            RenderCall::Emit => "emit",
         })
     }
 }
@@ -70,14 +70,14 @@ pub struct Input<'a, 'text> {
 
 /// What is rendered, and the call that renders it.
 #[derive(Clone, Copy)]
-pub struct RenderCall<'a, 'text> {
+pub struct Rendering<'a, 'text> {
     /// The call.
-    pub call: Call,
+    pub call: RenderCall,
     /// What is rendered.
     pub input: Input<'a, 'text>,
 }
 
-impl<'a, 'text> Render for RenderCall<'a, 'text> {
+impl<'a, 'text> Render for Rendering<'a, 'text> {
     fn render<W: WriteStyle>(&self, writer: &mut W) -> Result<(), Error> {
         let (call, config) = (self.call, self.input.config);
         match self.input.database {
@@ -105,36 +105,36 @@ impl<'a, 'text> Render for RenderCall<'a, 'text> {
     }
 
     fn has_style_marks(&self) -> bool {
-        matches!(self.call, Call::Render | Call::EmitToWriteStyle)
+        matches!(self.call, RenderCall::Render | RenderCall::EmitToWriteStyle)
     }
 }
 
 /// Renders by a call to a writer of styles.
 fn call_over<'files, F: Files<'files>, W: WriteStyle>(
-    call: Call,
+    call: RenderCall,
     config: &Config<'_>,
     files: &'files F,
     diagnostic: &Diagnostic<F::FileId>,
     writer: &mut W,
 ) -> Result<(), Error> {
     match call {
-        Call::Render => render_over(config, files, diagnostic, writer),
-        Call::EmitToWriteStyle => emit_to_write_style(writer, config, files, diagnostic),
-        Call::EmitToIoWrite => emit_to_io_write(writer, config, files, diagnostic),
-        Call::Emit => emit(writer, config, files, diagnostic),
+        RenderCall::Render => render_over(config, files, diagnostic, writer),
+        RenderCall::EmitToWriteStyle => emit_to_write_style(writer, config, files, diagnostic),
+        RenderCall::EmitToIoWrite => emit_to_io_write(writer, config, files, diagnostic),
+        RenderCall::Emit => emit(writer, config, files, diagnostic),
     }
 }
 
 /// Renders by a call to a writer of bytes, as plain text.
 fn call_plain_over<'files, F: Files<'files>, W: Write>(
-    call: Call,
+    call: RenderCall,
     config: &Config<'_>,
     files: &'files F,
     diagnostic: &Diagnostic<F::FileId>,
     writer: &mut W,
 ) -> Result<(), Error> {
     match call {
-        Call::Render | Call::EmitToWriteStyle => {
+        RenderCall::Render | RenderCall::EmitToWriteStyle => {
             call_over(
                 call,
                 config,
@@ -143,8 +143,8 @@ fn call_plain_over<'files, F: Files<'files>, W: Write>(
                 &mut PlainWriter::new(writer),
             )
         }
-        Call::EmitToIoWrite => emit_to_io_write(writer, config, files, diagnostic),
-        Call::Emit => emit(writer, config, files, diagnostic),
+        RenderCall::EmitToIoWrite => emit_to_io_write(writer, config, files, diagnostic),
+        RenderCall::Emit => emit(writer, config, files, diagnostic),
     }
 }
 

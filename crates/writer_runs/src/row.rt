@@ -16,9 +16,9 @@ pub enum TextKind {
     /// The text in short style.
     Short,
     /// The text in escape sequences, in each style whose text is stated.
-    Colors,
+    Ansi,
     /// The end of the text in escape sequences, in each style whose text is stated.
-    ColorsEnd,
+    AnsiEnd,
 }
 
 impl TextKind {
@@ -28,8 +28,8 @@ impl TextKind {
             "rich" => Some(TextKind::Rich),
             "medium" => Some(TextKind::Medium),
             "short" => Some(TextKind::Short),
-            "ansi" => Some(TextKind::Colors),
-            "ansi-end" => Some(TextKind::ColorsEnd),
+            "ansi" => Some(TextKind::Ansi),
+            "ansi-end" => Some(TextKind::AnsiEnd),
             _ => None,
         }
     }
@@ -46,19 +46,19 @@ impl TextKind {
 
 /// What a row states of its text in escape sequences.
 #[derive(Clone, Copy)]
-pub enum Colors<'text> {
+pub enum ExpectedColors<'text> {
     /// The end of the text.
     End(&'text str),
     /// The whole text.
     Whole(&'text str),
 }
 
-impl Colors<'_> {
+impl ExpectedColors<'_> {
     /// Returns whether a text is as stated.
-    pub fn are_those(self, text: &[u8]) -> bool {
+    pub fn is_met_by(self, text: &[u8]) -> bool {
         match self {
-            Colors::End(end) => text.ends_with(end.as_bytes()),
-            Colors::Whole(whole) => text == whole.as_bytes(),
+            ExpectedColors::End(end) => text.ends_with(end.as_bytes()),
+            ExpectedColors::Whole(whole) => text == whole.as_bytes(),
         }
     }
 }
@@ -87,17 +87,30 @@ impl<'input> Row<'input> {
         }
     }
 
-    /// Adds a text, or continues the last one if that is of the same kind. Fails with
-    /// `OutOfMemory`.
+    /// Adds a text, or appends it to the text of its kind if one is stated.
+    ///
+    /// # Errors
+    ///
+    /// `OutOfMemory` if an allocation fails.
     pub fn add_text(&mut self, kind: TextKind, text: String) -> Result<(), LineError> {
-        if let Some(last) = self.texts.last_mut() {
-            if last.kind == kind {
-                last.text.push_str(text.as_str())?;
+        if let Some(index) = self.index_of(kind) {
+            if let Some(stated) = self.texts.get_mut(index) {
+                stated.text.push_str(text.as_str())?;
                 return Ok(());
             }
         }
         self.texts.push(Text { kind, text })?;
         Ok(())
+    }
+
+    /// Returns the index of the text of a kind, if stated.
+    fn index_of(&self, kind: TextKind) -> Option<usize> {
+        for (index, stated) in self.texts.iter().enumerate() {
+            if stated.kind == kind {
+                return Some(index);
+            }
+        }
+        None
     }
 
     /// Returns the text of a kind, if stated.
@@ -117,17 +130,21 @@ impl<'input> Row<'input> {
 
     /// Returns what is stated of the text in escape sequences in a style: nothing if the plain text
     /// of the style is not stated.
-    pub fn colors(&self, style: DisplayStyle) -> Colors<'_> {
+    pub fn colors(&self, style: DisplayStyle) -> ExpectedColors<'_> {
         if self.plain_text(style).is_none() {
-            return Colors::End("");
+            return ExpectedColors::End("");
         }
-        match self.text(TextKind::Colors) {
-            Some(whole) => Colors::Whole(whole),
-            None => Colors::End(self.text(TextKind::ColorsEnd).unwrap_or("")),
+        match self.text(TextKind::Ansi) {
+            Some(whole) => ExpectedColors::Whole(whole),
+            None => ExpectedColors::End(self.text(TextKind::AnsiEnd).unwrap_or("")),
         }
     }
 
-    /// Returns the configuration of the case in a style. Fails with `OutOfMemory`.
+    /// Returns the configuration of the case in a style.
+    ///
+    /// # Errors
+    ///
+    /// `OutOfMemory` if an allocation fails.
     pub fn config(&self, style: DisplayStyle) -> Result<Config<'input>, Error> {
         let mut config = self.case.config.clone()?;
         config.display_style = style;

@@ -10,9 +10,11 @@
 //! | `ansi-end TEXT` | the expected end of that text |
 //! | `character FIELD C` | this field of [`Chars`] is this character |
 //!
-//! Such a line right after one with the same word continues its text.
+//! A text may take several lines of its word, which are joined. FIELD is `multi_top`,
+//! `multi_bottom`, `multi_primary_caret_end` or `multi_secondary_caret_end`. Any other field, and a
+//! C that is not one character, is the error `UnknownName`.
 
-use crate::failure::RunError;
+use crate::failure::ProgramError;
 use crate::row::{Row, TextKind};
 use codespan_base::term::Chars;
 use gallery_script::errors::LineError;
@@ -26,13 +28,13 @@ use std::alloc::Global;
 /// # Errors
 ///
 /// `Line` with the error of the first line that has one.
-pub fn parse_rows(alloc: Global, input: &str) -> Result<Vec<Row<'_>>, RunError> {
+pub fn parse_rows(alloc: Global, input: &str) -> Result<Vec<Row<'_>>, ProgramError> {
     let mut rows = Vec::new(alloc);
     let mut number = 0usize;
     for line in input.lines() {
         number = number.saturating_add(1);
         if let Err(line_error) = apply_line(alloc, &mut rows, line) {
-            return Err(RunError::Line(number, line_error));
+            return Err(ProgramError::Line(number, line_error));
         }
     }
     Ok(rows)
@@ -62,17 +64,14 @@ fn apply_case_line<'input>(
 ) -> Result<(), LineError> {
     match parse_line(alloc, line)? {
         Line::Ignored => Ok(()),
-        Line::Title(name) => add_row(alloc, rows, name),
+        Line::NewCase(name) => add_row(alloc, rows, name),
         Line::Description(statement) => apply_to_last(rows, statement),
     }
 }
 
 /// Applies a statement to the case of the last row.
 fn apply_to_last(rows: &mut Vec<Row<'_>>, statement: Statement) -> Result<(), LineError> {
-    match rows.last_mut() {
-        Some(row) => row.case.apply(statement),
-        None => Err(LineError::NoCase),
-    }
+    last(rows)?.case.apply(statement)
 }
 
 /// Adds an escaped text to the last row.

@@ -1,9 +1,9 @@
-//! One run of the program.
+//! The program, over any reader and writers.
 
 ghost use Rattle.std.specs.Prelude.{◌≤◌};
 
 use crate::direct::rows::ROWS;
-use crate::failure::{FailureAt, RunError};
+use crate::failure::{FailureAt, ProgramError};
 use crate::judging::{STYLES, judge_direct, judge_row};
 use crate::rendering::CALLS;
 use crate::row::Row;
@@ -16,7 +16,7 @@ use std::io;
 use std::io::{Read, Write};
 
 /// Makes the runs of each row, writes a line for each, and returns the program's status. The number
-/// of runs is written to `error_output`, after the error that ends the run, if there is one; an
+/// of runs is written to `error_output`, after the error that ends the program, if there is one; an
 /// error of `error_output` is ignored.
 pub fn run<R: Read, W: Write, E: Write>(
     alloc: Global,
@@ -35,11 +35,11 @@ pub fn run<R: Read, W: Write, E: Write>(
     }
 }
 
-/// Writes the error that ended a run, and the number of runs.
+/// Writes the error that ended the program, if there is one, and the number of runs.
 fn write_counts<E: Write>(
     error_output: &mut E,
     sum: Sum,
-    outcome: &Result<(), RunError>,
+    outcome: &Result<(), ProgramError>,
 ) -> io::Result<()> {
     if let Err(error) = outcome {
         writeln!(error_output, "writer_runs: {error}")?;
@@ -48,7 +48,7 @@ fn write_counts<E: Write>(
     writeln!(error_output, "writer_runs: {rows} rows, {runs} runs")
 }
 
-/// The rows so far.
+/// How many rows and runs there were so far, and whether one was wrong.
 #[derive(Clone, Copy, Default)]
 struct Sum {
     rows: usize,
@@ -86,7 +86,7 @@ fn judge_all<R: Read, W: Write>(
     input: &mut R,
     output: &mut W,
     sum: &mut Sum,
-) -> Result<(), RunError> {
+) -> Result<(), ProgramError> {
     let text = read_text(alloc, input)?;
     judge_text(alloc, text.as_str(), output, sum)?;
     judge_direct_rows(alloc, output, sum)
@@ -98,7 +98,7 @@ fn judge_text<W: Write>(
     text: &str,
     output: &mut W,
     sum: &mut Sum,
-) -> Result<(), RunError> {
+) -> Result<(), ProgramError> {
     let rows = parse_rows(alloc, text)?;
     judge_rows(alloc, rows.as_slice(), output, sum)
 }
@@ -109,7 +109,7 @@ fn judge_rows<W: Write>(
     rows: &[Row<'_>],
     output: &mut W,
     sum: &mut Sum,
-) -> Result<(), RunError> {
+) -> Result<(), ProgramError> {
     let (styles, calls) = (STYLES.len(), CALLS.len());
     for row in rows {
         let judged = judge_row(alloc, row);
@@ -124,7 +124,7 @@ fn judge_direct_rows<W: Write>(
     alloc: Global,
     output: &mut W,
     sum: &mut Sum,
-) -> Result<(), RunError> {
+) -> Result<(), ProgramError> {
     for row in &ROWS {
         sum.report(output, row.name, judge_direct(alloc, row), row.call)?;
     }

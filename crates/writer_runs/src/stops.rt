@@ -2,11 +2,11 @@
 
 use crate::failing_writer::FailingWriter;
 use crate::failure::{Ending, Failure};
-use crate::path::Path;
-use crate::record::Record;
+use crate::recording::Recording;
 use crate::rendering::Render;
+use crate::style_writers::StyleWriterKind;
 use std::alloc::Global;
-use test_writers::stopping::{Stop, Stopping, is_failed};
+use test_writers::stopping::{Stop, Stopping, is_as_expected};
 
 /// How a writer stops at a write.
 pub const STOPS: [Stop; 4] = [
@@ -20,32 +20,37 @@ pub const STOPS: [Stop; 4] = [
 /// stops at a style mark.
 pub const WRITERS: usize = STOPS.len() + 2;
 
-/// Renders on a path into each writer that stops, at each write that rendering makes, and returns
-/// the number of runs.
+/// Renders by way of a writer of styles to each writer that stops, at each write that rendering
+/// makes, and returns the number of runs.
+///
+/// # Errors
+///
+/// `Stopped`: the first run whose result or whose writer is not as expected.
 pub fn judge_stops<D: Render>(
     alloc: Global,
-    path: Path,
+    style_writer: StyleWriterKind,
     output: &D,
-    record: &Record,
+    recording: &Recording,
 ) -> Result<usize, Failure> {
-    let whole = record.text.as_slice();
+    let whole = recording.text.as_slice();
     let slow = Stopping::new(alloc, 1, usize::MAX, Stop::Fails);
-    if !stops_at(path, output, slow, whole, whole.len()) {
-        return Err(Failure::Stopped(path, Ending::Slow, 0));
+    if !stops_at(style_writer, output, slow, whole, whole.len()) {
+        return Err(Failure::Stopped(style_writer, Ending::Slow, 0));
     }
     let mut runs = 1usize;
     for stop in STOPS {
-        for (writes, start) in record.starts.iter().enumerate() {
+        for (writes, start) in recording.starts.iter().enumerate() {
             let inner = Stopping::new(alloc, usize::MAX, writes, stop);
             let length = written_length(stop, *start, whole.len());
-            if !stops_at(path, output, inner, whole, length) {
-                return Err(Failure::Stopped(path, Ending::AtWrite(stop), writes));
+            if !stops_at(style_writer, output, inner, whole, length) {
+                return Err(Failure::Stopped(style_writer, Ending::AtWrite(stop), writes));
             }
             runs = runs.saturating_add(1);
         }
-        let inner = Stopping::new(alloc, usize::MAX, record.starts.len(), stop);
-        if !stops_at(path, output, inner, whole, whole.len()) {
-            return Err(Failure::Stopped(path, Ending::AtWrite(stop), record.starts.len()));
+        let inner = Stopping::new(alloc, usize::MAX, recording.starts.len(), stop);
+        if !stops_at(style_writer, output, inner, whole, whole.len()) {
+            let writes = recording.starts.len();
+            return Err(Failure::Stopped(style_writer, Ending::AtWrite(stop), writes));
         }
         runs = runs.saturating_add(1);
     }
@@ -60,25 +65,30 @@ fn written_length(stop: Stop, start: usize, whole: usize) -> usize {
     }
 }
 
-/// Renders on a path into a writer, and returns whether it then holds this length of the whole text
-/// and, if that is less than all, the result is `Io`, the writer has stopped, and no write
-/// followed.
+/// Renders by way of a writer of styles to a writer, and returns whether it then holds this length
+/// of the whole text and, if that is less than all, the result is `Io`, the writer has stopped, and
+/// no write followed.
 fn stops_at<D: Render>(
-    path: Path,
+    style_writer: StyleWriterKind,
     output: &D,
     mut inner: Stopping,
     whole: &[u8],
     length: usize,
 ) -> bool {
     let is_whole = length == whole.len();
-    let returned = path.render(output, &mut inner);
-    is_failed(&returned) == Some(!is_whole)
+    let returned = style_writer.render(output, &mut inner);
+    is_as_expected(&returned, !is_whole)
         && inner.is_right(is_whole, whole)
         && inner.text.len() == length
 }
 
 /// Renders to this program's writer of styles, which fails at each style mark in turn, and returns
-/// the number of runs.
+/// the number of runs. The text itself has no escape character: each one in `whole` begins the
+/// spelling of a style mark.
+///
+/// # Errors
+///
+/// `Stopped`: the first run whose result or whose writer is not as expected.
 pub fn judge_style_marks<D: Render>(
     alloc: Global,
     output: &D,
@@ -89,15 +99,20 @@ pub fn judge_style_marks<D: Render>(
         if *byte == b'\x1b' {
             let (written, _rest) = whole.split_at(position.saturating_add(1).min(whole.len()));
             if !stops_at_style_mark(alloc, output, marks, written, true) {
-                return Err(Failure::Stopped(Path::Custom, Ending::AtStyleMark, marks));
+                return Err(stopped_at_style_mark(marks));
             }
             marks = marks.saturating_add(1);
         }
     }
     if !stops_at_style_mark(alloc, output, marks, whole, false) {
-        return Err(Failure::Stopped(Path::Custom, Ending::AtStyleMark, marks));
+        return Err(stopped_at_style_mark(marks));
     }
     Ok(marks.saturating_add(1))
+}
+
+/// Returns the error of a run with a writer that fails at the style mark after this many.
+fn stopped_at_style_mark(marks: usize) -> Failure {
+    Failure::Stopped(StyleWriterKind::Custom, Ending::AtStyleMark, marks)
 }
 
 /// Renders to a writer that fails at the style mark after this many, and returns whether it then
@@ -112,7 +127,7 @@ fn stops_at_style_mark<D: Render>(
 ) -> bool {
     let mut writer = FailingWriter::new(Vec::new(alloc), marks);
     let returned = output.render(&mut writer);
-    is_failed(&returned) == Some(is_stopped)
+    is_as_expected(&returned, is_stopped)
         && writer.has_failed() == is_stopped
         && writer.calls_after == 0
         && writer.into_inner().as_slice() == written

@@ -1,5 +1,5 @@
-/* Each status, and each argument that can be invalid: one diagnostic with everything in it is
- * rendered, and then with things wrong with it. */
+/* Each status but that of a failed allocation, and each argument that can be invalid: a diagnostic
+ * with everything in it is rendered, and then with invalid arguments. */
 #include "check.h"
 
 /* A diagnostic with all that it can have, over two files. */
@@ -51,7 +51,7 @@ static struct call call_of(const struct sample *sample) {
     return call;
 }
 
-/* ---- what is wrong ---- */
+/* ---- invalid arguments ---- */
 
 /* No UTF-8: it ends inside a character. */
 static codespan_text cut(void) { return codespan_text_from("\303"); }
@@ -98,7 +98,7 @@ static void set_label_file(struct sample *s) { s->labels[1].file = 2; }
 static void set_greatest_file(struct sample *s) { s->labels[0].file = SIZE_MAX; }
 static void set_note(struct sample *s) { s->notes[1] = cut(); }
 
-/* Two things at once: the argument with the lower number is named, and the lower index. */
+/* Two at once: the argument with the lower number is named, and the lower index. */
 static void set_file_and_severity(struct sample *s) {
     set_label_file(s);
     set_severity(s);
@@ -124,13 +124,13 @@ static void set_two_notes(struct sample *s) {
     s->notes[0] = cut();
 }
 
-struct wrong {
+struct invalid_case {
     void (*set)(struct sample *sample);
     uint32_t status;
     codespan_detail detail;
 };
 
-static const struct wrong WRONG[] = {
+static const struct invalid_case INVALID_CASES[] = {
     {set_abi, CODESPAN_INVALID, {CODESPAN_ARGUMENT_ABI, 0}},
     {set_display_style, CODESPAN_INVALID, {CODESPAN_ARGUMENT_DISPLAY_STYLE, 0}},
     {set_layout, CODESPAN_INVALID, {CODESPAN_ARGUMENT_LAYOUT, 0}},
@@ -165,26 +165,26 @@ static const struct wrong WRONG[] = {
     {set_two_notes, CODESPAN_INVALID, {CODESPAN_ARGUMENT_NOTE, 0}},
 };
 
-enum { WRONG_LENGTH = sizeof WRONG / sizeof WRONG[0], OUT_CAPACITY = 4096 };
+enum { CASES_LENGTH = sizeof INVALID_CASES / sizeof INVALID_CASES[0], OUT_CAPACITY = 4096 };
 
 /* ---- the tests ---- */
 
-/* The call reports what is wrong, and writes nothing. */
-static void test_wrong(const struct wrong *wrong) {
+/* The call reports the invalid argument, and writes nothing. */
+static void test_invalid(const struct invalid_case *wanted) {
     struct sample sample;
     set_sample(&sample);
-    wrong->set(&sample);
+    wanted->set(&sample);
     struct call call = call_of(&sample);
     uint8_t out[OUT_CAPACITY];
     memset(out, UNWRITTEN, sizeof out);
     struct outcome outcome = emit(&call, out, sizeof out);
-    if (outcome.status != wrong->status || outcome.detail.argument != wrong->detail.argument ||
-        outcome.detail.index != wrong->detail.index)
-        fprintf(stderr, "row %td: status %u, argument %u, index %zu\n", wrong - WRONG,
+    if (outcome.status != wanted->status || outcome.detail.argument != wanted->detail.argument ||
+        outcome.detail.index != wanted->detail.index)
+        fprintf(stderr, "row %td: status %u, argument %u, index %zu\n", wanted - INVALID_CASES,
                 outcome.status, outcome.detail.argument, outcome.detail.index);
-    CHECK(outcome.status == wrong->status);
-    CHECK(outcome.detail.argument == wrong->detail.argument);
-    CHECK(outcome.detail.index == wrong->detail.index);
+    CHECK(outcome.status == wanted->status);
+    CHECK(outcome.detail.argument == wanted->detail.argument);
+    CHECK(outcome.detail.index == wanted->detail.index);
     CHECK(outcome.written == 0 && is_unwritten(out, sizeof out));
 }
 
@@ -209,8 +209,8 @@ static void test_rooms(const struct call *call) {
     }
 }
 
-/* Values that are not read may be anything: the characters but for own ones, the styles but for own
- * ones, and first_line where there are lines. */
+/* Values that are not read may be anything: the characters unless they are custom ones, the styles
+ * likewise, and first_line where there are lines. */
 static void test_unread(void) {
     struct sample sample, other;
     set_sample(&sample);
@@ -262,8 +262,8 @@ static void test_status_text(uint32_t status, uint32_t argument) {
 
 int main(void) {
     CHECK(codespan_abi_version() == CODESPAN_ABI);
-    for (size_t i = 0; i < WRONG_LENGTH; i++)
-        test_wrong(&WRONG[i]);
+    for (size_t i = 0; i < CASES_LENGTH; i++)
+        test_invalid(&INVALID_CASES[i]);
     struct sample sample;
     set_sample(&sample);
     for (uint32_t spelling = CODESPAN_PLAIN; spelling <= CODESPAN_MARKED; spelling++) {
@@ -277,6 +277,6 @@ int main(void) {
         for (uint32_t argument = 0; argument <= CODESPAN_ARGUMENT_NOTE + 1; argument++)
             test_status_text(status, argument);
     test_status_text(UINT32_MAX, UINT32_MAX);
-    printf("statuses: %d calls with invalid arguments, each reported\n", (int)WRONG_LENGTH);
+    printf("statuses: %d calls with invalid arguments, each reported\n", (int)CASES_LENGTH);
     return 0;
 }

@@ -19,16 +19,16 @@ from typing import Sequence, Union
 from . import _native
 
 __all__ = [
-    'Characters', 'Chars', 'Color', 'ColorSpec', 'Config', 'Diagnostic', 'DisplayStyle', 'File',
-    'InvalidArgument', 'Label', 'LabelStyle', 'Layout', 'Line', 'Locus', 'Severity', 'Spelling',
-    'Styles', 'byte_index', 'emit',
+    'Argument', 'Characters', 'Chars', 'Color', 'ColorSpec', 'Config', 'Diagnostic',
+    'DisplayStyle', 'File', 'InvalidArgument', 'Label', 'LabelStyle', 'Layout', 'Line', 'Locus',
+    'Severity', 'Spelling', 'Styles', 'byte_index', 'emit',
 ]
 
 Text = Union[str, bytes]
 
 
 class Severity(IntEnum):
-    """A severity."""
+    """The severity of a diagnostic, ascending: the first word of a header, which sets its color."""
     HELP = 0
     NOTE = 1
     WARNING = 2
@@ -37,7 +37,8 @@ class Severity(IntEnum):
 
 
 class LabelStyle(IntEnum):
-    """The style of a label."""
+    """The style of a label: a primary one has the caret `^`, in the color of the severity, a
+    secondary one `-` or `'`, unless `Config.chars` has others."""
     PRIMARY = 0
     SECONDARY = 1
 
@@ -45,8 +46,8 @@ class LabelStyle(IntEnum):
 class DisplayStyle(IntEnum):
     """What is rendered."""
     RICH = 0  #: a header, the source with its labels, and the notes
-    MEDIUM = 1  #: a header for each primary label, and the notes
-    SHORT = 2  #: a header for each primary label
+    MEDIUM = 1  #: a header for each primary label, or one if there is none, and the notes
+    SHORT = 2  #: the headers of `MEDIUM` alone
 
 
 class Layout(IntEnum):
@@ -93,7 +94,7 @@ class Line:
 
 @dataclass(frozen=True)
 class Locus:
-    """The line and column number that are shown for a byte at which a label starts."""
+    """The location that is shown for a byte at which a label starts: a line and a column number."""
     byte: int  #: byte index in the file
     line_number: int
     column_number: int
@@ -105,7 +106,7 @@ class File:
     name: Text
     source: Text
     first_byte: int = 0  #: byte index in the file of the first byte of `source`
-    first_line: int = 0  #: lines of the file before `source`
+    first_line: int = 0  #: number of lines of the file before `source`
     lines: Sequence[Line] = ()  #: its lines, in ascending order; none: they start after newlines
     loci: Sequence[Locus] = ()  #: loci shown in place of those that are computed
 
@@ -122,7 +123,7 @@ class Label:
 
 @dataclass(frozen=True)
 class Diagnostic:
-    """A diagnostic."""
+    """A message with a severity, labels on ranges of files, and notes."""
     message: Text
     severity: Severity = Severity.ERROR
     code: Text = ''  #: such as E0499; empty: none
@@ -200,19 +201,46 @@ class Config:
     styles: Styles = field(default_factory=Styles)  #: for `Spelling.ANSI_STYLES`
 
 
+class Argument(IntEnum):
+    """An argument of `emit` that can be invalid. They are checked in this order."""
+    NONE = 0
+    ABI = 1
+    DISPLAY_STYLE = 2
+    LAYOUT = 3
+    SPELLING = 4
+    CHARACTERS = 5
+    SNIPPET_START = 6
+    CHARACTER = 7  #: index: the field of `Chars` after `snippet_start`
+    COLOR = 8  #: index: the field of `Styles`
+    FILE_NAME = 9  #: index: the file
+    FILE_SOURCE = 10  #: index: the file
+    FILE_LINES = 11  #: index: the file
+    FILE_LOCI = 12  #: index: the file
+    SEVERITY = 13
+    CODE = 14
+    MESSAGE = 15
+    LABEL_STYLE = 16  #: index: the label
+    LABEL_MESSAGE = 17  #: index: the label
+    LABEL_FILE = 18  #: none of the files; index: the label
+    NOTE = 19  #: index: the note
+
+
 class InvalidArgument(ValueError):
     """An argument is invalid, or the file of a label is none of the files.
 
-    `argument` is its number, CODESPAN_ARGUMENT_ in codespan.h, and `index` which of several."""
+    `argument` says which, and `index` which of several, from 0; it is 0 where there is one."""
 
-    def __init__(self, message: str, argument: int, index: int):
+    def __init__(self, message: str, argument: Argument, index: int):
         super().__init__(message)
         self.argument = argument
         self.index = index
 
 
 def byte_index(source: str, character: int) -> int:
-    """Returns the byte index, for a label, of a character of a source by its index."""
+    """Returns the byte index, for a label, of a character of a source.
+
+    `character` counts code points from 0. For one past the end it returns the length in bytes; a
+    negative one counts from the end, as in a slice."""
     return len(source[:character].encode())
 
 
@@ -228,5 +256,5 @@ def emit(files: Sequence[File], diagnostic: Diagnostic, config: Config = Config(
     if outcome.status == _native.OUT_OF_MEMORY:
         raise MemoryError
     message = _native.status_text(outcome.status, outcome.argument)
-    raise InvalidArgument('%s (index %d)' % (message, outcome.index), outcome.argument,
-                          outcome.index)
+    raise InvalidArgument('%s (index %d)' % (message, outcome.index),
+                          Argument(outcome.argument), outcome.index)

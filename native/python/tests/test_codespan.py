@@ -11,8 +11,9 @@ from pathlib import Path
 
 import codespan
 from codespan import _native
-from codespan import (Characters, Chars, ColorSpec, Config, Diagnostic, DisplayStyle, File,
-                      InvalidArgument, Label, LabelStyle, Line, Locus, Severity, Spelling, Styles)
+from codespan import (Argument, Characters, Chars, ColorSpec, Config, Diagnostic, DisplayStyle,
+                      File, InvalidArgument, Label, LabelStyle, Line, Locus, Severity, Spelling,
+                      Styles)
 
 HEADER = Path(__file__).resolve().parents[2] / 'include' / 'codespan.h'
 SETTINGS = File('settings.conf', 'retries = many\n')
@@ -49,7 +50,7 @@ class Output(unittest.TestCase):
             output = codespan.emit([SETTINGS], diagnostic, Config(spelling=spelling))
             self.assertEqual(output, expected)
 
-    def test_own_styles(self):
+    def test_custom_styles(self):
         number = ColorSpec(codespan.Color.BLUE, codespan.Color.WHITE, bold=True, intense=True)
         styles = Styles(line_number=number)
         config = Config(spelling=Spelling.ANSI_STYLES, styles=styles)
@@ -79,7 +80,7 @@ class Output(unittest.TestCase):
         output = codespan.emit([LINES], diagnostic, Config(DisplayStyle.SHORT))
         self.assertEqual(output, 'a.txt:2:2: bug: m\na.txt:3:2: bug: m\n')
 
-    def test_own_lines_and_loci(self):
+    def test_custom_lines_and_loci(self):
         lines = [Line(0, 4, 70), Line(4, 8, 80), Line(8, 14, 90)]
         diagnostic = Diagnostic('m', Severity.NOTE, labels=[Label(5, 6, 'x')])
         rest = ['   │', '80 │ two', '   │  ^ x', '', '']
@@ -106,7 +107,7 @@ class Output(unittest.TestCase):
             'help: m', '  --> a.txt:1:2', '  |  ', '1 |   one', '  | /--^', '2 | | two',
             '3 | | three', '  | \\--^ x', '', '']))
 
-    def test_own_characters(self):
+    def test_custom_characters(self):
         config = Config(characters=Characters.OWN, chars=Chars(single_primary_caret='~'))
         self.assertIn('~~~~ expected a number', codespan.emit([SETTINGS], odd_value(), config))
 
@@ -197,15 +198,16 @@ class Errors(unittest.TestCase):
 
     def test_missing_file(self):
         labels = [Label(0, 1), Label(0, 1, file=1)]
-        self.assert_invalid(18, 1, [SETTINGS], Diagnostic('m', labels=labels))
+        self.assert_invalid(Argument.LABEL_FILE, 1, [SETTINGS], Diagnostic('m', labels=labels))
 
     def test_invalid(self):
-        self.assert_invalid(13, 0, [], Diagnostic('m', severity=5))
-        self.assert_invalid(15, 0, [], Diagnostic(b'\xff'))
-        self.assert_invalid(19, 1, [], Diagnostic('m', notes=['n', b'\xff']))
-        self.assert_invalid(2, 0, [], Diagnostic('m'), Config(display_style=9))
+        self.assert_invalid(Argument.SEVERITY, 0, [], Diagnostic('m', severity=5))
+        self.assert_invalid(Argument.MESSAGE, 0, [], Diagnostic(b'\xff'))
+        self.assert_invalid(Argument.NOTE, 1, [], Diagnostic('m', notes=['n', b'\xff']))
+        self.assert_invalid(Argument.DISPLAY_STYLE, 0, [], Diagnostic('m'), Config(display_style=9))
         lines = [Line(0, 4, 1), Line(3, 8, 2)]
-        self.assert_invalid(11, 0, [dataclasses.replace(LINES, lines=lines)], Diagnostic('m'))
+        self.assert_invalid(Argument.FILE_LINES, 0, [dataclasses.replace(LINES, lines=lines)],
+                            Diagnostic('m'))
 
     def test_numbers_that_c_can_not_hold(self):
         for number in (-1, 2 ** 64):
@@ -213,6 +215,8 @@ class Errors(unittest.TestCase):
                 codespan.emit([SETTINGS], Diagnostic('m', labels=[Label(number, 2)]))
             with self.assertRaises(ValueError):
                 codespan.emit([SETTINGS], Diagnostic('m', severity=number))
+
+    def test_text_without_utf8(self):
         with self.assertRaises(ValueError):
             codespan.emit([], Diagnostic('\ud800'))
 
@@ -230,10 +234,11 @@ STRUCTS = {
     'detail': _native.Detail,
 }
 
-# what follows the name of a constant of an enumeration in the header
+# the name of a constant of an enumeration in the header, after CODESPAN_
 ENUMERATIONS = {
-    codespan.Severity: '', codespan.LabelStyle: '', codespan.DisplayStyle: '', codespan.Layout: '',
-    codespan.Characters: '_CHARS', codespan.Spelling: '', codespan.Color: '',
+    codespan.Severity: '%s', codespan.LabelStyle: '%s', codespan.DisplayStyle: '%s',
+    codespan.Layout: '%s', codespan.Characters: '%s_CHARS', codespan.Spelling: '%s',
+    codespan.Color: '%s', codespan.Argument: 'ARGUMENT_%s',
 }
 
 
@@ -244,10 +249,10 @@ def struct_assertions(name, struct):
         yield 'offsetof(codespan_%s, %s) == %d' % (name, field, getattr(struct, field).offset)
 
 
-def enumeration_assertions(enumeration: type[IntEnum], suffix):
+def enumeration_assertions(enumeration: type[IntEnum], form):
     """Yields assertions in C that constants are the header's."""
     for item in enumeration:
-        name = 'NO_COLOR' if item is codespan.Color.NONE else item.name + suffix
+        name = 'NO_COLOR' if item is codespan.Color.NONE else form % item.name
         yield 'CODESPAN_%s == %d' % (name, item)
 
 
@@ -261,8 +266,8 @@ class Header(unittest.TestCase):
                       'CODESPAN_STATUS_TEXT_MAX == %d' % _native.STATUS_TEXT_MAX]
         for name, struct in STRUCTS.items():
             conditions += struct_assertions(name, struct)
-        for enumeration, suffix in ENUMERATIONS.items():
-            conditions += enumeration_assertions(enumeration, suffix)
+        for enumeration, form in ENUMERATIONS.items():
+            conditions += enumeration_assertions(enumeration, form)
         program = '#include "%s"\n' % HEADER
         program += ''.join('_Static_assert(%s, "");\n' % condition for condition in conditions)
         subprocess.run(['cc', '-std=c11', '-fsyntax-only', '-x', 'c', '-'], input=program,

@@ -110,8 +110,8 @@ pub struct Diagnostic<FileId> {
     pub severity: Severity,
     /// The code, which a header has in brackets. An empty one is not rendered.
     pub code: Option<String>,
-    /// The message, without line breaks. Short style shows nothing else, so it has to be clear
-    /// without the labels.
+    /// The message, without line breaks. Short style shows neither source nor labels, so it has
+    /// to be clear without them.
     pub message: String,
     /// The labels. Their order decides the order of the files, of lanes, of headers in short
     /// style, and which of two labels of one range comes first.

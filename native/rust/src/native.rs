@@ -2,7 +2,7 @@
 
 mod ffi;
 mod layout;
-mod marks;
+mod style_marks;
 
 use alloc::alloc::{handle_alloc_error, Layout};
 use alloc::string::String;
@@ -11,9 +11,9 @@ use alloc::vec::Vec;
 use crate::diagnostic::{LabelStyle, Severity};
 use crate::term::{Chars, Config, DisplayStyle};
 
-use ffi::Status;
+use ffi::EmitError;
 pub(crate) use layout::{File, Label, Line, Locus, Slice};
-pub(crate) use marks::{replay, write_text};
+pub(crate) use style_marks::{replay, write_text};
 
 /// What a panic says of a file database whose lines the archive does not accept.
 pub(crate) const OVERLAP: &str = "the lines of a file overlap, or do not ascend";
@@ -23,12 +23,13 @@ pub(crate) const OVERLAP: &str = "the lines of a file overlap, or do not ascend"
 pub(crate) enum Spelling {
     /// Not at all: the output is text.
     Plain = 0,
-    /// By style marks, which [`replay`] understands.
-    Marked = 3,
+    /// By style marks, which [`replay`] understands: `CODESPAN_MARKED`.
+    StyleMarks = 3,
 }
 
 /// What an output is rendered from.
 pub(crate) struct Request<'a> {
+    /// How much of the diagnostic is rendered.
     pub(crate) display_style: &'a DisplayStyle,
     pub(crate) spelling: Spelling,
     /// Where the characters and the tab width are from.
@@ -36,9 +37,11 @@ pub(crate) struct Request<'a> {
     /// Where the lines of context are from.
     pub(crate) context: &'a Config,
     pub(crate) severity: Severity,
+    /// The code, or the empty text for none.
     pub(crate) code: &'a str,
     pub(crate) message: &'a str,
     pub(crate) notes: &'a [String],
+    /// The files that the labels name by their indices, from 0.
     pub(crate) files: &'a [File<'a>],
     pub(crate) labels: &'a [Label<'a>],
 }
@@ -59,12 +62,13 @@ impl Request<'_> {
             notes: Slice::new(&notes),
         };
         match ffi::emit(self.files, &diagnostic, &self.config()) {
-            Status::Ok(output) => output,
-            Status::OutOfMemory => handle_alloc_error(Layout::new::<u8>()),
-            Status::Invalid(detail) if detail.argument == layout::FILE_LINES => {
+            Ok(output) => output,
+            // The archive does not report what it requested.
+            Err(EmitError::OutOfMemory) => handle_alloc_error(Layout::new::<u8>()),
+            Err(EmitError::Invalid(detail)) if detail.argument == layout::FILE_LINES => {
                 panic!("{OVERLAP}: {detail:?}")
             }
-            Status::Invalid(detail) => panic!(
+            Err(EmitError::Invalid(detail)) => panic!(
                 "the archive does not take these structs; is its ABI {}? {detail:?}",
                 layout::ABI
             ),

@@ -2,7 +2,7 @@
 //!
 //! [`emit_into_string`] returns the output, [`emit_to_string`] appends it to a string, and
 //! [`emit_to_io_write`] writes it without colors. [`emit_to_write_style`] writes it with styles: in
-//! color to any writer of termcolor, or to a [`WriteStyle`] of your own.
+//! color to any writer of termcolor, or to a custom [`WriteStyle`].
 
 use alloc::string::String;
 
@@ -111,7 +111,7 @@ pub fn emit_to_write_style<'files, F: Files<'files> + ?Sized, W: WriteStyle + ?S
     files: &'files F,
     diagnostic: &Diagnostic<F::FileId>,
 ) -> Result<(), Error> {
-    let output = output(config, files, diagnostic, Spelling::Marked);
+    let output = output(config, files, diagnostic, Spelling::StyleMarks);
     replay(&output.bytes, writer)?;
     output.result
 }

@@ -21,19 +21,19 @@ mod case;
 #[allow(clippy::all)]
 mod mapped;
 
-use case::{Case, Table};
+use case::{Case, DatabaseKind};
 use mapped::MappedFile;
 
 /// The cases whose output in the layout `unbroken`, which this crate does not have, is not that of
 /// the classic one.
-const UNBROKEN: &str = "departure There is a second layout, `Layout::Unbroken`";
+const UNBROKEN: &str = "difference There is a second layout, `Layout::Unbroken`";
 
 #[test]
 fn outputs_are_the_stored_ones() {
     let stored = read("crates/gallery/stdout");
     let stored = sections(&stored);
-    let departures = read("tools/compare/departures");
-    let unbroken: BTreeSet<&str> = paragraph(&departures, UNBROKEN);
+    let differences = read("tools/compare/differences");
+    let unbroken: BTreeSet<&str> = paragraph(&differences, UNBROKEN);
     let cases = case::read(&read("crates/gallery/stdin")).unwrap();
     assert_eq!(cases.len(), stored.len());
 
@@ -41,7 +41,7 @@ fn outputs_are_the_stored_ones() {
     for case in &cases {
         let stored = stored[case.name.as_str()];
         // The crate writes no SVG.
-        if stored.starts_with("<svg") || (case.in_colours && !cfg!(feature = "termcolor")) {
+        if stored.starts_with("<svg") || (case.in_colors && !cfg!(feature = "termcolor")) {
             skipped += 1;
             continue;
         }
@@ -115,19 +115,19 @@ fn render(case: &Case) -> (String, Result<(), Error>) {
         .files
         .iter()
         .map(|file| (file.name.as_str(), file.text.as_str()));
-    match case.table {
-        Table::Several => {
-            let mut table = SimpleFiles::new();
+    match case.database_kind {
+        DatabaseKind::Several => {
+            let mut database = SimpleFiles::new();
             for (name, text) in files {
-                table.add(name, text);
+                database.add(name, text);
             }
-            render_over(case, &table, |file| file)
+            render_over(case, &database, |file| file)
         }
-        Table::One => {
+        DatabaseKind::One => {
             let (name, text) = files.next().unwrap();
             render_over(case, &SimpleFile::new(name, text), |_| ())
         }
-        Table::Mapped => {
+        DatabaseKind::Mapped => {
             let (name, text) = files.next().unwrap();
             render_over(case, &MappedFile::new(name, text, &case.numbers), |_| ())
         }
@@ -150,7 +150,7 @@ fn render_over<'files, F: Files<'files>>(
     diagnostic.code.clone_from(&case.code);
 
     #[cfg(feature = "termcolor")]
-    if case.in_colours {
+    if case.in_colors {
         return render_in_color(case, files, &diagnostic);
     }
     match emit_into_string(&case.config, files, &diagnostic) {

@@ -1,16 +1,15 @@
 //! Custom file databases: lines that end before their line breaks, locations that are not
 //! computed, and lines that are no lines.
 
+mod common;
+
 use std::ops::Range;
 
 use codespan_reporting::diagnostic::{Diagnostic, Label};
 use codespan_reporting::files::{Error, Files, Location, SimpleFile};
 use codespan_reporting::term::{emit_into_string, Config};
 
-/// Ten lines, `line0` to `line9`, of six bytes each.
-fn ten_lines() -> String {
-    (0..10).map(|line| format!("line{line}\n")).collect()
-}
+use common::ten_lines;
 
 /// A file whose lines are as they are given.
 struct Lines {
@@ -70,7 +69,22 @@ fn a_label_may_end_between_two_lines() {
         .with_label(Label::secondary((), 2..3).with_message("after"))
         .with_label(Label::secondary((), 16..18));
     let output = emit_into_string(&Config::default(), &files, &diagnostic).unwrap();
-    assert!(output.starts_with("error: \n  ┌─ f:1:2\n"), "{output}");
+    let shown = "\
+error: 
+  ┌─ f:1:2
+  │  
+1 │   ab
+  │     - after
+  │ ╭──^
+2 │ │ cd
+  │ ╰^ over two
+  ·  
+5 │   ij
+  │   --
+
+";
+    assert_eq!(output, shown);
+
     let apart = Diagnostic::error()
         .with_label(Label::primary((), 3..3).with_message("x"))
         .with_label(Label::primary((), 17..17).with_message("y"));
@@ -136,7 +150,7 @@ error:
     assert_eq!(output, shown);
 }
 
-/// A file whose locations are its byte indices.
+/// A file that states the line 1000 + b and the column 2000 + b for a byte b.
 struct Bytes(SimpleFile<&'static str, String>);
 
 impl<'a> Files<'a> for Bytes {
@@ -193,7 +207,7 @@ fn the_location_is_that_of_the_first_primary_label() {
 fn a_line_that_is_no_part_of_the_source_is_an_error() {
     let past_end = Lines::new("ab", vec![0..9]);
     let off_boundary = Lines::new("é", vec![0..1]);
-    let inside_a_run = Lines::new("aéb", vec![0..2, 2..4]);
+    let inside_a_block = Lines::new("aéb", vec![0..2, 2..4]);
     let diagnostic = Diagnostic::error().with_label(Label::primary((), 0..1));
     let over_two_lines = Diagnostic::error().with_label(Label::primary((), 0..3));
     let config = Config::default();
@@ -206,7 +220,7 @@ fn a_line_that_is_no_part_of_the_source_is_an_error() {
         Err(Error::InvalidCharBoundary { given: 1 })
     ));
     assert!(matches!(
-        emit_into_string(&config, &inside_a_run, &over_two_lines),
+        emit_into_string(&config, &inside_a_block, &over_two_lines),
         Err(Error::InvalidCharBoundary { given: 2 })
     ));
 }
@@ -239,7 +253,7 @@ impl<'a> Files<'a> for Misplaced {
 }
 
 #[test]
-fn a_byte_far_past_its_line_takes_no_memory() {
+fn a_byte_far_past_its_line_adds_no_output() {
     let files = Misplaced(Lines::new("a b c d", vec![0..1, 2..3, 4..5, 6..7]));
     let diagnostic = Diagnostic::error()
         .with_label(Label::primary((), 0..usize::MAX))

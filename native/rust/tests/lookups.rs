@@ -1,4 +1,6 @@
-//! File databases of one's own: which lookups are made, and what is written where one fails.
+//! Custom file databases: which lookups are made, and what is written where one fails.
+
+mod common;
 
 use std::cell::RefCell;
 use std::ops::Range;
@@ -8,6 +10,8 @@ use codespan_reporting::files::{Error, Files, Location, SimpleFile};
 use codespan_reporting::term::{
     emit_into_string, emit_to_io_write, emit_to_string, Config, DisplayStyle,
 };
+
+use common::ten_lines;
 
 /// A text whose lookups are recorded, one of which may fail.
 struct Recorded {
@@ -75,11 +79,6 @@ impl<'a> Files<'a> for Recorded {
         self.record(format!("range {line}"))?;
         self.file.line_range((), line)
     }
-}
-
-/// Ten lines, `line0` to `line9`, of six bytes each.
-fn ten_lines() -> String {
-    (0..10).map(|line| format!("line{line}\n")).collect()
 }
 
 fn short() -> Config {
@@ -182,6 +181,9 @@ error:
 
 ";
     assert_eq!(output, shown);
+    let mut lookups = files.lookups();
+    lookups.retain(|lookup| lookup == "number 1" || lookup == "range 1");
+    assert_eq!(lookups, ["number 1", "range 1"]);
 }
 
 #[test]

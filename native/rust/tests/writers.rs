@@ -3,6 +3,7 @@
 #![cfg(feature = "termcolor")]
 
 use std::io::{self, Write};
+use std::iter;
 
 use codespan_reporting::diagnostic::{Diagnostic, Label, LabelStyle, Severity};
 use codespan_reporting::files::{Error, SimpleFile};
@@ -162,7 +163,8 @@ fn a_writer_that_fails_has_received_a_prefix() {
         }
     }
     assert_eq!(lengths.last(), Some(&whole.len()));
-    assert!(lengths.is_sorted() && lengths.len() > 30);
+    assert!(lengths.windows(2).all(|pair| pair[0] <= pair[1]));
+    assert!(lengths.len() > 30);
 }
 
 #[test]
@@ -179,7 +181,7 @@ fn a_plain_writer_that_fails_is_an_io_error() {
 }
 
 #[test]
-fn colors_do_not_change_the_text() {
+fn a_writer_without_colors_receives_the_text() {
     let plain = emit_into_string(&Config::default(), &file(), &diagnostic()).unwrap();
     let mut uncolored = NoColor::new(Vec::new());
     emit_to_write_style(&mut uncolored, &Config::default(), &file(), &diagnostic()).unwrap();
@@ -188,6 +190,39 @@ fn colors_do_not_change_the_text() {
     let mut buffer = Buffer::no_color();
     emit_to_write_style(&mut buffer, &Config::default(), &file(), &diagnostic()).unwrap();
     assert_eq!(buffer.as_slice(), plain.as_bytes());
+}
+
+/// Returns a colored output without its escape sequences, each of which ends with `m`.
+fn without_sequences(colored: &str) -> String {
+    let mut parts = colored.split("\x1b[");
+    let first = parts.next().unwrap_or_default();
+    let texts = parts.map(|part| part.split_once('m').expect("a sequence ends").1);
+    iter::once(first).chain(texts).collect()
+}
+
+#[test]
+fn colors_do_not_change_the_text() {
+    let plain = emit_into_string(&Config::default(), &file(), &diagnostic()).unwrap();
+    let mut output = Ansi::new(Vec::new());
+    emit_to_write_style(&mut output, &Config::default(), &file(), &diagnostic()).unwrap();
+    let default_colors = String::from_utf8(output.into_inner()).unwrap();
+
+    let mut line_number = ColorSpec::new();
+    line_number.set_bg(Some(Color::Blue)).set_bold(true);
+    let styles = Styles {
+        line_number,
+        ..Styles::default()
+    };
+    let mut output = Ansi::new(Vec::new());
+    let mut writer = StylesWriter::new(&mut output, &styles);
+    emit_to_write_style(&mut writer, &Config::default(), &file(), &diagnostic()).unwrap();
+    let other_colors = String::from_utf8(output.into_inner()).unwrap();
+
+    assert_ne!(default_colors, other_colors);
+    for colored in [default_colors, other_colors] {
+        assert!(colored.contains("\x1b[33m^"), "{colored}");
+        assert_eq!(without_sequences(&colored), plain);
+    }
 }
 
 #[test]
@@ -211,7 +246,7 @@ fn styles_are_those_of_the_caller() {
 }
 
 #[test]
-fn default_styles() {
+fn default_styles_are_those_of_the_original() {
     let styles = Styles::default();
     let fg = |spec: &ColorSpec| (spec.fg().copied(), spec.bold(), spec.intense());
     let colors = [

@@ -79,14 +79,14 @@ fn main() -> io::Result<()> {
     let diagnostic = read_diagnostic(&mut fields);
 
     let config = Config::default();
-    let mut picture = String::new();
+    let mut output = String::new();
     let start = Instant::now();
     for _ in 0..times {
-        picture = emit_into_string(&config, &files, &diagnostic).expect("a picture");
+        output = emit_into_string(&config, &files, &diagnostic).expect("an output");
     }
     let nanos = start.elapsed().as_nanos();
 
-    io::stdout().write_all(picture.as_bytes())?;
+    io::stdout().write_all(output.as_bytes())?;
     eprintln!("{nanos}");
     Ok(())
 }

@@ -5,7 +5,7 @@ use codespan_reporting::term::{Chars, Config, DisplayStyle};
 
 /// The file database of a case.
 #[derive(Clone, Copy, PartialEq)]
-pub enum Table {
+pub enum DatabaseKind {
     One,
     Several,
     Mapped,
@@ -29,11 +29,11 @@ pub struct CaseLabel {
 /// A case: a diagnostic, its files, and how it is rendered.
 pub struct Case {
     pub name: String,
-    pub table: Table,
+    pub database_kind: DatabaseKind,
     pub files: Vec<Source>,
     pub numbers: Vec<(usize, usize)>,
     pub config: Config,
-    pub in_colours: bool,
+    pub in_colors: bool,
     pub severity: Severity,
     pub code: Option<String>,
     pub message: String,
@@ -45,11 +45,11 @@ impl Case {
     fn new(name: &str) -> Case {
         Case {
             name: name.to_owned(),
-            table: Table::Several,
+            database_kind: DatabaseKind::Several,
             files: Vec::new(),
             numbers: Vec::new(),
             config: Config::default(),
-            in_colours: false,
+            in_colors: false,
             severity: Severity::Error,
             code: None,
             message: String::new(),
@@ -61,7 +61,7 @@ impl Case {
     /// Takes in a line. Returns `None` where it is no line of a case.
     fn take(&mut self, word: &str, rest: &str) -> Option<()> {
         match word {
-            "table" => self.table = table_of(rest)?,
+            "database" => self.database_kind = database_kind(rest)?,
             "file" => self.files.push(Source { name: unescaped(rest)?, text: String::new() }),
             "|" => self.files.last_mut()?.text += &unescaped(rest)?,
             "number" => match numbers(rest)?.as_slice() {
@@ -79,7 +79,7 @@ impl Case {
                 let (name, character) = rest.split_once(' ')?;
                 *character_of(&mut self.config.chars, name)? = character.parse().ok()?;
             }
-            "colours" => self.in_colours = has_colours(rest)?,
+            "colors" => self.in_colors = has_colors(rest)?,
             "severity" => self.severity = severity_of(rest)?,
             "code" => self.code = Some(unescaped(rest)?),
             "message" => self.message = unescaped(rest)?,
@@ -94,16 +94,16 @@ impl Case {
     /// Returns whether a database of one file has this file alone.
     fn is_whole(&self) -> bool {
         let is_one = self.files.len() == 1 && self.labels.iter().all(|label| label.file == 0);
-        self.table == Table::Several || is_one
+        self.database_kind == DatabaseKind::Several || is_one
     }
 }
 
 /// Returns the file database of a name.
-fn table_of(name: &str) -> Option<Table> {
+fn database_kind(name: &str) -> Option<DatabaseKind> {
     match name {
-        "one" => Some(Table::One),
-        "several" => Some(Table::Several),
-        "mapped" => Some(Table::Mapped),
+        "one" => Some(DatabaseKind::One),
+        "several" => Some(DatabaseKind::Several),
+        "mapped" => Some(DatabaseKind::Mapped),
         _ => None,
     }
 }
@@ -140,7 +140,7 @@ fn chars_of(name: &str) -> Option<Chars> {
 }
 
 /// Returns whether the output is in colors, by the name of how these are written.
-fn has_colours(name: &str) -> Option<bool> {
+fn has_colors(name: &str) -> Option<bool> {
     match name {
         "none" => Some(false),
         "ansi" | "svg" => Some(true),

@@ -6,7 +6,7 @@
 mod case;
 mod mapped;
 
-use case::{Case, Table};
+use case::{Case, DatabaseKind};
 use codespan_reporting::diagnostic::{Diagnostic, Label};
 use codespan_reporting::files::{Files, SimpleFile, SimpleFiles};
 use codespan_reporting::term::{self, termcolor::Ansi, Styles, StylesWriter};
@@ -20,19 +20,19 @@ type Outcome = Result<Vec<u8>, (String, Vec<u8>)>;
 /// Renders a case.
 fn render(case: &Case) -> Outcome {
     let mut files = case.files.iter().map(|file| (file.name.as_str(), file.text.as_str()));
-    match case.table {
-        Table::Several => {
-            let mut table = SimpleFiles::new();
+    match case.database_kind {
+        DatabaseKind::Several => {
+            let mut database = SimpleFiles::new();
             for (name, text) in files {
-                table.add(name, text);
+                database.add(name, text);
             }
-            render_over(case, &table, |file| file)
+            render_over(case, &database, |file| file)
         }
-        Table::One => {
+        DatabaseKind::One => {
             let (name, text) = files.next().expect("one file");
             render_over(case, &SimpleFile::new(name, text), |_| ())
         }
-        Table::Mapped => {
+        DatabaseKind::Mapped => {
             let (name, text) = files.next().expect("one file");
             render_over(case, &MappedFile::new(name, text, &case.numbers), |_| ())
         }
@@ -46,17 +46,17 @@ fn render_over<'files, F: Files<'files>>(
     id: impl Fn(usize) -> F::FileId,
 ) -> Outcome {
     let diagnostic = diagnostic(case, id);
-    if !case.in_colours {
+    if !case.in_colors {
         return term::emit_into_string(&case.config, files, &diagnostic)
             .map(String::into_bytes)
             .map_err(|error| (error.to_string(), Vec::new()));
     }
     let styles = Styles::default();
-    let mut colours = Ansi::new(Vec::new());
-    let mut writer = StylesWriter::new(&mut colours, &styles);
+    let mut colors = Ansi::new(Vec::new());
+    let mut writer = StylesWriter::new(&mut colors, &styles);
     let returned = term::emit_to_write_style(&mut writer, &case.config, files, &diagnostic);
     drop(writer);
-    let output = colours.into_inner();
+    let output = colors.into_inner();
     match returned {
         Ok(()) => Ok(output),
         Err(error) => Err((error.to_string(), output)),

@@ -16,15 +16,16 @@ use std::ops::Range;
 /// The least number of annotations that are worth moving: fewer are sorted by insertion.
 const MIN_LEN: usize = 32;
 
-/// What is in place of the index of the next annotation where one was moved: no index.
+/// In `next`: the annotation has been moved. It is the index of no annotation.
 const MOVED: usize = usize::MAX;
 
 /// Moves annotations to the order of their lines, and on a line to that of the ranks of their
 /// kinds. Those of one line and one rank keep their order.
 ///
-/// `lines` are the lines of the one file of which they are, if there is one. They stay as they are
-/// where there is none, where they are few or fewer than the lines, or where another line is found.
-/// Returns whether they were moved. The time is in proportion to their number.
+/// `lines` has the indices of the lines of the one file that has all annotations, 0-based, the end
+/// exclusive; it is `None` where there are more files. The annotations are unchanged where it is
+/// `None`, where they are fewer than [`MIN_LEN`] or than the lines, or where one is found to be on
+/// another line. Returns whether they were moved. The time is in proportion to their number.
 ///
 /// # Errors
 ///
@@ -52,8 +53,8 @@ pub fn group_by_line<FileId>(
     Ok(true)
 }
 
-/// Returns whether annotations of these lines are worth moving: they are not few, and no fewer than
-/// the lines.
+/// Returns whether so many annotations of these lines are worth moving: they are no fewer than
+/// [`MIN_LEN`], and no fewer than the lines.
 fn are_worth_moving(len: usize, lines: &Range<usize>) -> bool {
     len >= MIN_LEN && lines.end.saturating_sub(lines.start) <= len
 }
@@ -68,7 +69,8 @@ struct Chains {
     next: Vec<usize>,
 }
 
-/// Chains the annotations of each group in their order. Those of other lines are in no chain.
+/// Chains the annotations of each group in their order. Those whose group is past the last one are
+/// in no chain. `lines` are 0-based indices, the end exclusive.
 ///
 /// # Errors
 ///
@@ -131,8 +133,9 @@ fn follow_chains<'d, FileId>(
     Ok(moved)
 }
 
-/// Returns the number of groups before that of the annotation: each line from the first one on has
-/// one for each rank. A line before the first one has a group past the last.
+/// Returns the index of the annotation's group: each line from `first_line` on has one for each
+/// rank. That of another line is past the last group, unless the line is so far away that the
+/// product wraps; `put_in_order` tests the order afterwards.
 fn group_of<FileId>(annotation: &Annotation<'_, FileId>, first_line: usize) -> usize {
     let line = annotation.line.index.wrapping_sub(first_line);
     line.wrapping_mul(RANK_COUNT).wrapping_add(rank(annotation))

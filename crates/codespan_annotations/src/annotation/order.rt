@@ -26,8 +26,7 @@ fn compare<FileId>(left: &Annotation<'_, FileId>, right: &Annotation<'_, FileId>
 }
 
 /// Compares two annotations of one line: first those that make it shown, then single-line labels by
-/// their ranges, of equal ranges the greater index first, then multi-line label marks by their
-/// lanes.
+/// their ranges, of equal ranges the greater index first, then lane marks by their lanes.
 fn compare_kinds<FileId>(left: &Annotation<'_, FileId>, right: &Annotation<'_, FileId>) -> Ordering
     ensures { result ≡ kind_cmp (annotation_view left.now).kind (annotation_view right.now).kind }
 {
@@ -61,7 +60,8 @@ fn compare_kinds<FileId>(left: &Annotation<'_, FileId>, right: &Annotation<'_, F
 /// The number of ranks.
 pub const RANK_COUNT: usize = 3;
 
-/// Returns the rank of a kind: 0 for shown, 1 for a single-line label, 2 for a multi-line label.
+/// Returns the rank of an annotation's kind: 0 for shown, 1 for a single-line label, 2 for a lane
+/// mark.
 pub fn rank<FileId>(annotation: &Annotation<'_, FileId>) -> usize
     ensures { result ≡ rank_of (annotation_view annotation.now).kind }
 {
@@ -72,8 +72,8 @@ pub fn rank<FileId>(annotation: &Annotation<'_, FileId>) -> usize
     }
 }
 
-/// Returns whether one annotation is before another in the order of [`compare`]. Of two annotations
-/// of different lines, as most are that are compared, it is found by few instructions.
+/// Returns whether one annotation is before another in the order of [`compare`]. It compares files
+/// and lines first: most annotations that are compared are of different lines.
 #[inline(always)]
 fn is_before<FileId>(left: &Annotation<'_, FileId>, right: &Annotation<'_, FileId>) -> bool
     ensures { result ≡ is_before (annotation_view left.now) (annotation_view right.now) }
@@ -101,9 +101,9 @@ fn are_in_order<FileId>(annotations: &[Annotation<'_, FileId>]) -> bool
     true
 }
 
-/// Returns the end of the multi-line label marks of one line, in the order of their lanes, from
-/// this index on: at least the next index. Most annotations that are found to be in order are
-/// these, and take few instructions.
+/// Returns the end of the longest run of lane marks of one line that starts at this index and whose
+/// lanes do not fall; the next index where the annotation is no lane mark. Most annotations that
+/// are found to be in order are in such runs.
 ///
 /// # Requires
 ///
@@ -130,7 +130,8 @@ fn lane_marks_end<FileId>(annotations: &[Annotation<'_, FileId>], start: usize) 
     end
 }
 
-/// Returns the lane of an annotation that is a multi-line label mark of this line of this file.
+/// Returns the lane of an annotation, if it is a lane mark of this line of this file. All are
+/// 0-based indices.
 #[inline(always)]
 fn lane_on<FileId>(annotation: &Annotation<'_, FileId>, file: usize, line: usize) -> Option<usize>
     ensures { IfSome result (λ lane. IsLaneMarkOn file line lane (annotation_view annotation.now)) }
@@ -153,7 +154,8 @@ fn sort<FileId>(annotations: &mut Vec<Annotation<'_, FileId>>)
 }
 
 /// Puts annotations in order. Those that are in order already, or once they are grouped by line,
-/// are not sorted. `lines` are the lines of the one file of which they are, if there is one.
+/// are not sorted. `lines` has the indices of the lines of the one file that has all annotations,
+/// 0-based, the end exclusive; it is `None` where there are more files.
 ///
 /// # Errors
 ///

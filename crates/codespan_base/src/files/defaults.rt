@@ -11,7 +11,8 @@ use std::convert::AsStr;
 /// [`column_index`] of the source, the line's range and the byte, plus 1. Both indices count from
 /// 0.
 ///
-/// A database's own `column_number` can not call this, since that would be a cycle; its body is
+/// A database's own `column_number` can not call this, which requires the implementation that is
+/// being checked; its body is
 /// [`column_number_by_default!`](codespan_base::column_number_by_default).
 ///
 /// # Errors
@@ -34,8 +35,8 @@ pub fn default_column_number<'a, F: Files<'a>>(
 /// Returns the location of a byte as most files have it: the number of its line, and its column
 /// number there. The byte index counts from 0.
 ///
-/// A database's own `location` can not call this, since that would be a cycle; its body is
-/// [`location_by_default!`](codespan_base::location_by_default).
+/// A database's own `location` can not call this, which requires the implementation that is being
+/// checked; its body is [`location_by_default!`](codespan_base::location_by_default).
 ///
 /// # Errors
 ///
@@ -52,9 +53,13 @@ pub fn default_location<'a, F: Files<'a>>(
     crate::location_by_default!(files, id, byte_index)
 }
 
-/// Writes the body of a database's own `column_number`, from its `source` and `line_range`: it
-/// returns what [`default_column_number`](codespan_reporting::files::default_column_number)
-/// returns, and fails as it does. [`std::convert::AsStr`] has to be in scope.
+/// Expands to the body of a database's own `column_number`, from its `source` and `line_range`: the
+/// body returns what
+/// [`default_column_number`](codespan_reporting::files::default_column_number) returns, and fails
+/// as it does. The line index and the byte index count from 0.
+///
+/// The function has to return a `Result<usize, Error>`, since the body has `?` in it, and
+/// [`std::convert::AsStr`] has to be in scope. An argument may be evaluated twice.
 #[macro_export]
 macro_rules! column_number_by_default {
     ($files:expr, $id:expr, $line_index:expr, $byte_index:expr) => {{
@@ -64,9 +69,13 @@ macro_rules! column_number_by_default {
     }};
 }
 
-/// Writes the body of a database's own `location`, from its `line_index`, `line_number` and
-/// `column_number`: it returns what
+/// Expands to the body of a database's own `location`, from its `line_index`, `line_number` and
+/// `column_number`: the body returns what
 /// [`default_location`](codespan_reporting::files::default_location) returns, and fails as it does.
+/// The byte index counts from 0.
+///
+/// The function has to return a `Result<Location, Error>`, since the body has `?` in it. An
+/// argument may be evaluated up to three times.
 #[macro_export]
 macro_rules! location_by_default {
     ($files:expr, $id:expr, $byte_index:expr) => {{

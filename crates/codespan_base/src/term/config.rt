@@ -2,7 +2,7 @@
 
 ghost use Rattle.std.specs.Prelude.{◌≡◌, Ok, IsTrue, IfOk, OnErr, IsErrOf};
 ghost use Rattle.codespan_base.specs.SnippetStarts.{is_fixed};
-ghost use Rattle.codespan_base.specs.ConfigEquality.{IsConfig};
+ghost use Rattle.codespan_base.specs.ConfigEquality.{IsEqualConfig};
 ghost use Rattle.codespan_base.specs.Defaults.{default_config};
 
 pub mod ansi;
@@ -70,11 +70,11 @@ impl<'chars> Config<'chars> {
     /// [`Error::OutOfMemory`] where an allocation fails; never where the text before a locus is
     /// [`SnippetStart::Fixed`](chars::SnippetStart::Fixed).
     pub fn clone(&self) -> Result<Config<'chars>, Error>
-        ensures same { IfOk result (IsConfig self.now) }
+        ensures same { IfOk result (IsEqualConfig self.now) }
         ensures kind { IfOk result (λ c.
             is_fixed c.chars.snippet_start ≡ is_fixed self.now.chars.snippet_start) }
         ensures fixed { IsTrue (is_fixed self.now.chars.snippet_start) → result ≡ Ok self.now }
-        ensures memory { OnErr result (IsErrOf result Error.OutOfMemory) }
+        ensures failed { OnErr result (IsErrOf result Error.OutOfMemory) }
     {
         Ok(Config {
             chars: self.chars.clone()?,
@@ -84,10 +84,10 @@ impl<'chars> Config<'chars> {
 }
 
 impl<'chars> Default for Config<'chars> {
-    ghost is_default = { IsConfig default_config };
+    ghost is_default = { IsEqualConfig default_config };
 
     fn default() -> Config<'chars>
-        ensures equal { IsConfig default_config result }
+        ensures equal { IsEqualConfig default_config result }
         ensures fixed { IsTrue (is_fixed result.chars.snippet_start) }
     {
         Config {
@@ -137,7 +137,7 @@ pub enum DisplayStyle {
     Short,
 }
 
-/// How wide the padding is, and how the lanes of multi-line labels are rendered.
+/// Which line numbers the padding width fits, and how the lanes of multi-line labels are rendered.
 #[derive(Clone, Copy, Debug, PartialEq, Eq)]
 pub enum Layout {
     /// The Rust crate's layout: the padding width fits the numbers of the lines from the start to

@@ -22,7 +22,7 @@ struct Lookups {
 }
 
 /// Returns the text of a line, through the trait. The law keeps the line inside the source.
-fn line_at<'a, F: Files<'a>>(
+fn line_text<'a, F: Files<'a>>(
     alloc: Global,
     files: &'a F,
     id: F::FileId,
@@ -51,7 +51,7 @@ fn lookups_at<'a, F: Files<'a>>(
         line_number,
         column_number,
         location,
-        line: line_at(alloc, files, id, line_index)?,
+        line: line_text(alloc, files, id, line_index)?,
     })
 }
 
@@ -116,7 +116,7 @@ fn generic_calls_of_mapped_file(rt: HostRuntime) -> Result<(), Fail> {
 }
 
 #[test]
-fn generic_calls_of_database(rt: HostRuntime) -> Result<(), Fail> {
+fn generic_calls_of_simple_files(rt: HostRuntime) -> Result<(), Fail> {
     let database = database(rt.alloc())?;
     let lookups = lookups_at(rt.alloc(), &database, 0, 7)?;
     assert!(rt; lookups.are_of_second_line("bär\n", 2));

@@ -107,7 +107,9 @@ fn two_primary_labels(rt: HostRuntime) -> Result<(), Fail> {
 /// Each has the file of its label, and what the diagnostic has.
 #[test]
 fn same_of_each_primary_label(rt: HostRuntime) -> Result<(), Fail> {
-    for one in &lsp_diagnostics(rt.alloc())? {
+    let diagnostics = lsp_diagnostics(rt.alloc())?;
+    assert_same(&rt, &diagnostics.len(), &2);
+    for one in &diagnostics {
         assert_same(&rt, &one.file_id, &0);
         assert_same(&rt, &one.severity, &DiagnosticSeverity::Error);
         assert!(rt; matches!(&one.code, Some(code) if code.as_str() == "E0061"));
@@ -118,7 +120,9 @@ fn same_of_each_primary_label(rt: HostRuntime) -> Result<(), Fail> {
 /// Each has the secondary label.
 #[test]
 fn related_information(rt: HostRuntime) -> Result<(), Fail> {
-    for one in &lsp_diagnostics(rt.alloc())? {
+    let diagnostics = lsp_diagnostics(rt.alloc())?;
+    assert_same(&rt, &diagnostics.len(), &2);
+    for one in &diagnostics {
         assert_same(&rt, &one.related_information.len(), &1);
         for related in &one.related_information {
             assert_same(&rt, &related.file_id, &1);

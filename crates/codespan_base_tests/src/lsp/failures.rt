@@ -1,13 +1,13 @@
 //! Positions and bytes that have no counterpart.
 
-use crate::asserts::{inside_character, is_column_too_large, is_file_missing, is_line_too_large};
+use crate::asserts::{invalid_boundary, is_column_too_large, is_file_missing, is_line_too_large};
 use crate::lsp::positions::{at, unicode_files};
 use codespan_base::files::SimpleFile;
 use codespan_lsp::{Position, PositionEncoding, byte_index_to_position, position_to_byte_index};
 use std::process::Abort;
 use std::test::Fail;
 
-/// Encodings, and characters that are inside the one at byte 1 by them.
+/// Encodings, and values of `character` between the code units of the character at byte 1.
 static INSIDE: [(PositionEncoding, u32); 3] = [
     (PositionEncoding::Utf8, 2),
     (PositionEncoding::Utf8, 4),
@@ -20,11 +20,11 @@ fn inside_characters(rt: HostRuntime) -> Result<(), Fail> {
     let file = SimpleFile::new(rt.alloc(), "f", "a𐐀b")?;
     for byte_index in 2..5 {
         let result = byte_index_to_position(&file, (), byte_index);
-        assert!(rt; inside_character(&result) == Some(byte_index));
+        assert!(rt; invalid_boundary(&result) == Some(byte_index));
     }
     for (encoding, character) in &INSIDE {
         let result = encoding.position_to_byte_index(&file, (), &at(0, *character));
-        assert!(rt; inside_character(&result) == Some(1), "{character}");
+        assert!(rt; invalid_boundary(&result) == Some(1), "{character}");
     }
     Ok(())
 }

@@ -1,6 +1,6 @@
 //! Positions and ranges of worked files.
 
-use crate::asserts::{assert_ok, assert_same, assert_same_at, inside_character};
+use crate::asserts::{assert_ok, assert_same, assert_same_at, invalid_boundary};
 use codespan_base::files::{Error, Files, Location, MappedFile, SimpleFile, SimpleFiles};
 use codespan_lsp::{
     Position, PositionEncoding, Range, byte_index_to_position, byte_span_to_range,
@@ -16,7 +16,7 @@ pub fn at(line: u32, character: u32) -> Position {
 }
 
 /// A byte index, and the line and the character of its position.
-type Row = (usize, u32, u32);
+type Counterpart = (usize, u32, u32);
 
 /// Asserts that a byte has this position, and the position this byte.
 fn assert_at<'a, F: Files<'a>>(
@@ -33,28 +33,28 @@ fn assert_at<'a, F: Files<'a>>(
     Ok(())
 }
 
-/// Asserts so of the rows of a table.
-fn assert_rows<'a, F: Files<'a>>(
+/// Asserts so of each counterpart of a table.
+fn assert_counterparts<'a, F: Files<'a>>(
     rt: &impl Abort,
     files: &'a F,
     id: F::FileId,
-    rows: &[Row],
+    table: &[Counterpart],
 ) -> Result<(), Error> {
-    for (byte_index, line, character) in rows {
+    for (byte_index, line, character) in table {
         assert_at(rt, files, id, *byte_index, at(*line, *character))?;
     }
     Ok(())
 }
 
-/// The rows of `a𐐀b`.
-static PROTOCOL_EXAMPLE: [Row; 4] = [(0, 0, 0), (1, 0, 1), (5, 0, 3), (6, 0, 4)];
+/// The bytes and the positions of `a𐐀b`.
+static PROTOCOL_EXAMPLE: [Counterpart; 4] = [(0, 0, 0), (1, 0, 1), (5, 0, 3), (6, 0, 4)];
 
 /// The protocol's own example: of `a𐐀b` the character of `a` is 0, that of `𐐀` is 1, and that of
 /// `b` is 3.
 #[test]
 fn protocol_example(rt: HostRuntime) -> Result<(), Fail> {
     let file = SimpleFile::new(rt.alloc(), "f", "a𐐀b")?;
-    assert_rows(&rt, &file, (), &PROTOCOL_EXAMPLE)?;
+    assert_counterparts(&rt, &file, (), &PROTOCOL_EXAMPLE)?;
     Ok(())
 }
 
@@ -92,8 +92,8 @@ fn encodings(rt: HostRuntime) -> Result<(), Fail> {
     Ok(())
 }
 
-/// The rows of lines with each end.
-static LINE_ENDS: [Row; 8] = [
+/// The bytes and the positions of lines with each end.
+static LINE_ENDS: [Counterpart; 8] = [
     (0, 0, 0),
     (3, 0, 3),
     (4, 1, 0),
@@ -108,7 +108,7 @@ static LINE_ENDS: [Row; 8] = [
 #[test]
 fn line_ends(rt: HostRuntime) -> Result<(), Fail> {
     let file = SimpleFile::new(rt.alloc(), "f", "foo\nbar\r\n\nbaz")?;
-    assert_rows(&rt, &file, (), &LINE_ENDS)?;
+    assert_counterparts(&rt, &file, (), &LINE_ENDS)?;
     // after the newline of a line the next one starts
     assert_ok(&rt, position_to_byte_index(&file, (), &at(0, 4)), 4);
     assert_ok(&rt, position_to_byte_index(&file, (), &at(1, 5)), 9);
@@ -123,9 +123,9 @@ fn empty_file(rt: HostRuntime) -> Result<(), Fail> {
     Ok(())
 }
 
-/// The Rust crate's values: the byte at a position is where users see it.
+/// The values of a test of Rust's `codespan-lsp`: the byte at a position is where users see it.
 #[test]
-fn rust_crate_values(rt: HostRuntime) -> Result<(), Fail> {
+fn original_values(rt: HostRuntime) -> Result<(), Fail> {
     let text = "\nlet test = 2\nlet test1 = \"\"\nte\n";
     let file = SimpleFile::new(rt.alloc(), "test", text)?;
     let byte_index = position_to_byte_index(&file, (), &at(3, 2))?;
@@ -145,15 +145,15 @@ pub fn unicode_files(alloc: Global) -> Result<SimpleFiles<&'static str, &'static
     Ok(files)
 }
 
-/// The rows of the first of these files, and those of the second.
-static UNICODE: [[Row; 2]; 2] = [[(5, 0, 3), (10, 0, 6)], [(6, 1, 3), (11, 1, 6)]];
+/// Bytes and positions of the first of these files, and those of the second.
+static UNICODE: [[Counterpart; 2]; 2] = [[(5, 0, 3), (10, 0, 6)], [(6, 1, 3), (11, 1, 6)]];
 
-/// Of these, in the Rust crate too, the characters 3 and 6 are the bytes 5 and 10.
+/// Of these, in Rust's `codespan-lsp` too, the characters 3 and 6 are the bytes 5 and 10.
 #[test]
-fn rust_crate_values_in_files(rt: HostRuntime) -> Result<(), Fail> {
+fn original_values_in_files(rt: HostRuntime) -> Result<(), Fail> {
     let files = unicode_files(rt.alloc())?;
-    for (id, rows) in UNICODE.iter().enumerate() {
-        assert_rows(&rt, &files, id, rows)?;
+    for (id, table) in UNICODE.iter().enumerate() {
+        assert_counterparts(&rt, &files, id, table)?;
     }
     Ok(())
 }
@@ -232,7 +232,7 @@ fn spans(rt: HostRuntime) -> Result<(), Fail> {
         assert_same(&rt, &range_to_byte_span(&file, (), &range)?, span);
     }
     let late = byte_span_to_range(&file, (), 0..2);
-    assert!(rt; inside_character(&late) == Some(2));
+    assert!(rt; invalid_boundary(&late) == Some(2));
     Ok(())
 }
 
@@ -243,8 +243,8 @@ static CODE_UNITS: [(PositionEncoding, usize); 3] = [
     (PositionEncoding::Utf32, 3),
 ];
 
-/// The rows of `a𐐀b` after a newline.
-static DOCUMENTED: [Row; 5] = [(0, 0, 0), (1, 1, 0), (2, 1, 1), (6, 1, 3), (7, 1, 4)];
+/// Bytes and positions of `a𐐀b` after a newline.
+static DOCUMENTED: [Counterpart; 5] = [(0, 0, 0), (1, 1, 0), (2, 1, 1), (6, 1, 3), (7, 1, 4)];
 
 /// The examples of the doc comments.
 #[test]
@@ -253,8 +253,8 @@ fn documented(rt: HostRuntime) -> Result<(), Fail> {
         assert_same(&rt, &encoding.code_units("a𐐀b"), units);
     }
     let file = SimpleFile::new(rt.alloc(), "f", "\na𐐀b")?;
-    assert_rows(&rt, &file, (), &DOCUMENTED)?;
+    assert_counterparts(&rt, &file, (), &DOCUMENTED)?;
     let returned = position_to_byte_index(&file, (), &at(1, 2));
-    assert!(rt; inside_character(&returned) == Some(2));
+    assert!(rt; invalid_boundary(&returned) == Some(2));
     Ok(())
 }

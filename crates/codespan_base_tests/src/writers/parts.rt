@@ -9,12 +9,11 @@ use codespan_base::term::{PlainWriter, WriteStyle};
 use std::alloc::Global;
 use std::io;
 use std::process::Abort;
-use std::test::Fail;
 use test_writers::example::TagWriter;
 use test_writers::stopping::{Stop, Stopping};
 
-/// Writes a row with a part of each kind.
-fn write_row<W: WriteStyle>(w: &mut W) -> io::Result<()> {
+/// Writes a part of a row of each kind, and a style mark of each kind.
+fn write_parts<W: WriteStyle>(w: &mut W) -> io::Result<()> {
     put_number(w, 1024)?;
     put_all(w, "┌─".as_bytes())?;
     put_char(w, '·')?;
@@ -32,42 +31,47 @@ fn write_row<W: WriteStyle>(w: &mut W) -> io::Result<()> {
     w.reset()
 }
 
-const PLAIN_ROW: &str = "1024┌─·   ──";
+/// What `write_parts` writes in plain text.
+const PLAIN_PARTS: &str = "1024┌─·   ──";
 
-const TAG_ROW: &str =
+/// What `write_parts` writes in tags.
+const TAG_PARTS: &str =
     "1024┌─·   ──[header][message][number][bullet][border][primary][secondary][/]";
 
-/// Asserts that a writer has what it should of a row.
-fn assert_is_right(rt: &impl Abort, inner: &Stopping, is_ok: bool, row: &str, case: &Case) {
+/// Asserts that a writer holds `whole` where the parts were written, and else a prefix of it.
+fn assert_is_right(rt: &impl Abort, inner: &Stopping, is_ok: bool, whole: &str, case: &Case) {
     let Case { stop, most, writes } = case;
     assert!(rt;
-        inner.is_right(is_ok, row.as_bytes()),
+        inner.is_right(is_ok, whole.as_bytes()),
         "{stop:?} {most} {writes}"
     );
 }
 
-/// How a writer stops, how much it takes at a time, and after how many writes it stops.
+/// A writer that stops.
 #[derive(Drop)]
 struct Case {
+    // How it stops.
     stop: Stop,
+    // The most bytes that a write takes.
     most: usize,
+    // The number of writes after which it stops.
     writes: usize,
 }
 
-/// Asserts that a row is right over a writer that stops so, in tags and plain.
-fn assert_rows_stop(rt: &impl Abort, alloc: Global, case: &Case) {
+/// Asserts that the parts are right over a writer that stops so, in tags and plain.
+fn assert_stops(rt: &impl Abort, alloc: Global, case: &Case) {
     let mut inner = Stopping::new(alloc, case.most, case.writes, case.stop);
-    let result = write_row(&mut TagWriter::new(&mut inner));
-    assert_is_right(rt, &inner, result.is_ok(), TAG_ROW, case);
+    let result = write_parts(&mut TagWriter::new(&mut inner));
+    assert_is_right(rt, &inner, result.is_ok(), TAG_PARTS, case);
 
     let mut plain = PlainWriter::new(Stopping::new(alloc, case.most, case.writes, case.stop));
-    let result = write_row(&mut plain);
+    let result = write_parts(&mut plain);
     assert_same(rt, &plain.has_failed(), &result.is_err());
-    assert_is_right(rt, &plain.into_inner(), result.is_ok(), PLAIN_ROW, case);
+    assert_is_right(rt, &plain.into_inner(), result.is_ok(), PLAIN_PARTS, case);
 }
 
 #[test]
-fn rows_over_writers_that_stop(rt: HostRuntime) -> Result<(), Fail> {
+fn rows_over_writers_that_stop(rt: HostRuntime) {
     for stop in [
         Stop::Fails,
         Stop::IsInterrupted,
@@ -76,9 +80,8 @@ fn rows_over_writers_that_stop(rt: HostRuntime) -> Result<(), Fail> {
     ] {
         for most in [1, 2, 5, 100] {
             for writes in 0..100 {
-                assert_rows_stop(&rt, rt.alloc(), &Case { stop, most, writes });
+                assert_stops(&rt, rt.alloc(), &Case { stop, most, writes });
             }
         }
     }
-    Ok(())
 }

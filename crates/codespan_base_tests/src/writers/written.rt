@@ -14,8 +14,8 @@ use std::io;
 use std::process::Abort;
 use test_writers::example::{TagColor, TagWriter};
 
-/// Ends the line of a style mark, once it is set.
-fn end_mark<W: WriteStyle>(w: &mut W, set: io::Result<()>) -> io::Result<()> {
+/// Ends the line of a style mark, once it is written.
+fn end_style_mark<W: WriteStyle>(w: &mut W, set: io::Result<()>) -> io::Result<()> {
     set?;
     put_all(w, b"\n")
 }
@@ -30,20 +30,20 @@ fn write_style_marks<W: WriteStyle>(w: &mut W) -> io::Result<()> {
         Severity::Help,
     ] {
         let set = w.set_header(severity);
-        end_mark(w, set)?;
+        end_style_mark(w, set)?;
         let set = w.set_label(severity, LabelStyle::Primary);
-        end_mark(w, set)?;
+        end_style_mark(w, set)?;
         let set = w.set_label(severity, LabelStyle::Secondary);
-        end_mark(w, set)?;
+        end_style_mark(w, set)?;
     }
     let set = w.set_header_message();
-    end_mark(w, set)?;
+    end_style_mark(w, set)?;
     let set = w.set_line_number();
-    end_mark(w, set)?;
+    end_style_mark(w, set)?;
     let set = w.set_note_bullet();
-    end_mark(w, set)?;
+    end_style_mark(w, set)?;
     let set = w.set_source_border();
-    end_mark(w, set)?;
+    end_style_mark(w, set)?;
     w.reset()
 }
 
@@ -57,7 +57,7 @@ fn write_header<W: WriteStyle>(w: &mut W) -> io::Result<()> {
     put_all(w, b"\n")
 }
 
-/// Writes every style mark, some text in both ways, and then flushes once.
+/// Writes every style mark, some text by `put` and by `write_all`, and then flushes once.
 pub fn write_and_flush<W: WriteStyle>(w: &mut W) -> io::Result<()> {
     write_style_marks(w)?;
     put_all(w, b"text")?;
@@ -70,7 +70,7 @@ pub fn write_and_flush<W: WriteStyle>(w: &mut W) -> io::Result<()> {
 #[derive(Drop)]
 pub enum Part {
     /// Every style mark.
-    EveryMark,
+    EveryStyleMark,
     /// The header of an error.
     Header,
     /// A character.
@@ -81,14 +81,14 @@ pub enum Part {
     Spaces(usize),
     /// A number.
     Number(usize),
-    /// Every style mark, some text in both ways, and then one flush.
+    /// Every style mark, some text by `put` and by `write_all`, and then one flush.
     Flushed,
 }
 
 /// Writes a part.
 fn write_part<W: WriteStyle>(w: &mut W, part: Part) -> io::Result<()> {
     match part {
-        Part::EveryMark => write_style_marks(w),
+        Part::EveryStyleMark => write_style_marks(w),
         Part::Header => write_header(w),
         Part::Char(c) => put_char(w, c),
         Part::Repeated(c, count) => put_repeated(w, c, count),
@@ -112,7 +112,7 @@ pub fn assert_plain(rt: &impl Abort, alloc: Global, part: Part, expected: &str) 
     Ok(())
 }
 
-/// Writes a part by the styles that a writer of colors has by default, and returns that writer.
+/// Writes a part in the default styles over a writer of colors, and returns that writer.
 pub fn styled<C: WriteColor + Drop>(inner: C, part: Part) -> io::Result<C> {
     let styles = Styles::default();
     let mut styled = StylesWriter::new(inner, &styles);
@@ -128,19 +128,19 @@ pub fn ansi(alloc: Global, part: Part) -> io::Result<Vec<u8>> {
 /// Returns every style mark of a writer of plain text over a borrowed one.
 pub fn plain_ref_style_marks(alloc: Global) -> io::Result<Vec<u8>> {
     let mut text = Vec::new(alloc);
-    write_part(&mut PlainWriterRef::new(&mut text), Part::EveryMark)?;
+    write_part(&mut PlainWriterRef::new(&mut text), Part::EveryStyleMark)?;
     Ok(text)
 }
 
 /// Returns every style mark of a writer without color.
 pub fn no_color_style_marks(alloc: Global) -> io::Result<Vec<u8>> {
-    Ok(styled(NoColor::new(Vec::new(alloc)), Part::EveryMark)?.into_inner())
+    Ok(styled(NoColor::new(Vec::new(alloc)), Part::EveryStyleMark)?.into_inner())
 }
 
 /// Returns every style mark of a custom `WriteColor`.
 pub fn tag_color_style_marks(alloc: Global) -> io::Result<Vec<u8>> {
     let mut text = Vec::new(alloc);
-    styled(TagColor::new(&mut text), Part::EveryMark)?;
+    styled(TagColor::new(&mut text), Part::EveryStyleMark)?;
     Ok(text)
 }
 
@@ -151,7 +151,7 @@ pub fn tag_style_marks(alloc: Global) -> io::Result<Vec<u8>> {
     Ok(text)
 }
 
-/// Returns the escape sequences of the colors of a text and of what is behind it.
+/// Returns the escape sequences of a foreground and a background color.
 pub fn color_sequences(
     alloc: Global,
     fg: Option<Color>,

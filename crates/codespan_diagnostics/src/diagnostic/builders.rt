@@ -1,4 +1,4 @@
-//! The builders of a diagnostic: the calls that add to it.
+//! The builders of a diagnostic: its `with_` calls.
 
 ghost use Rattle.std.specs.Prelude.{◌≡◌, ◌++◌, ◌∷◌, [], IfOk, IfSome, IfErr, OnErr, IsErrOf, IsSome, String, string_bytes, map, Some};
 ghost use Rattle.std.specs.Global.{Global};
@@ -83,7 +83,7 @@ impl<FileId: Drop> Diagnostic<FileId> {
     ///
     /// # Requires
     ///
-    /// Whichever iterator `into_iter` returns: its `next` may be called, and its items come to an
+    /// Of each iterator that `into_iter` may return, `next` may be called, and its items come to an
     /// end.
     pub fn with_labels_iter<I: IntoIterator<Item = Label<FileId>>>(
         self,
@@ -147,7 +147,7 @@ impl<FileId: Drop> Diagnostic<FileId> {
     ///
     /// # Requires
     ///
-    /// Whichever iterator `into_iter` returns: its `next` may be called, and its items come to an
+    /// Of each iterator that `into_iter` may return, `next` may be called, and its items come to an
     /// end.
     pub fn with_notes_iter<I: IntoIterator<Item = String>>(self, notes: I) -> Result<Self, Error>
     where

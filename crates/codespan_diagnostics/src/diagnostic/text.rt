@@ -40,13 +40,13 @@ pub fn display_text<D: Display + Drop>(alloc: Global, value: D) -> Result<String
         IfSome (D.output value) (λ bytes. string_bytes text ≡ bytes)) }
     ensures failed { IfErr result IsTextFailure }
 {
-    let mut growing = DisplayBuffer {
+    let mut buffer = DisplayBuffer {
         text: String::new(alloc),
         failed: false,
     };
-    match write!(growing, "{value}") {
-        Ok(()) => Ok(growing.text),
-        Err(_) if growing.failed => Err(Error::OutOfMemory),
+    match write!(buffer, "{value}") {
+        Ok(()) => Ok(buffer.text),
+        Err(_) if buffer.failed => Err(Error::OutOfMemory),
         Err(_) => Err(Error::FormatError),
     }
 }

@@ -89,6 +89,10 @@ pub(super) fn joined_cells(before: Glyph, others: &[Glyph]) -> u128
 }
 
 /// Returns the characters of runs, each in the ink of its run's style.
+///
+/// # Errors
+///
+/// [`AllocError`]: an allocation fails.
 pub(super) fn glyphs(alloc: Global, styles: &Styles, runs: &[Run]) -> Result<Vec<Glyph>, AllocError>
     ensures { IfOk result (λ glyphs. glyphs.items ≡ glyphs_of styles.now (map run_view runs.now)) }
 {

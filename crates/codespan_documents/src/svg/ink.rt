@@ -15,7 +15,7 @@ pub struct Ink {
 }
 
 impl Ink {
-    /// Returns the ink of a style of a terminal.
+    /// Returns the ink of a [`ColorSpec`]: its text color, and whether it is bold.
     pub(crate) fn of(spec: ColorSpec) -> Ink
         ensures { result ≡ ink_of spec }
     {

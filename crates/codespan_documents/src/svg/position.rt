@@ -10,7 +10,7 @@ use crate::svg::glyph::Glyph;
 pub struct CellPosition {
     /// The row, from 0.
     pub row: u128,
-    /// The cells before it in the row.
+    /// The number of cells before it in the row.
     pub column: u128,
 }
 
@@ -23,6 +23,10 @@ impl CellPosition {
     }
 
     /// Returns the position after a character.
+    ///
+    /// # Requires
+    ///
+    /// The row is at most 2^64 and the column at most 2^66, so that no number overflows.
     pub fn after(self, glyph: Glyph) -> CellPosition
         requires row { self.row ≤ 2 ^ 64 }
         requires column { self.column ≤ 2 ^ 66 }
@@ -44,7 +48,8 @@ impl CellPosition {
     }
 }
 
-/// Returns the size of glyphs: the number of their newlines, and the cells of the widest row.
+/// Returns the size of glyphs: as `row` the number of their newlines, and as `column` the number of
+/// cells of the widest row.
 pub(super) fn extent(glyphs: &[Glyph]) -> CellPosition
     ensures extent { result ≡ extent_from start glyphs.now }
     ensures row { result.row ≤ 2 ^ 64 }

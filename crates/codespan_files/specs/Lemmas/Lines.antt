@@ -1,4 +1,4 @@
--- Facts on line starts.
+-- For the law of `Files`, and for `next` of `LineStarts`: facts on line starts.
 use Rattle.std.proofs.Common.{◌≡◌, ℕ, zero, suc, ◌+◌, ◌-◌, ◌^◌, ◌<◌, ◌≤◌, Bool, true, false, cond, List, [], ◌∷◌, length, get_or, drop, refl, ◌∙◌, arith, eqb, inl, inr}
 use Rattle.std.specs.Prelude.{◌≢◌, if◌then◌else◌, count_by, nat_le, slice_index}
 use Rattle.std.proofs.lemmas.Bool.{eqb-true, eq-eqb, le-leb, lt-leb}

@@ -1,4 +1,5 @@
--- A file whose line numbers are set is lawful.
+-- For the members `lawful` and `past_end` of `MappedFile`: a file whose line numbers are set is
+-- lawful.
 use Rattle.std.proofs.Common.{◌≡◌, ℕ, suc, ◌+◌, ◌-◌, ◌^◌, ◌<◌, ◌≤◌, inl, inr, List, [], ◌∷◌, length, get_or, map, ◌∙◌, arith, Option}
 use Rattle.std.specs.Str.{IsUtf8, IsCharBoundary}
 use Rattle.std.proofs.lemmas.Str.{IsCharBoundary-before_ascii, IsCharBoundary-end}

@@ -1,4 +1,5 @@
--- The law of a file database of which an id may name no file.
+-- For the members `lawful`, `same_file` and `past_end` of `SimpleFiles`: the law of a file database
+-- of which an id may name no file.
 use Rattle.std.proofs.Common.{◌≡◌, ℕ, zero, suc, ◌<◌, true, Option, Some, None, refl, ap, arith, eqb}
 use Rattle.std.proofs.lemmas.Bool.{eqb-true}
 use Rattle.std.specs.Option.{option_map_or}

@@ -204,8 +204,8 @@ impl<'a, Name: Display + 'a, Source: AsStr + 'a> Files<'a> for SimpleFiles<Name,
     ///
     /// [`Error::FileMissing`] where the id is not below the number of files.
     fn location(&'a self, id: usize, byte_index: usize) -> Result<Location, Error>
-        ensures value { IfOk result (λ position.
-            position ≡ (file_in Name.output self.now id).location byte_index) }
+        ensures value { IfOk result (λ location.
+            location ≡ (file_in Name.output self.now id).location byte_index) }
         ensures failed { FailsBy (error_in self.now id (LocationAt byte_index)) result }
         ensures memory { NeedsNoMemory result }
     {

@@ -1,4 +1,4 @@
-//! The error of lookups, of the `with_` calls and of rendering.
+//! The error of file databases, of diagnostics and configurations, and of rendering.
 
 ghost use Rattle.std.specs.Prelude.{◌≡◌};
 ghost use Rattle.codespan_files.specs.declared.files.error.Error.TheVariants.{Io, FormatError, OutOfMemory};
@@ -6,7 +6,8 @@ ghost use Rattle.codespan_files.specs.declared.files.error.Error.TheVariants.{Io
 use std::alloc::{AllocError, AllocFailed};
 use std::{fmt, io};
 
-/// The error of a lookup, of a call that makes a diagnostic, or of rendering.
+/// The error of file databases, of diagnostics and configurations, and of rendering. Writers fail
+/// with an [`io::Error`].
 ///
 /// The variants and texts are the Rust crate's, but for [`Error::OutOfMemory`], which is this
 /// project's own.
@@ -47,13 +48,13 @@ pub enum Error {
     },
     /// A write to a writer failed or took none of its bytes, or a file database failed to read.
     Io(io::Error),
-    /// A `Display` failed, and no allocation of the text that it writes to did.
+    /// A `Display` failed, and no allocation of its text did.
     FormatError,
     /// An allocation failed.
     OutOfMemory,
 }
 
-/// Keeps a writer's error in [`Error::Io`].
+/// Wraps an [`io::Error`] in [`Error::Io`].
 impl From<io::Error> for Error {
     ghost from_gives = { λ cause e. e ≡ Io cause };
 

@@ -242,8 +242,8 @@ impl<'a, Name: Display + 'a, Source: AsStr + 'a> Files<'a> for MappedFile<Name, 
     /// Those of `line_number` of the byte's line.
     #[tactic(auto, using(crate::specs::Lemmas::Lines::line_of_below))]
     fn location(&'a self, id: (), byte_index: usize) -> Result<Location, Error>
-        ensures value { IfOk result (λ position.
-            position ≡ mapped_location (mapped_text_of self.now) (settings_of self.now)
+        ensures value { IfOk result (λ location.
+            location ≡ mapped_location (mapped_text_of self.now) (settings_of self.now)
             byte_index) }
         ensures failed { FailsBy (mapped_error_of self.now (LocationAt byte_index)) result }
         ensures memory { NeedsNoMemory result }

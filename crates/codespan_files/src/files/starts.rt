@@ -1,7 +1,8 @@
 //! The iterator over the line starts of a text.
 ghost use Rattle.std.specs.Prelude.{◌≤◌, length};
 
-/// The byte indices at which the lines of a text start, from 0, in ascending order.
+/// An iterator over the byte indices at which the lines of a text start, in ascending order. They
+/// count from 0.
 ///
 /// Returned by [`line_starts`](codespan_reporting::files::line_starts). It ends, by the law
 /// [`codespan_base::laws::line_starts_end`].

@@ -7,8 +7,8 @@ use crate::plan::snippet_lines::SnippetLine;
 use codespan_base::term::Layout;
 use codespan_picture::padding::count_digits;
 
-/// Returns the padding width, in characters: `spanned`, that for the lines that labels span, in the
-/// classic layout, and that for these lines in the unbroken one.
+/// Returns the padding width, in characters: in the classic layout `spanned`, that of the lines
+/// that labels span; in the unbroken one the digits of the longest known number of `snippet_lines`.
 #[inline(always)]
 pub fn padding_width<FileId>(
     layout: Layout,

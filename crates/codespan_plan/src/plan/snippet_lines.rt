@@ -30,7 +30,7 @@ pub enum SnippetLine<'e, 'd, FileId> {
         index: usize,
         /// The line's number, where it is known before the header.
         number: Option<usize>,
-        /// Its annotations, in order: multi-line label marks alone.
+        /// Its annotations, in order: lane marks alone.
         annotations: &'e [Annotation<'d, FileId>],
     },
     /// A break: two lines or more are left out.
@@ -51,15 +51,15 @@ pub enum Gap {
     Lines,
 }
 
-/// Returns what is before the shown line of this index, where `last` is the index of the shown
+/// Returns what is before the shown line of this index, where `previous` is the index of the shown
 /// line before it.
-pub fn gap_before(last: Option<usize>, index: usize) -> Gap
-    ensures { IsGapBefore last index result }
+pub fn gap_before(previous: Option<usize>, index: usize) -> Gap
+    ensures { IsGapBefore previous index result }
 {
-    let Some(last) = last else {
+    let Some(previous) = previous else {
         return Gap::Nothing;
     };
-    let distance = index.saturating_sub(last);
+    let distance = index.saturating_sub(previous);
     if distance == 2 {
         Gap::Line(index - 1)
     } else if distance > 2 {
@@ -135,8 +135,9 @@ impl<'files, F: Files<'files>> LinePlanner<'files, F> {
         Ok(())
     }
 
-    /// Appends a shown line with its annotations, after what is before it. `hidden` are the
-    /// annotations of the line before it, where that is hidden.
+    /// Appends a shown line with its annotations, after what is before it. `previous` is the index
+    /// of the shown line before it, if there is one, and `hidden` are the annotations of the line
+    /// just before it, where that is hidden.
     ///
     /// # Errors
     ///
@@ -144,7 +145,7 @@ impl<'files, F: Files<'files>> LinePlanner<'files, F> {
     /// - Any other error: that of the lookup.
     fn push_shown<'e, 'd>(
         &self,
-        last: Option<usize>,
+        previous: Option<usize>,
         hidden: &'e [Annotation<'d, F::FileId>],
         line: LineInfo,
         annotations: &'e [Annotation<'d, F::FileId>],
@@ -154,15 +155,15 @@ impl<'files, F: Files<'files>> LinePlanner<'files, F> {
         ensures added { OnOk result
             (AddsPlanned F.database self.now snippet_lines.old.items
             snippet_lines.new.items
-            (lines_to last (map annotation_view hidden.now) line.index
+            (lines_to previous (map annotation_view hidden.now) line.index
             (map annotation_view annotations.now))) }
         ensures failed { FailsBy (numbers_failure F.database self.now (fills_of
-            (lines_to last (map annotation_view hidden.now) line.index
+            (lines_to previous (map annotation_view hidden.now) line.index
             (map annotation_view annotations.now))))
             result }
     {
         self.push_gap(
-            gap_before(last, line.index),
+            gap_before(previous, line.index),
             hidden,
             annotations,
             snippet_lines,
@@ -196,7 +197,7 @@ impl<'files, F: Files<'files>> LinePlanner<'files, F> {
         ensures failed { FailsBy (numbers_failure F.database self.now
             (fills_of (lines_of (map annotation_view annotations.now)))) result }
     {
-        let mut last = None;
+        let mut previous = None;
         let mut hidden = 0;
         let mut at = 0;
         while at < annotations.len() {
@@ -204,13 +205,13 @@ impl<'files, F: Files<'files>> LinePlanner<'files, F> {
             let end = at + line_len(&annotations[at..], line.index);
             if shows_line(&annotations[at]) {
                 self.push_shown(
-                    last,
+                    previous,
                     &annotations[hidden..at],
                     line,
                     &annotations[at..end],
                     snippet_lines,
                 )?;
-                last = Some(line.index);
+                previous = Some(line.index);
                 hidden = end;
             } else {
                 hidden = at;

@@ -71,14 +71,14 @@ fn push_snippet<'files, 'e, 'd, F: Files<'files>>(
     Ok(snippet_lines.len() - before)
 }
 
-/// Returns the plan of the snippet of a file, which has this many lines: looks up the name of the
-/// file, and the location at which the snippet starts.
+/// Returns the plan of a file's snippet of `line_total` lines: looks up the name of the file, and
+/// the location at which the snippet starts.
 ///
 /// # Errors
 ///
 /// As [`SourceFile::locus`].
 #[inline(always)]
-fn plan_snippet<'files, 'e, F: Files<'files>>(
+fn locate_snippet<'files, 'e, F: Files<'files>>(
     alloc: Global,
     files: &'files F,
     file: &'e LabeledFile<F::FileId>,
@@ -150,7 +150,7 @@ pub fn plan_snippets<'files, 'e, 'd, F: Files<'files>>(
         let own = &collected.annotations[start..start + len];
         let line_total = push_snippet(files, file.id, layout, own, snippet_lines)?;
         start += len;
-        match plan_snippet(alloc, files, file, line_total) {
+        match locate_snippet(alloc, files, file, line_total) {
             Ok(snippet_plan) => snippet_plans.push(snippet_plan)?,
             Err(failed) => located = first_failed(located, failed),
         }

@@ -1,4 +1,4 @@
--- The best style of some labels, found label by label.
+-- The style that takes precedence among those of some labels, found label by label.
 use Rattle.std.specs.Prelude.{Bool, List, filter, fold, Option, Some, None, if◌then◌else◌}
 use Rattle.std.specs.List.{list_any}
 use Rattle.codespan_picture.specs.Types.{LabelStyle, Primary}
@@ -12,7 +12,7 @@ abbrev pub primary_first : Option LabelStyle → LabelStyle → Option LabelStyl
 primary_first (Some Primary) style = Some Primary
 primary_first _ style = Some style
 
--- the best style among what was found and the labels that pass
+-- the style that takes precedence among what was found and those of the labels that pass
 abbrev pub best_from : (LabelModel → Bool) → Option LabelStyle → List LabelModel → Option LabelStyle
 best_from passes found xs =
     fold (λ best (x : LabelModel). primary_first best x.style) found (filter passes xs)

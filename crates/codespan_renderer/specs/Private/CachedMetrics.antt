@@ -9,12 +9,12 @@ use Rattle.codespan_renderer.specs.declared.term.renderer.char_metrics.CharMetri
 use Rattle.codespan_renderer.specs.declared.term.renderer.cached.cached_metrics.CachedMetrics.{CachedMetrics}
 use Rattle.codespan_renderer.specs.Private.MetricsLeft.{Afters, metrics_from, metrics_left, no_more}
 
--- the characters that are left: the cached ones, and then those of the scan
+-- the characters that are left: the cached ones, and then those of the iterator
 abbrev pub cached_left : CachedMetrics → List Metrics
 cached_left s = s.cached.now ++ metrics_left s.rest
 
--- the cached characters of a text and those of the scan are all of them, whatever is after the
--- last one
+-- the cached characters of a text and those of the iterator are all of them, whatever is after
+-- the last one
 abbrev pub AreCached : ℕ → List ℕ → List Metrics → CharMetrics → Type 0
 AreCached tab text cached rest =
     (after : Afters) → cached ++ metrics_from after rest ≡ metrics_then after tab 0 0 (chars text)
@@ -24,7 +24,7 @@ abbrev pub metrics_within : Option ℕ → List Metrics → List Metrics
 metrics_within None cs = []
 metrics_within (Some byte_index) cs = metrics_up_to byte_index cs
 
--- all characters that the scan has left begin past the byte index up to which they are cached
+-- all characters that the iterator has left begin past the byte index up to which they are cached
 abbrev pub ReachesPast : Option ℕ → CharMetrics → Type 0
 ReachesPast reach rest = metrics_within reach (metrics_from no_more rest) ≡ []
 

@@ -28,7 +28,7 @@ metrics_from after s =
 abbrev pub metrics_left : CharMetrics → List Metrics
 metrics_left s = metrics_from (after_last s.to_end) s
 
--- a scan goes over a character
+-- the iterator goes over a character
 pub record GoesOver (c : Metrics) (old new : CharMetrics) : Type 0 where
   pub yields : (after : Afters) → metrics_from after old ≡ c ∷ metrics_from after new
   pub here : c.byte_index ≡ old.byte_index
@@ -37,14 +37,14 @@ pub record GoesOver (c : Metrics) (old new : CharMetrics) : Type 0 where
   pub byte_index : new.byte_index ≡ old.byte_index + c.bytes
   pub column : new.column ≡ old.column + c.width
 
--- a scan has gone over all characters, and stays where it is
+-- the iterator has gone over all characters, and stays where it is
 pub record IsPastLast (old new : CharMetrics) : Type 0 where
   pub none : (after : Afters) → metrics_from after old ≡ after old.byte_index old.column
   pub still : (after : Afters) → metrics_from after new ≡ after old.byte_index old.column
   pub byte_index : new.byte_index ≡ old.byte_index
   pub column : new.column ≡ old.column
 
--- a scan returns its next character, or none is left
+-- the iterator returns its next character, or none is left
 abbrev pub YieldsCharacter : CharMetrics → Option Metrics → CharMetrics → Type 0
 YieldsCharacter old (Some c) new = GoesOver c old new
 YieldsCharacter old None new = IsPastLast old new

@@ -44,7 +44,7 @@ starts_left s = single_label_views (drop s.next s.labels.now)
 
 -- the cursor has passed the labels that start before this byte index: none of them starts in a
 -- later character
-pub record HasPassed (byte_index : ℕ) (s : StartCursor) : Type 0 where
+pub record HasPassedStarts (byte_index : ℕ) (s : StartCursor) : Type 0 where
   pub is : (c : Metrics) (found : Option LabelStyle) → byte_index ≤ c.byte_index
       → best_from (starts_in c) found (filter has_message (single_label_views s.labels.now))
       ≡ best_from (starts_in c) found (filter has_message (starts_left s))

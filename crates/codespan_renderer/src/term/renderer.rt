@@ -20,7 +20,7 @@ use codespan_row_parts::parts::write_newline;
 use codespan_rows::header::{write_header, write_snippet_start};
 use codespan_rows::line_rows::write_line;
 use codespan_rows::notes::{write_break, write_empty, write_note};
-use row_writer::{RowWriter, no_write, with_error};
+use row_writer::{RowWriter, with_error, write_zero_error};
 use scanned_line::ScannedLine;
 use std::cell::Cell;
 use std::io;
@@ -50,7 +50,7 @@ pub fn lanes_in_order(
 ///
 /// Each `render_` call writes whole rows, style marks included. It neither flushes nor allocates.
 /// `outer_padding` is the padding width in characters, of any size; a line number with more digits
-/// is written in full. As a [`WriteStyle`] a renderer passes on to its writer.
+/// is written in full. As a [`WriteStyle`] a renderer passes each call on to its writer.
 #[derive(Drop)]
 pub struct Renderer<'writer, 'config, W> {
     writer: &'writer mut W,
@@ -81,12 +81,12 @@ impl<'writer, 'config, W: WriteStyle> Renderer<'writer, 'config, W> {
     {
         Renderer {
             writer,
-            saved: Cell::new(no_write()),
+            saved: Cell::new(write_zero_error()),
             config,
         }
     }
 
-    /// Returns what all rows of one call share.
+    /// Returns what all rows of a line are rendered by.
     fn context(&self, severity: Severity, padding: usize) -> RowContext<'config>
         ensures { context_view result ≡ context_of (config_of self.now) severity padding }
     {
@@ -103,6 +103,7 @@ impl<'writer, 'config, W: WriteStyle> Renderer<'writer, 'config, W> {
     /// Writes a header: locus, severity, code in brackets and message. An empty code is left out.
     ///
     /// # Errors
+    ///
     /// `Io` alone: the writer fails or takes no bytes. A prefix has then been written.
     pub fn render_header(
         &mut self,
@@ -119,9 +120,10 @@ impl<'writer, 'config, W: WriteStyle> Renderer<'writer, 'config, W> {
         with_error(written, &self.saved)
     }
 
-    /// Writes an empty line.
+    /// Writes an empty line: a line feed alone.
     ///
     /// # Errors
+    ///
     /// `Io` alone: the writer fails or takes no bytes. A prefix has then been written.
     pub fn render_empty(&mut self) -> Result<(), Error>
         ensures { Renders W.sink newline self.old result self.new }
@@ -134,6 +136,7 @@ impl<'writer, 'config, W: WriteStyle> Renderer<'writer, 'config, W> {
     /// Writes the start of a snippet: `snippet_start` of the configuration, and the locus.
     ///
     /// # Errors
+    ///
     /// `Io` alone: the writer fails or takes no bytes. A prefix has then been written.
     pub fn render_snippet_start(&mut self, outer_padding: usize, locus: &Locus) -> Result<(), Error>
         ensures { Renders W.sink (rendered_start (config_of self.old) outer_padding locus.now)
@@ -153,12 +156,15 @@ impl<'writer, 'config, W: WriteStyle> Renderer<'writer, 'config, W> {
     ///
     /// Ranges are in bytes of `source`, from 0, the end exclusive. They may be in any order,
     /// reversed, past the end, or off character boundaries; one without a byte has no caret.
-    /// `num_multi_labels` is the number of the file's lanes.
+    /// `num_multi_labels` is the number of the file's lanes. `multi_labels` has for each label in
+    /// them its lane, counted from 0, its style, and what it does on the line.
     ///
     /// # Errors
+    ///
     /// `Io` alone: the writer fails or takes no bytes. A prefix has then been written.
     ///
     /// # Requires
+    ///
     /// [`lanes_in_order`] is true of `num_multi_labels` and `multi_labels`.
     pub fn render_snippet_source<'row, 'd>(
         &mut self,
@@ -195,9 +201,11 @@ impl<'writer, 'config, W: WriteStyle> Renderer<'writer, 'config, W> {
     /// Writes a row with the border and the lanes alone.
     ///
     /// # Errors
+    ///
     /// `Io` alone: the writer fails or takes no bytes. A prefix has then been written.
     ///
     /// # Requires
+    ///
     /// [`lanes_in_order`] is true of `num_multi_labels` and `multi_labels`.
     pub fn render_snippet_empty(
         &mut self,
@@ -224,9 +232,11 @@ impl<'writer, 'config, W: WriteStyle> Renderer<'writer, 'config, W> {
     /// as the Rust crate does.
     ///
     /// # Errors
+    ///
     /// `Io` alone: the writer fails or takes no bytes. A prefix has then been written.
     ///
     /// # Requires
+    ///
     /// [`lanes_in_order`] is true of `num_multi_labels` and `multi_labels`.
     pub fn render_snippet_break(
         &mut self,
@@ -252,6 +262,7 @@ impl<'writer, 'config, W: WriteStyle> Renderer<'writer, 'config, W> {
     /// Writes a note: a row for each line, the first after the note bullet; none if it is empty.
     ///
     /// # Errors
+    ///
     /// `Io` alone: the writer fails or takes no bytes. A prefix has then been written.
     pub fn render_snippet_note(&mut self, outer_padding: usize, message: &str) -> Result<(), Error>
         ensures { Renders W.sink (rendered_note (config_of self.old) outer_padding message.now)

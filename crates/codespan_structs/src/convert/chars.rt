@@ -2,7 +2,7 @@
 
 ghost use Rattle.std.specs.Prelude.{◌≡◌};
 ghost use Rattle.std.specs.Char.{InScalarRange};
-ghost use Rattle.codespan_base.specs.ConfigEquality.{IsChars};
+ghost use Rattle.codespan_base.specs.ConfigEquality.{IsEqualChars};
 ghost use Rattle.codespan_structs.specs.Converted.{chars_of, custom_chars};
 ghost use Rattle.codespan_structs.specs.ValidParts.{AreCustomChars, AreValidChars};
 
@@ -10,23 +10,27 @@ use crate::convert::text::text_of;
 use crate::raw::{RawChars, RawConfig};
 use codespan_base::term::{Chars, SnippetStart};
 
-/// Returns the characters that a configuration chooses.
+/// Returns the characters that a configuration chooses. A number above 2 counts as 2.
+///
+/// # Requires
+///
+/// [`first_invalid`](crate::validate::first_invalid) has found neither the choice of characters nor
+/// one of the caller's characters.
 pub fn convert_chars<'a>(raw: &RawConfig<'a>) -> Chars<'a>
     requires { AreValidChars raw.now }
-    ensures { IsChars (chars_of raw.now) result }
+    ensures { IsEqualChars (chars_of raw.now) result }
 {
     match raw.characters {
         0 => Chars::box_drawing(),
         1 => Chars::ascii(),
-        2 => custom_chars(&raw.chars),
-        _ => unreachable!(),
+        _ => custom_chars(&raw.chars),
     }
 }
 
 /// Returns the caller's characters.
 fn custom_chars<'a>(raw: &RawChars<'a>) -> Chars<'a>
     requires { AreCustomChars raw.now }
-    ensures { IsChars (custom_chars raw.now) result }
+    ensures { IsEqualChars (custom_chars raw.now) result }
 {
     Chars {
         snippet_start: SnippetStart::Fixed(text_of(raw.snippet_start)),

@@ -1,10 +1,10 @@
 //! The configuration.
 
-ghost use Rattle.std.specs.Prelude.{◌≡◌, ◌≤◌};
-ghost use Rattle.codespan_base.specs.ConfigEquality.{IsConfig};
+ghost use Rattle.std.specs.Prelude.{◌≡◌};
+ghost use Rattle.codespan_base.specs.ConfigEquality.{IsEqualConfig};
 ghost use Rattle.codespan_structs.specs.Converted.{config_of, display_style_of, layout_of, spelling_of};
 ghost use Rattle.codespan_structs.specs.Spellings.{spelling_by_kind};
-ghost use Rattle.codespan_structs.specs.ValidParts.{IsValidConfig};
+ghost use Rattle.codespan_structs.specs.ValidParts.{AreValidChars};
 
 use crate::convert::chars::convert_chars;
 use crate::convert::styles::convert_styles;
@@ -37,8 +37,8 @@ pub struct Settings<'a> {
 ///
 /// [`first_invalid`](crate::validate::first_invalid) has found nothing.
 pub fn convert_config<'a>(raw: &RawConfig<'a>) -> Settings<'a>
-    requires { IsValidConfig raw.now }
-    ensures config { IsConfig (config_of raw.now) result.config }
+    requires { AreValidChars raw.now }
+    ensures config { IsEqualConfig (config_of raw.now) result.config }
     ensures spelling { spelling_by_kind result.spelling ≡ spelling_of raw.now }
 {
     Settings {
@@ -49,8 +49,8 @@ pub fn convert_config<'a>(raw: &RawConfig<'a>) -> Settings<'a>
 
 /// Returns the configuration itself.
 fn config_of<'a>(raw: &RawConfig<'a>) -> Config<'a>
-    requires { IsValidConfig raw.now }
-    ensures { IsConfig (config_of raw.now) result }
+    requires { AreValidChars raw.now }
+    ensures { IsEqualConfig (config_of raw.now) result }
 {
     Config {
         display_style: display_style_of(raw.display_style),
@@ -64,41 +64,35 @@ fn config_of<'a>(raw: &RawConfig<'a>) -> Config<'a>
     }
 }
 
-/// Returns the style of the output of this number.
+/// Returns the display style of a number. A number above 2 counts as 2.
 fn display_style_of(number: u32) -> DisplayStyle
-    requires { number ≤ 2 }
     ensures { result ≡ display_style_of number }
 {
     match number {
         0 => DisplayStyle::Rich,
         1 => DisplayStyle::Medium,
-        2 => DisplayStyle::Short,
-        _ => unreachable!(),
+        _ => DisplayStyle::Short,
     }
 }
 
-/// Returns the layout of this number.
+/// Returns the layout of a number. A number above 1 counts as 1.
 fn layout_of(number: u32) -> Layout
-    requires { number ≤ 1 }
     ensures { result ≡ layout_of number }
 {
     match number {
         0 => Layout::Classic,
-        1 => Layout::Unbroken,
-        _ => unreachable!(),
+        _ => Layout::Unbroken,
     }
 }
 
-/// Returns how a configuration spells style marks.
+/// Returns how a configuration spells style marks. A number above 3 counts as 3.
 fn spelling_of(raw: &RawConfig<'_>) -> Spelling
-    requires { IsValidConfig raw.now }
     ensures { spelling_by_kind result ≡ spelling_of raw.now }
 {
     match raw.spelling {
         0 => Spelling::Plain,
         1 => Spelling::Ansi(Styles::default()),
         2 => Spelling::Ansi(convert_styles(&raw.styles)),
-        3 => Spelling::StyleMarks,
-        _ => unreachable!(),
+        _ => Spelling::StyleMarks,
     }
 }

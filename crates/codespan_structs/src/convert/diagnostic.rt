@@ -1,12 +1,12 @@
 //! The diagnostic.
 
-ghost use Rattle.std.specs.Prelude.{◌≡◌, ◌≤◌, All, IfOk, map, string_bytes};
+ghost use Rattle.std.specs.Prelude.{◌≡◌, All, IfOk, map, string_bytes};
 ghost use Rattle.std.specs.Str.{IsUtf8};
 ghost use Rattle.std.specs.Option.{option_map};
 ghost use Rattle.codespan_base.specs.Diagnostics.{diagnostic_view, label_view};
 ghost use Rattle.codespan_structs.specs.Converted.{bytes_of, code_of, label_of, label_style_of, first_byte_of, severity_of, view_of};
-ghost use Rattle.codespan_structs.specs.Validity.{IsValidText};
-ghost use Rattle.codespan_structs.specs.ValidParts.{IsValidDiagnostic, IsValidLabel};
+ghost use Rattle.codespan_structs.specs.Validity.{HasTextMessage, IsValidText};
+ghost use Rattle.codespan_structs.specs.ValidParts.{IsValidDiagnostic};
 
 use crate::convert::text::string_of;
 use crate::error::OutOfMemory;
@@ -40,9 +40,8 @@ pub fn convert_diagnostic(
     })
 }
 
-/// Returns the severity of this number.
+/// Returns the severity of a number. A number above 4 counts as 4.
 fn severity_of(number: u32) -> Severity
-    requires { number ≤ 4 }
     ensures { result ≡ severity_of number }
 {
     match number {
@@ -50,8 +49,7 @@ fn severity_of(number: u32) -> Severity
         1 => Severity::Note,
         2 => Severity::Warning,
         3 => Severity::Error,
-        4 => Severity::Bug,
-        _ => unreachable!(),
+        _ => Severity::Bug,
     }
 }
 
@@ -72,7 +70,7 @@ fn labels_of(
     files: &[RawFile<'_>],
     raw: &[RawLabel<'_>],
 ) -> Result<Vec<Label<usize>>, OutOfMemory>
-    requires { All IsValidLabel raw.now }
+    requires { All HasTextMessage raw.now }
     ensures { IfOk result (λ labels.
         map label_view labels.items ≡ map (label_of files.now) raw.now) }
 {
@@ -89,7 +87,7 @@ fn label_of(
     files: &[RawFile<'_>],
     raw: &RawLabel<'_>,
 ) -> Result<Label<usize>, AllocError>
-    requires { IsValidLabel raw.now }
+    requires { HasTextMessage raw.now }
     ensures { IfOk result (λ label. label_view label ≡ label_of files.now raw.now) }
 {
     let first_byte = first_byte_of(files, raw.file);
@@ -101,7 +99,7 @@ fn label_of(
     })
 }
 
-/// Returns the byte of a file at which its source starts; 0 of none.
+/// Returns the byte index in a file of the first byte of its source; 0 where there is no such file.
 fn first_byte_of(files: &[RawFile<'_>], id: usize) -> usize
     ensures { result ≡ first_byte_of files.now id }
 {
@@ -111,15 +109,13 @@ fn first_byte_of(files: &[RawFile<'_>], id: usize) -> usize
     }
 }
 
-/// Returns the label style of this number.
+/// Returns the label style of a number. A number above 1 counts as 1.
 fn label_style_of(number: u32) -> LabelStyle
-    requires { number ≤ 1 }
     ensures { result ≡ label_style_of number }
 {
     match number {
         0 => LabelStyle::Primary,
-        1 => LabelStyle::Secondary,
-        _ => unreachable!(),
+        _ => LabelStyle::Secondary,
     }
 }
 

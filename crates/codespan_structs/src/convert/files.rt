@@ -8,7 +8,7 @@ ghost use Rattle.codespan_structs.specs.ValidParts.{IsValidFile};
 use crate::convert::text::text_of;
 use crate::error::OutOfMemory;
 use crate::raw::RawFile;
-use crate::source_file::{LinedText, NumberedText, SourceFile, SourceText};
+use crate::source_file::{NewlineText, SourceFile, SourceText, StatedText};
 use crate::source_files::SourceFiles;
 use std::alloc::Global;
 
@@ -49,9 +49,9 @@ fn source_text_of<'a>(alloc: Global, raw: &RawFile<'a>) -> Result<SourceText<'a>
     let name = text_of(raw.name);
     let source = text_of(raw.source);
     Ok(if raw.lines.is_empty() {
-        let text = NumberedText::new(alloc, name, source, raw.first_line);
-        SourceText::Numbered(text.map_err(|_| OutOfMemory)?)
+        let text = NewlineText::new(alloc, name, source, raw.first_line);
+        SourceText::Newline(text.map_err(|_| OutOfMemory)?)
     } else {
-        SourceText::Lined(LinedText::new(name, source, raw.first_byte, raw.lines))
+        SourceText::Stated(StatedText::new(name, source, raw.first_byte, raw.lines))
     })
 }

@@ -6,11 +6,15 @@ ghost use Rattle.std.specs.Str.{IsUtf8};
 use std::alloc::{AllocError, Global};
 
 /// Returns the text of these bytes.
+///
+/// # Requires
+///
+/// The bytes are UTF-8.
 pub fn text_of(bytes: &[u8]) -> &str
     requires { IsUtf8 bytes.now }
     ensures { result.now ≡ bytes.now }
 {
-    // SAFETY: the bytes are UTF-8, as the contract requires: `first_invalid` has looked at them.
+    // SAFETY: the bytes are UTF-8, as the contract requires: `first_invalid` has checked them.
     unsafe { std::str::from_utf8_unchecked(bytes) }
 }
 
@@ -19,6 +23,10 @@ pub fn text_of(bytes: &[u8]) -> &str
 /// # Errors
 ///
 /// [`AllocError`] where an allocation fails.
+///
+/// # Requires
+///
+/// The bytes are UTF-8.
 pub fn string_of(alloc: Global, bytes: &[u8]) -> Result<String, AllocError>
     requires { IsUtf8 bytes.now }
     ensures { IfOk result (λ text. string_bytes text ≡ bytes.now) }

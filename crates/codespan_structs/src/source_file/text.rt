@@ -5,7 +5,7 @@ ghost use Rattle.codespan_base.specs.FileModel.{line_of};
 ghost use Rattle.codespan_base.specs.LawfulFiles.{FailsBy};
 ghost use Rattle.codespan_structs.specs.SourceTexts.{IsRangeIn, past_last};
 
-use crate::source_file::{LinedText, NumberedText};
+use crate::source_file::{NewlineText, StatedText};
 use codespan_base::files::Error;
 use std::ops::Range;
 
@@ -13,9 +13,9 @@ use std::ops::Range;
 #[derive(Drop)]
 pub enum SourceText<'a> {
     /// Cut at newlines.
-    Numbered(NumberedText<'a>),
-    /// Cut into given lines.
-    Lined(LinedText<'a>),
+    Newline(NewlineText<'a>),
+    /// Cut into lines that the caller states.
+    Stated(StatedText<'a>),
 }
 
 impl<'a> SourceText<'a> {
@@ -26,8 +26,8 @@ impl<'a> SourceText<'a> {
         ensures { result.now ≡ (cut_of self.now).name }
     {
         match self {
-            SourceText::Numbered(text) => text.name(),
-            SourceText::Lined(text) => text.name(),
+            SourceText::Newline(text) => text.name(),
+            SourceText::Stated(text) => text.name(),
         }
     }
 
@@ -36,8 +36,8 @@ impl<'a> SourceText<'a> {
         ensures { result.now ≡ (cut_of self.now).text }
     {
         match self {
-            SourceText::Numbered(text) => text.source(),
-            SourceText::Lined(text) => text.source(),
+            SourceText::Newline(text) => text.source(),
+            SourceText::Stated(text) => text.source(),
         }
     }
 
@@ -46,8 +46,8 @@ impl<'a> SourceText<'a> {
         ensures { result ≡ line_of (cut_of self.now).starts byte_index }
     {
         match self {
-            SourceText::Numbered(text) => text.line_index(byte_index),
-            SourceText::Lined(text) => text.line_index(byte_index),
+            SourceText::Newline(text) => text.line_index(byte_index),
+            SourceText::Stated(text) => text.line_index(byte_index),
         }
     }
 
@@ -56,8 +56,8 @@ impl<'a> SourceText<'a> {
         ensures { result ≡ (cut_of self.now).number line_index }
     {
         match self {
-            SourceText::Numbered(text) => text.line_number(line_index),
-            SourceText::Lined(text) => text.line_number(line_index),
+            SourceText::Newline(text) => text.line_number(line_index),
+            SourceText::Stated(text) => text.line_number(line_index),
         }
     }
 
@@ -71,8 +71,8 @@ impl<'a> SourceText<'a> {
         ensures failed { FailsBy (past_last (cut_of self.now).starts line_index) result }
     {
         match self {
-            SourceText::Numbered(text) => text.line_range(line_index),
-            SourceText::Lined(text) => text.line_range(line_index),
+            SourceText::Newline(text) => text.line_range(line_index),
+            SourceText::Stated(text) => text.line_range(line_index),
         }
     }
 }

@@ -14,8 +14,9 @@ const CUSTOM_CHARACTERS: u32 = 2;
 /// The spelling in the caller's styles.
 const CUSTOM_STYLES: u32 = 2;
 
-/// Returns whether the caller's text before a locus is UTF-8, where it is chosen.
-pub fn has_snippet_start(config: &RawConfig<'_>) -> bool
+/// Returns whether the caller's text before a locus is UTF-8, or is not read, since `characters`
+/// does not choose it.
+pub fn is_snippet_start_valid(config: &RawConfig<'_>) -> bool
     ensures { IsTrue result
         ↔ (config.now.characters ≡ 2 → IsUtf8 config.now.chars.snippet_start.now) }
 {

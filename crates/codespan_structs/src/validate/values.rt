@@ -21,7 +21,7 @@ pub fn is_character(code: u32) -> bool
     char::from_u32(code).is_some()
 }
 
-/// Returns whether the colors of a style are none but those of the header.
+/// Returns whether both colors of a style are numbers of colors: from 0, for none, to 8.
 pub fn is_color_spec(spec: &RawColorSpec) -> bool
     ensures { IsTrue result ↔ IsColorSpec spec.now }
 {

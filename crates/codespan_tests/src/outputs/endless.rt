@@ -44,7 +44,7 @@ fn endless_tab(rt: HostRuntime) -> Result<(), Fail> {
     Ok(())
 }
 
-/// So it is by a writer of styles.
+/// The same over a writer of styles without color.
 #[test]
 fn endless_tab_without_color(rt: HostRuntime) -> Result<(), Fail> {
     let file = SimpleFile::new(rt.alloc(), "f", "\tx")?;

@@ -12,7 +12,7 @@ use std::ops::Range;
 use std::process::Abort;
 use std::test::Fail;
 
-/// A lookup of a [`Listing`].
+/// A lookup of a [`Listing`], with its byte or its line, if it has one. Both are 0-based indices.
 #[derive(Drop)]
 enum LookupCall {
     Name,
@@ -38,8 +38,8 @@ impl LookupCall {
         failed
     }
 
-    /// Returns whether the error is that of this lookup.
-    fn is_known<T>(&self, returned: &Result<T, Error>) -> bool {
+    /// Returns whether the error that was returned is that of this lookup.
+    fn failed_in<T>(&self, returned: &Result<T, Error>) -> bool {
         let numbers = match *self {
             LookupCall::Name => (1, 0),
             LookupCall::Source => (2, 0),
@@ -75,7 +75,7 @@ fn failed_lookups(rt: HostRuntime) -> Result<(), Fail> {
         let failed = lookup.failed_beside(Failed::default());
         let files = Listing::new(rt.alloc(), "f", "ab", failed)?;
         let returned = returned_after(&rt, &files, &diagnostic, prefix)?;
-        assert!(rt; lookup.is_known(&returned.rendered) && lookup.is_known(&returned.emitted));
+        assert!(rt; lookup.failed_in(&returned.rendered) && lookup.failed_in(&returned.emitted));
     }
     Ok(())
 }
@@ -198,7 +198,7 @@ fn assert_first_error(
     let files = Listing::new(*diagnostic.labels.allocator(), "f", source, failed)?;
     let (config, prefix) = (around_labels(layout), written_before(first, layout));
     let returned = assert_view_writes(rt, &config, &files, diagnostic, prefix)?;
-    assert!(rt; first.is_known(&returned));
+    assert!(rt; first.failed_in(&returned));
     Ok(())
 }
 
@@ -244,7 +244,7 @@ fn assert_failed_number(
     let files = Listing::new(alloc, "f", "a\nb\nc", failed)?;
     let diagnostic = with_two_labels(alloc, 0..1, 4..5)?;
     let returned = assert_view_writes(rt, &config, &files, &diagnostic, prefix)?;
-    assert!(rt; lookup.is_known(&returned));
+    assert!(rt; lookup.failed_in(&returned));
     Ok(())
 }
 

@@ -17,8 +17,8 @@ fn source_of(alloc: Global) -> Result<String, Error> {
     Ok(source)
 }
 
-/// Returns a label on the line that its index says, with its index as its message. Those of a line
-/// have ranges that overlap.
+/// Returns the label of a position: on the line of its remainder by 50, 0-based, with the position
+/// in its message. Those of a line have ranges that overlap.
 fn label_of(alloc: Global, position: usize) -> Result<Label<()>, Error> {
     let style = if position % 2 == 0 {
         LabelStyle::Primary
@@ -50,18 +50,28 @@ fn output(alloc: Global) -> Result<String, Error> {
     Ok(text)
 }
 
-/// Returns the position of an index in an order: 0 for that of the indices, 1 for the reverse one,
-/// and else odd indices before even ones.
-fn position_at(order: usize, index: usize) -> usize {
+/// An order of the labels of positions 0 to 199.
+#[derive(Clone, Copy)]
+enum Order {
+    /// That of the positions.
+    Forward,
+    /// From the last position to the first.
+    Backward,
+    /// Odd positions before even ones.
+    OddFirst,
+}
+
+/// Returns the position of the label that is at this index in an order.
+fn position_at(order: Order, index: usize) -> usize {
     match order {
-        0 => index,
-        1 => 199_usize.saturating_sub(index),
-        _ => index % 100 * 2 + (index < 100) as usize,
+        Order::Forward => index,
+        Order::Backward => 199_usize.saturating_sub(index),
+        Order::OddFirst => index % 100 * 2 + (index < 100) as usize,
     }
 }
 
 /// Returns a diagnostic with 200 labels in this order.
-fn with_labels_in(alloc: Global, order: usize) -> Result<Diagnostic<()>, Error> {
+fn with_labels_in(alloc: Global, order: Order) -> Result<Diagnostic<()>, Error> {
     let mut diagnostic = Diagnostic::error(alloc);
     for index in 0..200 {
         let label = label_of(alloc, position_at(order, index))?;
@@ -75,7 +85,7 @@ fn assert_in_order(
     rt: &impl Abort,
     alloc: Global,
     files: &SimpleFile<&str, &str>,
-    order: usize,
+    order: Order,
     output: &str,
 ) -> Result<(), Error> {
     let diagnostic = with_labels_in(alloc, order)?;
@@ -87,7 +97,7 @@ fn label_orders(rt: HostRuntime) -> Result<(), Fail> {
     let source = source_of(rt.alloc())?;
     let files = SimpleFile::new(rt.alloc(), "f", source.as_str())?;
     let output = output(rt.alloc())?;
-    for order in 0..3 {
+    for order in [Order::Forward, Order::Backward, Order::OddFirst] {
         assert_in_order(&rt, rt.alloc(), &files, order, output.as_str())?;
     }
     Ok(())

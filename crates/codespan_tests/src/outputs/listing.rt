@@ -8,21 +8,21 @@ use codespan_reporting::files::{Error, Files, Location, SimpleFile};
 use std::alloc::Global;
 use std::ops::Range;
 
-/// Which lookups fail. Each fails with a `given` of its kind, and with the line or the byte that
-/// was looked up as `max`.
+/// Which lookups fail. Each fails with `ColumnTooLarge`: `given` is the number of its kind, and
+/// `max` the line or the byte that was looked up, or 0. Both are 0-based indices.
 #[derive(Drop, Default)]
 pub struct Failed {
-    /// The name: 1.
+    /// The name; `given` is 1.
     pub name: bool,
-    /// The source: 2.
+    /// The source; `given` is 2.
     pub source: bool,
-    /// The location of any byte: 3.
+    /// The location of any byte; `given` is 3.
     pub location: bool,
-    /// The line of this byte, and of those after it: 4.
+    /// The line of this byte, and of those after it; `given` is 4.
     pub line_index: Option<usize>,
-    /// The number of this line: 5.
+    /// The number of this line; `given` is 5.
     pub line_number: Option<usize>,
-    /// The range of this line: 6. A line past the end fails with `LineTooLarge`.
+    /// The range of this line; `given` is 6. A line past the end fails with `LineTooLarge`.
     pub line_range: Option<usize>,
 }
 
@@ -186,7 +186,7 @@ impl<'a, 'text: 'a> Files<'a> for Listing<'text> {
 
     ghost same_is = { λ s. refl };
 
-    // A line past the last one fails as there.
+    // A line past the last one fails as in its `SimpleFile`.
     ghost past_end = { λ s _ i.
         let text = (source_of s.file).now in
         let name = Some (name_of s.file).now in

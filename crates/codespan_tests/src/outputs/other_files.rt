@@ -1,6 +1,6 @@
 //! A failed line number, a missing file, and a view and a renderer of two configurations.
 
-use crate::outputs::rendering::{assert_view_writes, files_of, render_alike};
+use crate::outputs::rendering::{assert_view_writes, files_of, in_first_and_eighth, render_alike};
 use codespan_reporting::diagnostic::{Diagnostic, Label};
 use codespan_reporting::files::{Error, MappedFile, SimpleFile};
 use codespan_reporting::term::{Chars, Config, Layout, RichDiagnostic, emit_into_string};
@@ -30,15 +30,7 @@ fn mapped_overflow(rt: HostRuntime) -> Result<(), Fail> {
     Ok(())
 }
 
-/// Returns a diagnostic with a label in the first file, and one in the eighth.
-fn in_first_and_eighth(alloc: Global) -> Result<Diagnostic<usize>, Error> {
-    Diagnostic::error(alloc)
-        .with_message("m")?
-        .with_label(Label::primary(alloc, 0, 0..1))?
-        .with_label(Label::primary(alloc, 7, 0..1))
-}
-
-/// A missing file fails with its error ..
+/// A call that emits fails with `FileMissing` where a label is in a missing file.
 #[test]
 fn missing_file(rt: HostRuntime) -> Result<(), Fail> {
     let files = files_of(rt.alloc(), &[("f", "ab")])?;
@@ -48,7 +40,7 @@ fn missing_file(rt: HostRuntime) -> Result<(), Fail> {
     Ok(())
 }
 
-/// .. and nothing is written.
+/// A view fails with `FileMissing` there, and writes nothing.
 #[test]
 fn missing_file_in_view(rt: HostRuntime) -> Result<(), Fail> {
     let files = files_of(rt.alloc(), &[("f", "ab")])?;
@@ -89,8 +81,8 @@ fn view_config<'chars>(layout: Layout) -> Config<'chars> {
     }
 }
 
-/// Renders a multi-line label where the configurations of the view and of the renderer differ in
-/// all that the output shows.
+/// Asserts the output of a multi-line label where the configurations of the view and of the
+/// renderer differ in all that the output shows.
 fn assert_rendered_by_two(
     rt: &impl Abort,
     alloc: Global,

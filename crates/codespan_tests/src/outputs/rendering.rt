@@ -2,7 +2,7 @@
 //! outputs.
 
 use crate::asserts::{assert_bytes, assert_text};
-use codespan_reporting::diagnostic::Diagnostic;
+use codespan_reporting::diagnostic::{Diagnostic, Label};
 use codespan_reporting::files::{Error, Files, SimpleFiles};
 use codespan_reporting::term::{
     Ansi, Config, NoColor, PlainWriter, Renderer, RichDiagnostic, Styles, StylesWriter, WriteColor,
@@ -24,6 +24,14 @@ pub fn files_of<'text>(
     Ok(files)
 }
 
+/// Returns a diagnostic with a label in the first file, and one in the eighth.
+pub fn in_first_and_eighth(alloc: Global) -> Result<Diagnostic<usize>, Error> {
+    Diagnostic::error(alloc)
+        .with_message("m")?
+        .with_label(Label::primary(alloc, 0, 0..1))?
+        .with_label(Label::primary(alloc, 7, 0..1))
+}
+
 /// What a rendering returned, and what it wrote.
 #[derive(Drop)]
 pub struct Rendered {
@@ -38,9 +46,39 @@ impl Rendered {
         self.returned
     }
 
-    /// Returns whether a rendering returned `Ok` exactly where this one did, and wrote the same.
+    /// Returns whether a rendering returned what this one did, and wrote the same.
     fn is_same(&self, returned: &Result<(), Error>, text: &[u8]) -> bool {
-        returned.is_ok() == self.returned.is_ok() && text == self.text.as_slice()
+        let is_same_return = match &self.returned {
+            Ok(_) => returned.is_ok(),
+            Err(error) => matches!(returned, Err(other) if is_same_error(error, other)),
+        };
+        is_same_return && text == self.text.as_slice()
+    }
+}
+
+/// Returns the numbers of an error, its `given` and its `max`; 0 for one that it does not have.
+fn numbers_of(error: &Error) -> (usize, usize) {
+    match error {
+        Error::IndexTooLarge { given, max } => (*given, *max),
+        Error::LineTooLarge { given, max } => (*given, *max),
+        Error::ColumnTooLarge { given, max } => (*given, *max),
+        Error::InvalidCharBoundary { given } => (*given, 0),
+        _ => (0, 0),
+    }
+}
+
+/// Returns whether two errors are the same. Of two that are `Io` the causes are not compared.
+fn is_same_error(left: &Error, right: &Error) -> bool {
+    match (left, right) {
+        (Error::FileMissing, Error::FileMissing)
+        | (Error::IndexTooLarge { .. }, Error::IndexTooLarge { .. })
+        | (Error::LineTooLarge { .. }, Error::LineTooLarge { .. })
+        | (Error::ColumnTooLarge { .. }, Error::ColumnTooLarge { .. })
+        | (Error::InvalidCharBoundary { .. }, Error::InvalidCharBoundary { .. })
+        | (Error::Io(_), Error::Io(_))
+        | (Error::FormatError, Error::FormatError)
+        | (Error::OutOfMemory, Error::OutOfMemory) => numbers_of(left) == numbers_of(right),
+        _ => false,
     }
 }
 
@@ -98,9 +136,9 @@ fn is_same_in_color<'files, F: Files<'files>>(
     Ok(plain.is_same(&returned, text.as_slice()))
 }
 
-/// Renders a view plain, over [`NoColor`], and over [`Ansi`]. Asserts that all three or none return
-/// `Ok`, and that they write the same, once the escape sequences are taken out. Returns the plain
-/// rendering.
+/// Renders a view plain, over [`NoColor`], and over [`Ansi`]. Asserts that all three return the
+/// same, `Ok` or an error, and write the same, once the escape sequences are taken out. Returns the
+/// plain rendering.
 pub fn render_alike<'files, F: Files<'files>>(
     rt: &impl Abort,
     alloc: Global,
@@ -114,8 +152,8 @@ pub fn render_alike<'files, F: Files<'files>>(
     Ok(plain)
 }
 
-/// Asserts that the view of a diagnostic writes this text, plain and in colors. Returns the plain
-/// result; in colors it is `Ok` exactly where that is.
+/// Asserts that the view of a diagnostic writes this text, plain and in colors. Returns the result,
+/// which is the same in all of them.
 pub fn assert_view_writes<'files, F: Files<'files>>(
     rt: &impl Abort,
     config: &Config<'_>,

@@ -1,11 +1,11 @@
 //! Tests of short and medium style, and of the calls that emit.
 
 use crate::asserts::{assert_bytes, assert_text};
-use crate::outputs::rendering::{assert_output, files_of};
+use crate::outputs::rendering::{assert_output, files_of, in_first_and_eighth};
 use codespan_reporting::diagnostic::{Diagnostic, Label};
 use codespan_reporting::files::{Error, SimpleFiles};
 use codespan_reporting::term::{
-    Config, DisplayStyle, PlainWriter, Renderer, RichDiagnostic, ShortDiagnostic, emit,
+    Config, DisplayStyle, PlainWriter, Renderer, RichDiagnostic, ShortDiagnostic, WriteStyle, emit,
     emit_to_io_write, emit_to_string, emit_to_write_style,
 };
 use std::alloc::Global;
@@ -23,10 +23,10 @@ fn in_style<'chars>(display_style: DisplayStyle) -> Config<'chars> {
 }
 
 /// A style, what a string or a vector holds, and what it holds once a bug is appended.
-type Row<'text> = (DisplayStyle, &'text str, &'text str);
+type Appended<'text> = (DisplayStyle, &'text str, &'text str);
 
-/// The rows.
-static ROWS: [Row<'static>; 3] = [
+/// What is appended in each style.
+static APPENDED: [Appended<'static>; 3] = [
     (DisplayStyle::Rich, "kept", "keptbug: \n\n"),
     (DisplayStyle::Medium, "kept", "keptbug: \n"),
     (DisplayStyle::Short, "kept", "keptbug: \n"),
@@ -37,9 +37,9 @@ fn assert_to_string(
     rt: &impl Abort,
     files: &SimpleFiles<&str, &str>,
     bug: &Diagnostic<usize>,
-    row: &Row<'_>,
+    appended: &Appended<'_>,
 ) -> Result<(), Error> {
-    let (style, prefix, text) = row;
+    let (style, prefix, text) = appended;
     let config = in_style(*style);
     let mut string = prefix.to_string(*bug.labels.allocator())?;
     emit_to_string(&mut string, &config, files, bug)?;
@@ -52,9 +52,9 @@ fn assert_to_io_write(
     rt: &impl Abort,
     files: &SimpleFiles<&str, &str>,
     bug: &Diagnostic<usize>,
-    row: &Row<'_>,
+    appended: &Appended<'_>,
 ) -> Result<(), Error> {
-    let (style, prefix, text) = row;
+    let (style, prefix, text) = appended;
     let mut bytes = prefix.to_string(*bug.labels.allocator())?.into_bytes();
     emit_to_io_write(&mut bytes, &in_style(*style), files, bug)?;
     assert_bytes(rt, bytes.as_slice(), text);
@@ -66,9 +66,9 @@ fn assert_emit(
     rt: &impl Abort,
     files: &SimpleFiles<&str, &str>,
     bug: &Diagnostic<usize>,
-    row: &Row<'_>,
+    appended: &Appended<'_>,
 ) -> Result<(), Error> {
-    let (style, prefix, text) = row;
+    let (style, prefix, text) = appended;
     let mut bytes = prefix.to_string(*bug.labels.allocator())?.into_bytes();
     emit(&mut bytes, &in_style(*style), files, bug)?;
     assert_bytes(rt, bytes.as_slice(), text);
@@ -80,31 +80,42 @@ fn assert_emit(
 fn bare_bug(rt: HostRuntime) -> Result<(), Fail> {
     let files = SimpleFiles::new(rt.alloc());
     let bug = Diagnostic::bug(rt.alloc());
-    for row in &ROWS {
-        assert_to_string(&rt, &files, &bug, row)?;
-        assert_to_io_write(&rt, &files, &bug, row)?;
-        assert_emit(&rt, &files, &bug, row)?;
+    for appended in &APPENDED {
+        assert_to_string(&rt, &files, &bug, appended)?;
+        assert_to_io_write(&rt, &files, &bug, appended)?;
+        assert_emit(&rt, &files, &bug, appended)?;
     }
     Ok(())
 }
 
-/// Renders a bug by each view, in one text.
-fn by_views(alloc: Global) -> Result<Vec<u8>, Error> {
-    let files: SimpleFiles<&str, &str> = SimpleFiles::new(alloc);
-    let bug = Diagnostic::bug(alloc);
+/// Renders a diagnostic by each view, one after another.
+fn render_views<W: WriteStyle>(
+    writer: &mut W,
+    files: &SimpleFiles<&str, &str>,
+    diagnostic: &Diagnostic<usize>,
+) -> Result<(), Error> {
     let config = Config::default();
+    let mut renderer = Renderer::new(writer, &config);
+    RichDiagnostic::new(diagnostic, &config).render(files, &mut renderer)?;
+    ShortDiagnostic::new(diagnostic, true).render(files, &mut renderer)?;
+    ShortDiagnostic::new(diagnostic, false).render(files, &mut renderer)
+}
+
+/// Returns a bug by each view, in one text.
+fn bug_by_views(alloc: Global) -> Result<Vec<u8>, Error> {
     let mut plain = PlainWriter::new(Vec::new(alloc));
-    let mut renderer = Renderer::new(&mut plain, &config);
-    RichDiagnostic::new(&bug, &config).render(&files, &mut renderer)?;
-    ShortDiagnostic::new(&bug, true).render(&files, &mut renderer)?;
-    ShortDiagnostic::new(&bug, false).render(&files, &mut renderer)?;
+    render_views(
+        &mut plain,
+        &SimpleFiles::new(alloc),
+        &Diagnostic::bug(alloc),
+    )?;
     Ok(plain.into_inner())
 }
 
 /// Each view renders what the calls write in its style.
 #[test]
 fn bare_views(rt: HostRuntime) -> Result<(), Fail> {
-    let bytes = by_views(rt.alloc())?;
+    let bytes = bug_by_views(rt.alloc())?;
     assert_bytes(&rt, bytes.as_slice(), "bug: \n\nbug: \nbug: \n");
     Ok(())
 }
@@ -160,15 +171,6 @@ fn tags_of_styles(rt: HostRuntime) -> Result<(), Fail> {
     Ok(())
 }
 
-/// Returns a diagnostic with a primary label in a file that exists, and one in a file that does
-/// not.
-fn half_missing(alloc: Global) -> Result<Diagnostic<usize>, Error> {
-    Diagnostic::error(alloc)
-        .with_message("m")?
-        .with_label(Label::primary(alloc, 0, 0..1))?
-        .with_label(Label::primary(alloc, 7, 0..1))
-}
-
 /// Asserts that a file was missing, and that a writer has this text.
 fn assert_missing(rt: &impl Abort, failed: &Result<(), Error>, bytes: &[u8], text: &str) {
     assert!(rt; matches!(failed, Err(Error::FileMissing)));
@@ -189,28 +191,50 @@ fn assert_unchanged(
     Ok(())
 }
 
+/// Asserts that a file is missing by [`emit_to_write_style`], and that its writer has this text.
+fn assert_write_style_stops(
+    rt: &impl Abort,
+    config: &Config<'_>,
+    files: &SimpleFiles<&str, &str>,
+    diagnostic: &Diagnostic<usize>,
+    written: &str,
+) {
+    let mut plain = PlainWriter::new(Vec::new(*diagnostic.labels.allocator()));
+    let failed = emit_to_write_style(&mut plain, config, files, diagnostic);
+    assert_missing(rt, &failed, plain.into_inner().as_slice(), written);
+}
+
+/// Asserts that a file is missing by [`emit_to_io_write`], and that its writer has this text.
+fn assert_io_write_stops(
+    rt: &impl Abort,
+    config: &Config<'_>,
+    files: &SimpleFiles<&str, &str>,
+    diagnostic: &Diagnostic<usize>,
+    written: &str,
+) {
+    let mut bytes = Vec::new(*diagnostic.labels.allocator());
+    let failed = emit_to_io_write(&mut bytes, config, files, diagnostic);
+    assert_missing(rt, &failed, bytes.as_slice(), written);
+}
+
 /// Asserts that a file is missing by each call that emits to a writer, which then has this text, or
 /// to a string, which is unchanged.
-fn assert_half_missing(
+fn assert_missing_by_each_call(
     rt: &impl Abort,
     alloc: Global,
     config: &Config<'_>,
     written: &str,
 ) -> Result<(), Error> {
     let files = files_of(alloc, &[("f", "ab")])?;
-    let diagnostic = half_missing(alloc)?;
+    let diagnostic = in_first_and_eighth(alloc)?;
     assert_unchanged(rt, alloc, config, &files, &diagnostic)?;
-    let mut plain = PlainWriter::new(Vec::new(alloc));
-    let failed = emit_to_write_style(&mut plain, config, &files, &diagnostic);
-    assert_missing(rt, &failed, plain.into_inner().as_slice(), written);
-    let mut bytes = Vec::new(alloc);
-    let failed = emit_to_io_write(&mut bytes, config, &files, &diagnostic);
-    assert_missing(rt, &failed, bytes.as_slice(), written);
+    assert_write_style_stops(rt, config, &files, &diagnostic, written);
+    assert_io_write_stops(rt, config, &files, &diagnostic, written);
     Ok(())
 }
 
 /// A style, and what a writer has where a file is missing.
-static HALF_MISSING: [(DisplayStyle, &str); 3] = [
+static WRITTEN_BEFORE_MISSING: [(DisplayStyle, &str); 3] = [
     (DisplayStyle::Rich, ""),
     (DisplayStyle::Medium, "f:1:1: error: m\n"),
     (DisplayStyle::Short, "f:1:1: error: m\n"),
@@ -219,8 +243,8 @@ static HALF_MISSING: [(DisplayStyle, &str); 3] = [
 /// The string is unchanged; a writer has the headers before the error, or in rich style nothing.
 #[test]
 fn missing_file(rt: HostRuntime) -> Result<(), Fail> {
-    for (style, written) in &HALF_MISSING {
-        assert_half_missing(&rt, rt.alloc(), &in_style(*style), written)?;
+    for (style, written) in &WRITTEN_BEFORE_MISSING {
+        assert_missing_by_each_call(&rt, rt.alloc(), &in_style(*style), written)?;
     }
     Ok(())
 }

@@ -1,6 +1,6 @@
 //! Runs over readers and writers that fail.
 
-use crate::report::{Failing, NO_FAILURES, OUTPUT, REQUEST, Run, assert_seen, ran};
+use crate::report::{Failing, OUTPUT, REQUEST, Run, assert_seen, run_over};
 use std::test::Fail;
 
 /// What is seen of a run whose input fails.
@@ -11,9 +11,9 @@ fn failed_input(rt: HostRuntime) -> Result<(), Fail> {
     for read in 0..2 {
         let failing = Failing {
             read: Some(read),
-            ..NO_FAILURES
+            ..Failing::default()
         };
-        let outcome = ran(rt.alloc(), &REQUEST, b"abc\n", failing)?;
+        let outcome = run_over(rt.alloc(), &REQUEST, b"abc\n", failing)?;
         assert!(rt; outcome.seen() == FAILED_INPUT, "read {read}");
     }
     Ok(())
@@ -27,9 +27,9 @@ fn failed_output(rt: HostRuntime) -> Result<(), Fail> {
     for write in 0..OUTPUT.len().div_ceil(4) {
         let failing = Failing {
             write: Some(write),
-            ..NO_FAILURES
+            ..Failing::default()
         };
-        let outcome = ran(rt.alloc(), &REQUEST, b"abc\n", failing)?;
+        let outcome = run_over(rt.alloc(), &REQUEST, b"abc\n", failing)?;
         let written = outcome.output.accepted.as_slice();
         assert!(rt; written == &OUTPUT.as_bytes()[..write * 4], "write {write}");
         let (_, error_text, status) = outcome.seen();
@@ -45,9 +45,9 @@ static FAILED_FLUSH: Run<'static> = (&REQUEST, b"abc\n", (OUTPUT, CANNOT_WRITE, 
 fn failed_flush(rt: HostRuntime) -> Result<(), Fail> {
     let failing = Failing {
         flush: true,
-        ..NO_FAILURES
+        ..Failing::default()
     };
-    let outcome = ran(rt.alloc(), &REQUEST, b"abc\n", failing)?;
+    let outcome = run_over(rt.alloc(), &REQUEST, b"abc\n", failing)?;
     assert_seen(&rt, &outcome, &FAILED_FLUSH);
     Ok(())
 }
@@ -60,14 +60,14 @@ static WITH_ERROR: [(&[&str], &[u8], Option<usize>, u8); 3] = [
 ];
 
 #[test]
-fn failed_faults(rt: HostRuntime) -> Result<(), Fail> {
+fn failed_error_output(rt: HostRuntime) -> Result<(), Fail> {
     for (words, text, read, status) in &WITH_ERROR {
         let failing = Failing {
             read: *read,
             error_write: Some(1),
-            ..NO_FAILURES
+            ..Failing::default()
         };
-        let outcome = ran(rt.alloc(), words, text, failing)?;
+        let outcome = run_over(rt.alloc(), words, text, failing)?;
         assert!(rt; outcome.ended_after(4, *status), "{words:?}");
     }
     Ok(())

@@ -2,7 +2,7 @@
 
 mod errors;
 
-use crate::report::{Failing, NO_FAILURES, check_run, ran};
+use crate::report::{Failing, check_run, run_over};
 use std::process::Abort;
 use std::test::Fail;
 
@@ -54,22 +54,55 @@ fn script_unknown_word(rt: HostRuntime) -> Result<(), Fail> {
     check(&rt, &SCRIPT_UNKNOWN_WORD)
 }
 
-/// The run of `script_repeated_word`.
-static SCRIPT_REPEATED_WORD: [ScriptRun<'static>; 1] = [(
-    "rich",
-    "code A\ncode B\n---\n",
+/// The runs of `script_repeated_word`. In the last one the repeated severity is unknown too.
+static SCRIPT_REPEATED_WORD: [ScriptRun<'static>; 3] = [
     (
-        "",
-        "error[S4]: repeated word\n\
-        \x20 ┌─ script:2:1\n\
-        \x20 │\n\
-        1 │ code A\n\
-        \x20 │ ---- first given here\n\
-        2 │ code B\n\
-        \x20 │ ^^^^ given again\n\n",
-        3,
+        "rich",
+        "code A\ncode B\n---\n",
+        (
+            "",
+            "error[S4]: repeated word\n\
+            \x20 ┌─ script:2:1\n\
+            \x20 │\n\
+            1 │ code A\n\
+            \x20 │ ---- first given here\n\
+            2 │ code B\n\
+            \x20 │ ^^^^ given again\n\n",
+            3,
+        ),
     ),
-)];
+    (
+        "rich",
+        "code é路\nnote\ncode b\r\n---\n",
+        (
+            "",
+            "error[S4]: repeated word\n\
+            \x20 ┌─ script:3:1\n\
+            \x20 │\n\
+            1 │ code é路\n\
+            \x20 │ ---- first given here\n\
+            2 │ note\n\
+            3 │ code b\n\
+            \x20 │ ^^^^ given again\n\n",
+            3,
+        ),
+    ),
+    (
+        "rich",
+        "severity bug\nseverity x\n---\n",
+        (
+            "",
+            "error[S4]: repeated word\n\
+            \x20 ┌─ script:2:1\n\
+            \x20 │\n\
+            1 │ severity bug\n\
+            \x20 │ -------- first given here\n\
+            2 │ severity x\n\
+            \x20 │ ^^^^^^^^ given again\n\n",
+            3,
+        ),
+    ),
+];
 
 #[test]
 fn script_repeated_word(rt: HostRuntime) -> Result<(), Fail> {
@@ -145,11 +178,7 @@ static SCRIPTS_THAT_ARE_READ: [ScriptRun<'static>; 7] = [
     ("rich", "#\n\n# code x\n---\n", ("error: \n\n", "", 0)),
     ("rich", "code\n---\n", ("error: \n\n", "", 0)),
     ("rich", "message a  b \n---\n", ("error: a  b \n\n", "", 0)),
-    (
-        "rich",
-        "primary 007 18446744073709551615 \n---\nabc",
-        ("error: \n  ┌─ f.txt:1:4\n  │\n1 │ abc\n  │     \n\n", "", 0),
-    ),
+    ("rich", "---\nbad\n", ("error: \n\n", "", 0)),
 ];
 
 #[test]
@@ -157,8 +186,8 @@ fn scripts_that_are_read(rt: HostRuntime) -> Result<(), Fail> {
     check(&rt, &SCRIPTS_THAT_ARE_READ)
 }
 
-/// The runs of `scripts_that_are_read_too`.
-static SCRIPTS_THAT_ARE_READ_TOO: [ScriptRun<'static>; 6] = [
+/// The runs of `scripts_with_labels_and_notes`.
+static SCRIPTS_WITH_LABELS_AND_NOTES: [ScriptRun<'static>; 6] = [
     (
         "rich",
         "primary 0 1  two\n---\nabc\n",
@@ -178,7 +207,11 @@ static SCRIPTS_THAT_ARE_READ_TOO: [ScriptRun<'static>; 6] = [
         ),
     ),
     ("rich", "note\nnote a\n---\n", ("error: \n = a\n\n", "", 0)),
-    ("rich", "---\nbad\n", ("error: \n\n", "", 0)),
+    (
+        "rich",
+        "primary 007 18446744073709551615 \n---\nabc",
+        ("error: \n  ┌─ f.txt:1:4\n  │\n1 │ abc\n  │     \n\n", "", 0),
+    ),
     (
         "rich",
         "message a\r\nprimary 1 2 b\r\n---\r\nx\r\ny",
@@ -196,8 +229,8 @@ static SCRIPTS_THAT_ARE_READ_TOO: [ScriptRun<'static>; 6] = [
 ];
 
 #[test]
-fn scripts_that_are_read_too(rt: HostRuntime) -> Result<(), Fail> {
-    check(&rt, &SCRIPTS_THAT_ARE_READ_TOO)
+fn scripts_with_labels_and_notes(rt: HostRuntime) -> Result<(), Fail> {
+    check(&rt, &SCRIPTS_WITH_LABELS_AND_NOTES)
 }
 
 /// What a run over an empty script writes to `error_output`, in short style.
@@ -206,13 +239,13 @@ const MISSING_END: &str = "script:1:1: error[S5]: missing end of script\n";
 /// If writing the diagnostic of a script's error fails, the status is 1 and nothing more is
 /// written.
 #[test]
-fn script_fault_failed(rt: HostRuntime) -> Result<(), Fail> {
+fn failed_script_error(rt: HostRuntime) -> Result<(), Fail> {
     for write in 0..MISSING_END.len().div_ceil(4) {
         let failing = Failing {
             error_write: Some(write),
-            ..NO_FAILURES
+            ..Failing::default()
         };
-        let outcome = ran(rt.alloc(), &["short", "f.txt"], b"", failing)?;
+        let outcome = run_over(rt.alloc(), &["short", "f.txt"], b"", failing)?;
         assert!(rt; outcome.ended_after(write * 4, 1), "write {write}");
     }
     Ok(())

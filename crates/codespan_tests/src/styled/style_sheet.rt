@@ -1,5 +1,5 @@
 //! Style sheets against the colors of xterm, as its manual and `rgb.txt` have them: `red3` for red,
-//! `red` for bright red, and the like, but for its two blues.
+//! `red` for bright red, and the like; `blue2` for blue and `rgb:5c/5c/ff` for bright blue.
 
 use crate::asserts::assert_text;
 use codespan_base::files::Error;

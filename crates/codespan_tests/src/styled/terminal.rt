@@ -1,14 +1,15 @@
 //! What is left out of hostile texts, and which sequences a terminal receives.
 
 use crate::asserts::{assert_bytes, assert_text};
+use crate::outputs::rendering::render_styled;
 use crate::styled::texts::assert_terminal;
 use codespan_base::diagnostic::{Diagnostic, Label, LabelStyle, Severity};
 use codespan_base::files::{Error, SimpleFiles};
-use codespan_base::term::{Ansi, Config, Styles, StylesWriter};
+use codespan_base::term::{Ansi, Config, Styles};
+use codespan_reporting::term::RichDiagnostic;
 use codespan_styled::render::styled_text;
 use codespan_styled::style::Style;
 use codespan_styled::terminal::{is_safe, safe_text, to_terminal};
-use codespan_views::emitting::emit_to_write_style;
 use std::alloc::{AllocError, Global};
 use std::process::Abort;
 use std::test::Fail;
@@ -190,16 +191,12 @@ fn output_is_as_written_to_ansi(rt: HostRuntime) -> Result<(), Fail> {
     let id = files.add("a.rs", "let x = 1;\n")?;
     let diagnostic = unused_variable(alloc, id)?;
     let config = Config::default();
-    let styles = Styles::default();
 
-    let mut writer = StylesWriter::new(Ansi::new(Vec::new(alloc)), &styles);
-    emit_to_write_style(&mut writer, &config, &files, &diagnostic)?;
+    let view = RichDiagnostic::new(&diagnostic, &config);
+    let (colored, returned) = render_styled(Ansi::new(Vec::new(alloc)), &config, view, &files);
+    returned?;
     let text = styled_text(alloc, &config, &files, &diagnostic)?;
-    let terminal = to_terminal(alloc, &text, &styles)?;
-    assert_bytes(
-        &rt,
-        writer.into_inner().into_inner().as_slice(),
-        terminal.as_str(),
-    );
+    let terminal = to_terminal(alloc, &text, &Styles::default())?;
+    assert_bytes(&rt, colored.into_inner().as_slice(), terminal.as_str());
     Ok(())
 }

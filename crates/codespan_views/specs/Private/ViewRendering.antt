@@ -4,7 +4,7 @@ use Rattle.codespan_picture.specs.Types.{Diagnostic, Error, Config, DisplayStyle
 use Rattle.codespan_base.specs.Streams.{Stream, newline}
 use Rattle.codespan_base.specs.WriterLaw.{Sink}
 use Rattle.codespan_picture.specs.Lookups.{first_error, late_lookups}
-use Rattle.codespan_picture.specs.Picture.{heading_of, labels_of, context_of, notes_of}
+use Rattle.codespan_picture.specs.Picture.{header_text_of, labels_of, context_of, notes_of}
 use Rattle.codespan_picture.specs.Snippets.{snippets, InFile, has_any, labeled_file_models, note_rows, primary_of}
 use Rattle.codespan_picture.specs.Rows.{FinalRow, Locus, Row}
 use Rattle.codespan_picture.specs.RowStreams.{header_row, stream_of_rows}
@@ -24,7 +24,7 @@ use Rattle.codespan_base.specs.FileModel.{FileDatabase}
 module _ {Id : Type 0} (d : Diagnostic Id) where
   -- the header, with this locus, if any, and with the end of its row
   abbrev pub header_line : Option Locus → Stream
-  header_line locus = header_row d.severity locus (heading_of d) ++ newline
+  header_line locus = header_row d.severity locus (header_text_of d) ++ newline
 
   -- the last rows of a rich output: the notes, and an empty one
   abbrev pub closing_rows : List Row
@@ -33,7 +33,7 @@ module _ {Id : Type 0} (d : Diagnostic Id) where
   -- a rich output without labels
   abbrev pub output_without_labels : Config → Stream
   output_without_labels config =
-      header_row d.severity None (heading_of d) ++ newline
+      header_row d.severity None (header_text_of d) ++ newline
       ++ stream_of_rows (context_of config d.severity 0) closing_rows
 
 -- ---- calls

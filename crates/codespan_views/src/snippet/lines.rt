@@ -7,7 +7,7 @@ ghost use Rattle.codespan_views.specs.Private.LineRendering.{HasLine, HasLines, 
 ghost use Rattle.codespan_annotations.specs.SourceFiles.{model_of};
 ghost use Rattle.codespan_plan.specs.SnippetLines.{Labeled, Break, do_annotations_fit, do_lane_marks_fit};
 
-use crate::snippet::line_labels::{LineLabels, fill_multi_labels};
+use crate::snippet::line_buffers::{LineBuffers, fill_multi_labels};
 use codespan_annotations::annotation::{Annotation, LineInfo};
 use codespan_annotations::source_file::SourceFile;
 use codespan_base::diagnostic::Severity;
@@ -59,7 +59,7 @@ impl<'context, 'files, F: Files<'files>> Snippet<'context, 'files, F> {
     pub fn render_lines<'d, W: WriteStyle>(
         &self,
         renderer: &mut Renderer<'_, '_, W>,
-        labels: &mut LineLabels<'d>,
+        labels: &mut LineBuffers<'d>,
         snippet_lines: &[SnippetLine<'_, 'd, F::FileId>],
     ) -> Result<(), Error>
         requires { HasLines F.database self.now snippet_lines.now }
@@ -78,10 +78,14 @@ impl<'context, 'files, F: Files<'files>> Snippet<'context, 'files, F> {
     /// # Errors
     ///
     /// As [`Snippet::render_lines`].
+    ///
+    /// # Requires
+    ///
+    /// As [`Snippet::render_lines`], of this line.
     fn render_snippet_line<'d, W: WriteStyle>(
         &self,
         renderer: &mut Renderer<'_, '_, W>,
-        labels: &mut LineLabels<'d>,
+        labels: &mut LineBuffers<'d>,
         snippet_line: &SnippetLine<'_, 'd, F::FileId>,
     ) -> Result<(), Error>
         requires { HasLine F.database self.now snippet_line.now }
@@ -114,11 +118,16 @@ impl<'context, 'files, F: Files<'files>> Snippet<'context, 'files, F> {
     ///
     /// - `OutOfMemory`: an allocation fails. Nothing has been written then.
     /// - `Io`: the writer fails or takes no bytes. A prefix of the rows has been written then.
+    ///
+    /// # Requires
+    ///
+    /// The text is that of the file, and the line is one of the file's. Its single-line labels are
+    /// in the order of their starts, and its lane marks ascend in the file's lanes.
     #[inline(always)]
     fn render_line<'d, W: WriteStyle>(
         &self,
         renderer: &mut Renderer<'_, '_, W>,
-        labels: &mut LineLabels<'d>,
+        labels: &mut LineBuffers<'d>,
         line: LineInfo,
         annotations: &[Annotation<'d, F::FileId>],
     ) -> Result<(), Error>
@@ -148,10 +157,14 @@ impl<'context, 'files, F: Files<'files>> Snippet<'context, 'files, F> {
     ///
     /// - `OutOfMemory`: an allocation fails. Nothing has been written then.
     /// - `Io`: the writer fails or takes no bytes. A prefix of the row has been written then.
+    ///
+    /// # Requires
+    ///
+    /// The lane marks of the line ascend in the file's lanes.
     fn render_break<'d, W: WriteStyle>(
         &self,
         renderer: &mut Renderer<'_, '_, W>,
-        labels: &mut LineLabels<'d>,
+        labels: &mut LineBuffers<'d>,
         next: &[Annotation<'d, F::FileId>],
     ) -> Result<(), Error>
         requires fits { IsTrue (do_lane_marks_fit self.now.lane_count

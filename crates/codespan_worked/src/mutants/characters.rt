@@ -11,17 +11,17 @@ ghost use Rattle.codespan_worked.specs.Worked.{text_file, label, message_only, r
 /// past it.
 fn bottom_colors_to_its_end()
     ensures { spelled ansi (rich default_config (message_only Error [])
-        (text_file (codes "f") (codes "\n𝔸") ∷ [])
-        (label Primary 0 0 2 [] ∷ []))
+        (text_file (codes "f") (codes "\nb𝔸") ∷ [])
+        (label Primary 0 0 3 [] ∷ []))
         ≡ rows (codes "\u{1b}[0m\u{1b}[1m\u{1b}[38;5;9merror\u{1b}[0m\u{1b}[1m: \u{1b}[0m"
         ∷ codes "  \u{1b}[0m\u{1b}[36m┌─\u{1b}[0m f:1:1"
         ∷ codes "  \u{1b}[0m\u{1b}[36m│\u{1b}[0m  "
         ∷ (codes "\u{1b}[0m\u{1b}[36m1\u{1b}[0m \u{1b}[0m\u{1b}[36m│\u{1b}[0m "
         ++ codes "\u{1b}[0m\u{1b}[31m╭\u{1b}[0m ")
         ∷ (codes "\u{1b}[0m\u{1b}[36m2\u{1b}[0m \u{1b}[0m\u{1b}[36m│\u{1b}[0m "
-        ++ codes "\u{1b}[0m\u{1b}[31m│\u{1b}[0m 𝔸")
+        ++ codes "\u{1b}[0m\u{1b}[31m│\u{1b}[0m \u{1b}[0m\u{1b}[31mb\u{1b}[0m𝔸")
         ∷ (codes "  \u{1b}[0m\u{1b}[36m│\u{1b}[0m \u{1b}[0m\u{1b}[31m╰"
-        ++ codes "\u{1b}[0m\u{1b}[0m\u{1b}[31m─^\u{1b}[0m")
+        ++ codes "\u{1b}[0m\u{1b}[0m\u{1b}[31m──^\u{1b}[0m")
         ∷ [] ∷ []) }
 {}
 
@@ -29,13 +29,15 @@ fn bottom_colors_to_its_end()
 fn top_colors_from_its_start()
     ensures { spelled ansi (rich (record default_config { end_context_lines = 0 })
         (message_only Error [])
-        (text_file (codes "f") (codes "a\n") ∷ [])
-        (label Primary 0 0 2 [] ∷ []))
+        (text_file (codes "f") (codes "ab\n") ∷ [])
+        (label Primary 0 1 3 [] ∷ []))
         ≡ rows (codes "\u{1b}[0m\u{1b}[1m\u{1b}[38;5;9merror\u{1b}[0m\u{1b}[1m: \u{1b}[0m"
-        ∷ codes "  \u{1b}[0m\u{1b}[36m┌─\u{1b}[0m f:1:1"
+        ∷ codes "  \u{1b}[0m\u{1b}[36m┌─\u{1b}[0m f:1:2"
         ∷ codes "  \u{1b}[0m\u{1b}[36m│\u{1b}[0m  "
         ∷ (codes "\u{1b}[0m\u{1b}[36m1\u{1b}[0m \u{1b}[0m\u{1b}[36m│\u{1b}[0m "
-        ++ codes "\u{1b}[0m\u{1b}[31m╭\u{1b}[0m \u{1b}[0m\u{1b}[31ma\u{1b}[0m")
+        ++ codes "  a\u{1b}[0m\u{1b}[31mb\u{1b}[0m")
+        ∷ (codes "  \u{1b}[0m\u{1b}[36m│\u{1b}[0m \u{1b}[0m\u{1b}[31m╭"
+        ++ codes "\u{1b}[0m\u{1b}[0m\u{1b}[31m──^\u{1b}[0m")
         ∷ (codes "\u{1b}[0m\u{1b}[36m2\u{1b}[0m \u{1b}[0m\u{1b}[36m│\u{1b}[0m "
         ++ codes "\u{1b}[0m\u{1b}[31m│\u{1b}[0m ")
         ∷ (codes "  \u{1b}[0m\u{1b}[36m│\u{1b}[0m \u{1b}[0m\u{1b}[31m╰"
@@ -220,12 +222,12 @@ fn placeholder_in_carets()
 /// Shows that a tab counts from the line's start, not from the label.
 fn tabs_count_from_line_start()
     ensures { text_of (rich default_config (message_only Error [])
-        (text_file (codes "f") (codes "\t\t") ∷ [])
-        (label Secondary 0 0 0 [] ∷ []))
+        (text_file (codes "f") (codes "a\t") ∷ [])
+        (label Secondary 0 1 2 [] ∷ []))
         ≡ rows (codes "error: "
-        ∷ codes "  ┌─ f:1:1"
+        ∷ codes "  ┌─ f:1:2"
         ∷ codes "  │"
-        ∷ codes "1 │         "
-        ∷ codes "  │ ----"
+        ∷ codes "1 │ a   "
+        ∷ codes "  │  ---"
         ∷ [] ∷ []) }
 {}

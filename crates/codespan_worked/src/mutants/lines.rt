@@ -67,7 +67,7 @@ fn lanes_in_given_order()
         ∷ [] ∷ []) }
 {}
 
-/// Shows that the locus of a snippet is that of its first primary label.
+/// Shows that a snippet starts at its primary label, though a secondary one starts before it.
 fn locus_of_primary_first()
     ensures { text_of (rich (record default_config { end_context_lines = 0 })
         (message_only Error [])
@@ -87,13 +87,13 @@ fn locus_of_primary_first()
 /// Shows that a start right at the end of the leading white space has its corner in the source row.
 fn corner_at_end_of_whitespace()
     ensures { text_of (rich default_config (message_only Error [])
-        (text_file (codes "f") (codes "\n") ∷ [])
-        (label Primary 0 0 1 [] ∷ []))
+        (text_file (codes "f") (codes "  a\nb") ∷ [])
+        (label Primary 0 2 4 [] ∷ []))
         ≡ rows (codes "error: "
-        ∷ codes "  ┌─ f:1:1"
+        ∷ codes "  ┌─ f:1:3"
         ∷ codes "  │  "
-        ∷ codes "1 │ ╭ "
-        ∷ codes "2 │ │ "
+        ∷ codes "1 │ ╭   a"
+        ∷ codes "2 │ │ b"
         ∷ codes "  │ ╰^"
         ∷ [] ∷ []) }
 {}
@@ -185,7 +185,8 @@ fn underline_characters_of_bottom()
 /// Shows that the context lines of a label's start are after its first line, those of its end
 /// before its last.
 fn context_of_start_and_end()
-    ensures { text_of (rich (record default_config { end_context_lines = 0 })
+    ensures { text_of
+        (rich (record default_config { start_context_lines = 1; end_context_lines = 2 })
         (message_only Error [])
         (text_file (codes "f") (codes "\n\n\n\n\n\n") ∷ [])
         (label Secondary 0 0 6 [] ∷ []))
@@ -194,9 +195,9 @@ fn context_of_start_and_end()
         ∷ codes "  │  "
         ∷ codes "1 │ ╭ "
         ∷ codes "2 │ │ "
-        ∷ codes "3 │ │ "
-        ∷ codes "4 │ │ "
         ∷ codes "  · │"
+        ∷ codes "5 │ │ "
+        ∷ codes "6 │ │ "
         ∷ codes "7 │ │ "
         ∷ codes "  │ ╰'"
         ∷ [] ∷ []) }

@@ -63,6 +63,10 @@ pub enum SettingsError {
 impl SettingsError {
     /// Returns the diagnostic of the error, in this file. Its first label is on the bytes that are
     /// wrong.
+    ///
+    /// # Errors
+    ///
+    /// `OutOfMemory`: an allocation fails.
     pub fn diagnostic<FileId: Copy + Drop>(
         &self,
         alloc: Global,

@@ -66,6 +66,10 @@ fn first_line(size: usize, left: &str) -> (Line<'_>, Option<&str>)
 }
 
 /// Returns the lines before the first `---`, and the source after that line, if there is one.
+///
+/// # Errors
+///
+/// `AllocError` if an allocation fails.
 pub(super) fn read_lines(
     alloc: Global,
     input: &str,

@@ -14,7 +14,7 @@ use crate::request::parse_number;
 use codespan_base::diagnostic::{LabelStyle, Severity};
 use std::alloc::{AllocError, Global};
 
-/// Returns the first line that begins with the word.
+/// Returns the first line whose word is this.
 pub(super) fn line_of_word<'a, 'input>(
     word: &str,
     lines: &'a [Line<'input>],
@@ -29,7 +29,7 @@ pub(super) fn line_of_word<'a, 'input>(
     None
 }
 
-/// Returns the rest of the first line that begins with the word.
+/// Returns the rest of the first line whose word is this.
 pub(super) fn rest_of_word<'input>(word: &str, lines: &[Line<'input>]) -> Option<&'input str>
     ensures { option_map (λ rest. rest.now) result
         ≡ rest_of_word word.now (map line_view lines.now) }
@@ -71,7 +71,11 @@ fn label_of_rest(style: LabelStyle, rest: &str) -> Option<ScriptLabel<'_>>
 }
 
 /// Returns the labels that the lines state, in their order.
-pub(super) fn labels<'input>(
+///
+/// # Errors
+///
+/// `AllocError` if an allocation fails.
+pub(super) fn parsed_labels<'input>(
     alloc: Global,
     lines: &[Line<'input>],
 ) -> Result<Vec<ScriptLabel<'input>>, AllocError>
@@ -88,7 +92,11 @@ pub(super) fn labels<'input>(
 }
 
 /// Returns the notes that the lines state, in their order.
-pub(super) fn notes<'input>(
+///
+/// # Errors
+///
+/// `AllocError` if an allocation fails.
+pub(super) fn parsed_notes<'input>(
     alloc: Global,
     lines: &[Line<'input>],
 ) -> Result<Vec<&'input str>, AllocError>

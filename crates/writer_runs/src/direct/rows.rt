@@ -1,7 +1,7 @@
 //! Rows by their own calls of `Renderer`. The file is `f.txt`, and the locus its first.
 
 use crate::direct::{Line, RowCall};
-use crate::row::Colors;
+use crate::row::ExpectedColors;
 use codespan_base::diagnostic::LabelStyle::{Primary, Secondary};
 use codespan_base::diagnostic::Severity;
 use codespan_renderer::term::renderer::MultiLabel;
@@ -16,7 +16,7 @@ pub struct DirectRow<'text> {
     /// Its text.
     pub text: &'text str,
     /// What is known of its text in escape sequences.
-    pub colors: Colors<'text>,
+    pub colors: ExpectedColors<'text>,
 }
 
 /// A row of whose escape sequences nothing is known.
@@ -24,7 +24,7 @@ const ROW: DirectRow<'static> = DirectRow {
     name: "",
     call: RowCall::Empty,
     text: "",
-    colors: Colors::End(""),
+    colors: ExpectedColors::End(""),
 };
 
 /// The first line of a text, without labels or lanes.
@@ -270,7 +270,7 @@ pub static ROWS: [DirectRow<'static>; 26] = [
         name: "coloured_header",
         call: RowCall::Header(None, "m"),
         text: "error: m\n",
-        colors: Colors::Whole("\x1b[0m\x1b[1m\x1b[38;5;9merror\x1b[0m\x1b[1m: m\x1b[0m\n"),
+        colors: ExpectedColors::Whole("\x1b[0m\x1b[1m\x1b[38;5;9merror\x1b[0m\x1b[1m: m\x1b[0m\n"),
     },
     DirectRow {
         name: "coloured_label",
@@ -280,7 +280,7 @@ pub static ROWS: [DirectRow<'static>; 26] = [
             ..LINE
         }),
         text: "1 │ abc\n  │  ^ m\n",
-        colors: Colors::Whole(
+        colors: ExpectedColors::Whole(
             "\x1b[0m\x1b[36m1\x1b[0m \x1b[0m\x1b[36m│\x1b[0m a\x1b[0m\x1b[31mb\x1b[0mc\n\
              \x20 \x1b[0m\x1b[36m│\x1b[0m  \x1b[0m\x1b[31m^\x1b[0m \x1b[0m\x1b[31mm\x1b[0m\n",
         ),

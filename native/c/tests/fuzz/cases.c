@@ -2,22 +2,24 @@
 
 enum { FILES_MAX = 3, LABELS_MAX = 6, NOTES_MAX = 3, LINES_MAX = 6, LOCI_MAX = 3, TEXT_MAX = 1024 };
 
-/* What makes a case: where `is_wild`, some arguments are invalid, most of the time. */
+/* What makes a case. Where `may_be_invalid`, some arguments are invalid, most of the time. */
 struct maker {
     struct random random;
     struct pages *pages;
-    bool is_wild;
+    bool may_be_invalid;
 };
 
 #define PUT(maker, array, count)                                                                   \
     put((maker)->pages, &(maker)->random, array, (count) * sizeof(array)[0], _Alignof(size_t))
 
-/* Whether what is made now is to be invalid, or may be. */
-static bool is_wild_now(struct maker *maker) { return maker->is_wild && one_in(&maker->random, 8); }
+/* Returns whether what is made now may be invalid: true in one of 8 calls, if anything may be. */
+static bool may_be_invalid_now(struct maker *maker) {
+    return maker->may_be_invalid && one_in(&maker->random, 8);
+}
 
 /* Returns a number of an enumeration. */
 static uint32_t choice(struct maker *maker, uint32_t count) {
-    if (is_wild_now(maker))
+    if (may_be_invalid_now(maker))
         return (uint32_t)wide_number(&maker->random, count);
     return (uint32_t)below(&maker->random, count);
 }
@@ -57,7 +59,7 @@ enum { NEWLINES = 2, VALID_PIECES = 12, ALL_PIECES = sizeof PIECES / sizeof PIEC
 static codespan_text make_text(struct maker *maker, size_t pieces_max, size_t newlines) {
     uint8_t bytes[TEXT_MAX];
     codespan_text text = {bytes, 0};
-    bool is_invalid = is_wild_now(maker);
+    bool is_invalid = may_be_invalid_now(maker);
     for (size_t count = below(&maker->random, pieces_max + 1); count > 0; count--) {
         size_t kinds = is_invalid ? ALL_PIECES : VALID_PIECES;
         size_t kind = below(&maker->random, one_in(&maker->random, newlines) ? NEWLINES : kinds);
@@ -89,7 +91,7 @@ static void set_lines(struct maker *maker, codespan_file *file) {
         size_t end = boundary_from(file->source, start + below(&maker->random, 12));
         codespan_line line = {file->first_byte + start, file->first_byte + end,
                               wide_number(&maker->random, 200)};
-        if (is_wild_now(maker))
+        if (may_be_invalid_now(maker))
             line.end = wide_number(&maker->random, file->source.length);
         lines[count++] = line;
         size_t next = end + below(&maker->random, 3);
@@ -111,8 +113,8 @@ static void set_loci(struct maker *maker, codespan_file *file) {
         codespan_locus locus = {byte, wide_number(&maker->random, 90),
                                 wide_number(&maker->random, 90)};
         loci[i] = locus;
-        byte = is_wild_now(maker) ? wide_number(&maker->random, 90)
-                                  : byte + 1 + below(&maker->random, 8);
+        byte = may_be_invalid_now(maker) ? wide_number(&maker->random, 90)
+                                         : byte + 1 + below(&maker->random, 8);
     }
     file->loci = PUT(maker, loci, count);
     file->loci_length = count;
@@ -123,7 +125,7 @@ static codespan_file make_file(struct maker *maker) {
     codespan_file file = codespan_new_file(name, make_text(maker, 40, 5));
     if (one_in(&maker->random, 4)) {
         size_t number = wide_number(&maker->random, 5000);
-        file.first_byte = maker->is_wild ? number : number >> 1;
+        file.first_byte = maker->may_be_invalid ? number : number >> 1;
         file.first_line = wide_number(&maker->random, 100);
     }
     if (one_in(&maker->random, 3))
@@ -176,7 +178,7 @@ static codespan_diagnostic make_diagnostic(struct maker *maker, const codespan_l
 
 static uint32_t make_character(struct maker *maker) {
     static const uint32_t characters[] = {'|', '\t', 0, 0x301, 0x256d, 0x8def, 0x1f5fb, 0x10ffff};
-    if (is_wild_now(maker))
+    if (may_be_invalid_now(maker))
         return (uint32_t)any_number(&maker->random);
     return characters[below(&maker->random, sizeof characters / sizeof characters[0])];
 }
@@ -212,7 +214,7 @@ static codespan_styles make_styles(struct maker *maker) {
 
 static codespan_config make_config(struct maker *maker) {
     codespan_config config = codespan_default_config();
-    if (is_wild_now(maker))
+    if (may_be_invalid_now(maker))
         config.abi = (uint32_t)wide_number(&maker->random, 2);
     config.display_style = choice(maker, CODESPAN_SHORT + 1);
     config.layout = choice(maker, CODESPAN_UNBROKEN + 1);
@@ -236,13 +238,13 @@ struct fuzz_case make_case(uint64_t number, struct pages *pages) {
     size_t files_length = below(&maker.random, FILES_MAX + 1);
     for (size_t i = 0; i < files_length; i++)
         files[i] = make_file(&maker);
-    struct fuzz_case made = {.is_valid = !maker.is_wild};
+    struct fuzz_case made = {.is_valid = !maker.may_be_invalid};
     codespan_label labels[LABELS_MAX];
     bool has_labels = files_length > 0 || one_in(&maker.random, 8);
     size_t labels_length = has_labels ? below(&maker.random, LABELS_MAX + 1) : 0;
     for (size_t i = 0; i < labels_length; i++) {
         labels[i] = make_label(&maker, files, files_length);
-        made.labels_unfiled += labels[i].file >= files_length;
+        made.labels_without_file += labels[i].file >= files_length;
     }
     codespan_diagnostic diagnostic[] = {make_diagnostic(&maker, labels, labels_length)};
     codespan_config config[] = {make_config(&maker)};
@@ -250,7 +252,7 @@ struct fuzz_case make_case(uint64_t number, struct pages *pages) {
     struct call call = {PUT(&maker, files, files_length), files_length, PUT(&maker, diagnostic, 1),
                         NULL};
     for (uint32_t spelling = 0; spelling < SPELLINGS; spelling++) {
-        config->spelling = is_wild_now(&maker) ? choice(&maker, SPELLINGS) : spelling;
+        config->spelling = may_be_invalid_now(&maker) ? choice(&maker, SPELLINGS) : spelling;
         call.config = PUT(&maker, config, 1);
         made.calls[spelling] = call;
     }

@@ -10,8 +10,8 @@ enum { SPELLINGS = CODESPAN_MARKED + 1 };
 struct fuzz_case {
     struct call calls[SPELLINGS]; /* the same but for the spelling, if that is valid */
     codespan_styles styles;
-    bool is_valid;         /* every argument is valid; else some may be invalid */
-    size_t labels_unfiled; /* labels whose file is none of the files */
+    bool is_valid;              /* every argument is valid; else some may be invalid */
+    size_t labels_without_file; /* labels whose file is none of the files */
 };
 
 /* Makes the case of a number, in these pages. */

@@ -58,7 +58,7 @@ static void check_outcome(const struct fuzz_case *made, const struct call *call,
         REQUIRE(is_unwritten(out, room));
     }
     REQUIRE(has_output == (outcome->detail.argument == CODESPAN_ARGUMENT_NONE));
-    REQUIRE(!has_output || (outcome->detail.index == 0 && made->labels_unfiled == 0));
+    REQUIRE(!has_output || (outcome->detail.index == 0 && made->labels_without_file == 0));
     if (outcome->status == CODESPAN_FILE_MISSING) {
         REQUIRE(outcome->detail.argument == CODESPAN_ARGUMENT_LABEL_FILE);
         REQUIRE(outcome->detail.index < call->diagnostic->labels_length);
@@ -66,7 +66,7 @@ static void check_outcome(const struct fuzz_case *made, const struct call *call,
     }
     if (outcome->status == CODESPAN_INVALID)
         REQUIRE(outcome->detail.argument != CODESPAN_ARGUMENT_LABEL_FILE);
-    if (made->is_valid && made->labels_unfiled > 0)
+    if (made->is_valid && made->labels_without_file > 0)
         REQUIRE(outcome->status == CODESPAN_FILE_MISSING);
     else if (made->is_valid)
         REQUIRE(has_output);
@@ -104,7 +104,7 @@ static void check_spellings(struct worker *worker, const struct fuzz_case *made)
         return;
     const uint8_t *marked = outs[CODESPAN_MARKED];
     size_t length = outcomes[CODESPAN_MARKED].written;
-    size_t plain_length = remove_marks(marked, length, worker->expected);
+    size_t plain_length = remove_style_marks(marked, length, worker->expected);
     REQUIRE(outcomes[CODESPAN_PLAIN].status == CODESPAN_OK);
     REQUIRE(outcomes[CODESPAN_PLAIN].written == plain_length);
     REQUIRE(memcmp(outs[CODESPAN_PLAIN], worker->expected, plain_length) == 0);

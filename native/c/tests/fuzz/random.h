@@ -19,7 +19,7 @@ uint64_t any_number(struct random *random);
 /* Returns a number below `bound`, which is not 0. */
 size_t below(struct random *random, size_t bound);
 
-/* Returns true in one of `bound` calls. */
+/* Returns true in one of `bound` calls, on average. */
 bool one_in(struct random *random, size_t bound);
 
 /* Returns a number that is mostly at most `usual`, and at times a great one or any. */

@@ -53,7 +53,7 @@ static size_t mark_sequence(char *sequence, size_t capacity, const codespan_styl
     return length;
 }
 
-size_t remove_marks(const uint8_t *marked, size_t length, uint8_t *out) {
+size_t remove_style_marks(const uint8_t *marked, size_t length, uint8_t *out) {
     size_t written = 0;
     for (size_t i = 0; i < length; i++) {
         if (marked[i] == CODESPAN_MARK_BYTE)

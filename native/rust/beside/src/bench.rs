@@ -3,12 +3,13 @@
 use std::hint::black_box;
 use std::time::Instant;
 
-use crate::case::{Case, Characters, Context, Label, Style, Table};
+use crate::case::{Case, Characters, Context, Database, Label, Style};
 use crate::sides::{original, proved};
 
-/// The time of a measured round, in nanoseconds, and the number of rounds, of which the least
-/// counts.
+/// The time of a measured round, in nanoseconds.
 const ROUND: f64 = 10e6;
+
+/// The number of rounds, of which the shortest one counts.
 const ROUNDS: usize = 15;
 
 pub fn run() {
@@ -114,7 +115,7 @@ fn case(text: &str, style: Style, labels: &[(usize, usize, &str)]) -> Case {
         });
     Case {
         files: vec![("main.x".to_owned(), text.to_owned())],
-        table: Table::Simple,
+        database: Database::Simple,
         severity: 3,
         code: Some("E0308".to_owned()),
         message: "mismatched types".to_owned(),

@@ -32,14 +32,13 @@ pub enum Lookup {
     ColumnNumber(usize, usize),
 }
 
-/// What the files are in.
+/// The file database of the files.
 #[derive(Clone, Copy, Debug)]
-pub enum Table {
-    /// The crate's own file database.
+pub enum Database {
+    /// The crate's `SimpleFiles`.
     Simple,
-    /// One of the caller, whose line numbers start at `first_number`, and a lookup of which may
-    /// fail.
-    Own {
+    /// A custom one, whose line numbers start at `first_number`, and a lookup of which may fail.
+    Custom {
         with_newlines: bool,
         first_number: usize,
         failing: Option<Lookup>,
@@ -51,7 +50,7 @@ pub enum Table {
 pub enum Characters {
     Box,
     Ascii,
-    Own,
+    Custom,
 }
 
 /// How much is rendered.
@@ -62,7 +61,7 @@ pub enum Style {
     Short,
 }
 
-/// The lines of context: of the starts and ends of labels over several lines, and before and after
+/// The lines of context: of the starts and ends of multi-line labels, and before and after
 /// each label.
 #[derive(Clone, Copy, Debug)]
 pub struct Context {
@@ -76,7 +75,7 @@ pub struct Context {
 pub struct Case {
     /// Names and texts.
     pub files: Vec<(String, String)>,
-    pub table: Table,
+    pub database: Database,
     pub severity: usize,
     pub code: Option<String>,
     pub message: String,
@@ -117,10 +116,10 @@ impl Case {
         let files: Vec<_> = (0..count)
             .map(|index| (format!("f{index}.x"), text(random)))
             .collect();
-        let table = table(random, &files);
+        let database = database(random, &files);
         let fails = matches!(
-            table,
-            Table::Own {
+            database,
+            Database::Custom {
                 failing: Some(_),
                 ..
             }
@@ -128,7 +127,7 @@ impl Case {
         let labels = labels(random, &files);
         let notes = random.pick(&[0, 0, 0, 1, 2]);
         Case {
-            table,
+            database,
             severity: random.below(5),
             code: random.pick(&[None, Some("E0001".to_owned()), Some(String::new())]),
             message: random.pick(&MESSAGES).to_owned(),
@@ -141,7 +140,7 @@ impl Case {
                 Style::Medium,
                 Style::Short,
             ]),
-            characters: random.pick(&[Characters::Box, Characters::Ascii, Characters::Own]),
+            characters: random.pick(&[Characters::Box, Characters::Ascii, Characters::Custom]),
             tab_width: random.pick(&[4, 4, 0, 1, 3, 8]),
             context: Context {
                 start: random.below(4),
@@ -178,9 +177,9 @@ fn text(random: &mut Random) -> String {
     text
 }
 
-fn table(random: &mut Random, files: &[(String, String)]) -> Table {
-    if random.once_in(2) {
-        return Table::Simple;
+fn database(random: &mut Random, files: &[(String, String)]) -> Database {
+    if random.one_in(2) {
+        return Database::Simple;
     }
     let file = random.below(files.len());
     let text = &files[file].1;
@@ -194,10 +193,10 @@ fn table(random: &mut Random, files: &[(String, String)]) -> Table {
         Lookup::LineRange(file, line),
         Lookup::ColumnNumber(file, byte),
     ]);
-    Table::Own {
-        with_newlines: random.once_in(2),
+    Database::Custom {
+        with_newlines: random.one_in(2),
         first_number: random.pick(&[1, 1, 7, 95, 998, 99_997]),
-        failing: random.once_in(2).then_some(failing),
+        failing: random.one_in(2).then_some(failing),
     }
 }
 
@@ -214,7 +213,7 @@ fn labels(random: &mut Random, files: &[(String, String)]) -> Vec<Label> {
             _ => random.below(length + 3),
         };
         let label = Label {
-            primary: random.once_in(2),
+            primary: random.one_in(2),
             file,
             range: start..end,
             message: random.pick(&MESSAGES).to_owned(),

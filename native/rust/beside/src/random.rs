@@ -20,16 +20,17 @@ impl Random {
         self.0
     }
 
-    /// Returns a number below `bound`.
+    /// Returns a number below `bound`, which is not 0.
     pub fn below(&mut self, bound: usize) -> usize {
         (self.next() >> 11) as usize % bound
     }
 
-    /// Returns whether something happens that does so once in `times`.
-    pub fn once_in(&mut self, times: usize) -> bool {
-        self.below(times) == 0
+    /// Returns true in one of `bound` calls, on average.
+    pub fn one_in(&mut self, bound: usize) -> bool {
+        self.below(bound) == 0
     }
 
+    /// Returns one of the items, of which there is at least one.
     pub fn pick<T: Clone>(&mut self, items: &[T]) -> T {
         items[self.below(items.len())].clone()
     }

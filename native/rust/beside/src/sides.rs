@@ -51,10 +51,10 @@ macro_rules! side {
             };
 
             use super::{Outcome, Written};
-            use crate::case::{Case, Characters, Lookup, Style, Table};
+            use crate::case::{Case, Characters, Database, Lookup, Style};
 
-            /// A file database of the caller.
-            struct Own<'case> {
+            /// A custom file database.
+            struct CustomFiles<'case> {
                 files: &'case [(String, String)],
                 starts: Vec<Vec<usize>>,
                 with_newlines: bool,
@@ -62,7 +62,7 @@ macro_rules! side {
                 failing: Option<Lookup>,
             }
 
-            impl Own<'_> {
+            impl CustomFiles<'_> {
                 fn look_up(&self, lookup: Lookup) -> Result<(), Error> {
                     if self.failing == Some(lookup) {
                         return Err(Error::ColumnTooLarge { given: 7, max: 5 });
@@ -75,7 +75,7 @@ macro_rules! side {
                 }
             }
 
-            impl<'a> Files<'a> for Own<'_> {
+            impl<'a> Files<'a> for CustomFiles<'_> {
                 type FileId = usize;
                 type Name = &'a str;
                 type Source = &'a str;
@@ -163,7 +163,7 @@ macro_rules! side {
                     chars: match case.characters {
                         Characters::Box => Chars::box_drawing(),
                         Characters::Ascii => Chars::ascii(),
-                        Characters::Own => own_chars(),
+                        Characters::Custom => custom_chars(),
                     },
                     start_context_lines: case.context.start,
                     end_context_lines: case.context.end,
@@ -173,7 +173,7 @@ macro_rules! side {
             }
 
             /// Characters of which no two are the same, but for those by which the crates differ.
-            fn own_chars() -> Chars {
+            fn custom_chars() -> Chars {
                 Chars {
                     snippet_start: "≡≡>".into(),
                     source_border_left: '┃',
@@ -204,9 +204,9 @@ macro_rules! side {
 
             /// Renders a case.
             pub fn render(case: &Case) -> Outcome {
-                match case.table {
-                    Table::Simple => render_over(case, &simple_files(case)),
-                    Table::Own {
+                match case.database {
+                    Database::Simple => render_over(case, &simple_files(case)),
+                    Database::Custom {
                         with_newlines,
                         first_number,
                         failing,
@@ -215,7 +215,7 @@ macro_rules! side {
                             .files
                             .iter()
                             .map(|(_, text)| line_starts(text).collect());
-                        let files = Own {
+                        let files = CustomFiles {
                             files: &case.files,
                             starts: starts.collect(),
                             with_newlines,

@@ -8,11 +8,9 @@ use core::ptr;
 
 use super::layout::{Config, Detail, Diagnostic, File, OK, OUT_OF_MEMORY, TOO_SMALL};
 
-/// What the archive returned, but for "too small", after which it is called again.
+/// The error of a call of the archive.
 #[derive(Debug)]
-pub(crate) enum Status {
-    /// The output.
-    Ok(Vec<u8>),
+pub(crate) enum EmitError {
     /// An allocation failed.
     OutOfMemory,
     /// An argument is invalid.
@@ -35,8 +33,17 @@ extern "C" {
     ) -> u32;
 }
 
-/// Renders a diagnostic over files.
-pub(crate) fn emit(files: &[File<'_>], diagnostic: &Diagnostic<'_>, config: &Config<'_>) -> Status {
+/// Returns the output of a diagnostic over files.
+///
+/// # Errors
+///
+/// [`EmitError::OutOfMemory`] where an allocation of the archive fails, and [`EmitError::Invalid`]
+/// where it does not accept an argument.
+pub(crate) fn emit(
+    files: &[File<'_>],
+    diagnostic: &Diagnostic<'_>,
+    config: &Config<'_>,
+) -> Result<Vec<u8>, EmitError> {
     let mut out: Vec<u8> = Vec::with_capacity(EXPECTED_LENGTH);
     loop {
         let mut written = 0;
@@ -61,11 +68,11 @@ pub(crate) fn emit(files: &[File<'_>], diagnostic: &Diagnostic<'_>, config: &Con
             OK => {
                 // SAFETY: the call has written this many bytes, and not more than the capacity.
                 unsafe { out.set_len(written) };
-                return Status::Ok(out);
+                return Ok(out);
             }
             TOO_SMALL => out.reserve_exact(written),
-            OUT_OF_MEMORY => return Status::OutOfMemory,
-            _ => return Status::Invalid(detail),
+            OUT_OF_MEMORY => return Err(EmitError::OutOfMemory),
+            _ => return Err(EmitError::Invalid(detail)),
         }
     }
 }

@@ -1,5 +1,5 @@
-//! The structs and the numbers of `native/include/codespan.h`, under the same names but for the
-//! prefix. Its comments apply.
+//! The structs and the numbers of `native/include/codespan.h` that are used here, which has their
+//! documentation. The tests in `header` compare them.
 
 use core::marker::PhantomData;
 

@@ -18,15 +18,14 @@ use alloc::string::String;
 pub struct Config {
     /// How much of a diagnostic is rendered. By default [`DisplayStyle::Rich`].
     pub display_style: DisplayStyle,
-    /// The cells between tab stops. By default 4. Tabs of width 0 are not shown.
+    /// The cells between tab stops. By default 4. Tabs of width 0 are not shown, and a width above
+    /// 1,024 is taken as 1,024.
     pub tab_width: usize,
     /// The characters of borders, carets and underlines. By default [`Chars::box_drawing`].
     pub chars: Chars,
-    /// The number of lines that are shown after the first line of a label over several lines. By
-    /// default 3.
+    /// The number of lines that are shown after the first line of a multi-line label. By default 3.
     pub start_context_lines: usize,
-    /// The number of lines that are shown before the last line of a label over several lines. By
-    /// default 1.
+    /// The number of lines that are shown before the last line of a multi-line label. By default 1.
     pub end_context_lines: usize,
     /// The number of lines that are shown before the first line of a label. By default 0.
     pub before_label_lines: usize,
@@ -101,23 +100,23 @@ pub struct Chars {
     /// The caret of a secondary label inside a line: `'-'`.
     pub single_secondary_caret: char,
 
-    /// The caret at the start of a primary label over several lines: `'^'`.
+    /// The caret at the start of a primary multi-line label: `'^'`.
     pub multi_primary_caret_start: char,
-    /// The caret at the end of a primary label over several lines: `'^'`.
+    /// The caret at the end of a primary multi-line label: `'^'`.
     pub multi_primary_caret_end: char,
-    /// The caret at the start of a secondary label over several lines: `'\''`.
+    /// The caret at the start of a secondary multi-line label: `'\''`.
     pub multi_secondary_caret_start: char,
-    /// The caret at the end of a secondary label over several lines: `'\''`.
+    /// The caret at the end of a secondary multi-line label: `'\''`.
     pub multi_secondary_caret_end: char,
-    /// The top left corner of a label over several lines: `'╭'`, or `'/'`.
+    /// The top left corner of a multi-line label: `'╭'`, or `'/'`.
     pub multi_top_left: char,
     /// The underline from that corner to the start of the label: `'─'`, or `'-'`.
     pub multi_top: char,
-    /// The bottom left corner of a label over several lines: `'╰'`, or `'\'`.
+    /// The bottom left corner of a multi-line label: `'╰'`, or `'\'`.
     pub multi_bottom_left: char,
     /// The underline from that corner to the end of the label: `'─'`, or `'-'`.
     pub multi_bottom: char,
-    /// The bar of a label over several lines: `'│'`, or `'|'`.
+    /// The bar of a multi-line label: `'│'`, or `'|'`.
     pub multi_left: char,
 
     /// The pointer from a hanging message up to its label: `'│'`, or `'|'`.

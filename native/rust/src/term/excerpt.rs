@@ -13,18 +13,22 @@ use crate::native::{Line, OVERLAP};
 use crate::term::labeled_file::{LineInfo, Position};
 
 /// Lines that follow one another, which have been copied to the text of an excerpt.
-struct Run {
+struct Block {
+    /// The index of its first line in the file, from 0.
     first_line: usize,
-    /// The byte of the file at which the run starts, and that of the text.
+    /// The byte index in the file at which it starts.
     source_start: usize,
+    /// The byte index in the text of the excerpt at which it starts.
     text_start: usize,
 }
 
 /// The lines of a file that are passed to the archive.
 pub(super) struct Excerpt<'source> {
     text: Cow<'source, str>,
+    /// The lines of `text`, with the line numbers that are shown.
     lines: Vec<Line>,
-    runs: Vec<Run>,
+    /// The blocks of `text`, in ascending order.
+    blocks: Vec<Block>,
 }
 
 impl<'source> Excerpt<'source> {
@@ -43,17 +47,17 @@ impl<'source> Excerpt<'source> {
         let mut excerpt = Excerpt {
             text: Cow::Borrowed(""),
             lines: Vec::with_capacity(lines.len()),
-            runs: Vec::new(),
+            blocks: Vec::new(),
         };
         let lines: Vec<(usize, &LineInfo)> =
             lines.iter().map(|(&index, line)| (index, line)).collect();
-        let mut runs = lines
+        let mut blocks = lines
             .chunk_by(|(line, _), (next, _)| next - line == 1)
             .peekable();
-        while let Some(run) = runs.next() {
-            let end = excerpt.add_run(run, source)?;
-            if runs.peek().is_some() {
-                let (last, _) = run[run.len() - 1];
+        while let Some(block) = blocks.next() {
+            let end = excerpt.add_block(block, source)?;
+            if blocks.peek().is_some() {
+                let (last, _) = block[block.len() - 1];
                 let in_last = positions
                     .clone()
                     .filter(|position| position.line_index == last);
@@ -69,19 +73,19 @@ impl<'source> Excerpt<'source> {
     }
 
     /// Appends lines that follow one another, and returns the byte of the file at which they end.
-    fn add_run(
+    fn add_block(
         &mut self,
-        run: &[(usize, &LineInfo)],
+        block: &[(usize, &LineInfo)],
         source: &'source str,
     ) -> Result<usize, Error> {
-        for (_, line) in run {
+        for (_, line) in block {
             slice(source, line.range.clone())?;
         }
-        let (first_line, first) = run[0];
-        let (_, last) = run[run.len() - 1];
+        let (first_line, first) = block[0];
+        let (_, last) = block[block.len() - 1];
         let text = slice(source, first.range.start..last.range.end)?;
         let text_start = self.text.len();
-        self.runs.push(Run {
+        self.blocks.push(Block {
             first_line,
             source_start: first.range.start,
             text_start,
@@ -91,12 +95,12 @@ impl<'source> Excerpt<'source> {
             byte.wrapping_sub(first.range.start)
                 .wrapping_add(text_start)
         };
-        self.lines.extend(run.iter().map(|(_, line)| Line {
+        self.lines.extend(block.iter().map(|(_, line)| Line {
             start: moved(line.range.start),
             end: moved(line.range.end),
             number: line.number,
         }));
-        // The first run is borrowed, until another one follows.
+        // The first block is borrowed, until another one follows.
         self.text += text;
         Ok(last.range.end)
     }
@@ -127,11 +131,11 @@ impl<'source> Excerpt<'source> {
     /// Returns where that text has a byte of the file.
     pub(super) fn byte(&self, position: Position) -> usize {
         let after = self
-            .runs
-            .partition_point(|run| run.first_line <= position.line_index);
-        let run = &self.runs[after - 1];
-        let in_run = position.byte.wrapping_sub(run.source_start);
-        in_run.saturating_add(run.text_start)
+            .blocks
+            .partition_point(|block| block.first_line <= position.line_index);
+        let block = &self.blocks[after - 1];
+        let in_block = position.byte.wrapping_sub(block.source_start);
+        in_block.saturating_add(block.text_start)
     }
 }
 

@@ -13,27 +13,48 @@ use crate::term::excerpt::Excerpt;
 
 /// A line as it is looked up.
 pub(super) struct LineInfo {
+    /// The line number that is shown.
     pub(super) number: usize,
+    /// The byte indices of its start and its end in the file.
     pub(super) range: Range<usize>,
 }
 
-/// A byte of a file, and the index of its line.
+/// A byte of a file, and the index of its line, both from 0.
 #[derive(Clone, Copy)]
 pub(super) struct Position {
     pub(super) byte: usize,
     pub(super) line_index: usize,
 }
 
+/// A label whose location may be shown. The least one's is: a primary one's before others, and of
+/// these the one's that starts first.
+#[derive(PartialEq, PartialOrd)]
+struct LocationLabel {
+    style: LabelStyle,
+    /// The byte index of its start in the file.
+    start: usize,
+}
+
+impl LocationLabel {
+    fn new<FileId>(label: &Label<FileId>) -> LocationLabel {
+        LocationLabel {
+            style: label.style,
+            start: label.range.start,
+        }
+    }
+}
+
 /// A file that has labels.
 pub(super) struct LabeledFile<FileId> {
     id: FileId,
     name: String,
-    /// The style and the start of the label whose location is shown: a primary one before others,
-    /// then the first.
-    shown: (LabelStyle, usize),
+    /// The label whose location is shown.
+    location_label: LocationLabel,
+    /// The start of that label.
     start: Position,
+    /// The location of that start.
     location: Location,
-    /// The lines that are shown, and those inside labels, by their indices.
+    /// The lines that are shown, and those inside labels, by their indices, from 0.
     lines: BTreeMap<usize, LineInfo>,
     /// The least index at which lines after a label ended, with the error.
     end_of_context: Option<(usize, Error)>,
@@ -49,7 +70,7 @@ impl<FileId: Copy + PartialEq> LabeledFile<FileId> {
         Ok(LabeledFile {
             id: label.file_id,
             name: files.name(label.file_id)?.to_string(),
-            shown: (label.style, label.range.start),
+            location_label: LocationLabel::new(label),
             start,
             location: files.location(label.file_id, label.range.start)?,
             lines: BTreeMap::new(),
@@ -64,9 +85,9 @@ impl<FileId: Copy + PartialEq> LabeledFile<FileId> {
         start: Position,
         files: &'files (impl Files<'files, FileId = FileId> + ?Sized),
     ) -> Result<(), Error> {
-        let shown = (label.style, label.range.start);
-        if shown < self.shown {
-            self.shown = shown;
+        let location_label = LocationLabel::new(label);
+        if location_label < self.location_label {
+            self.location_label = location_label;
             self.start = start;
             self.location = files.location(self.id, label.range.start)?;
         }

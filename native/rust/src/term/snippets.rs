@@ -10,13 +10,14 @@ use crate::term::excerpt::Excerpt;
 use crate::term::labeled_file::{line_at, LabeledFile, Position};
 use crate::term::Config;
 
-/// A label, with the index of its file among the labeled ones, and the positions of its start and
-/// its end.
+/// A label, with the positions of its start and its end.
 struct LabelSpan<'diagnostic> {
     style: LabelStyle,
     message: &'diagnostic str,
+    /// The index of its file among the labeled ones, from 0.
     file: usize,
     start: Position,
+    /// The end, exclusive.
     end: Position,
 }
 
@@ -35,7 +36,9 @@ impl LabelSpan<'_> {
 
 /// The files that have labels, and the labels.
 pub(super) struct Snippets<'diagnostic, FileId> {
+    /// The files, in the order of the first label of each.
     files: Vec<LabeledFile<FileId>>,
+    /// The labels, in the order of the diagnostic.
     labels: Vec<LabelSpan<'diagnostic>>,
 }
 

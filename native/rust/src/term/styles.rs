@@ -154,7 +154,7 @@ impl Default for Styles {
     }
 }
 
-/// A writer of styles over a termcolor writer, by styles of your own.
+/// A writer of styles over a termcolor writer, in custom styles.
 ///
 /// ```
 /// use codespan_reporting::diagnostic::Diagnostic;

@@ -61,7 +61,7 @@ where
     where
         FileId: 'files,
     {
-        self.output(files, renderer.config(), Spelling::Marked)
+        self.output(files, renderer.config(), Spelling::StyleMarks)
             .write(renderer)
     }
 
@@ -141,7 +141,7 @@ where
     where
         FileId: 'files,
     {
-        self.output(files, renderer.config(), Spelling::Marked)
+        self.output(files, renderer.config(), Spelling::StyleMarks)
             .write(renderer)
     }
 

@@ -84,7 +84,7 @@ pub const TAB_WIDTHS: &[Configuration] = &[TAB_DEFAULT, TAB_3, TAB_6];
 /// The same, and one more.
 pub const MORE_TAB_WIDTHS: &[Configuration] = &[TAB_DEFAULT, TAB_2, TAB_3, TAB_6];
 
-/// Fewer lines of context than by default at the start of a label over several lines.
+/// Fewer lines of context than by default at the start of a multi-line label.
 pub const CONTEXT_WITHIN: &[Configuration] = &[WITHIN_LABELS];
 
 /// Lines of context before and after each label.

@@ -1,4 +1,4 @@
-//! Labels over several lines, and lines of context.
+//! Multi-line labels, and lines of context.
 
 use codespan_reporting::diagnostic::{Diagnostic, Label};
 use codespan_reporting::files::{SimpleFile, SimpleFiles};

@@ -116,7 +116,7 @@ fn unknown_types(file: usize) -> [Diagnostic<usize>; 2] {
     })
 }
 
-/// Two files, a label over several lines that begins where one of one line ended, and long notes.
+/// Two files, a multi-line label that begins where one of one line ended, and long notes.
 fn unmovable(harbor: usize, threads: usize) -> Diagnostic<usize> {
     let block = "`[block of tugs_with_threads.txt:25:19: 28:6 with x: main.Tug]`";
     let message = "`counters.Shared(())` can not move to another thread";

@@ -26,7 +26,7 @@ impl<'chars> SnippetStart<'chars> {
         ensures same { IfOk result (λ s. start_text s ≡ start_text self.now) }
         ensures kind { IfOk result (λ s. is_fixed s ≡ is_fixed self.now) }
         ensures fixed { IsTrue (is_fixed self.now) → result ≡ Ok self.now }
-        ensures memory { OnErr result (IsErrOf result Error.OutOfMemory) }
+        ensures failed { OnErr result (IsErrOf result Error.OutOfMemory) }
     {
         match self {
             SnippetStart::Fixed(text) => Ok(SnippetStart::Fixed(text)),
@@ -89,13 +89,13 @@ pub struct Chars<'chars> {
 }
 
 impl<'chars> Default for Chars<'chars> {
-    ghost use Rattle.codespan_base.specs.ConfigEquality.{IsChars};
+    ghost use Rattle.codespan_base.specs.ConfigEquality.{IsEqualChars};
     ghost use Rattle.codespan_base.specs.Characters.{box_drawing};
 
-    ghost is_default = { IsChars box_drawing };
+    ghost is_default = { IsEqualChars box_drawing };
 
     fn default() -> Chars<'chars>
-        ensures equal { IsChars box_drawing result }
+        ensures equal { IsEqualChars box_drawing result }
         ensures fixed { IsTrue (is_fixed result.snippet_start) }
     {
         Chars::box_drawing()
@@ -103,13 +103,13 @@ impl<'chars> Default for Chars<'chars> {
 }
 
 impl<'chars> Chars<'chars> {
-    ghost use Rattle.codespan_base.specs.ConfigEquality.{IsChars};
+    ghost use Rattle.codespan_base.specs.ConfigEquality.{IsEqualChars};
     ghost use Rattle.codespan_base.specs.Characters.{box_drawing, ascii};
 
     /// Returns the characters of box drawing, which are the default, with a text before a locus
     /// that is `Fixed`.
     pub fn box_drawing() -> Chars<'chars>
-        ensures equal { IsChars box_drawing result }
+        ensures equal { IsEqualChars box_drawing result }
         ensures fixed { IsTrue (is_fixed result.snippet_start) }
     {
         Chars {
@@ -134,7 +134,7 @@ impl<'chars> Chars<'chars> {
 
     /// Returns characters of ASCII alone, with a text before a locus that is `Fixed`.
     pub fn ascii() -> Chars<'chars>
-        ensures equal { IsChars ascii result }
+        ensures equal { IsEqualChars ascii result }
         ensures fixed { IsTrue (is_fixed result.snippet_start) }
     {
         Chars {
@@ -164,11 +164,11 @@ impl<'chars> Chars<'chars> {
     /// [`Error::OutOfMemory`] where an allocation fails; never where the text before a locus is
     /// [`SnippetStart::Fixed`].
     pub fn clone(&self) -> Result<Chars<'chars>, Error>
-        ensures same { IfOk result (IsChars self.now) }
+        ensures same { IfOk result (IsEqualChars self.now) }
         ensures kind { IfOk result (λ c.
             is_fixed c.snippet_start ≡ is_fixed self.now.snippet_start) }
         ensures fixed { IsTrue (is_fixed self.now.snippet_start) → result ≡ Ok self.now }
-        ensures memory { OnErr result (IsErrOf result Error.OutOfMemory) }
+        ensures failed { OnErr result (IsErrOf result Error.OutOfMemory) }
     {
         Ok(Chars {
             snippet_start: self.snippet_start.clone()?,

@@ -40,7 +40,7 @@ impl<'writer, W: Write> PlainWriterRef<'writer, W> {
 impl<W: Write> Write for PlainWriterRef<'_, W> {
     ghost use Rattle.codespan_base.specs.Writers.{borrowed_writer};
 
-    ghost contents = { λ l. W.contents (borrowed_writer l) };
+    ghost contents = { λ p. W.contents (borrowed_writer p) };
 
     fn write(&mut self, buf: &[u8]) -> io::Result<usize> {
         self.writer.write(buf)
@@ -55,7 +55,7 @@ impl<W: Write> Write for PlainWriterRef<'_, W> {
 impl<W: Write> WriteStyle for PlainWriterRef<'_, W> {
     ghost use Rattle.codespan_base.specs.Writers.{plain_ref_sink};
 
-    ghost sink = { λ l. plain_ref_sink W.contents l };
+    ghost sink = { λ p. plain_ref_sink W.contents p };
 
     fn set_header(&mut self, _severity: Severity) -> io::Result<()> {
         Ok(())

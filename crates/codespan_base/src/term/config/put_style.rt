@@ -1,4 +1,4 @@
-//! Writers of bytes and style marks with an error type of their own.
+//! Writers of bytes and style marks with a custom error type.
 
 ghost use Rattle.std.specs.Prelude.{◌≡◌};
 ghost use Rattle.std.specs.Io.{WritesAtMost};
@@ -11,12 +11,12 @@ use codespan_diagnostics::diagnostic::{LabelStyle, Severity};
 use std::io;
 use std::io::ErrorKind;
 
-/// A [`WriteStyle`], or a writer that keeps the law of one and fails with an error of its own.
+/// A [`WriteStyle`], or a writer that keeps the law of one and fails with a custom error.
 ///
 /// Each [`WriteStyle`] is one, by the `impl` below, and fails with its [`io::Error`]. The calls
 /// that write whole texts and rows are generic over this trait: an `io::Error` takes 88 bytes,
 /// which each call that may fail with it fills and copies, so rows are written by a writer that
-/// saves it and fails with an error of no size.
+/// saves it and fails with a zero-sized error.
 pub trait PutStyle {
     ghost use Rattle.codespan_base.specs.WriterLaw.{Sink};
 

@@ -8,7 +8,7 @@ use codespan_diagnostics::diagnostic::{LabelStyle, Severity};
 use std::io;
 use std::io::Write;
 
-/// The result of a style mark.
+/// The result of a style mark: the Rust crate's name for `io::Result<()>`.
 pub type GeneralWriteResult = io::Result<()>;
 
 /// A writer of bytes and style marks. It has a spelling: fixed bytes for each style mark, which no
@@ -116,7 +116,7 @@ pub trait WriteStyle: Write {
     fn reset(&mut self) -> io::Result<()>
         ensures { Writes (sink self.old) (style_mark Reset) result (sink self.new) };
 
-    /// Writes once: takes a number of the first bytes and returns it.
+    /// Writes once, and returns how many of the first bytes it took.
     ///
     /// # Errors
     ///

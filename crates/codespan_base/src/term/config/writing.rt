@@ -1,5 +1,5 @@
-//! Writing whole texts, characters, spaces and numbers, to a [`WriteStyle`] or to the inner writer
-//! of one.
+//! Writing whole texts, characters, spaces and numbers to a [`PutStyle`], and whole texts to an
+//! [`io::Write`](Write).
 //!
 //! These functions are this project's own. They do not allocate.
 
@@ -30,7 +30,7 @@ const DIGITS: usize = 20;
 /// # Errors
 ///
 /// That of a `put` that fails, and `ErrorKind::WriteZero` where a `put` takes none of some bytes.
-/// A prefix has then been written.
+/// A prefix has then been written. An interrupted `put` is an error too.
 pub fn put_all<W: PutStyle>(w: &mut W, text: &[u8]) -> Result<(), W::Error>
     ensures { Writes (W.sink w.old) (bytes text.now) result (W.sink w.new) }
 {
@@ -103,7 +103,8 @@ pub fn put_repeated<W: PutStyle>(w: &mut W, c: char, count: usize) -> Result<(),
     }
 }
 
-/// Writes two copies of a character. Those of box drawing are written as an array, as one is.
+/// Writes two copies of a character. Two of three bytes each, as those of box drawing are, are one
+/// array, as one is in `put_glyph`.
 #[inline(always)]
 fn put_pair<W: PutStyle>(w: &mut W, c: char) -> Result<(), W::Error>
     ensures { Writes (W.sink w.old) (repeated 2 c) result (W.sink w.new) }
@@ -182,7 +183,8 @@ fn write_digits(digits: &mut [u8; DIGITS], number: usize) -> usize
 /// # Errors
 ///
 /// That of a write that fails, and `ErrorKind::WriteZero` where a write takes none of some bytes.
-/// A prefix has then been written.
+/// A prefix has then been written. An interrupted write is an error too; Rust's `Write::write_all`
+/// tries it again.
 pub fn write_all<W: Write>(w: &mut W, bytes: &[u8]) -> io::Result<()>
     ensures appends { AppendsBytes (W.contents w.old) bytes.now result (W.contents w.new) }
     ensures nothing { bytes.now ≡ [] → WritesNothing w.old result w.new }

@@ -5,7 +5,7 @@ use Rattle.std.proofs.lemmas.Result.{err_from_is_err_and}
 use Rattle.codespan_annotations.specs.declared.labeled_files.LabeledFile.{LabeledFile as RustFile}
 use Rattle.codespan_collect.specs.CollectedLabels.{FindsLines, collected_label}
 use Rattle.codespan_annotations.specs.AnnotationViews.{Adds, IsOfFiles}
-use Rattle.codespan_annotations.specs.LabeledFiles.{ids_view, lanes_view, lanes_in, lanes_with_label}
+use Rattle.codespan_annotations.specs.LabeledFiles.{ids_view, lanes_view, lane_count_of, lanes_with_label}
 use Rattle.codespan_annotations.specs.FileStarts.{file_start}
 use Rattle.codespan_picture.specs.Picture.{label_of}
 use Rattle.codespan_picture.specs.Snippets.{file_ids}
@@ -30,8 +30,8 @@ are_files g κs claim files =
 equal_ids : (g : Over) (κs : Lfts 8) → g.claim κs → (files : g.row.F.Denot) → (g.F.Files.database files).same ≡ g.F.FileId.PartialEq.eq
 equal_ids g κs claim files = (g.met.F.Files κs claim).same_is files
 
-pub file_index-requires : goal.file_index-requires
-file_index-requires g c =
+pub get_or_insert_file-requires : goal.get_or_insert_file-requires
+get_or_insert_file-requires g c =
     let lawful = are_files g c.lifetimes (search rules) c.args.files.now in
     subst (λ same. AreDistinct same (ids_view c.loop-index.labeled.items)) (equal_ids g c.lifetimes (search rules) c.args.files.now)
     (subst (AreDistinct (g.F.Files.database c.args.files.now).same) (sym c.loop-index.invariant.ids_are)
@@ -46,20 +46,20 @@ indexed : (g : Over) (c : In_ok-file g) → IsElementAt c.args.labels.now c.loop
     → let same = (g.F.Files.database c.args.files.now).same in
     let labels = c.args.labels.now in
     let index = c.loop-index.index in
-    AreCollected (g.F.Files.database c.args.files.now) c.args.config.now (file_ids same (before labels (index + 1))) (before labels index) c.file_index.new.files.items c.loop-index.found
+    AreCollected (g.F.Files.database c.args.files.now) c.args.config.now (file_ids same (before labels (index + 1))) (before labels index) c.get_or_insert_file.new.files.items c.loop-index.found
 indexed g c at =
     let lawful = are_files g c.lifetimes (search rules) c.args.files.now in
     let now = c.in_ok-file.ensures in
     file-indexed lawful at c.loop-index.invariant
-    (subst (λ same. IsIndexedFile same c.index-labels-index.result.file_id c.loop-index.labeled.items c.file_index.new.files.items)
+    (subst (λ same. IsIndexedFile same c.index-labels-index.result.file_id c.loop-index.labeled.items c.get_or_insert_file.new.files.items)
     (sym (equal_ids g c.lifetimes (search rules) c.args.files.now)) (record { ids = now.ids; starts = now.starts; lanes = now.lanes }))
 
 -- and its index is the one that was found
 found_there : (g : Over) (c : In_ok-file g)
-    → c.in_ok-file.file ≡ index_of_file (g.F.Files.database c.args.files.now).same (ids_view c.file_index.new.files.items) c.index-labels-index.result.file_id
+    → c.in_ok-file.file ≡ index_of_file (g.F.Files.database c.args.files.now).same (ids_view c.get_or_insert_file.new.files.items) c.index-labels-index.result.file_id
 found_there g c =
     c.in_ok-file.ensures.index
-    ∙ ap (λ same. index_of_file same (ids_view c.file_index.new.files.items) c.index-labels-index.result.file_id)
+    ∙ ap (λ same. index_of_file same (ids_view c.get_or_insert_file.new.files.items) c.index-labels-index.result.file_id)
     (sym (equal_ids g c.lifetimes (search rules) c.args.files.now))
 
 pub returns-in_err-lines-clause-failed : goal.returns-in_err-lines-clause-failed
@@ -70,7 +70,7 @@ returns-in_err-lines-clause-failed g c =
     rw (p.1 ∙ ap Err p.2) (λ known. collected-failed lawful at c.loop-index.invariant _ (c.in_err-lines.ensures.failed known))
 
 -- its index is one of the files'
-indices_inside : (g : Over) (c : In_ok-file g) → IsElementAt c.args.labels.now c.loop-index.index c.index-labels-index.result → c.in_ok-file.file < length c.file_index.new.files.items
+indices_inside : (g : Over) (c : In_ok-file g) → IsElementAt c.args.labels.now c.loop-index.index c.index-labels-index.result → c.in_ok-file.file < length c.get_or_insert_file.new.files.items
 indices_inside g c at =
     let lawful = are_files g c.lifetimes (search rules) c.args.files.now in
     index-inside lawful at (indexed g c at) (found_there g c)
@@ -79,16 +79,16 @@ pub index-requires : goal.index-requires
 index-requires g c =
     let here = (goal.at.index-requires g c).In_ok-file in
     let at = turn g (goal.at.index-requires g c).After-index-labels-index in
-    omega (arith, indices_inside g here at, c.file_index.new.files.ok.0)
+    omega (arith, indices_inside g here at, c.get_or_insert_file.new.files.ok.0)
 
 -- the lane that the label is given is the number of those of its file
 lane_there : (g : Over) (c : After-index g)
-    → c.in_ok-file.file < length c.file_index.new.files.items
-    → c.index.result.now.lane_count ≡ get_or (lanes_view c.file_index.new.files.items)
+    → c.in_ok-file.file < length c.get_or_insert_file.new.files.items
+    → c.index.result.now.lane_count ≡ get_or (lanes_view c.get_or_insert_file.new.files.items)
     c.in_ok-file.file 0
 lane_there g c inside =
     let lanes : RustFile g.row.F-FileId.Denot → ℕ = λ f. f.lane_count in
-    ap lanes c.index.ensures ∙ sym (get_or-map lanes c.file_index.new.files.items c.in_ok-file.file c.index.result.now 0 inside)
+    ap lanes c.index.ensures ∙ sym (get_or-map lanes c.get_or_insert_file.new.files.items c.in_ok-file.file c.index.result.now 0 inside)
 
 pub add_label-requires : goal.add_label-requires
 add_label-requires g c =
@@ -121,7 +121,7 @@ loop-index-preserved g c =
     }) (record {
       ids = known.ids;
       starts = known.starts;
-      lanes = known.lanes ∙ ap (lanes_with_label (lanes_view c.file_index.new.files.items) c.in_ok-file.file) own;
+      lanes = known.lanes ∙ ap (lanes_with_label (lanes_view c.get_or_insert_file.new.files.items) c.in_ok-file.file) own;
     })
 
 pub returns-clause-collected : goal.returns-clause-collected
@@ -135,7 +135,7 @@ returns-clause-collected g c =
         ids_are = done.ids_are;
         labels_are = each-labels same file xs c.loop-index.labeled.items
             (done.starts_are ∙ ap (map (file_start same xs)) (sym done.ids_are))
-            (done.lanes_are ∙ ap (map (lanes_in same file xs)) (sym done.ids_are));
+            (done.lanes_are ∙ ap (map (lane_count_of same file xs)) (sym done.ids_are));
         padding_is = done.counted;
       };
       adds = subst (λ js. Adds (IsOfFiles file js) [] c.loop-index.found.annotations.items (annotations_after same file c.args.config.now (file_ids same xs) [] xs)) (sym done.ids_are) done.added;

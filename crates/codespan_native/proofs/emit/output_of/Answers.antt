@@ -1,10 +1,10 @@
-use Rattle.codespan_native.proofs.Parts.{valid_config, valid_diagnostic, valid_files}
+use Rattle.codespan_native.proofs.Parts.{valid_chars, valid_diagnostic, valid_files}
 use Rattle.codespan_native.proofs.Rendered.{means_is, result_is}
 use Rattle.codespan_native.specs.SourceModel.{sources_of}
 use Rattle.codespan_native.proofs.emit.output_of.Goals as goal
 
 pub convert_config-settings-requires : goal.convert_config-settings-requires
-convert_config-settings-requires c = valid_config c.args.files.now c.args.diagnostic.now c.args.config.now c.requires
+convert_config-settings-requires c = valid_chars c.args.files.now c.args.diagnostic.now c.args.config.now c.requires
 
 pub convert_files-requires : goal.convert_files-requires
 convert_files-requires c = valid_files c.args.files.now c.args.diagnostic.now c.args.config.now c.requires

@@ -1,4 +1,4 @@
-//! The characters of a rendered line and the cells that they own.
+//! The characters of a drawn line and the cells that they own.
 
 ghost use Rattle.std.specs.Prelude.{◌≡◌, ◌+◌, ◌*◌, ◌^◌, ◌<◌, ◌≤◌, length, drop, unwrap_or, false};
 ghost use Rattle.std.specs.Str.{IsUtf8};
@@ -9,9 +9,9 @@ pub use codespan_picture::char_metrics::Metrics;
 use std::str::Chars;
 use unicode_width::UnicodeWidthChar;
 
-/// An iterator over the characters of a line, from left to right; by [`CharMetrics::to_end`] also
-/// over the placeholder after the last one, which counts as one more character of one byte and one
-/// cell.
+/// An iterator over the characters of a line, from left to right; by
+/// [`CharMetrics::with_placeholder`] also over the placeholder after the last one, which counts as
+/// one more character of one byte and one cell.
 #[derive(Drop)]
 pub struct CharMetrics<'text> {
     text: &'text str,
@@ -33,7 +33,7 @@ impl<'text> CharMetrics<'text> {
     ghost use Rattle.codespan_renderer.specs.Private.MetricsLeft.{Afters, YieldsCharacter, metrics_from, metrics_left, no_more};
     ghost use Rattle.std.specs.Str.{chars};
 
-    /// Returns a scan of the characters of the line alone.
+    /// Returns an iterator over the characters of the line alone.
     pub fn new(text: &'text str, tab_width: usize) -> CharMetrics<'text>
         ensures whole { (after : Afters) → metrics_from after result
             ≡ metrics_then after tab_width 0 0 (chars text.now) }
@@ -52,8 +52,8 @@ impl<'text> CharMetrics<'text> {
         }
     }
 
-    /// Returns a scan of the characters of the line, and the placeholder after the last one.
-    pub fn to_end(text: &'text str, tab_width: usize) -> CharMetrics<'text>
+    /// Returns an iterator over the characters of the line and the placeholder after the last one.
+    pub fn with_placeholder(text: &'text str, tab_width: usize) -> CharMetrics<'text>
         ensures char_metrics { metrics_left result ≡ char_metrics_to_end tab_width text.now }
         ensures utf8 { ∥ IsUtf8 text.now ∥₁ }
     {
@@ -67,8 +67,8 @@ impl<'text> CharMetrics<'text> {
         }
     }
 
-    /// Returns another scan that goes on where this one is. After the last character it yields the
-    /// placeholder where `to_end` is set.
+    /// Returns another iterator that goes on where this one is. After the last character it yields
+    /// the placeholder where `to_end` is set.
     #[inline(always)]
     pub fn fork(&self, to_end: bool) -> CharMetrics<'text>
         ensures same { (after : Afters) → metrics_from after result ≡ metrics_from after self.now }
@@ -88,7 +88,7 @@ impl<'text> CharMetrics<'text> {
 
     /// Returns the next character, or `None` after the last one.
     #[inline(always)]
-    pub fn next_character(&mut self) -> Option<Metrics>
+    pub fn next_metrics(&mut self) -> Option<Metrics>
         ensures yields { YieldsCharacter self.old result self.new }
         ensures end { self.new.to_end ≡ self.old.to_end }
     {
@@ -118,7 +118,7 @@ impl<'text> CharMetrics<'text> {
             (metrics_up_to byte_index (metrics_from no_more self.now)) }
     {
         let mut scan = self.fork(false);
-        while let Some(metrics) = scan.next_character() {
+        while let Some(metrics) = scan.next_metrics() {
             if metrics.byte_index > byte_index {
                 return metrics.column;
             }
@@ -128,8 +128,9 @@ impl<'text> CharMetrics<'text> {
 }
 
 /// Returns how many cells a character takes at a column, counted from 0: a tab as many as there are
-/// up to the next tab stop, any other character its width by `unicode_width`, or 0 where that is
-/// `None`. Printable ASCII takes one cell each, and is tested first, since most text is of it.
+/// up to the next tab stop, none where the tab width is 0; any other character its width by
+/// `unicode_width`, or 0 where that is `None`. Printable ASCII takes one cell each, and is tested
+/// first, since most text is of it.
 #[inline(always)]
 fn width_at(tab_width: usize, column: u128, c: char) -> usize
     ensures { result ≡ width_at tab_width column c }
@@ -158,7 +159,7 @@ impl<'text> Iterator for CharMetrics<'text> {
 
     #[inline(always)]
     fn next(&mut self) -> Option<Metrics> {
-        match self.next_character() {
+        match self.next_metrics() {
             Some(metrics) => Some(metrics),
             None if self.to_end => {
                 self.to_end = false;

@@ -68,8 +68,8 @@ fn starts_in(metrics: Metrics, label: &SingleLabel<'_>) -> bool
     }
 }
 
-/// Returns the best style of the one found so far and those of the labels with a message that start
-/// in the character.
+/// Returns which style takes precedence: of the one found so far and those of the labels with a
+/// message that start in the character.
 fn best_start(
     found: Option<LabelStyle>,
     labels: &[SingleLabel<'_>],

@@ -39,11 +39,15 @@ impl<'row, W: WriteStyle> RowWriter<'row, W> {
 
 /// Returns the error of a text of which a `put` has taken nothing: what is saved before a call
 /// fails.
-pub fn no_write() -> io::Error {
+pub fn write_zero_error() -> io::Error {
     io::Error::from(ErrorKind::WriteZero)
 }
 
 /// Returns what a call that writes rows returned, with the saved error where it failed.
+///
+/// # Errors
+///
+/// `Io` alone: the saved error, where `written` is `Err`.
 #[inline(always)]
 pub fn with_error(written: Result<(), Failed>, saved: &Cell<io::Error>) -> Result<(), Error>
     ensures same { SameOutcome written result }
@@ -60,7 +64,7 @@ pub fn with_error(written: Result<(), Failed>, saved: &Cell<io::Error>) -> Resul
 fn take_error(saved: &Cell<io::Error>) -> Error
     ensures { IsIo result }
 {
-    Error::Io(saved.replace(no_write()))
+    Error::Io(saved.replace(write_zero_error()))
 }
 
 /// Saves the error of a call that failed.

@@ -55,7 +55,7 @@ impl<'row, 'd> CharCursor for ScanCursor<'row, 'd> {
 /// allocated.
 #[derive(Clone, Copy)]
 pub struct ScannedLine<'row, 'd> {
-    /// The number of cells from one tab stop to the next.
+    /// The number of cells from one tab stop to the next; where it is 0, a tab takes no cell.
     pub tab_width: usize,
     /// The text of the line.
     pub text: &'row str,
@@ -66,7 +66,7 @@ pub struct ScannedLine<'row, 'd> {
 impl<'row, 'd> LineSource for ScannedLine<'row, 'd> {
     type Cursor = ScanCursor<'row, 'd>;
 
-    ghost of = { λ s.
+    ghost input = { λ s.
         record { tab_width = s.tab_width; text = s.text.now; labels = s.labels.now } };
 
     #[inline(always)]
@@ -80,7 +80,7 @@ impl<'row, 'd> LineSource for ScannedLine<'row, 'd> {
     #[inline(always)]
     fn characters_from_labels(&self, _end: usize) -> (u128, ScanCursor<'row, 'd>) {
         let cursor = ScanCursor {
-            char_metrics: CharMetrics::to_end(self.text, self.tab_width),
+            char_metrics: CharMetrics::with_placeholder(self.text, self.tab_width),
             labels: self.labels,
         };
         (0, cursor)

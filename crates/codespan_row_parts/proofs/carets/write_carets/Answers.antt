@@ -19,10 +19,10 @@ use Rattle.codespan_row_parts.proofs.carets.write_carets.Goals as goal
 
 pub loop-metrics-init : goal.loop-metrics-init
 loop-metrics-init g c =
-    let tab = ap (λ (x : CharInput). x.tab_width) c.requires.of in
-    let text = ap (λ (x : CharInput). x.text) c.requires.of in
+    let tab = ap (λ (x : CharInput). x.tab_width) c.requires.input in
+    let text = ap (λ (x : CharInput). x.text) c.requires.input in
     let labels = single_label_views c.args.line.labels.now in
-    let given = ap (λ (x : CharInput). x.labels) c.requires.of in
+    let given = ap (λ (x : CharInput). x.labels) c.requires.input in
     let out = rw (tab, text, given, c.max_label_end-end.ensures) at c.characters_from_labels-run.ensures.left in
     let all = scan_state-to_end c.args.context.tab_width c.args.line.text.now (IsUtf8-had _ c.args.line.utf8) in
     record {

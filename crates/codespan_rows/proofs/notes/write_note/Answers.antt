@@ -2,7 +2,7 @@ use Rattle.std.proofs.Common.{ap, refl}
 use Rattle.std.proofs.lemmas.Iterator.Splits.{YieldsList-from_lines}
 use Rattle.std.proofs.lemmas.Result.{err_from_is_err_and}
 use Rattle.codespan_base.proofs.Loops.{StillToWrite-start, StillToWrite-more, StillToWrite-failed, StillToWrite-end}
-use Rattle.codespan_row_parts.specs.RenderedRows.{later_notes, note_stream}
+use Rattle.codespan_row_parts.specs.RenderedRows.{later_note_rows, note_stream}
 use Rattle.codespan_rows.proofs.UnderlineRows.{lines-next, lines-none}
 use Rattle.codespan_rows.proofs.notes.write_note.Goals as goal
 
@@ -35,16 +35,16 @@ loop-piece-preserved g c =
     record {
       pieces = next.after;
       yields = next.yields;
-      written_so_far = StillToWrite-more _ _ _ _ _ _ _ i.written_so_far c.in_ok-write_later_piece.ensures (ap (later_notes c.args.padding) next.is);
+      written_so_far = StillToWrite-more _ _ _ _ _ _ _ i.written_so_far c.in_ok-write_later_piece.ensures (ap (later_note_rows c.args.padding) next.is);
     }
 
 pub returns-in_err-write_later_piece : goal.returns-in_err-write_later_piece
 returns-in_err-write_later_piece g c = let p = err_from_is_err_and c.from_residual-in_err-write_later_piece.result c.from_residual-in_err-write_later_piece.ensures.1 in
     let i = c.loop-piece.invariant in
     let next = lines-next c.loop-piece.piece-iterator c.in-Some-piece.piece c.next-in-loop-piece.new.self _ i.yields c.in-Some-piece.ensures.steps in
-    rw p.1 (StillToWrite-failed _ _ _ _ _ _ _ i.written_so_far c.in_err-write_later_piece.ensures (ap (later_notes c.args.padding) next.is))
+    rw p.1 (StillToWrite-failed _ _ _ _ _ _ _ i.written_so_far c.in_err-write_later_piece.ensures (ap (later_note_rows c.args.padding) next.is))
 
 pub returns : goal.returns
 returns g c =
     let i = c.loop-piece.invariant in
-    StillToWrite-end _ _ _ _ i.written_so_far (ap (later_notes c.args.padding) (lines-none _ _ _ i.yields c.in-None.ensures.steps))
+    StillToWrite-end _ _ _ _ i.written_so_far (ap (later_note_rows c.args.padding) (lines-none _ _ _ i.yields c.in-None.ensures.steps))

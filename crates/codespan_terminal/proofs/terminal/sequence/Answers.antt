@@ -1,5 +1,6 @@
 use Rattle.std.proofs.Common.{rules}
-use Rattle.codespan_terminal.specs.Terminal.{ansi_spelling, style_mark_of}
+use Rattle.codespan_base.specs.StyleTables.{ansi_spelling}
+use Rattle.codespan_terminal.specs.Terminal.{style_mark_of}
 use Rattle.codespan_terminal.proofs.Sequences.{written_sequence}
 use Rattle.codespan_terminal.proofs.terminal.sequence.Goals as goal
 

@@ -78,7 +78,7 @@ fn scripts_with_unknown_words(rt: HostRuntime) -> Result<(), Fail> {
 }
 
 /// The runs of `scripts_with_unknown_severities`.
-static SCRIPTS_WITH_UNKNOWN_SEVERITIES: [ScriptRun<'static>; 5] = [
+static SCRIPTS_WITH_UNKNOWN_SEVERITIES: [ScriptRun<'static>; 4] = [
     (
         "rich",
         "severity\n---\n",
@@ -115,21 +115,6 @@ static SCRIPTS_WITH_UNKNOWN_SEVERITIES: [ScriptRun<'static>; 5] = [
             \x20 │\n\
             1 │ severity Error\n\
             \x20 │          ^^^^^ expected bug, error, warning, note or help\n\n",
-            3,
-        ),
-    ),
-    (
-        "rich",
-        "severity bug\nseverity x\n---\n",
-        (
-            "",
-            "error[S4]: repeated word\n\
-            \x20 ┌─ script:2:1\n\
-            \x20 │\n\
-            1 │ severity bug\n\
-            \x20 │ -------- first given here\n\
-            2 │ severity x\n\
-            \x20 │ ^^^^^^^^ given again\n\n",
             3,
         ),
     ),
@@ -228,23 +213,7 @@ fn scripts_with_bad_numbers(rt: HostRuntime) -> Result<(), Fail> {
 }
 
 /// The runs of `scripts_without_end`.
-static SCRIPTS_WITHOUT_END: [ScriptRun<'static>; 3] = [
-    (
-        "rich",
-        "code é路\nnote\ncode b\r\n---\n",
-        (
-            "",
-            "error[S4]: repeated word\n\
-            \x20 ┌─ script:3:1\n\
-            \x20 │\n\
-            1 │ code é路\n\
-            \x20 │ ---- first given here\n\
-            2 │ note\n\
-            3 │ code b\n\
-            \x20 │ ^^^^ given again\n\n",
-            3,
-        ),
-    ),
+static SCRIPTS_WITHOUT_END: [ScriptRun<'static>; 2] = [
     (
         "rich",
         "message a\r",

@@ -3,7 +3,7 @@ use Rattle.codespan_base.specs.DatabaseViews.{entries, name_of, source_of, mappe
 use Rattle.codespan_styled.specs.Runs.{styled_runs}
 use Rattle.gallery_cases.specs.Documents.{AreRunsOver}
 use Rattle.gallery_cases.proofs.OneFile.{ok_follows, over_one, over_several, over_mapped}
-use Rattle.gallery_cases.proofs.Runs.{stated_in_table}
+use Rattle.gallery_cases.proofs.Runs.{stated_in_database}
 use Rattle.gallery_cases.proofs.rendering.runs_of_case.Goals as goal
 
 pub returns-in-One : goal.returns-in-One
@@ -22,7 +22,7 @@ returns-in-Several c =
     let are = rw c.in-Several.is at c.in_ok-database.ensures in
     ok_follows c.runs_over-in-Several.result
     (λ text. over_several case (entries files) (λ Id database diagnostic. AreRunsOver case.config database diagnostic (styled_runs text)) are.0 are.1)
-    (c.runs_over-in-Several.ensures (stated_in_table (entries files) case.diagnostic))
+    (c.runs_over-in-Several.ensures (stated_in_database (entries files) case.diagnostic))
 
 pub returns : goal.returns
 returns c =

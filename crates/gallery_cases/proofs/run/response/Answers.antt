@@ -19,7 +19,7 @@ same_bytes text items (Err error) (Ok x) Wrong Is is same = absurd same
 -- a document
 pub returns-in-Some-clause-responds : goal.returns-in-Some-clause-responds
 returns-in-Some-clause-responds c =
-    let found = rw c.in-Some.is at c.named.ensures in
+    let found = rw c.in-Some.is at c.case_named.ensures in
     let shows = λ (bytes : List ℕ). IsSomeAnd (case_named c.in-Document.name.now c.args.cases.now) (λ case. IsDocument c.in-Document.format case bytes) in
     let is = subst (λ (found : Option Case). IfOk c.document.result (λ document. IsSomeAnd found (λ case. IsDocument c.in-Document.format case (string_bytes document)))) found c.document.ensures in
     rw c.in-Document.is (same_bytes string_bytes (λ (bytes : Vec ℕ Global). bytes.items) c.document.result c.bytes_of-in-Document.result _ shows is c.bytes_of-in-Document.ensures)

@@ -129,7 +129,7 @@ fn numbers_are_those_of_the_header() {
     assert_eq!(CLASSIC, constant("CLASSIC"));
     assert_eq!(OWN_CHARS, constant("OWN_CHARS"));
     assert_eq!(Spelling::Plain as u32, constant("PLAIN"));
-    assert_eq!(Spelling::Marked as u32, constant("MARKED"));
+    assert_eq!(Spelling::StyleMarks as u32, constant("MARKED"));
     for (style, name) in [
         (DisplayStyle::Rich, "RICH"),
         (DisplayStyle::Medium, "MEDIUM"),

@@ -8,7 +8,7 @@ use Rattle.codespan_collect.specs.declared.label_annotations.LabelCollector.{Lab
 use Rattle.codespan_collect.specs.CollectedLabels.{CollectedLabel, label_of_collector}
 use Rattle.codespan_annotations.specs.LabelSpans.{IsFarInside}
 use Rattle.codespan_annotations.specs.SourceFiles.{line_failure}
-use Rattle.codespan_collect.proofs.Contexts.{CollectsLabel, CollectsLines, HasEnds, collected-start, collected-context, collected-reach, collected-failed, collected-snippet_line}
+use Rattle.codespan_collect.proofs.Contexts.{CollectsLabel, CollectsLines, HasEnds, collected-start, collected-context, collected-reach, collected-failed, collected-line}
 use Rattle.codespan_collect.proofs.label_annotations.LabelCollector.collect_lines.Given.{Over}
 use Rattle.codespan_collect.proofs.label_annotations.LabelCollector.collect_lines.Goals.{Else-not-branch, then-far-index, else-far-index}
 use Rattle.codespan_collect.proofs.label_annotations.LabelCollector.collect_lines.Goals as goal
@@ -76,7 +76,7 @@ one_more g c =
     let x = collector_label g c.args.self.now c.args.label.now in
     let on = c.if-not-branch.false in
     let known = c.in_ok-collect_line.ensures in
-    collected-snippet_line {x = x} c.loop-index.invariant (has_ends g c.lifetimes (search rules) c.args.self.now c.args.label.now)
+    collected-line {x = x} c.loop-index.invariant (has_ends g c.lifetimes (search rules) c.args.self.now c.args.label.now)
     (omega (arith, c.loop-index-test.true, c.max-index-end.ensures, c.saturating_add-last.ensures, c.requires.first, c.requires.last))
     (known.inside on) (known.added on) (known.padding on) (known.succeeded on)
 

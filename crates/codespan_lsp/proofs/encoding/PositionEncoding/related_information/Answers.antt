@@ -2,7 +2,7 @@ use Rattle.std.proofs.Common.{◌≡◌, ◌<◌, ◌≤◌, length, get_or, Err
 use Rattle.std.specs.Prelude.{not}
 use Rattle.std.proofs.lemmas.Result.{err_from_is_err_and}
 use Rattle.codespan_base.specs.Labels.{is_primary_style}
-use Rattle.codespan_lsp.specs.LspDiagnostics.{related_view, related_of, label_failure}
+use Rattle.codespan_lsp.specs.LspDiagnostics.{related_view, related_view_for, label_failure}
 use Rattle.codespan_lsp.specs.declared.diagnostics.RelatedInformation.{RelatedInformation}
 use Rattle.codespan_lsp.proofs.LabelLemmas.{passing-more, passing-skip, views-push, views-end, failure-more, failure-here, related-same}
 use Rattle.codespan_lsp.proofs.encoding.PositionEncoding.related_information.Goals.{then-not-is_primary+in_ok-range+in_ok-message+in_ok-push, else-not-is_primary}
@@ -41,7 +41,7 @@ loop-label-preserved g c =
           let y : RelatedInformation g.row.F-FileId.Denot = record { file_id = x.file_id; range = w.in_ok-range.range; message = w.in_ok-message.message } in
           let message : string_bytes w.in_ok-message.message ≡ string_bytes x.message = first_of (cc, search rules) in
           record {
-            views = views-push related_view (related_of c.args.self database) c.loop-label.related.items c.if-not-is_primary.related.items y x _ _ _
+            views = views-push related_view (related_view_for c.args.self database) c.loop-label.related.items c.if-not-is_primary.related.items y x _ _ _
                 (ap (λ v. v.items) w.related-is ∙ w.in_ok-push.ensures.items)
                 (related-same c.args.self database x y refl w.in_ok-range.ensures.value message) more was.views;
             failure = failure-more (label_failure c.args.self database) x _ _ _ was.failure more w.in_ok-range.ensures.failed;
@@ -59,5 +59,5 @@ loop-label-preserved g c =
 pub returns-clause-value : goal.returns-clause-value
 returns-clause-value g c =
     let past : length c.args.labels.now.items ≤ c.loop-label.label-index = omega (arith, c.loop-label-test.false, ap length c.deref-label-items.ensures.value) in
-    views-end (λ label. not (is_primary_style label.style)) related_view (related_of c.args.self (g.F.Files.database c.args.files.now)) c.loop-label.related.items c.args.labels.now.items c.loop-label.label-index _ past
+    views-end (λ label. not (is_primary_style label.style)) related_view (related_view_for c.args.self (g.F.Files.database c.args.files.now)) c.loop-label.related.items c.args.labels.now.items c.loop-label.label-index _ past
     c.loop-label.invariant.views

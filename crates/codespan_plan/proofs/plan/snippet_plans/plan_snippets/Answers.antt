@@ -70,7 +70,7 @@ loop-index-preserved g c =
     record {
       inside = next_inside at;
       left = next_left at;
-      planned = elim c.match-plan_snippet.branch [
+      planned = elim c.match-locate_snippet.branch [
         | in-Ok+in_ok-push-in-Ok w ↦
             rw w.located-is (planned-more at.here before (ap (λ snippet_plans. snippet_plans.items) w.snippet_plans-is ∙ w.in_ok-push-in-Ok.ensures.items) added.whole
             (plan_found at added zs_are c.in_ok-line_total.ensures.count w.in-Ok.ensures.file w.in-Ok.ensures.locus w.in-Ok.ensures.line_total)

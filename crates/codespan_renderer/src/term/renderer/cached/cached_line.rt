@@ -16,7 +16,7 @@ ghost use Rattle.codespan_row_parts.specs.Runs.{least_start};
 use crate::term::renderer::Renderer;
 use crate::term::renderer::cached::cached_metrics::CachedMetrics;
 use crate::term::renderer::cached::label_cursor::LabelCursor;
-use crate::term::renderer::cached::pointers::{Pointer, write_spaced};
+use crate::term::renderer::cached::pointers::{Pointer, write_pointers};
 use crate::term::renderer::char_metrics::{CharMetrics, Metrics};
 use crate::term::renderer::row_writer::{RowWriter, with_error};
 use codespan_base::diagnostic::{LabelStyle, Severity};
@@ -65,13 +65,13 @@ impl<'cache, 'row, 'd> CharCursor for CachedCursor<'cache, 'row, 'd> {
 /// A line with a cache of its characters and pointers.
 #[derive(Drop)]
 pub struct CachedLine<'cache, 'row, 'd> {
-    /// The number of cells from one tab stop to the next.
+    /// The number of cells from one tab stop to the next; where it is 0, a tab takes no cell.
     pub tab_width: usize,
     /// The line, whose labels are in the order of their starts.
     pub line: Line<'row, 'd>,
     /// Its first characters, up to the first one past the reach of the rows under it.
     pub cached: &'cache [Metrics],
-    /// The scan of those after them.
+    /// The iterator over those after them.
     pub rest: CharMetrics<'row>,
     /// The pointers under its characters.
     pub pointers: &'cache [Pointer],
@@ -91,13 +91,13 @@ impl<'cache, 'row, 'd> CachedLine<'cache, 'row, 'd> {
     /// Renders the line with its carets, its messages and its underlines. `outer_padding` is the
     /// padding width, in characters.
     ///
-    /// # Requires
-    ///
-    /// The renderer's tab width is that of the cache.
-    ///
     /// # Errors
     ///
     /// `Io` alone: the writer fails or takes no bytes. A prefix of the rows has then been written.
+    ///
+    /// # Requires
+    ///
+    /// The renderer's tab width is that of the cache.
     pub fn render<W: WriteStyle>(
         &self,
         renderer: &mut Renderer<'_, '_, W>,
@@ -162,7 +162,7 @@ impl<'cache, 'row, 'd> CachedLine<'cache, 'row, 'd> {
 impl<'cache, 'row, 'd> LineSource for CachedLine<'cache, 'row, 'd> {
     type Cursor = CachedCursor<'cache, 'row, 'd>;
 
-    ghost of = { λ s. record {
+    ghost input = { λ s. record {
       tab_width = s.tab_width;
       text = s.line.text.now;
       labels = s.line.labels.now;
@@ -199,7 +199,7 @@ impl<'cache, 'row, 'd> LineSource for CachedLine<'cache, 'row, 'd> {
         _messages: Messages<'_, '_>,
     ) -> Result<(), W::Error> {
         let edge = self.width_up_to(max_label_start(self.line.labels));
-        write_spaced(w, context, self.pointers, usize::MAX, edge)
+        write_pointers(w, context, self.pointers, usize::MAX, edge)
     }
 
     #[inline(always)]
@@ -212,6 +212,6 @@ impl<'cache, 'row, 'd> LineSource for CachedLine<'cache, 'row, 'd> {
         before: usize,
     ) -> Result<(), W::Error> {
         let edge = self.width_before(before);
-        write_spaced(w, context, self.pointers, before, edge)
+        write_pointers(w, context, self.pointers, before, edge)
     }
 }

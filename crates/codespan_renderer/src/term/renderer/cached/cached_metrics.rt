@@ -2,13 +2,13 @@
 
 use crate::term::renderer::char_metrics::{CharMetrics, Metrics};
 
-/// The characters of a line, from left to right: those that are cached, and then those that a scan
-/// goes on with.
+/// The characters of a line, from left to right: those that are cached, and then those that an
+/// iterator goes on with.
 #[derive(Drop)]
 pub struct CachedMetrics<'cache, 'text> {
     /// The cached ones that are left.
     pub cached: &'cache [Metrics],
-    /// The scan of those after them.
+    /// The iterator over those after them.
     pub rest: CharMetrics<'text>,
 }
 

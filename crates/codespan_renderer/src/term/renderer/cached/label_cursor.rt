@@ -4,7 +4,7 @@ ghost use Rattle.std.specs.Prelude.{◌≡◌, ◌+◌, ◌<◌, ◌≤◌, ◌&
 ghost use Rattle.codespan_base.specs.Labels.{has_message, is_primary};
 ghost use Rattle.codespan_picture.specs.Carets.{style_under};
 ghost use Rattle.codespan_picture.specs.Arguments.{single_label_view, single_label_views, starts_in_order};
-ghost use Rattle.codespan_renderer.specs.Private.PointerLists.{HasPassed};
+ghost use Rattle.codespan_renderer.specs.Private.PointerLists.{HasPassedStarts};
 ghost use Rattle.codespan_picture.specs.RowParts.{starts_in};
 ghost use Rattle.codespan_renderer.specs.Private.BestStyles.{best_from};
 ghost use Rattle.codespan_row_parts.specs.CharCursors.{is_covered};
@@ -15,7 +15,8 @@ use crate::term::renderer::char_metrics::Metrics;
 use crate::term::renderer::label_styles::primary_first;
 use codespan_base::diagnostic::LabelStyle;
 
-/// A cursor over the labels of a line, which passes a label once a character is under it.
+/// A cursor over the labels of a line, which passes a label at the character in which it starts, or
+/// at the first one after.
 #[derive(Clone, Copy)]
 pub struct LabelCursor<'row, 'd> {
     /// The labels of the line, in the order of their starts.
@@ -128,8 +129,8 @@ impl<'row, 'd> LabelCursor<'row, 'd> {
     }
 }
 
-/// A cursor over labels of a line that have messages or none, which passes a label once a character
-/// is under its start.
+/// A cursor over labels of a line, with or without messages, which passes a label at the character
+/// in which it starts.
 #[derive(Clone, Copy)]
 pub struct StartCursor<'row, 'd> {
     /// The labels, in the order of their starts.
@@ -146,22 +147,22 @@ impl<'row, 'd> StartCursor<'row, 'd> {
     /// The labels are in the order of their starts.
     pub fn new(labels: &'row [SingleLabel<'d>]) -> StartCursor<'row, 'd>
         requires { IsTrue (starts_in_order (single_label_views labels.now)) }
-        ensures passed { HasPassed 0 result }
+        ensures passed { HasPassedStarts 0 result }
         ensures labels { result.labels.now ≡ labels.now }
     {
         StartCursor { labels, next: 0 }
     }
 
-    /// Passes the labels that start before the character's end, and returns the best style of
-    /// `found` and of those with a message that start in it.
+    /// Passes the labels that start before the character's end, and returns which style takes
+    /// precedence: of `found` and those of the labels with a message that start in it.
     ///
     /// # Requires
     ///
     /// The character has a byte, and the cursor has passed the labels that start before it.
     pub fn best_start(&mut self, found: Option<LabelStyle>, metrics: Metrics) -> Option<LabelStyle>
         requires some { 1 ≤ metrics.bytes }
-        requires passed { HasPassed metrics.byte_index self.old }
-        ensures passed { HasPassed (metrics.byte_index + metrics.bytes) self.new }
+        requires passed { HasPassedStarts metrics.byte_index self.old }
+        ensures passed { HasPassedStarts (metrics.byte_index + metrics.bytes) self.new }
         ensures labels { self.new.labels.now ≡ self.old.labels.now }
         ensures best { result ≡ best_from (starts_in metrics) found
             (filter has_message (single_label_views self.old.labels.now)) }

@@ -40,13 +40,13 @@ impl LineMetrics {
     /// Replaces the cached characters and pointers by those of a line, as far as its rows need
     /// them. Nothing is allocated for a line that has neither labels nor underlines.
     ///
-    /// # Requires
-    ///
-    /// The labels are in the order of their starts.
-    ///
     /// # Errors
     ///
     /// `OutOfMemory` where an allocation fails.
+    ///
+    /// # Requires
+    ///
+    /// The labels are in the order of their starts.
     #[inline(always)]
     pub fn take_line<'cache, 'row, 'd, W: WriteStyle>(
         &'cache mut self,
@@ -78,7 +78,7 @@ impl LineMetrics {
 }
 
 /// Replaces the cached characters by those of a text, up to the first one that begins past the
-/// reach, and returns the scan of those after it. Without a reach none is cached.
+/// reach, and returns an iterator over those after it. Without a reach none is cached.
 ///
 /// # Errors
 ///
@@ -97,8 +97,9 @@ fn cache_metrics<'row>(
     cached.clear();
     let mut rest = CharMetrics::new(text, tab_width);
     if let Some(reach) = reach {
+        // the characters that begin at 0 to `reach`, and one past it: each has a byte
         cached.reserve(reach.saturating_add(2).min(text.len()))?;
-        while let Some(metrics) = rest.next_character() {
+        while let Some(metrics) = rest.next_metrics() {
             cached.push(metrics)?;
             if metrics.byte_index > reach {
                 return Ok(rest);

@@ -21,7 +21,7 @@ use codespan_row_parts::messages::{Messages, has_any_message};
 use codespan_row_parts::runs::write_spaces;
 use codespan_rows::pointers::{caret_pointer, max_label_start};
 
-/// A character from which labels hang.
+/// The pointer under a character from which labels hang.
 #[derive(Clone, Copy)]
 pub struct Pointer {
     /// The byte index in the line at which the character begins.
@@ -30,7 +30,7 @@ pub struct Pointer {
     pub column: u128,
     /// The cell after the pointer: the next one, or the same where the character owns none.
     pub after: u128,
-    /// The best style of the labels that hang from it.
+    /// The style that takes precedence among those of the labels that hang from it.
     pub style: LabelStyle,
 }
 
@@ -41,19 +41,19 @@ pub struct Pointer {
 ///
 /// The writer's error; a prefix has then been written.
 #[inline(always)]
-pub fn write_spaced<W: PutStyle>(
+pub fn write_pointers<W: PutStyle>(
     w: &mut W,
     context: RowContext<'_>,
-    found: &[Pointer],
+    pointers: &[Pointer],
     before: usize,
     edge: u128,
 ) -> Result<(), W::Error>
     ensures { Writes (W.sink w.old)
-        (spaced (context_view context.entry) edge 0 (pointers_before before found.now))
+        (spaced (context_view context.entry) edge 0 (pointers_before before pointers.now))
         result (W.sink w.new) }
 {
     let mut column = 0u128;
-    for pointer in found {
+    for pointer in pointers {
         if pointer.byte_index < before {
             let pending = pointer.column.saturating_sub(column);
             caret_pointer(w, context, pending, pointer.style)?;
@@ -66,15 +66,15 @@ pub fn write_spaced<W: PutStyle>(
 /// Replaces the pointers by those of the labels of a line that hang. If none hangs, no character is
 /// read.
 ///
+/// # Errors
+///
+/// `OutOfMemory` where an allocation fails.
+///
 /// # Requires
 ///
 /// - The labels with a message in `messages.before` and `messages.after` are those of `line` that
 ///   hang, and each of the two is in the order of its starts.
 /// - `characters` has all characters of the line, by the tab width.
-///
-/// # Errors
-///
-/// `OutOfMemory` where an allocation fails.
 #[inline(always)]
 pub fn find_pointers(
     pointers: &mut Vec<Pointer>,

@@ -1,7 +1,7 @@
 use Rattle.std.proofs.Common.{◌⊎◌, ◌<◌, ◌≤◌, length, string_bytes, Some, None, inl, inr, ap, sym, ◌∙◌, arith, rules, tests}
 use Rattle.std.specs.Option.{option_map}
 use Rattle.report_script.proofs.Words.{other_arguments, two_arguments}
-use Rattle.report_script.specs.Requests.{command_view, style_of}
+use Rattle.report_script.specs.Requests.{command_view, style_named}
 use Rattle.report_script.specs.Requests.CommandView.{OneLabel, OfScript}
 use Rattle.report_script.proofs.request.Command.from_arguments.Goals.{in_default-via-then-args-lt2, in_default-via-else-args-lt2+else-args-lt3}
 use Rattle.report_script.proofs.request.Command.from_arguments.Goals as goal
@@ -10,7 +10,7 @@ pub returns-in_err-parse_style-in-len2 : goal.returns-in_err-parse_style-in-len2
 returns-in_err-parse_style-in-len2 c =
     ap (option_map command_view) c.from_residual.ensures
     ∙ two_arguments string_bytes c.args.args.now _ c.name-item.result c.in-len2.len_at_least c.in-len2.len_below c.style-item.is c.name-item.is None
-    (c.in_err-parse_style-in-len2.ensures ∙ ap style_of c.as_str.ensures.value)
+    (c.in_err-parse_style-in-len2.ensures ∙ ap style_named c.as_str.ensures.value)
 
 pub returns-in_err-from_arguments-in_default : goal.returns-in_err-from_arguments-in_default
 returns-in_err-from_arguments-in_default c =
@@ -27,7 +27,7 @@ pub returns-in_ok-parse_style-in-len2 : goal.returns-in_ok-parse_style-in-len2
 returns-in_ok-parse_style-in-len2 c =
     ap (λ name. Some (OfScript c.in_ok-parse_style-in-len2.field-0 name)) c.as_str-in-len2.ensures.value
     ∙ two_arguments string_bytes c.args.args.now _ c.name-item.result c.in-len2.len_at_least c.in-len2.len_below c.style-item.is c.name-item.is
-    (Some c.in_ok-parse_style-in-len2.field-0) (c.in_ok-parse_style-in-len2.ensures ∙ ap style_of c.as_str.ensures.value)
+    (Some c.in_ok-parse_style-in-len2.field-0) (c.in_ok-parse_style-in-len2.ensures ∙ ap style_named c.as_str.ensures.value)
 
 pub returns-in_ok-from_arguments-in_default : goal.returns-in_ok-from_arguments-in_default
 returns-in_ok-from_arguments-in_default c =

@@ -1,7 +1,7 @@
 use Rattle.std.proofs.Common.{◌≡◌, string_bytes, Some, None, inl, inr, refl, ap, ◌∙◌, arith, rules, tests}
 use Rattle.std.specs.Option.{option_map}
 use Rattle.report_script.proofs.Words.{other_words, five_arguments}
-use Rattle.report_script.specs.Requests.{number_of, request_view, style_of}
+use Rattle.report_script.specs.Requests.{number_of, request_view, style_named}
 use Rattle.report_script.proofs.request.Request.from_arguments.Goals.{in_default-via-then-args-lt5, in_default-via-else-args-lt5+else-args-lt6}
 use Rattle.report_script.proofs.request.Request.from_arguments.Goals as goal
 
@@ -17,21 +17,21 @@ returns-in_err-parse_style c =
     ap (option_map request_view) c.from_residual.ensures
     ∙ five_arguments string_bytes c.args.args.now _ _ _ _ _ c.in-len5.len_at_least c.in-len5.len_below
     c.style-item.is c.name-item.is c.start-item.is c.end-item.is c.message-item.is None _ _
-    (c.in_err-parse_style.ensures ∙ ap style_of c.as_str.ensures.value) refl refl
+    (c.in_err-parse_style.ensures ∙ ap style_named c.as_str.ensures.value) refl refl
 
 pub returns-in_err-parse_number : goal.returns-in_err-parse_number
 returns-in_err-parse_number c =
     ap (option_map request_view) c.from_residual-in_err-parse_number.ensures
     ∙ five_arguments string_bytes c.args.args.now _ _ _ _ _ c.in-len5.len_at_least c.in-len5.len_below
     c.style-item.is c.name-item.is c.start-item.is c.end-item.is c.message-item.is (Some c.in_ok-parse_style.field-0) None _
-    (c.in_ok-parse_style.ensures ∙ ap style_of c.as_str.ensures.value) (c.in_err-parse_number.ensures ∙ ap number_of c.as_str-3.ensures.value) refl
+    (c.in_ok-parse_style.ensures ∙ ap style_named c.as_str.ensures.value) (c.in_err-parse_number.ensures ∙ ap number_of c.as_str-3.ensures.value) refl
 
 pub returns-in_err-parse_number-2 : goal.returns-in_err-parse_number-2
 returns-in_err-parse_number-2 c =
     ap (option_map request_view) c.from_residual-in_err-parse_number-2.ensures
     ∙ five_arguments string_bytes c.args.args.now _ _ _ _ _ c.in-len5.len_at_least c.in-len5.len_below
     c.style-item.is c.name-item.is c.start-item.is c.end-item.is c.message-item.is (Some c.in_ok-parse_style.field-0) (Some c.in_ok-parse_number.field-0) None
-    (c.in_ok-parse_style.ensures ∙ ap style_of c.as_str.ensures.value)
+    (c.in_ok-parse_style.ensures ∙ ap style_named c.as_str.ensures.value)
     (c.in_ok-parse_number.ensures ∙ ap number_of c.as_str-3.ensures.value) (c.in_err-parse_number-2.ensures ∙ ap number_of c.as_str-4.ensures.value)
 
 pub returns : goal.returns
@@ -42,5 +42,5 @@ returns c =
     ap Some view
     ∙ five_arguments string_bytes c.args.args.now _ _ _ _ _ c.in-len5.len_at_least c.in-len5.len_below
     c.style-item.is c.name-item.is c.start-item.is c.end-item.is c.message-item.is (Some c.in_ok-parse_style.field-0) (Some c.in_ok-parse_number.field-0) (Some c.in_ok-parse_number-2.field-0)
-    (c.in_ok-parse_style.ensures ∙ ap style_of c.as_str.ensures.value)
+    (c.in_ok-parse_style.ensures ∙ ap style_named c.as_str.ensures.value)
     (c.in_ok-parse_number.ensures ∙ ap number_of c.as_str-3.ensures.value) (c.in_ok-parse_number-2.ensures ∙ ap number_of c.as_str-4.ensures.value)

@@ -28,10 +28,10 @@ returns-in_err-push_shown-clause-failed g c =
     let xs = c.args.annotations.now in
     let line = counted g (goal.at.returns-in_err-push_shown-clause-failed g c).After-shows_line in
     let opens = views_of-shown xs c.loop-at.hidden c.loop-at.at c.line_len.result
-    c.index-annotations-at.result c.loop-at.last line
+    c.index-annotations-at.result c.loop-at.previous line
     (is_shown g (goal.at.returns-in_err-push_shown-clause-failed g c).After-shows_line
     (sym c.if-shows_line.ensures)) in
-    let snippet_lines = lines_to_shown xs c.loop-at.hidden c.loop-at.at c.line_len.result c.index-annotations-at.result c.loop-at.last in
+    let snippet_lines = lines_to_shown xs c.loop-at.hidden c.loop-at.at c.line_len.result c.index-annotations-at.result c.loop-at.previous in
     let p = err_from_is_err_and c.from_residual.result c.from_residual.ensures.1 in
     rw (p.1 ∙ ap Err p.2) (λ known. left_failed c.loop-at.invariant.left snippet_lines _ opens (c.in_err-push_shown.ensures.failed known))
 
@@ -46,7 +46,7 @@ loop-at-preserved-in_ok-push_shown g c =
     let xs = c.args.annotations.now in
     let line = counted g (goal.at.loop-at-preserved-in_ok-push_shown g c).After-shows_line in
     let opens = views_of-shown xs c.loop-at.hidden c.loop-at.at c.line_len.result
-    c.index-annotations-at.result c.loop-at.last line
+    c.index-annotations-at.result c.loop-at.previous line
     (is_shown g (goal.at.loop-at-preserved-in_ok-push_shown g c).After-shows_line
     (sym c.if-shows_line.ensures)) in
     let size = group_of_views-len xs c.loop-at.at c.line_len.result c.index-annotations-at.result line in
@@ -66,15 +66,15 @@ loop-at-preserved g c =
       within = size.1;
       hidden_within = omega arith;
       left = rw (sym (views_of-hidden xs c.loop-at.hidden c.loop-at.at c.line_len.result
-          c.index-annotations-at.result c.loop-at.last line
+          c.index-annotations-at.result c.loop-at.previous line
           (is_shown g (goal.at.loop-at-preserved g c).After-shows_line
           (sym c.if-shows_line.ensures)))) c.loop-at.invariant.left;
     }
 
 pub returns-clause-added : goal.returns-clause-added
 returns-clause-added g c =
-    left_added c.loop-at.invariant.left (lines_left-none c.args.annotations.now c.loop-at.hidden c.loop-at.at c.loop-at.last c.loop-at-test.false)
+    left_added c.loop-at.invariant.left (lines_left-none c.args.annotations.now c.loop-at.hidden c.loop-at.at c.loop-at.previous c.loop-at-test.false)
 
 pub returns-clause-failed : goal.returns-clause-failed
 returns-clause-failed g c =
-    left_succeeded c.loop-at.invariant.left (lines_left-none c.args.annotations.now c.loop-at.hidden c.loop-at.at c.loop-at.last c.loop-at-test.false)
+    left_succeeded c.loop-at.invariant.left (lines_left-none c.args.annotations.now c.loop-at.hidden c.loop-at.at c.loop-at.previous c.loop-at-test.false)

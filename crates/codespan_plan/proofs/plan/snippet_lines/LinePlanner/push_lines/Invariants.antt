@@ -6,14 +6,14 @@ use Rattle.codespan_plan.proofs.SnippetLineViews.{lines_left}
 use Rattle.codespan_plan.proofs.LinesFound.{LinesLeft}
 use Rattle.codespan_plan.proofs.plan.snippet_lines.LinePlanner.push_lines.Given as goal
 
--- some snippet lines have been found, and the walk over the remaining annotations makes the rest
+-- some snippet lines have been appended, and the remaining annotations make the rest
 abbrev pub invariant-loop-at : goal.invariant-loop-at
 invariant-loop-at g l = record {
   within : l.at ≤ length l.annotations;
   hidden_within : l.hidden ≤ l.at;
   left : LinesLeft (g.F.Files.database l.self.file.files.now).failure l.self.file.id l.self.layout
       (model_of g.F.Files.database l.self.file) (lines_of (map annotation_view l.annotations))
-      (lines_left l.annotations l.hidden l.at l.last) l.fn.snippet_lines.items
+      (lines_left l.annotations l.hidden l.at l.previous) l.fn.snippet_lines.items
       l.snippet_lines.items;
 }
 

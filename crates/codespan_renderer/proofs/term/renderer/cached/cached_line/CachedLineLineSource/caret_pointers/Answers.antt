@@ -17,7 +17,7 @@ returns g c =
     let all : metrics_before (2 ^ 64 - 1) (char_metrics s.tab_width s.line.text.now) ≡ char_metrics s.tab_width s.line.text.now = grind (arith, all_before) in
     let drawn = spaced-all (context_view c.args.context) (single_label_views s.line.labels.now) cs s.pointers.now (2 ^ 64 - 1) c.max_label_start.result c.width_up_to-edge.result
     (char_metrics-consecutive s.tab_width 0 0 (chars s.line.text.now)) all s.found c.max_label_start.ensures c.width_up_to-edge.ensures in
-    let tab = ap (λ (x : CharInput). x.tab_width) c.requires.of in
-    let text = ap (λ (x : CharInput). x.text) c.requires.of in
-    let labels = ap (λ (x : CharInput). x.labels) c.requires.of in
-    rw (rw (tab, text, labels) at drawn) at c.write_spaced.ensures
+    let tab = ap (λ (x : CharInput). x.tab_width) c.requires.input in
+    let text = ap (λ (x : CharInput). x.text) c.requires.input in
+    let labels = ap (λ (x : CharInput). x.labels) c.requires.input in
+    rw (rw (tab, text, labels) at drawn) at c.write_pointers.ensures

@@ -14,10 +14,10 @@ pub returns : goal.returns
 returns g c =
     let s = c.args.self.now in
     let cs = char_metrics s.tab_width s.line.text.now in
-    let tab = ap (λ (x : CharInput). x.tab_width) c.requires.of in
-    let text = ap (λ (x : CharInput). x.text) c.requires.of in
-    let labels = ap (λ (x : CharInput). x.labels) c.requires.of in
+    let tab = ap (λ (x : CharInput). x.tab_width) c.requires.input in
+    let text = ap (λ (x : CharInput). x.text) c.requires.input in
+    let labels = ap (λ (x : CharInput). x.labels) c.requires.input in
     let near = subst (λ (xs : List SingleLabelTuple). c.args.before ≤ max_label_start (single_label_views xs)) (sym labels) c.requires.near in
     let drawn = spaced-near (context_view c.args.context) (single_label_views s.line.labels.now) cs s.pointers.now c.args.before c.width_before-edge.result
     (char_metrics-consecutive s.tab_width 0 0 (chars s.line.text.now)) near s.found c.width_before-edge.ensures in
-    rw (rw (tab, text, labels) at drawn) at c.write_spaced.ensures
+    rw (rw (tab, text, labels) at drawn) at c.write_pointers.ensures

@@ -1,0 +1,67 @@
+//! Clones of configurations, of their characters and of the texts before a locus.
+
+use crate::asserts::assert_same;
+use codespan_base::files::Error;
+use codespan_base::term::config::chars::SnippetStart;
+use codespan_base::term::{Chars, Config, Layout};
+use std::alloc::{AllocError, Global};
+use std::test::Fail;
+
+#[test]
+fn clone_of_default_configuration(rt: HostRuntime) -> Result<(), Fail> {
+    let fixed = Config::default().clone()?;
+    assert_same(&rt, &fixed.tab_width, &4);
+    assert_same(&rt, &fixed.start_context_lines, &3);
+    assert_same(&rt, &fixed.layout, &Layout::Classic);
+    assert_same(&rt, &fixed.chars.multi_left, &'│');
+    assert!(rt; matches!(fixed.chars.snippet_start, SnippetStart::Fixed("┌─")));
+    Ok(())
+}
+
+/// Returns a configuration whose snippets start with `==>`, a text that it owns.
+fn with_owned_start(alloc: Global) -> Result<Config<'static>, AllocError> {
+    let chars = Chars {
+        snippet_start: SnippetStart::Owned(String::from_str(alloc, "==>")?),
+        ..Chars::ascii()
+    };
+    Ok(Config {
+        chars,
+        tab_width: 8,
+        ..Config::default()
+    })
+}
+
+/// Returns whether snippets start with a text that is owned, and is `==>`.
+fn has_owned_start(start: &SnippetStart<'_>) -> bool {
+    match start {
+        SnippetStart::Owned(text) => text.as_str() == "==>",
+        SnippetStart::Fixed(_) => false,
+    }
+}
+
+/// Returns whether the clone of a start is owned, and is `==>`.
+fn start_clone_is_owned(start: &SnippetStart<'_>) -> Result<bool, Error> {
+    Ok(has_owned_start(&start.clone()?))
+}
+
+/// Returns whether the clone of these characters has such a start.
+fn chars_clone_is_owned(chars: &Chars<'_>) -> Result<bool, Error> {
+    Ok(has_owned_start(&chars.clone()?.snippet_start))
+}
+
+#[test]
+fn clones(rt: HostRuntime) -> Result<(), Fail> {
+    let config = with_owned_start(rt.alloc())?;
+    assert!(rt; start_clone_is_owned(&config.chars.snippet_start)?);
+    assert!(rt; chars_clone_is_owned(&config.chars)?);
+    Ok(())
+}
+
+#[test]
+fn clone_of_configuration(rt: HostRuntime) -> Result<(), Fail> {
+    let copy = with_owned_start(rt.alloc())?.clone()?;
+    assert_same(&rt, &copy.tab_width, &8);
+    assert_same(&rt, &copy.chars.pointer_left, &'|');
+    assert!(rt; has_owned_start(&copy.chars.snippet_start));
+    Ok(())
+}

@@ -1,0 +1,124 @@
+//! The memory in which a line is prepared for a renderer.
+
+ghost use Rattle.std.specs.Prelude.{◌≡◌, [], IfOk, OnErr, IsErrOf, map};
+ghost use Rattle.codespan_base.specs.Labels.{from_line_start};
+ghost use Rattle.codespan_picture.specs.Arguments.{single_label_views, single_label_view, lane_mark_view};
+ghost use Rattle.codespan_picture.specs.Picture.{label_of};
+ghost use Rattle.codespan_annotations.specs.AnnotationViews.{annotation_view};
+ghost use Rattle.codespan_plan.specs.SnippetLines.{lane_marks_in, single_labels_in};
+
+use codespan_annotations::annotation::{Annotation, AnnotationKind, multi_label, range_in_line};
+use codespan_base::diagnostic::{Label, LabelStyle};
+use codespan_base::files::Error;
+use codespan_renderer::term::renderer::cached::LineMetrics;
+use codespan_renderer::term::renderer::{MultiLabel, SingleLabel};
+use std::alloc::Global;
+
+/// The memory in which the labels and the characters of a line are prepared for a renderer.
+///
+/// One value serves many lines, so that its memory is allocated once.
+#[derive(Drop)]
+pub struct LineBuffers<'d> {
+    /// The single-line labels.
+    pub single_labels: Vec<SingleLabel<'d>>,
+    /// The lane marks: of each multi-line label its lane, its style and its part on the line.
+    pub multi_labels: Vec<(usize, LabelStyle, MultiLabel<'d>)>,
+    /// The characters of the line and the pointers under them, as far as its rows reach.
+    pub metrics: LineMetrics,
+}
+
+impl<'d> LineBuffers<'d> {
+    /// Returns buffers without labels and characters. It allocates nothing.
+    pub fn new(alloc: Global) -> LineBuffers<'d>
+        ensures single_labels { result.single_labels.items ≡ [] }
+        ensures multi_labels { result.multi_labels.items ≡ [] }
+    {
+        LineBuffers {
+            single_labels: Vec::new(alloc),
+            multi_labels: Vec::new(alloc),
+            metrics: LineMetrics::new(alloc),
+        }
+    }
+
+    /// Replaces the labels by those of these annotations, in their order.
+    ///
+    /// # Errors
+    ///
+    /// `OutOfMemory`: an allocation fails.
+    #[inline(always)]
+    pub fn refill<FileId>(&mut self, annotations: &[Annotation<'d, FileId>]) -> Result<(), Error>
+        ensures single_labels { IfOk result (λ _. single_label_views self.new.single_labels.items
+            ≡ single_labels_in (map annotation_view annotations.now)) }
+        ensures multi_labels { IfOk result (λ _. map lane_mark_view self.new.multi_labels.items
+            ≡ lane_marks_in (map annotation_view annotations.now)) }
+        ensures failed { OnErr result (IsErrOf result Error.OutOfMemory) }
+    {
+        fill_multi_labels(&mut self.multi_labels, annotations)?;
+        fill_single_labels(&mut self.single_labels, annotations)
+    }
+}
+
+/// Replaces multi-line labels by those of these annotations, in their order.
+///
+/// # Errors
+///
+/// `OutOfMemory`: an allocation fails.
+pub fn fill_multi_labels<'d, FileId>(
+    multi_labels: &mut Vec<(usize, LabelStyle, MultiLabel<'d>)>,
+    annotations: &[Annotation<'d, FileId>],
+) -> Result<(), Error>
+    ensures multi_labels { IfOk result (λ _. map lane_mark_view multi_labels.new.items
+        ≡ lane_marks_in (map annotation_view annotations.now)) }
+    ensures failed { OnErr result (IsErrOf result Error.OutOfMemory) }
+{
+    multi_labels.clear();
+    for annotation in annotations {
+        match annotation.kind {
+            AnnotationKind::Shown => {}
+            AnnotationKind::Single { .. } => {}
+            AnnotationKind::Multi { part, lane, label } => {
+                let multi = multi_label(label, part, annotation.line.start);
+                multi_labels.push((lane, label.style, multi))?;
+            }
+        }
+    }
+    Ok(())
+}
+
+/// Replaces single-line labels by those of these annotations, in their order.
+///
+/// # Errors
+///
+/// `OutOfMemory`: an allocation fails.
+fn fill_single_labels<'d, FileId>(
+    single_labels: &mut Vec<SingleLabel<'d>>,
+    annotations: &[Annotation<'d, FileId>],
+) -> Result<(), Error>
+    ensures single_labels { IfOk result (λ _. single_label_views single_labels.new.items
+        ≡ single_labels_in (map annotation_view annotations.now)) }
+    ensures failed { OnErr result (IsErrOf result Error.OutOfMemory) }
+{
+    single_labels.clear();
+    for annotation in annotations {
+        match annotation.kind {
+            AnnotationKind::Shown => {}
+            AnnotationKind::Single { index: _, label } => {
+                single_labels.push(single_label(label, annotation.line.start))?;
+            }
+            AnnotationKind::Multi { .. } => {}
+        }
+    }
+    Ok(())
+}
+
+/// Returns a single-line label for the renderer. `line_start` is the byte index at which the line
+/// starts.
+fn single_label<FileId>(label: &Label<FileId>, line_start: usize) -> SingleLabel<'_>
+    ensures { single_label_view result ≡ from_line_start line_start (label_of label.now).label }
+{
+    (
+        label.style,
+        range_in_line(label, line_start),
+        label.message.as_str(),
+    )
+}

@@ -1,7 +1,0 @@
-use Rattle.std.proofs.Common.{◌≡◌, map, take}
-use Rattle.codespan_base.specs.Diagnostics.{label_view}
-use Rattle.gallery_script.specs.Database.{label_by_unit_id}
-use Rattle.gallery_script.proofs.database.in_one_file.Given as goal
-
-abbrev pub invariant-loop-label : goal.invariant-loop-label
-invariant-loop-label l = map label_view l.labels.items ≡ map label_by_unit_id (map label_view (take l.label-index l.label-items))

@@ -1,0 +1,102 @@
+//! The writers of styles between a call and a writer of bytes.
+
+use crate::failing_writer::FailingWriter;
+use crate::failure::Failure;
+use crate::recording::Recording;
+use crate::rendering::Render;
+use codespan_base::files::Error;
+use codespan_base::term::{Ansi, NoColor, Styles, StylesWriter, WriteColor};
+use std::alloc::Global;
+use std::fmt;
+use std::io::Write;
+use test_writers::sequences::without_sequences;
+
+/// A writer of styles.
+#[derive(Clone, Copy)]
+pub enum StyleWriterKind {
+    /// Plain text.
+    Plain,
+    /// A `StylesWriter` over `Ansi`.
+    Ansi,
+    /// A `StylesWriter` over `NoColor`.
+    NoColor,
+    /// The writer of styles of this program.
+    Custom,
+}
+
+/// The writers of styles.
+pub const STYLE_WRITERS: [StyleWriterKind; 4] = [
+    StyleWriterKind::Plain,
+    StyleWriterKind::Ansi,
+    StyleWriterKind::NoColor,
+    StyleWriterKind::Custom,
+];
+
+/// Writes the name of the writer.
+impl fmt::Display for StyleWriterKind {
+    fn fmt<W: fmt::Write>(&self, f: &mut fmt::Formatter<W>) -> fmt::Result {
+        f.write_str(match self {
+            StyleWriterKind::Plain => "plain text",
+            StyleWriterKind::Ansi => "Ansi",
+            StyleWriterKind::NoColor => "NoColor",
+            StyleWriterKind::Custom => "a custom writer",
+        })
+    }
+}
+
+/// Renders to a `StylesWriter` over a writer of colors, in the default styles.
+fn render_in_styles<D: Render, W: WriteColor + Drop>(output: &D, writer: W) -> Result<(), Error> {
+    let styles = Styles::default();
+    output.render(&mut StylesWriter::new(writer, &styles))
+}
+
+impl StyleWriterKind {
+    /// Renders by way of this writer of styles.
+    ///
+    /// # Errors
+    ///
+    /// Those of rendering.
+    pub fn render<D: Render, W: Write>(self, output: &D, writer: &mut W) -> Result<(), Error> {
+        match self {
+            StyleWriterKind::Plain => output.render_plain(writer),
+            StyleWriterKind::Ansi => render_in_styles(output, Ansi::new(writer)),
+            StyleWriterKind::NoColor => render_in_styles(output, NoColor::new(writer)),
+            StyleWriterKind::Custom => output.render(&mut FailingWriter::new(writer, usize::MAX)),
+        }
+    }
+
+    /// Returns whether this writer of styles writes style marks as escape sequences.
+    fn shows_style_marks(self) -> bool {
+        matches!(self, StyleWriterKind::Ansi | StyleWriterKind::Custom)
+    }
+
+    /// Renders by way of this writer of styles to a writer that records, and returns that. Without
+    /// the escape sequences that style marks are written as, its text has to be the plain text.
+    ///
+    /// # Errors
+    ///
+    /// - `Failed`: rendering or an allocation fails.
+    /// - `OtherText`: the text is another.
+    pub fn record<D: Render>(
+        self,
+        alloc: Global,
+        output: &D,
+        text: &str,
+    ) -> Result<Recording, Failure> {
+        let mut recording = Recording::new(alloc);
+        self.render(output, &mut recording)?;
+        let has_sequences = self.shows_style_marks() && output.has_style_marks();
+        let bytes = recording.text.as_slice();
+        let is_text = if has_sequences {
+            bytes.len() > text.len()
+                && without_sequences(alloc, bytes)?.as_slice() == text.as_bytes()
+        } else {
+            bytes == text.as_bytes()
+        };
+        if is_text {
+            Ok(recording)
+        } else {
+            Err(Failure::OtherText(self))
+        }
+    }
+}
