@@ -26,8 +26,9 @@ module _ {Id : Type 0} (config : Config) (files : FileDatabase Id) (d : Diagnost
     pub succeeds : Succeeds config files d config.display_style loci
     pub means : config.display_style ≡ Rich → MeansLabels config config files d
 
-  -- the runs of the output are texts, where its characters are characters, its files are lawful,
-  -- and the names of the loci are texts: no style mark is inside a character
+  -- the runs of the output are texts, where the characters of the configuration are Unicode scalar
+  -- values, its files are lawful, and the names of the loci are texts: no style mark is inside a
+  -- character
   abbrev pub RunsAreTexts : Type 0
   RunsAreTexts = AreCharacters config.chars → ((id : Id) → IsLawful (files.file id))
       → (loci : List Locus) → NamesAreTexts loci → AreTexts (runs_of (output_at loci))

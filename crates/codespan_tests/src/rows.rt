@@ -59,7 +59,7 @@ fn endless_padding(rt: HostRuntime) -> Result<(), Fail> {
     Ok(())
 }
 
-/// Writes every style mark and some text, and then flushes once.
+/// Writes a style mark of each kind and some text, and then flushes once.
 fn write_marks<W: WriteStyle>(w: &mut W) -> io::Result<()> {
     set_styles(w)?;
     w.write_all(b"text")?;
@@ -116,7 +116,7 @@ fn render_line<W: WriteStyle>(
     renderer.render_snippet_source(1, 1, "ab", Severity::Error, &[], 1, &marks)
 }
 
-/// Renders rows by each call, writes every style mark and some text, and then flushes once.
+/// Renders rows by each call, writes a style mark of each kind and some text, and flushes once.
 fn render_rows<W: WriteStyle>(
     rt: &impl Abort,
     renderer: &mut Renderer<'_, '_, W>,
