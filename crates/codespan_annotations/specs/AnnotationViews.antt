@@ -39,7 +39,7 @@ annotation_view e = record
 
 -- the line is one of the file's, with its number and its range
 pub record IsLineOf (f : FileModel) (line : LineInfo) : Type 0 where
-  pub number_is : line.number ≡ f.number line.index
+  pub number_is : line.number ≡ f.line_number line.index
   pub range_is : IsLineRange f line.index (record { start = line.start; end = line.end })
 
 -- the line is that of this index in the file

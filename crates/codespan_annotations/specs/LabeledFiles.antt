@@ -3,7 +3,7 @@ use Rattle.std.specs.Prelude.{◌≡◌, ◌==◌, ℕ, ◌+◌, Bool, List, [],
 use Rattle.std.specs.List.{list_any}
 use Rattle.codespan_base.specs.FileModel.{FileModel}
 use Rattle.codespan_base.specs.Labels.{LabelModel}
-use Rattle.codespan_picture.specs.Snippets.{InFile, labeled_file_model, lane_count}
+use Rattle.codespan_picture.specs.Snippets.{InFile, labeled_file_model, num_multi_labels}
 use Rattle.codespan_annotations.specs.declared.labeled_files.LabeledFile.{LabeledFile as RustFile}
 use Rattle.codespan_annotations.specs.declared.label_span.LabelSpan.{LabelSpan}
 use Rattle.codespan_annotations.specs.declared.file_start.FileStart.{FileStart}
@@ -21,18 +21,18 @@ starts_view {Id} files = map (λ (f : RustFile Id). f.start) files
 
 -- how many lanes each has
 abbrev pub lanes_view : {Id : Type 0} → List (RustFile Id) → List ℕ
-lanes_view {Id} files = map (λ (f : RustFile Id). f.lane_count) files
+lanes_view {Id} files = map (λ (f : RustFile Id). f.num_multi_labels) files
 
 -- how many lanes the file of an id has for these labels
-abbrev pub lane_count_of : {Id : Type 0} → (Id → Id → Bool) → (Id → FileModel) → List (InFile Id)
-    → Id → ℕ
-lane_count_of same file xs id = lane_count (labeled_file_model same file xs id)
+abbrev pub num_multi_labels_of : {Id : Type 0} → (Id → Id → Bool) → (Id → FileModel)
+    → List (InFile Id) → Id → ℕ
+num_multi_labels_of same file xs id = num_multi_labels (labeled_file_model same file xs id)
 
 -- the start and the lanes of the file are those of these labels
 pub record HasLabels {Id : Type 0} (same : Id → Id → Bool) (file : Id → FileModel)
     (xs : List (InFile Id)) (f : RustFile Id) : Type 0 where
   pub start_is : f.start ≡ file_start same xs f.id
-  pub lanes_are : f.lane_count ≡ lane_count_of same file xs f.id
+  pub lanes_are : f.num_multi_labels ≡ num_multi_labels_of same file xs f.id
 
 -- ---- one file more
 

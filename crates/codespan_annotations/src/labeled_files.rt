@@ -20,7 +20,7 @@ pub struct LabeledFile<FileId> {
     /// Where its snippet starts.
     pub start: FileStart,
     /// The number of its multi-line labels, each of which has a lane.
-    pub lane_count: usize,
+    pub num_multi_labels: usize,
 }
 
 impl<FileId> LabeledFile<FileId> {
@@ -30,14 +30,14 @@ impl<FileId> LabeledFile<FileId> {
     ///
     /// One more lane can be counted.
     fn add(&mut self, label: &Label<FileId>, lines: LabelSpan)
-        requires { self.old.lane_count + 1 < 2 ^ 64 }
+        requires { self.old.num_multi_labels + 1 < 2 ^ 64 }
         ensures id { self.new.id ≡ self.old.id }
         ensures start { self.new.start ≡ start_with self.old.start (label_of label.now).label }
-        ensures lanes { self.new.lane_count ≡ self.old.lane_count + lanes_by lines }
+        ensures lanes { self.new.num_multi_labels ≡ self.old.num_multi_labels + lanes_by lines }
     {
         self.start = self.start.with(label);
         if !lines.is_single() {
-            self.lane_count += 1;
+            self.num_multi_labels += 1;
         }
     }
 }
@@ -115,7 +115,7 @@ fn push_file<FileId: Copy>(files: &mut Vec<LabeledFile<FileId>>, id: FileId) -> 
     files.push(LabeledFile {
         id,
         start: FileStart::unknown(),
-        lane_count: 0,
+        num_multi_labels: 0,
     })?;
     Ok(())
 }

@@ -38,7 +38,7 @@ impl<'files, F: Files<'files>> SourceFile<'files, F> {
     /// A known number is that of the line.
     pub fn line(&self, index: usize, number: Option<usize>) -> Result<LineInfo, Error>
         requires number { IfSome number (λ known. known
-            ≡ (model_of F.database self.now).number index) }
+            ≡ (model_of F.database self.now).line_number index) }
         ensures line { IfOk result (λ line. IsLineAt (model_of F.database self.now) index line) }
         ensures failed { FailsBy (failure_of F.database self.now (lookups_of_filled number index))
             result }
@@ -94,7 +94,7 @@ impl<'files, F: Files<'files>> SourceFile<'files, F> {
     #[inline(always)]
     pub fn number(&self, index: usize) -> Result<usize, Error>
         ensures number { IfOk result (λ number. number
-            ≡ (model_of F.database self.now).number index) }
+            ≡ (model_of F.database self.now).line_number index) }
         ensures failed { FailsBy (failure_of F.database self.now (LineNumber index ∷ [])) result }
     {
         self.files.line_number(self.id, index)

@@ -5,9 +5,8 @@ use Rattle.std.specs.Borrow.{GName}
 use Rattle.std.specs.Result.{IsErrAnd}
 use Rattle.std.proofs.lemmas.Result.{err_from_is_err_and}
 use Rattle.codespan_base.specs.declared.term.config.plain_ref.PlainWriterRef.{PlainWriterRef}
-use Rattle.codespan_base.specs.ColorLaw.{AppendsBytes}
 use Rattle.codespan_base.specs.Streams.{bytes, no_style_marks}
-use Rattle.codespan_base.specs.WriterLaw.{Frame, Sink, KeepsFrame, Writes, is_known, with_written, are_known, extended, PrefixAppended}
+use Rattle.codespan_base.specs.WriterLaw.{Frame, Sink, KeepsFrame, Writes, is_known, with_written, are_known, extended, PrefixAppended, AppendsBytes}
 use Rattle.codespan_base.specs.Writers.{fresh_plain_ref, borrow_name, plain_ref_sink, borrowed_writer}
 use Rattle.codespan_base.proofs.KnownBytes.{extended-append, extended-nil, are_known-extended, PrefixAppended-first, PrefixAppended-last, PrefixAppended_first_2, PrefixAppended_first_3}
 use Rattle.codespan_base.proofs.Writes.{spelled-bytes}

@@ -17,7 +17,6 @@ pub mod Labels
 -- writers
 pub mod Streams
 pub mod WriterLaw
-pub mod ColorLaw
 pub mod Writers
 -- tables
 pub mod SnippetStarts

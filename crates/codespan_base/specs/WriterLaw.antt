@@ -22,6 +22,13 @@ pub record PrefixAppended (old : Option (List ℕ)) (bs : List ℕ) (new : Optio
   pub whole : prefix ++ rest ≡ bs
   pub contents : new ≡ extended old prefix
 
+-- where the writer's bytes are known, these were appended, or where the call fails a prefix
+abbrev pub AppendsBytes : {E : Type 0}
+    → Option (List ℕ) → List ℕ → Result (Unit {0}) E → Option (List ℕ) → Type 0
+AppendsBytes old bs r new =
+    are_known old ≡ true
+    → MatchResult r (λ _. new ≡ extended old bs) (λ _. PrefixAppended old bs new)
+
 -- ---- a writer
 
 -- all of a writer but its bytes

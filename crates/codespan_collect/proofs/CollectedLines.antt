@@ -36,7 +36,7 @@ module _ {Id : Type 0} (x : CollectedLabel Id) (s e l : ℕ) (first : first_line
       or_right (spans x.file x.label l) (is_around x.config (first_line x.file x.label) (last_line x.file x.label) l) ((λ i. is_around x.config (first i) (last i) l) ∙ around)
 
   -- a spanned line counts for the padding
-  pub padding-spanned : (digits old : ℕ) → spans_line s e l ≡ true → digits ≡ max (length (decimal (x.file.number l))) old → digits ≡ fold max old (digits_on x.file x.label l)
+  pub padding-spanned : (digits old : ℕ) → spans_line s e l ≡ true → digits ≡ max (length (decimal (x.file.line_number l))) old → digits ≡ fold max old (digits_on x.file x.label l)
   padding-spanned digits old spanned grown = rw (spans-by_ends ∙ spanned) (omega (arith, grown))
 
   -- another line does not

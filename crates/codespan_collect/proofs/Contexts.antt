@@ -67,7 +67,7 @@ module _ {Id : Type 0} (x : CollectedLabel Id) where
 
   -- a line that is not looked up is not spanned
   no_digits : (l : ℕ) → is_looked_up x.config x.file x.label l ≡ false → digits_on x.file x.label l ≡ []
-  no_digits l skipped = ap (λ (b : Bool). if b then count_digits (x.file.number l) ∷ [] else [])
+  no_digits l skipped = ap (λ (b : Bool). if b then count_digits (x.file.line_number l) ∷ [] else [])
       (neither (spans x.file x.label l)
       (is_around x.config (first_line x.file x.label) (last_line x.file x.label) l) skipped)
     where

@@ -12,7 +12,7 @@ use Rattle.codespan_annotations.specs.declared.annotation.Annotation.{Annotation
 use Rattle.codespan_annotations.specs.Annotations.{Annotation}
 use Rattle.codespan_collect.specs.LabelAnnotations.{annotations_of}
 use Rattle.codespan_annotations.specs.AnnotationViews.{Adds, IsOfFiles, annotation_view}
-use Rattle.codespan_annotations.specs.LabeledFiles.{lane_count_of, with_file}
+use Rattle.codespan_annotations.specs.LabeledFiles.{num_multi_labels_of, with_file}
 use Rattle.codespan_annotations.specs.FileIndices.{IsIdAt, index_of_file}
 use Rattle.codespan_collect.specs.IndexedLabels.{annotations_after, indices_after}
 use Rattle.codespan_annotations.proofs.FileOrder.{file_ids-has, file_ids-more, has, none-of_file}
@@ -58,7 +58,7 @@ module _ {Id : Type 0} {same : Id → Id → Bool} (o : IsEquivalence same) (xs 
           file = stays y.id there.0 i;
           index = length before;
           lane =
-              lane_count_of same file before y.id;
+              num_multi_labels_of same file before y.id;
         }) y.label
         ++ annotations-stay (before ++ y ∷ []) ys there.1 i
 

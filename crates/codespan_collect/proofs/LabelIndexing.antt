@@ -15,10 +15,10 @@ use Rattle.codespan_base.specs.Labels.{LabelModel, first_line, is_single, last_l
 use Rattle.codespan_annotations.specs.declared.label_span.LabelSpan.{LabelSpan}
 use Rattle.codespan_annotations.specs.Annotations.{Annotation}
 use Rattle.codespan_collect.specs.LabelAnnotations.{annotations_of}
-use Rattle.codespan_annotations.specs.LabeledFiles.{lanes_by, lane_count_of}
+use Rattle.codespan_annotations.specs.LabeledFiles.{lanes_by, num_multi_labels_of}
 use Rattle.codespan_annotations.specs.FileIndices.{index_of_file}
 use Rattle.codespan_collect.specs.IndexedLabels.{indices_after, annotations_after}
-use Rattle.codespan_picture.specs.Snippets.{InFile, lane_count}
+use Rattle.codespan_picture.specs.Snippets.{InFile, num_multi_labels}
 use Rattle.codespan_laws.proofs.ListElements.{filter-nothing}
 use Rattle.codespan_annotations.proofs.FileOrder.{has}
 use Rattle.codespan_annotations.proofs.FileIndices.{Differ, index-here, index-later}
@@ -85,21 +85,21 @@ module _ {Id : Type 0} {same : Id → Id → Bool} (o : IsEquivalence same) wher
         (cases_Bool (same j i))
 
 -- equal ids have as many lanes
-pub lane_count_of-equal : {Id : Type 0} {database : FileDatabase Id} (lawful : AreFiles database) (before : List (InFile Id)) (i j : Id) → database.same i j ≡ true
-    → lane_count_of database.same database.file before i ≡ lane_count_of database.same database.file before j
-lane_count_of-equal {Id} lawful before i j t = λ k. lane_count (record {
+pub num_multi_labels_of-equal : {Id : Type 0} {database : FileDatabase Id} (lawful : AreFiles database) (before : List (InFile Id)) (i j : Id) → database.same i j ≡ true
+    → num_multi_labels_of database.same database.file before i ≡ num_multi_labels_of database.same database.file before j
+num_multi_labels_of-equal {Id} lawful before i j t = λ k. num_multi_labels (record {
   file = lawful.one_file i j t k;
   labels = map (λ (x : InFile Id). x.label) (filter (λ (x : InFile Id). lawful.equivalence.congr i j x.id t k) before);
 })
 
 module _ {Id : Type 0} (same : Id → Id → Bool) (file : Id → FileModel) where
   -- labels of other files have no lane in a file
-  pub lane_count_of-none : (xs : List (InFile Id)) (id : Id) → AllByRecursion (λ (x : InFile Id). same id x.id ≡ false) xs → lane_count_of same file xs id ≡ 0
-  lane_count_of-none xs id none =
-      ap (λ (own : List (InFile Id)). lane_count (record { file = file id; labels = map (λ (x : InFile Id). x.label) own })) (filter-nothing (λ (x : InFile Id). same id x.id) xs none)
+  pub num_multi_labels_of-none : (xs : List (InFile Id)) (id : Id) → AllByRecursion (λ (x : InFile Id). same id x.id ≡ false) xs → num_multi_labels_of same file xs id ≡ 0
+  num_multi_labels_of-none xs id none =
+      ap (λ (own : List (InFile Id)). num_multi_labels (record { file = file id; labels = map (λ (x : InFile Id). x.label) own })) (filter-nothing (λ (x : InFile Id). same id x.id) xs none)
 
   -- a file has a lane for each label at most
-  pub lanes-within : (id : Id) (xs : List (InFile Id)) → lane_count_of same file xs id ≤ length xs
+  pub lanes-within : (id : Id) (xs : List (InFile Id)) → num_multi_labels_of same file xs id ≤ length xs
   lanes-within id xs =
       let a = length-filter_both (λ (x : InFile Id). same id x.id) (λ (x : InFile Id). not (same id x.id)) (λ x. refl) xs in
       let own = filter (λ (x : InFile Id). same id x.id) xs in
@@ -107,10 +107,10 @@ module _ {Id : Type 0} (same : Id → Id → Bool) (file : Id → FileModel) whe
       omega (arith, a, b, length-map own (λ (x : InFile Id). x.label))
 
   -- the lanes with one more label
-  pub lane_count_of-more : (before : List (InFile Id)) (x : InFile Id) (id : Id)
-      → lane_count_of same file (before ++ x ∷ []) id ≡ lane_count_of same file before id + (if same id x.id then label_lanes (file id) x.label else 0)
-  lane_count_of-more before x id =
-      ap (λ (xs : List (InFile Id)). lane_count (record { file = file id; labels = map (λ (y : InFile Id). y.label) xs })) (filter-append (λ (y : InFile Id). same id y.id) before (x ∷ []))
+  pub num_multi_labels_of-more : (before : List (InFile Id)) (x : InFile Id) (id : Id)
+      → num_multi_labels_of same file (before ++ x ∷ []) id ≡ num_multi_labels_of same file before id + (if same id x.id then label_lanes (file id) x.label else 0)
+  num_multi_labels_of-more before x id =
+      ap (λ (xs : List (InFile Id)). num_multi_labels (record { file = file id; labels = map (λ (y : InFile Id). y.label) xs })) (filter-append (λ (y : InFile Id). same id y.id) before (x ∷ []))
       ∙ by_same (same id x.id)
     where
       own : List (InFile Id)
@@ -123,16 +123,16 @@ module _ {Id : Type 0} (same : Id → Id → Bool) (file : Id → FileModel) whe
       one true = refl
       one false = refl
 
-      by_same : (b : Bool) → lane_count (record { file = file id; labels = map (λ (y : InFile Id). y.label) (own ++ (cond b (x ∷ []) [])) })
-          ≡ lane_count_of same file before id + (if b then label_lanes (file id) x.label else 0)
+      by_same : (b : Bool) → num_multi_labels (record { file = file id; labels = map (λ (y : InFile Id). y.label) (own ++ (cond b (x ∷ []) [])) })
+          ≡ num_multi_labels_of same file before id + (if b then label_lanes (file id) x.label else 0)
       by_same true =
-          ap (λ (ls : List LabelModel). lane_count (record { file = file id; labels = ls })) (map-append (λ (y : InFile Id). y.label) own (x ∷ []))
+          ap (λ (ls : List LabelModel). num_multi_labels (record { file = file id; labels = ls })) (map-append (λ (y : InFile Id). y.label) own (x ∷ []))
           ∙ ap (λ (ls : List LabelModel). length ls) (filter-append (λ y. not (is_single (file id) y)) labels (x.label ∷ []))
           ∙ length-append (multi_labels (file id) labels) (multi_labels (file id) (x.label ∷ []))
-          ∙ ap (λ n. lane_count_of same file before id + n) (one (is_single (file id) x.label))
+          ∙ ap (λ n. num_multi_labels_of same file before id + n) (one (is_single (file id) x.label))
       by_same false =
-          ap (λ (xs : List (InFile Id)). lane_count (record { file = file id; labels = map (λ (y : InFile Id). y.label) xs })) (append-nil own)
-          ∙ (let e : lane_count_of same file before id ≡ lane_count_of same file before id + 0 = omega arith in e)
+          ap (λ (xs : List (InFile Id)). num_multi_labels (record { file = file id; labels = map (λ (y : InFile Id). y.label) xs })) (append-nil own)
+          ∙ (let e : num_multi_labels_of same file before id ≡ num_multi_labels_of same file before id + 0 = omega arith in e)
 
   -- the annotations of the labels, with one more
   pub annotations_after-more : (config : Config) (ids : List Id) (before xs : List (InFile Id)) (x : InFile Id)

@@ -20,7 +20,7 @@ use Rattle.codespan_collect.specs.CollectedLabels.{FindsLines, ExtendsPadding, c
 use Rattle.codespan_annotations.specs.Annotations.{Annotation}
 use Rattle.codespan_collect.specs.LabelAnnotations.{annotations_of}
 use Rattle.codespan_annotations.specs.AnnotationViews.{Adds, AddsOf, IsLineOf, IsOfFiles, annotation_view}
-use Rattle.codespan_annotations.specs.LabeledFiles.{HasLabels, ids_view, lanes_view, lane_count_of, lanes_with_label, starts_with_label, starts_view, with_file}
+use Rattle.codespan_annotations.specs.LabeledFiles.{HasLabels, ids_view, lanes_view, num_multi_labels_of, lanes_with_label, starts_with_label, starts_view, with_file}
 use Rattle.codespan_annotations.specs.FileStarts.{file_start, no_start}
 use Rattle.codespan_picture.specs.Lookups.{lookups_of_file, first_error, label_lookups, label_line_lookups}
 use Rattle.codespan_picture.specs.Picture.{label_of}
@@ -34,7 +34,7 @@ use Rattle.codespan_annotations.proofs.FileOrder.{file_ids-more}
 use Rattle.codespan_annotations.proofs.FileIndices.{index_of_file-at}
 use Rattle.codespan_collect.proofs.Collecting.{Adds-as, Adds-both}
 use Rattle.codespan_collect.proofs.LabelAnnotations.{all-of_file}
-use Rattle.codespan_collect.proofs.LabelIndexing.{AreFiles, IsChanged, annotations_after-more, unchanged-at, label_lanes, lane_count_of-equal, lane_count_of-more, lane_count_of-none, lanes-within, set-at}
+use Rattle.codespan_collect.proofs.LabelIndexing.{AreFiles, IsChanged, annotations_after-more, unchanged-at, label_lanes, num_multi_labels_of-equal, num_multi_labels_of-more, num_multi_labels_of-none, lanes-within, set-at}
 use Rattle.codespan_annotations.proofs.IndexedElements.{IsElementAt}
 use Rattle.codespan_collect.proofs.LabelFiles.{added-with_file, known-more}
 use Rattle.codespan_collect.proofs.FileStarts.{start-unknown, starts-set}
@@ -46,7 +46,7 @@ use Rattle.codespan_collect.proofs.FirstErrors.{first_error-none, first_error-so
 pub record AreCollected {Id : Type 0} (database : FileDatabase Id) (config : Config) (ids : List Id) (done : List (InFile Id)) (files : List (RustFile Id)) (found : FoundAnnotations Id) : Type 0 where
   pub ids_are : ids_view files ≡ ids
   pub starts_are : starts_view files ≡ map (file_start database.same done) ids
-  pub lanes_are : lanes_view files ≡ map (lane_count_of database.same database.file done) ids
+  pub lanes_are : lanes_view files ≡ map (num_multi_labels_of database.same database.file done) ids
   pub added : Adds (IsOfFiles database.file ids) [] found.annotations.items (annotations_after database.same database.file config ids [] done)
   pub counted : found.padding.digits ≡ fold max 0 (all_digits database.file done)
   pub succeeded : labels_failure config database done ≡ None
@@ -99,30 +99,30 @@ module _ {Id : Type 0} {database : FileDatabase Id} (lawful : AreFiles database)
 
   -- where the label is
   abbrev here : LabelIndices
-  here = record { file = index_of_file same ids label.file_id; index = index; lane = lane_count_of same file (before labels index) label.file_id }
+  here = record { file = index_of_file same ids label.file_id; index = index; lane = num_multi_labels_of same file (before labels index) label.file_id }
 
   -- that is what comes after the labels before it
   here-is : here ≡ indices_after same file ids (before labels index) (label_of label)
-  here-is = λ i. record { file = index_of_file same ids label.file_id; index = sym before-length i; lane = lane_count_of same file (before labels index) label.file_id }
+  here-is = λ i. record { file = index_of_file same ids label.file_id; index = sym before-length i; lane = num_multi_labels_of same file (before labels index) label.file_id }
 
   -- the label's lane is one of its file's, and of no other file's
-  lanes-changed : IsChanged same label.file_id (lane_count_of same file (before labels index)) (lane_count_of same file (before labels (index + 1)))
-      (lane_count_of same file (before labels index) label.file_id + label_lanes (file label.file_id) (label_of label).label)
+  lanes-changed : IsChanged same label.file_id (num_multi_labels_of same file (before labels index)) (num_multi_labels_of same file (before labels (index + 1)))
+      (num_multi_labels_of same file (before labels index) label.file_id + label_lanes (file label.file_id) (label_of label).label)
   lanes-changed = record {
     own = λ j t. more j
-        ∙ ap (λ (b : Bool). lane_count_of same file (before labels index) j + (if b then label_lanes (file j) (label_of label).label else 0)) t
-        ∙ (λ i. lane_count_of-equal lawful (before labels index) j label.file_id t i + label_lanes (lawful.one_file j label.file_id t i) (label_of label).label);
+        ∙ ap (λ (b : Bool). num_multi_labels_of same file (before labels index) j + (if b then label_lanes (file j) (label_of label).label else 0)) t
+        ∙ (λ i. num_multi_labels_of-equal lawful (before labels index) j label.file_id t i + label_lanes (lawful.one_file j label.file_id t i) (label_of label).label);
     others = λ j f. more j
-        ∙ ap (λ (b : Bool). lane_count_of same file (before labels index) j + (if b then label_lanes (file j) (label_of label).label else 0)) f ∙ nothing-more (lane_count_of same file (before labels index) j);
+        ∙ ap (λ (b : Bool). num_multi_labels_of same file (before labels index) j + (if b then label_lanes (file j) (label_of label).label else 0)) f ∙ nothing-more (num_multi_labels_of same file (before labels index) j);
   }
     where
       nothing-more : (n : ℕ) → n + 0 ≡ n
       nothing-more n = omega arith
 
-      more : (j : Id) → lane_count_of same file (before labels (index + 1)) j
-          ≡ lane_count_of same file (before labels index)
+      more : (j : Id) → num_multi_labels_of same file (before labels (index + 1)) j
+          ≡ num_multi_labels_of same file (before labels index)
           j + (if same j label.file_id then label_lanes (file j) (label_of label).label else 0)
-      more j = ap (λ xs. lane_count_of same file xs j) (before-more turn) ∙ lane_count_of-more same file (before labels index) (label_of label) j
+      more j = ap (λ xs. num_multi_labels_of same file xs j) (before-more turn) ∙ num_multi_labels_of-more same file (before labels index) (label_of label) j
 
   -- ---- the labels before it are done with, and its file is there too
 
@@ -130,10 +130,10 @@ module _ {Id : Type 0} {database : FileDatabase Id} (lawful : AreFiles database)
       (g : AreCollected database config (file_ids same (before labels (index + 1)))
       (before labels index) files found) where
     -- the lanes that are kept at its file's index are those of its file
-    lanes-unchanged : get_or (lanes_view files) (index_of_file same ids label.file_id) 0 ≡ lane_count_of same file (before labels index) label.file_id
+    lanes-unchanged : get_or (lanes_view files) (index_of_file same ids label.file_id) 0 ≡ num_multi_labels_of same file (before labels index) label.file_id
     lanes-unchanged =
         ap (λ (all : List ℕ). get_or all (index_of_file same ids label.file_id) 0) g.lanes_are
-        ∙ unchanged-at o (lane_count_of same file (before labels index)) (lane_count_of-equal lawful (before labels index)) ids label.file_id 0 (has-file turn o)
+        ∙ unchanged-at o (num_multi_labels_of same file (before labels index)) (num_multi_labels_of-equal lawful (before labels index)) ids label.file_id 0 (has-file turn o)
 
     -- the label's annotations were added
     added-more : (more : FoundAnnotations Id) → AddsOf (file label.file_id) found.annotations.items more.annotations.items (annotations_of config (file label.file_id) here (label_of label).label)
@@ -173,7 +173,7 @@ module _ {Id : Type 0} {database : FileDatabase Id} (lawful : AreFiles database)
 
     -- the label's file has its lane too, and no other file's lanes change
     lanes-next : (next : List (RustFile Id)) → lanes_view next ≡ lanes_with_label (lanes_view files) (index_of_file same ids label.file_id) (label_lanes (file label.file_id) (label_of label).label)
-        → lanes_view next ≡ map (lane_count_of same file (before labels (index + 1))) ids
+        → lanes_view next ≡ map (num_multi_labels_of same file (before labels (index + 1))) ids
     lanes-next next changed =
         changed ∙ (λ i. set (g.lanes_are i) (index_of_file same ids label.file_id) (lanes-unchanged i + label_lanes (file label.file_id) (label_of label).label))
         ∙ set-at o lanes-changed ids (ids-differ turn o) (has-file turn o)
@@ -184,7 +184,7 @@ module _ {Id : Type 0} {database : FileDatabase Id} (lawful : AreFiles database)
       index-found = there ∙ ap (λ (js : List Id). index_of_file same js label.file_id) g.ids_are
 
       -- as many lanes are counted for the file as there are multi-line labels before
-      pub lane-found : get_or (lanes_view files) at 0 ≡ lane_count_of same file (before labels index) label.file_id
+      pub lane-found : get_or (lanes_view files) at 0 ≡ num_multi_labels_of same file (before labels index) label.file_id
       lane-found = ap (λ k. get_or (lanes_view files) k 0) index-found ∙ lanes-unchanged
 
       -- one more can be counted
@@ -238,7 +238,7 @@ module _ {Id : Type 0} {database : FileDatabase Id} (lawful : AreFiles database)
           ids_are = indexed.ids ∙ ap (λ (js : List Id). with_file same js label.file_id js label.file_id) g.ids_are ∙ sym (file_ids-more same o xs x);
           starts_are = known-more o xs x (file_start same xs) (start-unknown same xs label.file_id) g.starts_are
               (indexed.starts ∙ ap (λ (js : List Id). with_file same js label.file_id (starts_view files) no_start) g.ids_are);
-          lanes_are = known-more o xs x (lane_count_of same file xs) (lane_count_of-none same file xs label.file_id) g.lanes_are
+          lanes_are = known-more o xs x (num_multi_labels_of same file xs) (num_multi_labels_of-none same file xs label.file_id) g.lanes_are
               (indexed.lanes ∙ ap (λ (js : List Id). with_file same js label.file_id (lanes_view files) 0) g.ids_are);
           added = added-with_file o xs x file config g.added;
           counted = g.counted;
@@ -273,9 +273,9 @@ collected-all {Id} {database} {config} {files} {found} labels index past g =
 
 -- each file has what the labels add to it
 pub each-labels : {Id : Type 0} (same : Id → Id → Bool) (file : Id → FileModel) (xs : List (InFile Id)) (files : List (RustFile Id))
-    → starts_view files ≡ map (file_start same xs) (ids_view files) → lanes_view files ≡ map (lane_count_of same file xs) (ids_view files) → AllByRecursion (HasLabels same file xs) files
+    → starts_view files ≡ map (file_start same xs) (ids_view files) → lanes_view files ≡ map (num_multi_labels_of same file xs) (ids_view files) → AllByRecursion (HasLabels same file xs) files
 each-labels same file xs [] starts lanes = tt
 each-labels same file xs (f ∷ fs) starts lanes = (
-  record { start_is = ap (λ (ss : List FileStart). get_or ss 0 f.start) starts; lanes_are = ap (λ (ls : List ℕ). get_or ls 0 f.lane_count) lanes },
+  record { start_is = ap (λ (ss : List FileStart). get_or ss 0 f.start) starts; lanes_are = ap (λ (ls : List ℕ). get_or ls 0 f.num_multi_labels) lanes },
   each-labels same file xs fs (ap (drop 1) starts) (ap (drop 1) lanes),
 )

@@ -5,7 +5,7 @@ use Rattle.codespan_base.specs.FileModel.{FileModel}
 use Rattle.codespan_collect.specs.declared.label_annotations.LabelIndices.{LabelIndices}
 use Rattle.codespan_annotations.specs.Annotations.{Annotation}
 use Rattle.codespan_collect.specs.LabelAnnotations.{annotations_of}
-use Rattle.codespan_picture.specs.Snippets.{InFile, file_ids, labeled_file_model, lane_count}
+use Rattle.codespan_picture.specs.Snippets.{InFile, file_ids, labeled_file_model, num_multi_labels}
 use Rattle.codespan_annotations.specs.FileIndices.{index_of_file}
 
 module _ {Id : Type 0} (same : Id → Id → Bool) (file : Id → FileModel) where
@@ -14,7 +14,7 @@ module _ {Id : Type 0} (same : Id → Id → Bool) (file : Id → FileModel) whe
   indices_after ids before x = record {
     file = index_of_file same ids x.id;
     index = length before;
-    lane = lane_count (labeled_file_model same file before x.id);
+    lane = num_multi_labels (labeled_file_model same file before x.id);
   }
 
   -- the annotations of these labels, after those before them

@@ -9,7 +9,7 @@ use Rattle.codespan_picture.specs.Snippets.{InFile}
 
 -- those of a line's number, where the label spans it
 abbrev pub digits_on : FileModel → LabelModel → ℕ → List ℕ
-digits_on f x l = if spans f x l then count_digits (f.number l) ∷ [] else []
+digits_on f x l = if spans f x l then count_digits (f.line_number l) ∷ [] else []
 
 -- those of all lines of a label
 abbrev pub label_digits : FileModel → LabelModel → List ℕ

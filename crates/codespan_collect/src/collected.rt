@@ -88,7 +88,7 @@ fn collect_in_turn<'files, 'd, F: Files<'files>>(
     };
     for (index, label) in labels.iter().enumerate() {
         let file = get_or_insert_file(&mut labeled, previous, label.file_id)?;
-        let lane = labeled[file].lane_count;
+        let lane = labeled[file].num_multi_labels;
         let at = LabelIndices { file, index, lane };
         let lines = collect_label(files, config, at, label, &mut found)?;
         add_label(&mut labeled, file, label, lines);

@@ -2,8 +2,7 @@
 use Rattle.std.proofs.Common.{◌≡◌, ℕ, List, [], ◌∷◌, ◌++◌, map, Some, Result, Ok, Err, IsErr, refl, sym, ◌∙◌, ap, append_assoc, append-nil, string_bytes}
 use Rattle.std.proofs.lemmas.Grind.{flat_map-append}
 use Rattle.std.proofs.lemmas.List.{map-append}
-use Rattle.codespan_base.specs.ColorLaw.{AppendsBytes}
-use Rattle.codespan_base.specs.WriterLaw.{PrefixAppended, extended}
+use Rattle.codespan_base.specs.WriterLaw.{PrefixAppended, extended, AppendsBytes}
 use Rattle.codespan_documents.specs.declared.recorder.Recorder.{Recorder}
 use Rattle.codespan_documents.specs.declared.style.Style.{Style}
 use Rattle.codespan_documents.specs.declared.text.Run.{Run}

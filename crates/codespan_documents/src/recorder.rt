@@ -1,9 +1,8 @@
 //! A writer of styles that keeps what it receives as runs of text, each in one style.
 
 ghost use Rattle.std.specs.Prelude.{◌≡◌, ◌∷◌, [], MatchResult, OnOk, Some};
-ghost use Rattle.codespan_base.specs.ColorLaw.{AppendsBytes};
 ghost use Rattle.codespan_base.specs.Streams.{bytes};
-ghost use Rattle.codespan_base.specs.WriterLaw.{Writes};
+ghost use Rattle.codespan_base.specs.WriterLaw.{Writes, AppendsBytes};
 ghost use Rattle.codespan_base.specs.Writers.{fresh_sink};
 ghost use Rattle.codespan_documents.specs.declared.style.Style.TheVariants.{Plain};
 ghost use Rattle.codespan_documents.specs.Recorded.{recorded_runs, style_number, style_spelling};

@@ -43,5 +43,5 @@ pub column_in_line : (f : FileModel) (i byte : ℕ) (text : List ℕ) (r : Range
 column_in_line f i byte text r n counted same line = rw (counted, same, line.start_is, line.end_is) refl
 
 -- the numbers of the byte's line and of its column there are the location of the byte
-pub location_in_file : (f : FileModel) (byte i n m : ℕ) → i ≡ line_of f.starts byte → n ≡ f.number i → m ≡ f.column i byte → ◌≡◌ {A = Location} (record { line_number = n; column_number = m }) (location_of f byte)
+pub location_in_file : (f : FileModel) (byte i n m : ℕ) → i ≡ line_of f.starts byte → n ≡ f.line_number i → m ≡ f.column_number i byte → ◌≡◌ {A = Location} (record { line_number = n; column_number = m }) (location_of f byte)
 location_in_file f byte i n m line number column = rw (number, column, line) refl

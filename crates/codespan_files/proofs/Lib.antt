@@ -5,5 +5,5 @@ pub mod SetNumbers
 pub mod LineCuts
 pub mod LineCounts
 pub mod LineRuns
-pub mod PastEnd
+pub mod LineFailures
 pub mod Numbers

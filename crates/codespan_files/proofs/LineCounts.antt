@@ -58,9 +58,9 @@ line_before text byte =
     omega (arith, n, c)
 
 -- past the end no start is after the byte, so it is the last line
-line_past_end : (text : List ℕ) (byte : ℕ) → length text ≤ byte → line_of (line_starts_of text) byte ≡ length (line_starts_of text) - 1
+line_past_text : (text : List ℕ) (byte : ℕ) → length text ≤ byte → line_of (line_starts_of text) byte ≡ length (line_starts_of text) - 1
 unfolding line_of
-line_past_end text byte h =
+line_past_text text byte h =
     let starts : List ℕ = starts_after 0 text in
     let n : count_by (λ s. nat_le s byte) starts ≡ length starts =
     count_split byte starts (length starts) (omega arith) (λ k p. omega (arith, (cuts 0 text).within k p)) (λ k p q. absurd (omega arith)) in
@@ -70,4 +70,4 @@ line_past_end text byte h =
 
 -- so it is for the file of any text
 pub line_counts : (name : Option (List ℕ)) (text : List ℕ) → LineCountsNewlines (simple_file name text)
-line_counts name text = record { before = line_before text; past_end = line_past_end text }
+line_counts name text = record { before = line_before text; past_text = line_past_text text }

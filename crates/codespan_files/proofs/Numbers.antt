@@ -7,7 +7,7 @@ use Rattle.codespan_files.specs.SimpleModel.{simple_file, simple_failure, missin
 
 -- each line has its index plus 1, in a file that is missing too
 pub numbered : {Name Source : Type 0} (output : Name → Option (List ℕ)) (text : Source → List ℕ) (o : Option (Name × Source)) (i : ℕ)
-    → (option_map_or (λ entry. simple_file (output entry.0) (text entry.1)) o missing_file).number i ≡ i + 1
+    → (option_map_or (λ entry. simple_file (output entry.0) (text entry.1)) o missing_file).line_number i ≡ i + 1
 numbered output text None i = refl
 numbered output text (Some entry) i = refl
 

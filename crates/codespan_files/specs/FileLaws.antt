@@ -20,7 +20,7 @@ newlines text n = count_by (λ b. b == 10) (take n text)
 -- a byte's line is the number of newlines before it, and past the end it is the last line
 pub record LineCountsNewlines (f : FileModel) : Type 0 where
   pub before : (byte : ℕ) → line_of f.starts byte ≡ newlines f.text byte
-  pub past_end : (byte : ℕ) → length f.text ≤ byte → line_of f.starts byte ≡ line_count f - 1
+  pub past_text : (byte : ℕ) → length f.text ≤ byte → line_of f.starts byte ≡ line_count f - 1
 
 -- a later byte has no smaller column on a line
 abbrev pub ColumnsRise : Type 0

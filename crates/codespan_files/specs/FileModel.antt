@@ -16,9 +16,9 @@ pub record FileModel : Type 0 where
   -- where each line ends, in bytes, exclusive
   pub ends : List ℕ
   -- the number of the line of an index from 0, as users see it
-  pub number : ℕ → ℕ
+  pub line_number : ℕ → ℕ
   -- the column number, as users see it, by a line index and a byte index, both from 0
-  pub column : ℕ → ℕ → ℕ
+  pub column_number : ℕ → ℕ → ℕ
   -- the location of a byte index from 0
   pub location : ℕ → Location
 

@@ -70,7 +70,7 @@ column_of f i byte = column_index_of f.text (slice_index f.starts i) (slice_inde
 abbrev pub location_of : FileModel → ℕ → Location
 location_of f byte =
     let i = line_of f.starts byte in
-    record { line_number = f.number i; column_number = f.column i byte }
+    record { line_number = f.line_number i; column_number = f.column_number i byte }
 
 -- what the number of a line fails with, where it is the index plus 1
 abbrev pub line_number_failure : ℕ → Option Error

@@ -1,14 +1,14 @@
 -- A text as a file whose line numbers are set, in the manner of `#line`: a line's end leaves out
 -- its newline.
-use Rattle.std.specs.Prelude.{ℕ, ◌+◌, ◌-◌, ◌^◌, nat_le, nat_lt, ◌==◌, if◌then◌else◌, List, [], ◌∷◌, ◌++◌, length, map, slice_index, Option, Some, None}
+use Rattle.std.specs.Prelude.{ℕ, ◌+◌, ◌-◌, ◌^◌, nat_le, nat_lt, ◌==◌, if◌then◌else◌, List, [], ◌∷◌, ◌++◌, length, map, Option, Some, None}
 use Rattle.codespan_files.specs.declared.files.error.Error.{Error}
 use Rattle.codespan_files.specs.declared.files.error.Error.TheVariants.{LineTooLarge}
 use Rattle.codespan_files.specs.declared.files.Location.{Location}
 use Rattle.codespan_files.specs.FileModel.{FileModel, Lookup, line_of}
 use Rattle.codespan_files.specs.LawfulFiles.{line_number_failure}
 use Rattle.codespan_files.specs.FileModel.Lookup.{LineNumber, ColumnNumber, LocationAt, LineRange}
-use Rattle.codespan_files.specs.Lines.{line_starts_of, starts_after, column_index_of}
-use Rattle.codespan_files.specs.SimpleModel.{simple_file, past_end}
+use Rattle.codespan_files.specs.Lines.{line_starts_of, starts_after, column_number_of}
+use Rattle.codespan_files.specs.SimpleModel.{simple_file, line_failure}
 
 -- the ends of the lines, before their newlines
 abbrev pub mapped_ends : List ℕ → List ℕ
@@ -46,9 +46,7 @@ number_failure (Some s) i =
 
 -- the column number of a byte on a line
 abbrev pub mapped_column : List ℕ → ℕ → ℕ → ℕ
-mapped_column text i byte =
-    let start = slice_index (line_starts_of text) i in
-    column_index_of text start (slice_index (mapped_ends text) i) byte + 1
+mapped_column text = column_number_of text (line_starts_of text) (mapped_ends text)
 
 -- the number of the byte's line, and its column number there
 abbrev pub mapped_location : List ℕ → List (ℕ × ℕ) → ℕ → Location
@@ -63,16 +61,16 @@ mapped_location text settings byte =
 abbrev pub mapped_file : Option (List ℕ) → List ℕ → List (ℕ × ℕ) → FileModel
 mapped_file name text settings = record (simple_file name text) {
   ends = mapped_ends text;
-  number = λ i. number_from (setting settings i) i;
-  column = mapped_column text;
+  line_number = λ i. number_from (setting settings i) i;
+  column_number = mapped_column text;
   location = mapped_location text settings;
 }
 
 -- what a lookup fails with
 abbrev pub mapped_failure : List ℕ → List (ℕ × ℕ) → Lookup → Option Error
 mapped_failure text settings (LineNumber i) = number_failure (setting settings i) i
-mapped_failure text settings (ColumnNumber i byte) = past_end text i
-mapped_failure text settings (LineRange i) = past_end text i
+mapped_failure text settings (ColumnNumber i byte) = line_failure text i
+mapped_failure text settings (LineRange i) = line_failure text i
 mapped_failure text settings (LocationAt byte) =
     let i = line_of (line_starts_of text) byte in number_failure (setting settings i) i
 mapped_failure text settings _ = None

@@ -1,6 +1,6 @@
 -- A text as a file, and a database of such files: a line starts after each newline, and ends where
 -- the next one starts.
-use Rattle.std.specs.Prelude.{ℕ, ◌+◌, ◌-◌, nat_lt, true, false, if◌then◌else◌, List, [], ◌∷◌, ◌++◌, length, drop, slice_index, slice_get, Option, Some, None}
+use Rattle.std.specs.Prelude.{ℕ, ◌+◌, ◌-◌, nat_lt, true, false, if◌then◌else◌, List, [], ◌∷◌, ◌++◌, length, drop, slice_get, Option, Some, None}
 use Rattle.std.specs.Option.{option_map_or}
 use Rattle.codespan_files.specs.declared.files.error.Error.{Error}
 use Rattle.codespan_files.specs.declared.files.error.Error.TheVariants.{LineTooLarge, FileMissing}
@@ -8,7 +8,7 @@ use Rattle.codespan_files.specs.declared.files.Location.{Location}
 use Rattle.codespan_files.specs.FileModel.{FileModel, Lookup, line_of}
 use Rattle.codespan_files.specs.LawfulFiles.{line_number_failure}
 use Rattle.codespan_files.specs.FileModel.Lookup.{LineNumber, ColumnNumber, LineRange}
-use Rattle.codespan_files.specs.Lines.{line_starts_of, column_index_of}
+use Rattle.codespan_files.specs.Lines.{line_starts_of, column_number_of}
 
 -- a line ends where the next one starts, the last one with the text
 abbrev pub line_ends : List ℕ → List ℕ
@@ -16,9 +16,7 @@ line_ends text = drop 1 (line_starts_of text) ++ length text ∷ []
 
 -- the column number of a byte on line i
 abbrev pub simple_column : List ℕ → ℕ → ℕ → ℕ
-simple_column text i byte =
-    let start = slice_index (line_starts_of text) i in
-    column_index_of text start (slice_index (line_ends text) i) byte + 1
+simple_column text = column_number_of text (line_starts_of text) (line_ends text)
 
 -- the number of a byte's line, and its column number there
 abbrev pub simple_location : List ℕ → ℕ → Location
@@ -34,22 +32,22 @@ simple_file name text = record {
   text = text;
   starts = line_starts_of text;
   ends = line_ends text;
-  number = λ i. i + 1;
-  column = simple_column text;
+  line_number = λ i. i + 1;
+  column_number = simple_column text;
   location = simple_location text;
 }
 
 -- what the lookup of a line's range or of its column fails with: a line past the last does
-abbrev pub past_end : List ℕ → ℕ → Option Error
-past_end text i =
+abbrev pub line_failure : List ℕ → ℕ → Option Error
+line_failure text i =
     if nat_lt i (length (line_starts_of text)) then None
     else Some (LineTooLarge i (length (line_starts_of text) - 1))
 
 -- what a lookup fails with
 abbrev pub simple_failure : List ℕ → Lookup → Option Error
 simple_failure text (LineNumber i) = line_number_failure i
-simple_failure text (ColumnNumber i byte) = past_end text i
-simple_failure text (LineRange i) = past_end text i
+simple_failure text (ColumnNumber i byte) = line_failure text i
+simple_failure text (LineRange i) = line_failure text i
 simple_failure text _ = None
 
 -- the file of an id that names none
@@ -60,8 +58,8 @@ missing_file = record {
   text = [];
   starts = 0 ∷ [];
   ends = 0 ∷ [];
-  number = λ i. i + 1;
-  column = λ i byte. 1;
+  line_number = λ i. i + 1;
+  column_number = λ i byte. 1;
   location = λ byte. record { line_number = 1; column_number = 1 };
 }
 

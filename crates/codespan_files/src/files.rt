@@ -205,7 +205,8 @@ pub trait Files<'a> {
     ///   or the line has none.
     /// - [`Error::OutOfMemory`] where an allocation fails.
     fn line_number(&'a self, id: Self::FileId, line_index: usize) -> Result<usize, Error>
-        ensures value { IfOk result (λ n. n ≡ ((database self.now).file id).number line_index) }
+        ensures value { IfOk result (λ n.
+            n ≡ ((database self.now).file id).line_number line_index) }
         ensures failed { FailsBy ((database self.now).failure id (LineNumber line_index)) result };
 
     /// Returns the column number of a byte on a line as users see it: in most databases the
@@ -226,7 +227,7 @@ pub trait Files<'a> {
         byte_index: usize,
     ) -> Result<usize, Error>
         ensures value { IfOk result (λ n.
-            n ≡ ((database self.now).file id).column line_index byte_index) }
+            n ≡ ((database self.now).file id).column_number line_index byte_index) }
         ensures failed { FailsBy
             ((database self.now).failure id (ColumnNumber line_index byte_index)) result };
 

@@ -6,7 +6,7 @@ ghost use Rattle.std.specs.Prelude.{◌≡◌, ◌^◌, ◌-◌, [], ◌∷◌, 
 ghost use Rattle.codespan_files.specs.FileModel.{line_of, line_text};
 ghost use Rattle.codespan_files.specs.FileModel.Lookup.{Source, LineNumber, LineRange};
 ghost use Rattle.codespan_files.specs.Lines.{line_starts_of, column_index_of};
-ghost use Rattle.codespan_files.specs.SimpleModel.{simple_file, simple_failure, past_end, missing_failure};
+ghost use Rattle.codespan_files.specs.SimpleModel.{simple_file, simple_failure, line_failure, missing_failure};
 ghost use Rattle.codespan_files.specs.MappedModel.{with_number, number_from, setting, mapped_failure};
 ghost use Rattle.codespan_files.specs.declared.files.error.Error.TheVariants.{FileMissing, LineTooLarge};
 
@@ -38,7 +38,7 @@ fn greatest_indices()
     ensures range { simple_failure (codes "a\nb") (LineRange (2 ^ 64 - 1))
         ≡ Some (LineTooLarge (2 ^ 64 - 1) 1) }
     ensures succeeds { simple_failure (codes "a\nb") (LineNumber (2 ^ 64 - 2)) ≡ None }
-    ensures number { (simple_file None (codes "a\nb")).number (2 ^ 64 - 2) ≡ 2 ^ 64 - 1 }
+    ensures number { (simple_file None (codes "a\nb")).line_number (2 ^ 64 - 2) ≡ 2 ^ 64 - 1 }
     ensures failed { simple_failure (codes "a\nb") (LineNumber (2 ^ 64 - 1))
         ≡ Some (LineTooLarge (2 ^ 64 - 1) (2 ^ 64 - 2)) }
 {}
@@ -50,7 +50,7 @@ fn mapped_overflow()
         mapped_failure (codes "a\nb\nc\nd") settings (LineNumber 1) ≡ None }
     ensures failed { let settings = with_number 1 (2 ^ 64 - 1) [] in
         mapped_failure (codes "a\nb\nc\nd") settings (LineNumber 2) ≡ Some (LineTooLarge 2 1) }
-    ensures no_line { past_end (codes "a\nb\nc\nd") 4 ≡ Some (LineTooLarge 4 3) }
+    ensures no_line { line_failure (codes "a\nb\nc\nd") 4 ≡ Some (LineTooLarge 4 3) }
 {}
 
 /// Computes the settings after a number is set again: the later one replaces the earlier one.

@@ -12,7 +12,7 @@ use Rattle.codespan_base.specs.SnippetStarts.{start_text}
 use Rattle.codespan_picture.specs.declared.char_metrics.Metrics.{Metrics}
 use Rattle.codespan_picture.specs.Carets.{style_under, max_label_end}
 use Rattle.codespan_picture.specs.Lanes.{label_glyph}
-use Rattle.codespan_picture.specs.Rows.{RowContext, Locus, Lanes, Line, Row, HeaderRow, SnippetStartRow, EmptyRow, BreakRow, SourceRow, CaretRow, PointerRow, HangingRow, UnderlineRow, FirstNoteRow, LaterNoteRow, FinalRow, hanging, trailing}
+use Rattle.codespan_picture.specs.Rows.{RowContext, Locus, Lanes, Line, Row, HeaderRow, SnippetStartRow, EmptyRow, BreakRow, SourceRow, CaretRow, PointerRow, HangingRow, UnderlineRow, FirstNoteRow, LaterNoteRow, FinalRow, hanging_labels, trailing_label}
 use Rattle.codespan_picture.specs.RowParts.{outer_gutter, outer_gutter_number, border_left, border_left_break, change, styled, lanes_in, locus, line_metrics, line_metrics_to_end, inner_gutter, colored_text, caret_glyphs, carets, trailing_message, label_message, starts_in, max_label_start, spaces_up_to, pointer_style, pointer_at, pointers, metrics_before, underline, underline_message}
 use Rattle.codespan_picture.specs.RowStreams.{stream_of, snippet_start_row, empty_row, break_row, source_row, row_start, caret_row, pointer_row, hanging_row, underline_row, first_note_row}
 use Rattle.codespan_laws.proofs.Texts.{row_length-append, row_length-glyph, row_length-repeated, text_of-bytes}
@@ -107,7 +107,7 @@ module _ (context : RowContext) (chars : Chars) where
   pointers_as_long : (labels : List LabelModel) (cs : List Metrics) → AreAsLong (pointers other labels cs) (pointers context labels cs)
   unfolding pointers pointer_at
   pointers_as_long labels cs =
-      flat_as_long _ _ (λ c. pointed (list_any (starts_in c) (hanging labels)) (pointer_style (hanging labels) c)
+      flat_as_long _ _ (λ c. pointed (list_any (starts_in c) (hanging_labels labels)) (pointer_style (hanging_labels labels) c)
       (spaces_up_to (max_label_start labels) c (c.width - 1)) (spaces_up_to (max_label_start labels) c c.width)) cs
 
   underline_as_long : (style : LabelStyle) (cs : List Metrics) (part : MultiLabel) → AreAsLong (underline chars style cs part) (underline context.chars style cs part)
@@ -138,7 +138,7 @@ module _ (context : RowContext) (chars : Chars) where
       same_before _ _ (colored_text context line) (same_before _ _ space
       (joined _ _ _ _ (same_after (outer_gutter_number context.padding line.number) (border_left chars) (border_left context.chars) border_left_as_long) (lanes_as_long _ _ _ _ line.lanes)))
   rows_as_long e (CaretRow line) =
-      same_before _ _ (trailing_message context.severity (trailing line.labels))
+      same_before _ _ (trailing_message context.severity (trailing_label line.labels))
       (joined _ _ _ _ (row_start_as_long line) (carets_as_long line.labels (line_metrics_to_end context line)))
   rows_as_long e (PointerRow line) = joined _ _ _ _ (row_start_as_long line) (pointers_as_long line.labels (line_metrics context line))
   rows_as_long e (HangingRow line x) =

@@ -12,7 +12,7 @@ use Rattle.codespan_picture.specs.declared.lanes.Shape.{Shape}
 use Rattle.codespan_picture.specs.declared.lanes.Shape.TheVariants.{Space, Bar, TopCorner, BottomCorner}
 use Rattle.codespan_picture.specs.Lanes.{source_shape, below_shape, underline_shape, lane_mark_in, is_unbroken, begins_in_source_row, shape_of}
 use Rattle.codespan_laws.specs.LaneLaws.{shape_in}
-use Rattle.codespan_picture.specs.Rows.{Line, Row, SourceRow, CaretRow, PointerRow, HangingRow, UnderlineRow, caret_rows, hanging_rows, hanging, underline_rows, rows_of, has_underline}
+use Rattle.codespan_picture.specs.Rows.{Line, Row, SourceRow, CaretRow, PointerRow, HangingRow, UnderlineRow, caret_rows, hanging_rows, hanging_labels, underline_rows, rows_of, has_underline}
 use Rattle.codespan_picture.specs.RowParts.{leading_of}
 use Rattle.codespan_laws.proofs.LaneLineLemmas.{each_all, each_map, split_at, split_off, Shows, GoesOn, Begins, Finishes}
 use Rattle.codespan_laws.proofs.ListElements.{all-append, all-filter, all-weaker}
@@ -30,12 +30,12 @@ each_hanging P line (x ∷ xs) a b =
     (a, each_map P (HangingRow line) (reverse (x ∷ xs)) (each_all (λ y. P (HangingRow line y)) (reverse (x ∷ xs)) b))
 
 abbrev below_rows : Line → List Row
-below_rows line = caret_rows line line.labels ++ hanging_rows line (hanging line.labels)
+below_rows line = caret_rows line line.labels ++ hanging_rows line (hanging_labels line.labels)
 
 each_below : (P : Row → Type 0) (line : Line) → P (CaretRow line) → P (PointerRow line) → ((y : LabelModel) → P (HangingRow line y)) → AllByRecursion P (below_rows line)
 each_below P line a b d =
-    all-append P (caret_rows line line.labels) (hanging_rows line (hanging line.labels)) (each_caret P line line.labels a)
-    (each_hanging P line (hanging line.labels) b d)
+    all-append P (caret_rows line line.labels) (hanging_rows line (hanging_labels line.labels)) (each_caret P line line.labels a)
+    (each_hanging P line (hanging_labels line.labels) b d)
 
 abbrev is_underlined : Line → LaneMark → Bool
 is_underlined line m = has_underline (leading_of line) m.part

@@ -6,7 +6,7 @@ use Rattle.codespan_base.specs.Labels.{LabelModel, LaneMark, MultiLabel}
 use Rattle.codespan_base.specs.Streams.{Stream, LabelMark, Reset, style_mark, space}
 use Rattle.codespan_picture.specs.declared.lanes.Shape.{Shape}
 use Rattle.codespan_picture.specs.Lanes.{Source, Plain, Below, Underline, row_shape, row_crossing, source_shape, plain_shape, below_shape, lane_mark_in, shape_of, style_of_lane_mark, lane_cells}
-use Rattle.codespan_picture.specs.Rows.{RowContext, Lanes, Line, Row, HeaderRow, SnippetStartRow, EmptyRow, BreakRow, SourceRow, CaretRow, PointerRow, HangingRow, UnderlineRow, FirstNoteRow, LaterNoteRow, FinalRow, trailing}
+use Rattle.codespan_picture.specs.Rows.{RowContext, Lanes, Line, Row, HeaderRow, SnippetStartRow, EmptyRow, BreakRow, SourceRow, CaretRow, PointerRow, HangingRow, UnderlineRow, FirstNoteRow, LaterNoteRow, FinalRow, trailing_label}
 use Rattle.codespan_picture.specs.RowParts.{outer_gutter, outer_gutter_number, border_left, border_left_break, label_message, inner_gutter_column, lanes_in, inner_gutter, line_metrics, line_metrics_to_end, leading_of, colored_text, carets, trailing_message, pointers, metrics_before, underline}
 use Rattle.codespan_picture.specs.RowStreams.{stream_of, empty_row, break_row, source_row, row_start, caret_row, pointer_row, hanging_row, underline_row}
 use Rattle.codespan_laws.specs.LaneLaws.{lanes_shown, before_lanes, ShowsLanes, LanesAreShown}
@@ -92,7 +92,7 @@ unfolding caret_row
 caret_shows context line =
     shows context (CaretRow line) line.lanes
     (more _ _ _ (more _ _ _ (opened context line) (carets context line.labels (line_metrics_to_end context line)))
-    (trailing_message context.severity (trailing line.labels)))
+    (trailing_message context.severity (trailing_label line.labels)))
 
 pointer_shows : (context : RowContext) (line : Line) → ShowsLanes context (PointerRow line) line.lanes
 unfolding pointer_row

@@ -9,10 +9,9 @@ use Rattle.codespan_base.specs.FileModel.{FileModel, line_start}
 use Rattle.codespan_base.specs.Streams.{Stream}
 use Rattle.codespan_base.specs.Labels.{LabelModel, has_message, is_empty_stream, LaneMark, MultiLabel, Top, Left, Bottom, first_line, last_line, is_single, drawn_label, multi_labels, range_precedes, insert_sorted, sorted, single_labels, part_on, lane_mark_of}
 use Rattle.codespan_picture.specs.CharMetrics.{leading_whitespace}
-use Rattle.codespan_picture.specs.Rows.{Line, SourceRow, CaretRow, PointerRow, HangingRow, UnderlineRow, trailing, hanging, has_underline, caret_rows, hanging_rows, underline_rows, rows_of}
+use Rattle.codespan_picture.specs.Rows.{Line, SourceRow, CaretRow, PointerRow, HangingRow, UnderlineRow, trailing_label, hanging_labels, has_underline, caret_rows, hanging_rows, underline_rows, rows_of}
 use Rattle.codespan_picture.specs.Snippets.{LabeledFileModel, line_at}
-use Rattle.codespan_laws.specs.TrailingLaws.{weight_of}
-use Rattle.codespan_laws.proofs.MessageLemmas.{trailing_and_hanging}
+use Rattle.codespan_laws.proofs.MessageLemmas.{trailing_and_hanging, weight_of}
 use Rattle.codespan_laws.proofs.SlotLemmas.{slots, slots-nil, part_slots, row_slots}
 
 -- ---- sums
@@ -87,9 +86,9 @@ no_message k x h = by_stream x.message h
     by_stream [] h = slots-nil k
     by_stream (p ∷ ps) h = cc
 
-caret_sum : (k : ℕ) (line : Line) (labels : List LabelModel) → line.labels ≡ labels → sum_by (row_slots k) (caret_rows line labels) ≡ weight_of (label_slots k) (trailing labels)
+caret_sum : (k : ℕ) (line : Line) (labels : List LabelModel) → line.labels ≡ labels → sum_by (row_slots k) (caret_rows line labels) ≡ weight_of (label_slots k) (trailing_label labels)
 caret_sum k line [] h = refl
-caret_sum k line (x ∷ xs) h = let e = ap {B = ℕ} (λ ls. weight_of (label_slots k) (trailing ls)) h in omega (arith, e, sum_by-cons (row_slots k) (CaretRow line) [])
+caret_sum k line (x ∷ xs) h = let e = ap {B = ℕ} (λ ls. weight_of (label_slots k) (trailing_label ls)) h in omega (arith, e, sum_by-cons (row_slots k) (CaretRow line) [])
 
 hanging_sum : (k : ℕ) (line : Line) (labels : List LabelModel) → sum_by (row_slots k) (hanging_rows line labels) ≡ sum_by (label_slots k) labels
 hanging_sum k line [] = refl
@@ -115,11 +114,11 @@ line_sum : (k : ℕ) (line : Line) → sum_by (row_slots k) (rows_of line) ≡ s
 line_sum k line =
     omega (
       arith,
-      sum_by-append (row_slots k) ((SourceRow line ∷ caret_rows line line.labels) ++ hanging_rows line (hanging line.labels)) (underline_rows line),
-      sum_by-append (row_slots k) (SourceRow line ∷ caret_rows line line.labels) (hanging_rows line (hanging line.labels)),
+      sum_by-append (row_slots k) ((SourceRow line ∷ caret_rows line line.labels) ++ hanging_rows line (hanging_labels line.labels)) (underline_rows line),
+      sum_by-append (row_slots k) (SourceRow line ∷ caret_rows line line.labels) (hanging_rows line (hanging_labels line.labels)),
       sum_by-cons (row_slots k) (SourceRow line) (caret_rows line line.labels),
       caret_sum k line line.labels refl,
-      hanging_sum k line (hanging line.labels),
+      hanging_sum k line (hanging_labels line.labels),
       underline_sum k line,
       trailing_and_hanging (label_slots k) (no_message k) line.labels,
     )

@@ -156,22 +156,22 @@ as_many {Id} same file xs loci are =
     ∙ ap (λ ids. length (first_seen same ids)) (sym (ids_kept 0 0 xs))
     ∙ sym (length-map (file_ids same (all_slotted xs)) (labeled_file_model same file (all_slotted xs)))
 
-filled_output : {Id : Type 0} (renderer view : Config) (same : Id → Id → Bool) (file : Id → FileModel) (severity : Severity) (heading : HeaderText) (loci : List Locus) (notes : List (List ℕ)) (xs : List (InFile Id))
+filled_output : {Id : Type 0} (renderer_config view_config : Config) (same : Id → Id → Bool) (file : Id → FileModel) (severity : Severity) (heading : HeaderText) (loci : List Locus) (notes : List (List ℕ)) (xs : List (InFile Id))
     → length loci ≡ length (labeled_file_models same file (all_slotted xs)) → IsPlain xs
-    → fill (message_text xs) (rendered Rich renderer view severity heading loci (labeled_file_models same file (all_slotted xs)) notes)
-    ≡ rendered Rich renderer view severity heading loci (labeled_file_models same file xs) notes
-filled_output {Id = Id} renderer view same file severity heading loci notes xs many plain =
-    fill_same (message_text xs) (full_text xs) (rendered Rich renderer view severity heading loci ss notes) (λ k some. by_text k (message_text xs k) refl some)
-    ∙ fill-rows (full_text xs) (full xs) context (rich_rows view heading loci ss notes)
-    ∙ ap (stream_of_rows context) (rich-re φ kept view heading loci ss notes)
-    ∙ ap (λ n. stream_of_rows (context_of renderer severity n) (rich_rows view heading loci (map (re_file φ) ss) notes)) (sym (padding-re φ kept view ss))
-    ∙ ap (λ ts. rendered Rich renderer view severity heading loci ts notes) (sym (files-re φ kept same file (all_slotted xs)) ∙ ap (labeled_file_models same file) whole)
+    → fill (message_text xs) (rendered Rich renderer_config view_config severity heading loci (labeled_file_models same file (all_slotted xs)) notes)
+    ≡ rendered Rich renderer_config view_config severity heading loci (labeled_file_models same file xs) notes
+filled_output {Id = Id} renderer_config view_config same file severity heading loci notes xs many plain =
+    fill_same (message_text xs) (full_text xs) (rendered Rich renderer_config view_config severity heading loci ss notes) (λ k some. by_text k (message_text xs k) refl some)
+    ∙ fill-rows (full_text xs) (full xs) context (rich_rows view_config heading loci ss notes)
+    ∙ ap (stream_of_rows context) (rich-re φ kept view_config heading loci ss notes)
+    ∙ ap (λ n. stream_of_rows (context_of renderer_config severity n) (rich_rows view_config heading loci (map (re_file φ) ss) notes)) (sym (padding-re φ kept view_config ss))
+    ∙ ap (λ ts. rendered Rich renderer_config view_config severity heading loci ts notes) (sym (files-re φ kept same file (all_slotted xs)) ∙ ap (labeled_file_models same file) whole)
   where
     ss : List LabeledFileModel
     ss = labeled_file_models same file (all_slotted xs)
 
     context : RowContext
-    context = context_of renderer severity (padding_of view ss)
+    context = context_of renderer_config severity (padding_of view_config ss)
 
     φ : Stream → Stream
     φ = fill (full_text xs)
@@ -188,23 +188,23 @@ filled_output {Id = Id} renderer view same file severity heading loci notes xs m
         zero_plus : (j : ℕ) → 0 + j ≡ j
         zero_plus j = omega arith
 
-    by_text : (k : ℕ) (t : List ℕ) → message_text xs k ≡ t → 0 < slots k (rendered Rich renderer view severity heading loci ss notes) → message_text xs k ≡ full_text xs k
+    by_text : (k : ℕ) (t : List ℕ) → message_text xs k ≡ t → 0 < slots k (rendered Rich renderer_config view_config severity heading loci ss notes) → message_text xs k ≡ full_text xs k
     by_text k [] e some =
         absurd (omega (
           arith,
           some,
-          slots-rows k context (rich_rows view heading loci ss notes),
-          rich_sum k view heading loci ss notes many,
-          files_zero k view same file (all_slotted xs) (unnamed xs plain k e),
+          slots-rows k context (rich_rows view_config heading loci ss notes),
+          rich_sum k view_config heading loci ss notes many,
+          files_zero k view_config same file (all_slotted xs) (unnamed xs plain k e),
         ))
     by_text k (b ∷ bs) e some = e ∙ ap nonempty (sym e)
 
-pub messages_appear_once : {Id : Type 0} (renderer view : Config) (files : FileDatabase Id) (d : Diagnostic Id) → IsEquivalence files.same → ((id : Id) → 0 < line_count (files.file id))
-    → (loci : List Locus) → AreLoci files d Rich loci → MessagesAppearOnce renderer view files d loci
-messages_appear_once {Id = Id} renderer view files d equal some_line loci are =
+pub messages_appear_once : {Id : Type 0} (renderer_config view_config : Config) (files : FileDatabase Id) (d : Diagnostic Id) → IsEquivalence files.same → ((id : Id) → 0 < line_count (files.file id))
+    → (loci : List Locus) → AreLoci files d Rich loci → MessagesAppearOnce renderer_config view_config files d loci
+messages_appear_once {Id = Id} renderer_config view_config files d equal some_line loci are =
     let many = as_many files.same files.file (labels_of d) loci are in
     record {
-      once = each_once (context_of renderer d.severity (padding_of view (labeled_file_models files.same files.file (all_slotted (labels_of d))))) view files.same files.file (header_text_of d) (notes_of d) (labels_of d) loci many equal some_line;
-      whole = fill-is (message_text (labels_of d)) (slotted_output renderer view files d loci)
-          ∙ filled_output renderer view files.same files.file d.severity (header_text_of d) loci (notes_of d) (labels_of d) many (plain d);
+      once = each_once (context_of renderer_config d.severity (padding_of view_config (labeled_file_models files.same files.file (all_slotted (labels_of d))))) view_config files.same files.file (header_text_of d) (notes_of d) (labels_of d) loci many equal some_line;
+      whole = fill-is (message_text (labels_of d)) (slotted_output renderer_config view_config files d loci)
+          ∙ filled_output renderer_config view_config files.same files.file d.severity (header_text_of d) loci (notes_of d) (labels_of d) many (plain d);
     }

@@ -27,10 +27,10 @@ use Rattle.codespan_laws.proofs.OrderMembers.{AreEqual, SameTests, same-tests, l
 -- ---- one file
 
 -- two files with labels render the same
-record HaveSameRows (view : Config) (s t : LabeledFileModel) : Type 0 where
-  rows : (locus : Locus) → snippet view locus s ≡ snippet view locus t
+record HaveSameRows (view_config : Config) (s t : LabeledFileModel) : Type 0 where
+  rows : (locus : Locus) → snippet view_config locus s ≡ snippet view_config locus t
   bare : empty_lanes s ≡ empty_lanes t
-  digits : digits_of s (numbered_lines view s) ≡ digits_of t (numbered_lines view t)
+  digits : digits_of s (numbered_lines view_config s) ≡ digits_of t (numbered_lines view_config t)
 
 module _ (f : FileModel) (xs ys : List LabelModel) (equal : AreEqual f xs ys) where
   abbrev s : LabeledFileModel
@@ -52,50 +52,50 @@ module _ (f : FileModel) (xs ys : List LabelModel) (equal : AreEqual f xs ys) wh
   bare-same = ap {B = Lanes} (λ (zs : List LabelModel). record { count = length zs; marks = [] }) equal.several_lines
 
   line-same : (l : ℕ) → line_at s l ≡ line_at t l
-  line-same l = ap₂ {C = Line} (λ zs lanes. record { number = f.number l; text = text_without_line_end (line_text f l); labels = zs; lanes = lanes })
+  line-same l = ap₂ {C = Line} (λ zs lanes. record { number = f.line_number l; text = text_without_line_end (line_text f l); labels = zs; lanes = lanes })
       (singles-same f xs ys equal l) (lanes-same l)
 
   -- which lines are shown goes by tests of the labels
-  shown-same : (view : Config) (l : ℕ) → is_shown view f xs l ≡ is_shown view f ys l
-  shown-same view l = ap (λ b. nat_lt l (line_count f) && b) (tests (λ x. shows view (first_line f x) (last_line f x) l))
+  shown-same : (view_config : Config) (l : ℕ) → is_shown view_config f xs l ≡ is_shown view_config f ys l
+  shown-same view_config l = ap (λ b. nat_lt l (line_count f) && b) (tests (λ x. shows view_config (first_line f x) (last_line f x) l))
 
-  shown_lines-same : (view : Config) → shown_lines view s ≡ shown_lines view t
-  shown_lines-same view = ap (λ (shown : ℕ → Bool). filter shown (range_with_len 0 (line_count f))) (fun_ext (shown-same view))
+  shown_lines-same : (view_config : Config) → shown_lines view_config s ≡ shown_lines view_config t
+  shown_lines-same view_config = ap (λ (shown : ℕ → Bool). filter shown (range_with_len 0 (line_count f))) (fun_ext (shown-same view_config))
 
-  drawn-same : (view : Config) → drawn_lines view f xs ≡ drawn_lines view f ys
-  drawn-same view =
-      ap (λ (shown : ℕ → Bool). filter (λ l. shown l || (nat_lt 0 l && shown (l - 1) && shown (l + 1))) (range_with_len 0 (line_count f))) (fun_ext (shown-same view))
+  drawn-same : (view_config : Config) → drawn_lines view_config f xs ≡ drawn_lines view_config f ys
+  drawn-same view_config =
+      ap (λ (shown : ℕ → Bool). filter (λ l. shown l || (nat_lt 0 l && shown (l - 1) && shown (l + 1))) (range_with_len 0 (line_count f))) (fun_ext (shown-same view_config))
 
   start-same : snippet_start s ≡ snippet_start t
   start-same = ap {B = FileModel × ℕ} (λ n. (f, n)) (locus-same xs ys tests)
 
   -- the rows follow from the shown lines
-  after-same : (view : Config) → rows_after s None (drawn_lines view f xs) ≡ rows_after t None (drawn_lines view f ys)
-  after-same view =
-      rows_of_shown_lines view s ∙ ap₂ (λ line ls. rows_of_shown line None ls) (fun_ext line-same) (shown_lines-same view) ∙ sym (rows_of_shown_lines view t)
+  after-same : (view_config : Config) → rows_after s None (drawn_lines view_config f xs) ≡ rows_after t None (drawn_lines view_config f ys)
+  after-same view_config =
+      rows_of_shown_lines view_config s ∙ ap₂ (λ line ls. rows_of_shown line None ls) (fun_ext line-same) (shown_lines-same view_config) ∙ sym (rows_of_shown_lines view_config t)
 
-  snippet-same : (view : Config) (locus : Locus) → snippet view locus s ≡ snippet view locus t
-  snippet-same view locus =
-      ap₂ (λ a b. a ++ b) (ap (λ lanes. SnippetStartRow locus ∷ EmptyRow lanes ∷ []) bare-same) (after-same view)
+  snippet-same : (view_config : Config) (locus : Locus) → snippet view_config locus s ≡ snippet view_config locus t
+  snippet-same view_config locus =
+      ap₂ (λ a b. a ++ b) (ap (λ lanes. SnippetStartRow locus ∷ EmptyRow lanes ∷ []) bare-same) (after-same view_config)
 
   spanned-same : spanned_lines s ≡ spanned_lines t
   spanned-same = ap (λ (spanned : ℕ → Bool). filter spanned (range_with_len 0 (line_count f))) (fun_ext (λ (l : ℕ). tests (λ x. spans f x l)))
 
-  numbered-same : (view : Config) → numbered_lines view s ≡ numbered_lines view t
-  numbered-same view = by_layout view.layout
+  numbered-same : (view_config : Config) → numbered_lines view_config s ≡ numbered_lines view_config t
+  numbered-same view_config = by_layout view_config.layout
     where
-      by_layout : (layout : Layout) → numbered_lines (record view { layout = layout }) s ≡ numbered_lines (record view { layout = layout }) t
+      by_layout : (layout : Layout) → numbered_lines (record view_config { layout = layout }) s ≡ numbered_lines (record view_config { layout = layout }) t
       by_layout Classic = spanned-same
-      by_layout Unbroken = drawn-same view
+      by_layout Unbroken = drawn-same view_config
 
-  have_same_rows-same : (view : Config) → HaveSameRows view s t
-  have_same_rows-same view = record { rows = snippet-same view; bare = bare-same; digits = ap (digits_of s) (numbered-same view) }
+  have_same_rows-same : (view_config : Config) → HaveSameRows view_config s t
+  have_same_rows-same view_config = record { rows = snippet-same view_config; bare = bare-same; digits = ap (digits_of s) (numbered-same view_config) }
 
 -- ---- all files
 
-module _ {Id : Type 0} (view : Config) (g h : Id → LabeledFileModel) (have_same_rows : (id : Id) → HaveSameRows view (g id) (h id)) where
+module _ {Id : Type 0} (view_config : Config) (g h : Id → LabeledFileModel) (have_same_rows : (id : Id) → HaveSameRows view_config (g id) (h id)) where
   -- a snippet and the row after it
-  followed-same : (followed : Bool) (p : Locus) (id : Id) → snippet view p (g id) ++ row_after followed (g id) ≡ snippet view p (h id) ++ row_after followed (h id)
+  followed-same : (followed : Bool) (p : Locus) (id : Id) → snippet view_config p (g id) ++ row_after followed (g id) ≡ snippet view_config p (h id) ++ row_after followed (h id)
   followed-same true p id = ap₂ (λ rows lanes. rows ++ (EmptyRow lanes ∷ [])) ((have_same_rows id).rows p) (have_same_rows id).bare
   followed-same false p id = ap (λ rows. rows ++ []) ((have_same_rows id).rows p)
 
@@ -103,25 +103,25 @@ module _ {Id : Type 0} (view : Config) (g h : Id → LabeledFileModel) (have_sam
   is_followed-same b [] = refl
   is_followed-same b (i ∷ ids) = refl
 
-  snippets-same : (has_notes : Bool) (ps : List Locus) (ids : List Id) → snippets view has_notes ps (map g ids) ≡ snippets view has_notes ps (map h ids)
+  snippets-same : (has_notes : Bool) (ps : List Locus) (ids : List Id) → snippets view_config has_notes ps (map g ids) ≡ snippets view_config has_notes ps (map h ids)
   snippets-same has_notes [] ids = refl
   snippets-same has_notes (p ∷ ps) [] = refl
   snippets-same has_notes (p ∷ ps) (i ∷ ids) =
       ap₂ (λ a b. a ++ b)
       (followed-same (has_any (map g ids) || has_notes) p i
-      ∙ ap (λ b. snippet view p (h i) ++ row_after b (h i)) (is_followed-same has_notes ids))
+      ∙ ap (λ b. snippet view_config p (h i) ++ row_after b (h i)) (is_followed-same has_notes ids))
       (snippets-same has_notes ps ids)
 
   digits-same : (ids : List Id)
-      → flat_map (λ (s : LabeledFileModel). digits_of s (numbered_lines view s)) (map g ids)
-      ≡ flat_map (λ (s : LabeledFileModel). digits_of s (numbered_lines view s)) (map h ids)
+      → flat_map (λ (s : LabeledFileModel). digits_of s (numbered_lines view_config s)) (map g ids)
+      ≡ flat_map (λ (s : LabeledFileModel). digits_of s (numbered_lines view_config s)) (map h ids)
   digits-same [] = refl
   digits-same (i ∷ ids) = ap₂ (λ a b. a ++ b) (have_same_rows i).digits (digits-same ids)
 
-  rich-same : (renderer : Config) (severity : Severity) (heading : HeaderText) (ps : List Locus) (notes : List (List ℕ)) (ids : List Id)
-      → rendered Rich renderer view severity heading ps (map g ids) notes ≡ rendered Rich renderer view severity heading ps (map h ids) notes
-  rich-same renderer severity heading ps notes ids =
-      ap₂ (λ padding rows. stream_of_rows (context_of renderer severity padding) ((HeaderRow None heading ∷ rows) ++ note_rows notes ++ (FinalRow ∷ [])))
+  rich-same : (renderer_config : Config) (severity : Severity) (heading : HeaderText) (ps : List Locus) (notes : List (List ℕ)) (ids : List Id)
+      → rendered Rich renderer_config view_config severity heading ps (map g ids) notes ≡ rendered Rich renderer_config view_config severity heading ps (map h ids) notes
+  rich-same renderer_config severity heading ps notes ids =
+      ap₂ (λ padding rows. stream_of_rows (context_of renderer_config severity padding) ((HeaderRow None heading ∷ rows) ++ note_rows notes ++ (FinalRow ∷ [])))
       (ap (fold max 0) (digits-same ids)) (snippets-same (has_any notes) ps ids)
 
 -- ---- equal ids
@@ -147,9 +147,9 @@ module _ {Id : Type 0} (same : Id → Id → Bool) (file : Id → FileModel) (o 
 pub order_is_free : {Id : Type 0} (same : Id → Id → Bool) (file : Id → FileModel) → OrderIsFree same file
 order_is_free {Id} same file xs ys o one_file orders = record {
   same_starts = starts-same ids ∙ ap (map snippet_start) others;
-  same_stream = λ renderer view severity heading loci notes.
-      rich-same view (labeled_file_model same file xs) (labeled_file_model same file ys) (have_same_rows view) renderer severity heading loci notes ids
-      ∙ ap (λ ss. rendered Rich renderer view severity heading loci ss notes) others;
+  same_stream = λ renderer_config view_config severity heading loci notes.
+      rich-same view_config (labeled_file_model same file xs) (labeled_file_model same file ys) (have_same_rows view_config) renderer_config severity heading loci notes ids
+      ∙ ap (λ ss. rendered Rich renderer_config view_config severity heading loci ss notes) others;
 }
   where
     ids : List Id
@@ -161,8 +161,8 @@ order_is_free {Id} same file xs ys o one_file orders = record {
     equal : (id : Id) → AreEqual (file id) (labeled_file_model same file xs id).labels (labeled_file_model same file ys id).labels
     equal id = record { several_lines = orders.several_lines id; one_line = orders.one_line id }
 
-    have_same_rows : (view : Config) (id : Id) → HaveSameRows view (labeled_file_model same file xs id) (labeled_file_model same file ys id)
-    have_same_rows view id = have_same_rows-same (file id) (labeled_file_model same file xs id).labels (labeled_file_model same file ys id).labels (equal id) view
+    have_same_rows : (view_config : Config) (id : Id) → HaveSameRows view_config (labeled_file_model same file xs id) (labeled_file_model same file ys id)
+    have_same_rows view_config id = have_same_rows-same (file id) (labeled_file_model same file xs id).labels (labeled_file_model same file ys id).labels (equal id) view_config
 
     starts-same : (ids : List Id) → map snippet_start (map (labeled_file_model same file xs) ids) ≡ map snippet_start (map (labeled_file_model same file ys) ids)
     starts-same [] = refl

@@ -109,21 +109,21 @@ contained-le a x (y ∷ xs) (zero, low, same) = omega (arith, greatest-low (max 
 contained-le a x (y ∷ xs) (suc k, low, same) = contained-le (max a y) x xs (k, omega arith, same)
 
 -- a numbered line fits
-pub numbered-fits : (config : Config) (ss : List LabeledFileModel) (s : LabeledFileModel) (l : ℕ) → Contains ss s → Contains (numbered_lines config s) l → count_digits (s.file.number l) ≤ padding_of config ss
+pub numbered-fits : (config : Config) (ss : List LabeledFileModel) (s : LabeledFileModel) (l : ℕ) → Contains ss s → Contains (numbered_lines config s) l → count_digits (s.file.line_number l) ≤ padding_of config ss
 numbered-fits config ss s l here c =
-    contained-le 0 (count_digits (s.file.number l)) _
-    (contains-flat_map (λ (s : LabeledFileModel). digits_of s (numbered_lines config s)) s (count_digits (s.file.number l)) ss here
-    (contains-map (λ l. count_digits (s.file.number l)) l (numbered_lines config s) c))
+    contained-le 0 (count_digits (s.file.line_number l)) _
+    (contains-flat_map (λ (s : LabeledFileModel). digits_of s (numbered_lines config s)) s (count_digits (s.file.line_number l)) ss here
+    (contains-map (λ l. count_digits (s.file.line_number l)) l (numbered_lines config s) c))
 
 -- ---- drawn lines and spanned ones
 
-ascends-by : (f : FileModel) → NumbersAscend f → (i d : ℕ) → i + d < line_count f → f.number i ≤ f.number (i + d)
+ascends-by : (f : FileModel) → NumbersAscend f → (i d : ℕ) → i + d < line_count f → f.line_number i ≤ f.line_number (i + d)
 ascends-by f up i zero h = let e : i + zero ≡ i = omega arith in rw e (omega arith)
 ascends-by f up i (suc d) h =
     let e : i + suc d ≡ (i + d) + 1 = omega arith in
     rw e (omega (arith, ascends-by f up i d (omega arith), up (i + d) (omega arith)))
 
-ascends : (f : FileModel) → NumbersAscend f → (i j : ℕ) → i ≤ j → j < line_count f → f.number i ≤ f.number j
+ascends : (f : FileModel) → NumbersAscend f → (i j : ℕ) → i ≤ j → j < line_count f → f.line_number i ≤ f.line_number j
 ascends f up i j h low =
     let e : j ≡ i + (j - i) = omega arith in
     rw e (ascends-by f up i (j - i) (omega arith))
@@ -208,7 +208,7 @@ padding_fits config ss given s l here c = by_layout config.layout refl
     numbered : (v : Layout) → config.layout ≡ v → numbered_lines config s ≡ numbered_lines (record config { layout = v }) s
     numbered v e = ap (λ v. numbered_lines (record config { layout = v }) s) e
 
-    by_layout : (v : Layout) → config.layout ≡ v → count_digits (s.file.number l) ≤ padding_of config ss
+    by_layout : (v : Layout) → config.layout ≡ v → count_digits (s.file.line_number l) ≤ padding_of config ss
     by_layout Unbroken e =
         let same : numbered_lines config s ≡ drawn_lines config s.file s.labels = numbered Unbroken e in
         numbered-fits config ss s l here (subst (λ ls. Contains ls l) (sym same) c)
@@ -218,6 +218,6 @@ padding_fits config ss given s l here c = by_layout config.layout refl
         let g = given broken in
         let drawn = filtered (is_drawn config s.file s.labels) 0 (line_count s.file) l c in
         let o = over-drawn config s l g.0 drawn.0 in
-        let fits : count_digits (s.file.number o.0) ≤ padding_of config ss = numbered-fits config ss s o.0 here (subst (λ ls. Contains ls o.0) (sym same) o.3) in
-        let rise : s.file.number l ≤ s.file.number o.0 = ascends s.file (g.1 s here) l o.0 o.1 o.2 in
-        omega (arith, fits, count_digits-rises (s.file.number l) (s.file.number o.0) rise)
+        let fits : count_digits (s.file.line_number o.0) ≤ padding_of config ss = numbered-fits config ss s o.0 here (subst (λ ls. Contains ls o.0) (sym same) o.3) in
+        let rise : s.file.line_number l ≤ s.file.line_number o.0 = ascends s.file (g.1 s here) l o.0 o.1 o.2 in
+        omega (arith, fits, count_digits-rises (s.file.line_number l) (s.file.line_number o.0) rise)

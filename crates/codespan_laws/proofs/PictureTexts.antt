@@ -18,7 +18,7 @@ use Rattle.codespan_picture.specs.Lines.{drawn_lines}
 use Rattle.codespan_picture.specs.Padding.{padding_of}
 use Rattle.codespan_picture.specs.Picture.{NamesAreTexts, files_of, header_text_of, label_of, labels_of, context_of, notes_of, output, starts}
 use Rattle.codespan_picture.specs.StatedPicture.{stated_loci, headers}
-use Rattle.codespan_picture.specs.Rows.{Line, Locus, Row, HeaderRow, EmptyRow, SourceRow, HangingRow, UnderlineRow, FinalRow, caret_rows, hanging, hanging_rows, has_underline, rows_of, underline_rows}
+use Rattle.codespan_picture.specs.Rows.{Line, Locus, Row, HeaderRow, EmptyRow, SourceRow, HangingRow, UnderlineRow, FinalRow, caret_rows, hanging_labels, hanging_rows, has_underline, rows_of, underline_rows}
 use Rattle.codespan_picture.specs.CharMetrics.{leading_whitespace}
 use Rattle.codespan_picture.specs.Carets.{max_label_end}
 use Rattle.codespan_picture.specs.Sequences.{break_between}
@@ -80,9 +80,9 @@ module _ (f : FileModel) (labels : List LabelModel) (texts : AllByRecursion HasT
 
 -- ---- the rows of a line
 
-text_message-hanging : (labels : List LabelModel) → AllByRecursion HasTextMessage labels → AllByRecursion HasTextMessage (hanging labels)
-text_message-hanging [] h = tt
-text_message-hanging (x ∷ xs) h =
+text_message-hanging_labels : (labels : List LabelModel) → AllByRecursion HasTextMessage labels → AllByRecursion HasTextMessage (hanging_labels labels)
+text_message-hanging_labels [] h = tt
+text_message-hanging_labels (x ∷ xs) h =
     subst (AllByRecursion HasTextMessage) (sym (hanging_is (x ∷ xs))) (by (around_rightmost (x ∷ xs)) refl)
   where
     around : (before : List LabelModel) (y : LabelModel) (after : List LabelModel) → AllByRecursion HasTextMessage (before ++ (y ∷ after)) → AllByRecursion HasTextMessage (before ++ after)
@@ -97,9 +97,9 @@ text_message-hanging (x ∷ xs) h =
         (around a.before a.here a.after (subst (AllByRecursion HasTextMessage) (sym (around_is (max_label_end (x ∷ xs)) (x ∷ xs) a is)) h)))
         (λ _. all-filter HasTextMessage has_message (x ∷ xs) h)
 
-rows-hanging : (line : Line) (labels : List LabelModel) → AllByRecursion HasTextMessage labels → AllByRecursion IsTextRow (hanging_rows line labels)
-rows-hanging line [] h = tt
-rows-hanging line (x ∷ xs) h = (tt, each_map IsTextRow (HangingRow line) (reverse (x ∷ xs)) (all-reverse HasTextMessage (x ∷ xs) h))
+rows-hanging_labels : (line : Line) (labels : List LabelModel) → AllByRecursion HasTextMessage labels → AllByRecursion IsTextRow (hanging_rows line labels)
+rows-hanging_labels line [] h = tt
+rows-hanging_labels line (x ∷ xs) h = (tt, each_map IsTextRow (HangingRow line) (reverse (x ∷ xs)) (all-reverse HasTextMessage (x ∷ xs) h))
 
 rows-caret : (line : Line) (labels : List LabelModel) → AllByRecursion HasTextMessage line.labels → AllByRecursion IsTextRow (caret_rows line labels)
 rows-caret line [] h = tt
@@ -108,9 +108,9 @@ rows-caret line (x ∷ xs) h = (h, tt)
 rows-line : (line : Line) → IsTextLine line → AllByRecursion IsTextRow (rows_of line)
 rows-line line t =
     let test : LaneMark → Bool = λ m. has_underline (leading_whitespace line.text) m.part in
-    all-append IsTextRow ((SourceRow line ∷ caret_rows line line.labels) ++ hanging_rows line (hanging line.labels)) (underline_rows line)
-    (all-append IsTextRow (SourceRow line ∷ caret_rows line line.labels) (hanging_rows line (hanging line.labels)) (t.text, rows-caret line line.labels t.labels)
-    (rows-hanging line (hanging line.labels) (text_message-hanging line.labels t.labels)))
+    all-append IsTextRow ((SourceRow line ∷ caret_rows line line.labels) ++ hanging_rows line (hanging_labels line.labels)) (underline_rows line)
+    (all-append IsTextRow (SourceRow line ∷ caret_rows line line.labels) (hanging_rows line (hanging_labels line.labels)) (t.text, rows-caret line line.labels t.labels)
+    (rows-hanging_labels line (hanging_labels line.labels) (text_message-hanging_labels line.labels t.labels)))
     (each_map IsTextRow (UnderlineRow line) (filter test line.lanes.marks) (all-filter (λ (m : LaneMark). IsTextPart m.part) test line.lanes.marks t.marks))
 
 -- ---- the rows of a file
@@ -176,13 +176,13 @@ module _ {Id : Type 0} (files : FileDatabase Id) (d : Diagnostic Id) (lawful : (
   rows-heading : (at : Option Locus) → IfSome at (λ p. IsUtf8 p.name) → IsTextRow (HeaderRow at (header_text_of d))
   rows-heading at named = (named, code-utf8 d.code, IsUtf8-string_bytes d.message)
 
-  rows-rich : (view : Config) (loci : List Locus) → NamesAreTexts loci
-      → AllByRecursion IsTextRow (rich_rows view (header_text_of d) loci (files_of files d) (notes_of d))
-  rows-rich view loci named =
-      let first : List Row = HeaderRow None (header_text_of d) ∷ snippets view (has_any (notes_of d)) loci (files_of files d) in
+  rows-rich : (view_config : Config) (loci : List Locus) → NamesAreTexts loci
+      → AllByRecursion IsTextRow (rich_rows view_config (header_text_of d) loci (files_of files d) (notes_of d))
+  rows-rich view_config loci named =
+      let first : List Row = HeaderRow None (header_text_of d) ∷ snippets view_config (has_any (notes_of d)) loci (files_of files d) in
       all-append IsTextRow (first ++ note_rows (notes_of d)) (FinalRow ∷ [])
       (all-append IsTextRow first (note_rows (notes_of d))
-      (rows-heading None tt, rows-snippets view (has_any (notes_of d)) loci (files_of files d) named text-files)
+      (rows-heading None tt, rows-snippets view_config (has_any (notes_of d)) loci (files_of files d) named text-files)
       (rows-notes (notes_of d) text-notes))
       (tt, tt)
 
@@ -195,27 +195,27 @@ module _ {Id : Type 0} (files : FileDatabase Id) (d : Diagnostic Id) (lawful : (
   rows-header_rows (p ∷ ps) named = rows-headers (p ∷ ps) named
 
   -- the output with any loci is a text
-  pub text-output : (style : DisplayStyle) (renderer view : Config) → AreCharacters renderer.chars
-      → (loci : List Locus) → NamesAreTexts loci → IsText (output style renderer view files d loci)
-  text-output Rich renderer view ok loci named =
-      text-rows (context_of renderer d.severity (padding_of view (files_of files d))) ok
-      (rich_rows view (header_text_of d) loci (files_of files d) (notes_of d))
-      (rows-rich view loci named)
-  text-output Medium renderer view ok loci named =
-      text-rows (context_of renderer d.severity 0) ok (header_rows (header_text_of d) loci ++ note_rows (notes_of d))
+  pub text-output : (style : DisplayStyle) (renderer_config view_config : Config) → AreCharacters renderer_config.chars
+      → (loci : List Locus) → NamesAreTexts loci → IsText (output style renderer_config view_config files d loci)
+  text-output Rich renderer_config view_config ok loci named =
+      text-rows (context_of renderer_config d.severity (padding_of view_config (files_of files d))) ok
+      (rich_rows view_config (header_text_of d) loci (files_of files d) (notes_of d))
+      (rows-rich view_config loci named)
+  text-output Medium renderer_config view_config ok loci named =
+      text-rows (context_of renderer_config d.severity 0) ok (header_rows (header_text_of d) loci ++ note_rows (notes_of d))
       (all-append IsTextRow (header_rows (header_text_of d) loci) (note_rows (notes_of d))
       (rows-header_rows loci named) (rows-notes (notes_of d) text-notes))
-  text-output Short renderer view ok loci named =
-      text-rows (context_of renderer d.severity 0) ok (header_rows (header_text_of d) loci) (rows-header_rows loci named)
+  text-output Short renderer_config view_config ok loci named =
+      text-rows (context_of renderer_config d.severity 0) ok (header_rows (header_text_of d) loci) (rows-header_rows loci named)
 
-module _ {Id : Type 0} (style : DisplayStyle) (renderer view : Config) (files : FileDatabase Id) (d : Diagnostic Id) where
-  pub output_is_text : OutputIsText style renderer view files d
-  output_is_text ok lawful loci named = text-output files d lawful style renderer view ok loci named
+module _ {Id : Type 0} (style : DisplayStyle) (renderer_config view_config : Config) (files : FileDatabase Id) (d : Diagnostic Id) where
+  pub output_is_text : OutputIsText style renderer_config view_config files d
+  output_is_text ok lawful loci named = text-output files d lawful style renderer_config view_config ok loci named
 
   -- and so is the picture
-  pub picture_is_text : PictureIsText style renderer view files d
+  pub picture_is_text : PictureIsText style renderer_config view_config files d
   picture_is_text ok lawful named =
-      text-output files d lawful style renderer view ok (stated_loci files d style)
+      text-output files d lawful style renderer_config view_config ok (stated_loci files d style)
       (stated_texts (starts files.same files.file (labels_of d) style)
       (each_start files.same files.file (labels_of d) (λ (f : FileModel). IfSome f.name IsUtf8)
       (each_all (λ (x : InFile Id). IfSome (files.file x.id).name IsUtf8) (labels_of d) (λ x. named x.id)) style))

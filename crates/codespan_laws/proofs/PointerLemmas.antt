@@ -19,12 +19,12 @@ use Rattle.codespan_picture.specs.declared.char_metrics.Metrics.{Metrics}
 use Rattle.codespan_picture.specs.CharMetrics.{width_of}
 use Rattle.codespan_picture.specs.Lanes.{label_glyph}
 use Rattle.codespan_laws.specs.CaretLaws.{points_at, pointer_cells, StartsHaveCells, PointersAreCells}
-use Rattle.codespan_picture.specs.Rows.{RowContext, Line, hanging}
+use Rattle.codespan_picture.specs.Rows.{RowContext, Line, hanging_labels}
 use Rattle.codespan_picture.specs.RowParts.{starts_in, max_label_start, spaces_up_to, pointer_style, pointer_at, pointers, metrics_before, line_metrics}
 use Rattle.codespan_picture.specs.RowStreams.{pointer_row, hanging_row}
 use Rattle.codespan_laws.proofs.Texts.{text_of-append, text_of-style_mark, text_of-glyph, text_of-spaces, encode_utf8_all-append, encode_utf8_all-spaces}
 use Rattle.codespan_laws.proofs.CaretLemmas.{range_with_len-append, map-range_with_len, map-constant}
-use Rattle.codespan_picture.proofs.HangingStarts.{any-hanging, any-below, starts_in-low}
+use Rattle.codespan_picture.proofs.HangingStarts.{any-hanging_labels, any-below, starts_in-low}
 use Rattle.codespan_picture.proofs.Consecutive.{AreConsecutive, char_metrics-consecutive, none-before}
 
 -- ---- members
@@ -72,7 +72,7 @@ module _ (chars : Chars) (labels : List LabelModel) where
   reach = max_label_start labels
 
   abbrev pub points : Metrics → Bool
-  points c = list_any (starts_in c) (hanging labels)
+  points c = list_any (starts_in c) (hanging_labels labels)
 
   -- the codes of one character
   abbrev pub codes_at : Metrics → List ℕ
@@ -89,7 +89,7 @@ module _ (chars : Chars) (labels : List LabelModel) where
   IsWide (c ∷ cs) = (points c ≡ true → 0 < c.width) × IsWide cs
 
   points-near : (c : Metrics) → points c ≡ true → c.byte_index ≤ reach
-  points-near c h = any-below 0 c.byte_index (starts_in c) labels (starts_in-low c) (any-hanging (starts_in c) labels h)
+  points-near c h = any-below 0 c.byte_index (starts_in c) labels (starts_in-low c) (any-hanging_labels (starts_in c) labels h)
 
   -- no character begins left of the first one's column
   points-later : (byte_index column k : ℕ) (cs : List Metrics) → AreConsecutive byte_index column cs → k < column → points_at labels cs k ≡ false
@@ -212,22 +212,22 @@ text_of-label_glyph severity style c =
     ∙ append-nil (encode_utf8 c)
 
 module _ (context : RowContext) (labels : List LabelModel) where
-  text_of-pointer_at : (c : Metrics) → text_of (pointer_at context labels (hanging labels) c) ≡ encode_utf8_all (codes_at context.chars labels c)
+  text_of-pointer_at : (c : Metrics) → text_of (pointer_at context labels (hanging_labels labels) c) ≡ encode_utf8_all (codes_at context.chars labels c)
   unfolding pointer_at
   text_of-pointer_at c = by_points (points context.chars labels c)
     where
       by_points : (b : Bool)
-          → text_of (cond b (label_glyph context.severity (pointer_style (hanging labels) c) context.chars.pointer_left ++ spaces_up_to (max_label_start labels) c (c.width - 1)) (spaces_up_to (max_label_start labels) c c.width))
+          → text_of (cond b (label_glyph context.severity (pointer_style (hanging_labels labels) c) context.chars.pointer_left ++ spaces_up_to (max_label_start labels) c (c.width - 1)) (spaces_up_to (max_label_start labels) c c.width))
           ≡ encode_utf8_all (cond b (context.chars.pointer_left ∷ cond (nat_le c.byte_index (max_label_start labels)) (replicate (c.width - 1) 32) []) (cond (nat_le c.byte_index (max_label_start labels)) (replicate c.width 32) []))
       by_points true =
-          text_of-append (label_glyph context.severity (pointer_style (hanging labels) c) context.chars.pointer_left) (spaces_up_to (max_label_start labels) c (c.width - 1))
-          ∙ ap₂ (λ s t. s ++ t) (text_of-label_glyph context.severity (pointer_style (hanging labels) c) context.chars.pointer_left) (text_of-spaces_up_to (max_label_start labels) (c.width - 1) c)
+          text_of-append (label_glyph context.severity (pointer_style (hanging_labels labels) c) context.chars.pointer_left) (spaces_up_to (max_label_start labels) c (c.width - 1))
+          ∙ ap₂ (λ s t. s ++ t) (text_of-label_glyph context.severity (pointer_style (hanging_labels labels) c) context.chars.pointer_left) (text_of-spaces_up_to (max_label_start labels) (c.width - 1) c)
       by_points false = text_of-spaces_up_to (max_label_start labels) c.width c
 
-  text_of-all : (cs : List Metrics) → text_of (flat_map (pointer_at context labels (hanging labels)) cs) ≡ encode_utf8_all (flat_map (codes_at context.chars labels) cs)
+  text_of-all : (cs : List Metrics) → text_of (flat_map (pointer_at context labels (hanging_labels labels)) cs) ≡ encode_utf8_all (flat_map (codes_at context.chars labels) cs)
   text_of-all [] = refl
   text_of-all (c ∷ cs) =
-      text_of-append (pointer_at context labels (hanging labels) c) (flat_map (pointer_at context labels (hanging labels)) cs)
+      text_of-append (pointer_at context labels (hanging_labels labels) c) (flat_map (pointer_at context labels (hanging_labels labels)) cs)
       ∙ ap₂ (λ s t. s ++ t) (text_of-pointer_at c) (text_of-all cs)
       ∙ sym (encode_utf8_all-append (codes_at context.chars labels c) (flat_map (codes_at context.chars labels) cs))
 
@@ -240,7 +240,7 @@ module _ (context : RowContext) (labels : List LabelModel) where
 wide-all : (chars : Chars) (labels : List LabelModel) (cs : List Metrics) → StartsHaveCells labels cs → IsWide chars labels cs
 wide-all chars labels [] h = tt
 wide-all chars labels (c ∷ cs) h = (
-  λ holds. let r = some_in (starts_in c) (hanging labels) holds in h c r.0 (0, omega arith, refl) r.1 r.2,
+  λ holds. let r = some_in (starts_in c) (hanging_labels labels) holds in h c r.0 (0, omega arith, refl) r.1 r.2,
   wide-all chars labels cs (λ d x inside. h d x (contains-later c d cs inside)),
 )
 
@@ -272,12 +272,12 @@ pointers_are_cells context line wide = record {
         ∙ sym (char_metrics-codes context.chars line.labels (λ q. nat_le q (max_label_start line.labels)) (λ q h. grind (arith, nat_tests)) (le-down (max_label_start line.labels)) 0 0 cs adjacent
         (wide-all context.chars line.labels cs wide)))
 
-    before_text : (x : LabelModel) → Contains (hanging line.labels) x
+    before_text : (x : LabelModel) → Contains (hanging_labels line.labels) x
         → text_of (pointers context line.labels (metrics_before x.start cs)) ≡ encode_utf8_all (pointer_cells context.chars line.labels cs (width_of (metrics_before x.start cs)))
     before_text x inside =
         let near : x.start ≤ max_label_start line.labels =
         any-below 0 x.start (λ y. nat_le x.start y.start) line.labels (λ y h. grind (arith, nat_tests))
-        (any-hanging (λ y. nat_le x.start y.start) line.labels (any_in (λ y. nat_le x.start y.start) (hanging line.labels) x inside (grind (arith, nat_tests)))) in
+        (any-hanging_labels (λ y. nat_le x.start y.start) line.labels (any_in (λ y. nat_le x.start y.start) (hanging_labels line.labels) x inside (grind (arith, nat_tests)))) in
         text_of-pointers context line.labels (metrics_before x.start cs)
         ∙ ap encode_utf8_all (sym (char_metrics-codes context.chars line.labels (λ q. nat_lt q x.start) (λ q h. grind (arith, nat_tests)) (lt-down x.start) 0 0 cs adjacent
         (wide-all context.chars line.labels cs wide)))

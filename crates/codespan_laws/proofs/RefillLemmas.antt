@@ -12,7 +12,7 @@ use Rattle.codespan_picture.specs.Carets.{style_under, covers, max_label_end, is
 use Rattle.codespan_picture.specs.declared.lanes.Shape.{Shape}
 use Rattle.codespan_picture.specs.declared.lanes.Shape.TheVariants.{Space, Bar, TopCorner, BottomCorner}
 use Rattle.codespan_picture.specs.Lanes.{source_shape, plain_shape, below_shape, underline_shape, lane_mark_in, corner_line, crossing_cells, lane_cells, Source, Plain, Below, Underline}
-use Rattle.codespan_picture.specs.Rows.{RowContext, Lanes, Line, trailing, hanging}
+use Rattle.codespan_picture.specs.Rows.{RowContext, Lanes, Line, trailing_label, hanging_labels}
 use Rattle.codespan_picture.proofs.Rightmost.{Around, others, behind, around_with_end, around_trails, around_rightmost, trailing_of, hanging_of, trailing_is, hanging_is}
 use Rattle.codespan_picture.specs.RowParts.{styled, inner_gutter_column, lanes_in, inner_gutter, line_metrics, part_covers, source_style, source_glyph, colored_text, caret_glyphs, carets, pointer_style, pointer_at, pointers, starts_in, max_label_start}
 
@@ -102,8 +102,8 @@ module _ (φ : Stream → Stream) (keeps : (s : Stream) → is_empty_stream (φ 
   rightmost-re : (labels : List LabelModel) → around_rightmost (map (re φ) labels) ≡ option_map (re_around φ) (around_rightmost labels)
   rightmost-re labels = ap (λ e. around_with_end e (map (re φ) labels)) (greatest labels) ∙ around (max_label_end labels) labels
 
-  pub trailing-re : (labels : List LabelModel) → trailing (map (re φ) labels) ≡ option_map (re φ) (trailing labels)
-  trailing-re labels =
+  pub trailing_label-re : (labels : List LabelModel) → trailing_label (map (re φ) labels) ≡ option_map (re φ) (trailing_label labels)
+  trailing_label-re labels =
       trailing_is (map (re φ) labels)
       ∙ ap trailing_of (rightmost-re labels)
       ∙ by_around (around_rightmost labels)
@@ -120,8 +120,8 @@ module _ (φ : Stream → Stream) (keeps : (s : Stream) → is_empty_stream (φ 
   with_message : (xs : List LabelModel) → filter has_message (map (re φ) xs) ≡ map (re φ) (filter has_message xs)
   with_message xs = filter-map has_message (re φ) xs ∙ ap (λ p. map (re φ) (filter p xs)) (fun_ext kept_message)
 
-  pub hanging-re : (labels : List LabelModel) → hanging (map (re φ) labels) ≡ map (re φ) (hanging labels)
-  hanging-re labels =
+  pub hanging_labels-re : (labels : List LabelModel) → hanging_labels (map (re φ) labels) ≡ map (re φ) (hanging_labels labels)
+  hanging_labels-re labels =
       hanging_is (map (re φ) labels)
       ∙ ap (hanging_of (map (re φ) labels)) (rightmost-re labels)
       ∙ by_around (around_rightmost labels)
@@ -260,5 +260,5 @@ module _ (φ : Stream → Stream) (keeps : (s : Stream) → is_empty_stream (φ 
   pub pointers-re : (context : RowContext) (labels : List LabelModel) (cs : List Metrics) → pointers context (map (re φ) labels) cs ≡ pointers context labels cs
   unfolding pointers
   pointers-re context labels cs =
-      ap (λ hangs. flat_map (pointer_at context (map (re φ) labels) hangs) cs) (hanging-re labels)
-      ∙ ap (λ f. flat_map f cs) (fun_ext (pointer_at-re context labels (hanging labels)))
+      ap (λ hangs. flat_map (pointer_at context (map (re φ) labels) hangs) cs) (hanging_labels-re labels)
+      ∙ ap (λ f. flat_map f cs) (fun_ext (pointer_at-re context labels (hanging_labels labels)))

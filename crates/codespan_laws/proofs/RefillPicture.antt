@@ -12,11 +12,11 @@ use Rattle.codespan_base.specs.Streams.{Stream}
 use Rattle.codespan_base.specs.Labels.{LabelModel, is_empty_stream, LaneMark, MultiLabel, Top, Left, Bottom, first_line, last_line, is_single, drawn_label, first_seen, multi_labels, range_precedes, insert_sorted, sorted, single_labels, part_on, lane_mark_of, lane_marks_on}
 use Rattle.codespan_picture.specs.CharMetrics.{leading_whitespace}
 use Rattle.codespan_picture.specs.Lines.{shows, is_shown, drawn_lines, is_broken}
-use Rattle.codespan_picture.specs.Rows.{Locus, HeaderText, Lanes, Line, HeaderRow, SnippetStartRow, EmptyRow, BreakRow, SourceRow, PointerRow, HangingRow, UnderlineRow, FirstNoteRow, LaterNoteRow, FinalRow, hanging, has_underline, caret_rows, hanging_rows, underline_rows, rows_of}
-use Rattle.codespan_picture.specs.Snippets.{LabeledFileModel, InFile, labeled_file_model, labeled_file_models, lane_count, empty_lanes, line_at, rows_after, snippet, has_any, row_after, snippets, piece_rows, note_rows, rich_rows}
+use Rattle.codespan_picture.specs.Rows.{Locus, HeaderText, Lanes, Line, HeaderRow, SnippetStartRow, EmptyRow, BreakRow, SourceRow, PointerRow, HangingRow, UnderlineRow, FirstNoteRow, LaterNoteRow, FinalRow, hanging_labels, has_underline, caret_rows, hanging_rows, underline_rows, rows_of}
+use Rattle.codespan_picture.specs.Snippets.{LabeledFileModel, InFile, labeled_file_model, labeled_file_models, num_multi_labels, empty_lanes, line_at, rows_after, snippet, has_any, row_after, snippets, piece_rows, note_rows, rich_rows}
 use Rattle.codespan_laws.proofs.FillLemmas.{breaks_before}
 use Rattle.codespan_picture.specs.Padding.{spans, spanned_lines, numbered_lines, digits_of, padding_of}
-use Rattle.codespan_laws.proofs.RefillLemmas.{any-map, filter-map, map-append', re, re_part, re_lane_mark, re_lanes, re_line, hanging-re}
+use Rattle.codespan_laws.proofs.RefillLemmas.{any-map, filter-map, map-append', re, re_part, re_lane_mark, re_lanes, re_line, hanging_labels-re}
 use Rattle.codespan_laws.proofs.RefillRows.{re_row}
 
 map-map : {X Y Z : Type 0} (g : Y → Z) (f : X → Y) (xs : List X) → map g (map f xs) ≡ map (λ x. g (f x)) xs
@@ -54,9 +54,9 @@ module _ (φ : Stream → Stream) (keeps : (s : Stream) → is_empty_stream (φ 
   caret-rows line [] = refl
   caret-rows line (x ∷ xs) = refl
 
-  hanging-rows : (line : Line) (labels : List LabelModel) → map (re_row φ) (hanging_rows line labels) ≡ hanging_rows (re_line φ line) (map (re φ) labels)
-  hanging-rows line [] = refl
-  hanging-rows line (x ∷ xs) =
+  hanging_labels-rows : (line : Line) (labels : List LabelModel) → map (re_row φ) (hanging_rows line labels) ≡ hanging_rows (re_line φ line) (map (re φ) labels)
+  hanging_labels-rows line [] = refl
+  hanging_labels-rows line (x ∷ xs) =
       ap (λ rows. PointerRow (re_line φ line) ∷ rows)
       (map-map (re_row φ) (HangingRow line) (reverse (x ∷ xs))
       ∙ sym (map-map (HangingRow (re_line φ line)) (re φ) (reverse (x ∷ xs)))
@@ -77,11 +77,11 @@ module _ (φ : Stream → Stream) (keeps : (s : Stream) → is_empty_stream (φ 
 
   line-rows : (line : Line) → map (re_row φ) (rows_of line) ≡ rows_of (re_line φ line)
   line-rows line =
-      map-append' (re_row φ) ((SourceRow line ∷ caret_rows line line.labels) ++ hanging_rows line (hanging line.labels)) (underline_rows line)
+      map-append' (re_row φ) ((SourceRow line ∷ caret_rows line line.labels) ++ hanging_rows line (hanging_labels line.labels)) (underline_rows line)
       ∙ ap₂ (λ a b. a ++ b)
-      (map-append' (re_row φ) (SourceRow line ∷ caret_rows line line.labels) (hanging_rows line (hanging line.labels))
+      (map-append' (re_row φ) (SourceRow line ∷ caret_rows line line.labels) (hanging_rows line (hanging_labels line.labels))
       ∙ ap₂ (λ a b. (SourceRow (re_line φ line) ∷ a) ++ b) (caret-rows line line.labels)
-      (hanging-rows line (hanging line.labels) ∙ ap (hanging_rows (re_line φ line)) (sym (hanging-re φ keeps line.labels))))
+      (hanging_labels-rows line (hanging_labels line.labels) ∙ ap (hanging_rows (re_line φ line)) (sym (hanging_labels-re φ keeps line.labels))))
       (underline-rows line)
 
   -- ---- the labels of a line
@@ -139,7 +139,7 @@ module _ (φ : Stream → Stream) (keeps : (s : Stream) → is_empty_stream (φ 
       ap (λ ys. filter_map (λ (entry : ℕ × LabelModel). lane_mark_of entry.0 entry.1 (part_on f l entry.1)) (enumerate_from 0 ys)) (multi-re f xs)
       ∙ marks-from f l 0 (multi_labels f xs)
 
-  lanes-count : (s : LabeledFileModel) → lane_count (re_file φ s) ≡ lane_count s
+  lanes-count : (s : LabeledFileModel) → num_multi_labels (re_file φ s) ≡ num_multi_labels s
   lanes-count s = ap length (multi-re s.file s.labels) ∙ same-length (re φ) (multi_labels s.file s.labels)
 
   bare-re : (s : LabeledFileModel) → re_lanes φ (empty_lanes s) ≡ empty_lanes (re_file φ s)

@@ -9,13 +9,13 @@ use Rattle.codespan_base.specs.Streams.{Stream, Item, Byte, Mark, Slot, LabelMar
 use Rattle.codespan_base.specs.Labels.{LabelModel, is_empty_stream, MultiLabel, Top, Left, Bottom}
 use Rattle.codespan_picture.specs.declared.char_metrics.Metrics.{Metrics}
 use Rattle.codespan_picture.specs.CharMetrics.{width_of}
-use Rattle.codespan_picture.specs.Rows.{RowContext, Line, Row, HeaderRow, SnippetStartRow, EmptyRow, BreakRow, SourceRow, CaretRow, PointerRow, HangingRow, UnderlineRow, FirstNoteRow, LaterNoteRow, FinalRow, trailing}
+use Rattle.codespan_picture.specs.Rows.{RowContext, Line, Row, HeaderRow, SnippetStartRow, EmptyRow, BreakRow, SourceRow, CaretRow, PointerRow, HangingRow, UnderlineRow, FirstNoteRow, LaterNoteRow, FinalRow, trailing_label}
 use Rattle.codespan_picture.specs.RowParts.{outer_gutter, outer_gutter_number, border_left, border_left_break, label_message, inner_gutter, leading_of, line_metrics, line_metrics_to_end, carets, trailing_message, pointers, metrics_before, underline_message, underline, end_caret}
 use Rattle.codespan_picture.specs.RowStreams.{empty_row, break_row, source_row, row_start, caret_row, pointer_row, hanging_row, underline_row, stream_of, stream_of_rows}
 use Rattle.codespan_laws.specs.MessageLaws.{is_slot}
 use Rattle.codespan_laws.proofs.SlotLemmas as slot
 use Rattle.codespan_laws.proofs.SlotLemmas.{slots}
-use Rattle.codespan_laws.proofs.RefillLemmas.{re, re_part, re_lane_mark, re_lanes, re_line, source_lanes-re, plain_lanes-re, below_lanes-re, underline_lanes-re, colored_text-re, carets-re, pointers-re, trailing-re}
+use Rattle.codespan_laws.proofs.RefillLemmas.{re, re_part, re_lane_mark, re_lanes, re_line, source_lanes-re, plain_lanes-re, below_lanes-re, underline_lanes-re, colored_text-re, carets-re, pointers-re, trailing_label-re}
 use Rattle.codespan_picture.specs.Lanes.{Underline}
 
 -- the stream with each slot filled, shut
@@ -110,10 +110,10 @@ module _ (m : ℕ → List ℕ) (full : (k : ℕ) → is_empty_stream (map Byte 
   unfolding label_message
   message-re severity style message = join _ _ (join _ _ (one-lane_mark (LabelMark severity style)) refl) (one-lane_mark Reset)
 
-  trailing-message-re : (severity : Severity) (x : Option LabelModel) → fill m (trailing_message severity x) ≡ trailing_message severity (option_map (re (fill m)) x)
+  trailing_label-message-re : (severity : Severity) (x : Option LabelModel) → fill m (trailing_message severity x) ≡ trailing_message severity (option_map (re (fill m)) x)
   unfolding trailing_message
-  trailing-message-re severity None = without_slots [] (λ k. slot.slots-nil k) refl
-  trailing-message-re severity (Some x) = join _ _ one-space (message-re severity x.style x.message)
+  trailing_label-message-re severity None = without_slots [] (λ k. slot.slots-nil k) refl
+  trailing_label-message-re severity (Some x) = join _ _ one-space (message-re severity x.style x.message)
 
   some_message : (s : Stream) → is_empty_stream s ≡ false → underline_message s ≡ space ++ s
   unfolding underline_message
@@ -150,7 +150,7 @@ module _ (m : ℕ → List ℕ) (full : (k : ℕ) → is_empty_stream (map Byte 
       join _ _ (join _ _ (opened context line)
       (without_slots (carets context line.labels (line_metrics_to_end context line)) (λ k. slot.slots-carets k context line.labels (line_metrics_to_end context line))
       (carets-re (fill m) keeps context line.labels (line_metrics_to_end context line))))
-      (trailing-message-re context.severity (trailing line.labels) ∙ ap (trailing_message context.severity) (sym (trailing-re (fill m) keeps line.labels)))
+      (trailing_label-message-re context.severity (trailing_label line.labels) ∙ ap (trailing_message context.severity) (sym (trailing_label-re (fill m) keeps line.labels)))
   fill-row context (PointerRow line) =
       join _ _ (opened context line)
       (without_slots (pointers context line.labels (line_metrics context line)) (λ k. slot.slots-pointers k context line.labels (line_metrics context line))

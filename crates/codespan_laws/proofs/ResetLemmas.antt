@@ -13,7 +13,7 @@ use Rattle.codespan_picture.specs.Carets.{style_under, max_label_end}
 use Rattle.codespan_picture.specs.declared.lanes.Shape.{Shape}
 use Rattle.codespan_picture.specs.declared.lanes.Shape.TheVariants.{Space, Bar, TopCorner, BottomCorner}
 use Rattle.codespan_picture.specs.Lanes.{crossing_cells, label_glyph, lane_cells, lane_mark_in}
-use Rattle.codespan_picture.specs.Rows.{Locus, RowContext, Lanes, Line, Row, HeaderRow, SnippetStartRow, EmptyRow, BreakRow, SourceRow, CaretRow, PointerRow, HangingRow, UnderlineRow, FirstNoteRow, LaterNoteRow, FinalRow, hanging}
+use Rattle.codespan_picture.specs.Rows.{Locus, RowContext, Lanes, Line, Row, HeaderRow, SnippetStartRow, EmptyRow, BreakRow, SourceRow, CaretRow, PointerRow, HangingRow, UnderlineRow, FirstNoteRow, LaterNoteRow, FinalRow, hanging_labels}
 use Rattle.codespan_picture.specs.RowParts.{change, styled, inner_gutter_column, lanes_in, inner_gutter, source_glyph, source_style, colored_text, caret_glyphs, carets, trailing_message, label_message, spaces_up_to, pointer_at, pointer_style, pointers, starts_in, max_label_start, outer_gutter, outer_gutter_number, border_left, border_left_break, locus, line_metrics}
 use Rattle.codespan_picture.specs.RowStreams.{stream_of, header_row, snippet_start_row, empty_row, break_row, source_row, row_start, caret_row, pointer_row, hanging_row, underline_row, first_note_row, later_note_row}
 use Rattle.codespan_laws.specs.RowLaws.{is_reset, ends_reset, RowsEndReset}
@@ -179,7 +179,7 @@ closes-pointer_at context labels xs c = by_test (list_any (starts_in c) xs)
 
 closes-pointers : (context : RowContext) (labels : List LabelModel) (cs : List Metrics) → Closes (pointers context labels cs)
 unfolding pointers
-closes-pointers context labels cs = closes-flat_map (pointer_at context labels (hanging labels)) (closes-pointer_at context labels (hanging labels)) cs
+closes-pointers context labels cs = closes-flat_map (pointer_at context labels (hanging_labels labels)) (closes-pointer_at context labels (hanging_labels labels)) cs
 
 closes-outer_gutter : (n : ℕ) → Closes (outer_gutter n)
 unfolding outer_gutter

@@ -28,24 +28,24 @@ unfolding caret_row
 carets_are_cells context = λ line. simp (text_of-append, text_of-line_carets)
 
 -- the snippet of a file means the labels of the file
-pub snippet_means_labels : (view : Config) (context : RowContext) (s : LabeledFileModel) → SnippetMeansLabels view context s
-snippet_means_labels view context s = record {
-  drawn = rows_of_shown_lines view s;
-  breaks = breaks.breaks_are_gaps view s (rows_of_shown_lines view s);
-  few = bounds.source_rows_few view s;
+pub snippet_means_labels : (view_config : Config) (context : RowContext) (s : LabeledFileModel) → SnippetMeansLabels view_config context s
+snippet_means_labels view_config context s = record {
+  drawn = rows_of_shown_lines view_config s;
+  breaks = breaks.breaks_are_gaps view_config s (rows_of_shown_lines view_config s);
+  few = bounds.source_rows_few view_config s;
   pointers = λ l wide. pointers.pointers_are_cells context (line_at s l) wide;
   bars = λ ordered. ranges.bars_are_labels context.layout s ordered;
-  covered = λ ordered. ranges.breaks_are_covered view context.layout s ordered;
-  lanes = λ ordered. runs.lanes_are_lines view context.layout s ordered;
+  covered = λ ordered. ranges.breaks_are_covered view_config context.layout s ordered;
+  lanes = λ ordered. runs.lanes_are_lines view_config context.layout s ordered;
 }
 
 -- the output means the labels of the diagnostic
-pub output_means_labels : {Id : Type 0} (renderer view : Config) (files : FileDatabase Id) (d : Diagnostic Id)
-    → IsEquivalence files.same → ((id : Id) → 0 < line_count (files.file id)) → MeansLabels renderer view files d
-output_means_labels renderer view files d equal some_line = record {
-  each_file = λ s inside. snippet_means_labels view _ s;
+pub output_means_labels : {Id : Type 0} (renderer_config view_config : Config) (files : FileDatabase Id) (d : Diagnostic Id)
+    → IsEquivalence files.same → ((id : Id) → 0 < line_count (files.file id)) → MeansLabels renderer_config view_config files d
+output_means_labels renderer_config view_config files d equal some_line = record {
+  each_file = λ s inside. snippet_means_labels view_config _ s;
   carets = carets_are_cells;
   lanes = lanes_are_shown;
-  messages = messages.messages_appear_once renderer view files d equal some_line;
-  padding_fits = padding.padding_fits view (files_of files d);
+  messages = messages.messages_appear_once renderer_config view_config files d equal some_line;
+  padding_fits = padding.padding_fits view_config (files_of files d);
 }

@@ -9,7 +9,7 @@ use Rattle.codespan_base.specs.FileModel.{FileModel, line_count}
 use Rattle.codespan_base.specs.Labels.{LabelModel, LaneMark, first_line, last_line}
 use Rattle.codespan_picture.specs.Lines.{shows, is_shown, is_drawn, drawn_lines, is_broken}
 use Rattle.codespan_picture.specs.CharMetrics.{leading_whitespace}
-use Rattle.codespan_picture.specs.Rows.{Line, SourceRow, BreakRow, HangingRow, UnderlineRow, PointerRow, caret_rows, hanging_rows, underline_rows, rows_of, hanging, has_underline}
+use Rattle.codespan_picture.specs.Rows.{Line, SourceRow, BreakRow, HangingRow, UnderlineRow, PointerRow, caret_rows, hanging_rows, underline_rows, rows_of, hanging_labels, has_underline}
 use Rattle.codespan_picture.specs.Snippets.{LabeledFileModel, line_at, rows_after}
 use Rattle.codespan_laws.proofs.FillLemmas.{breaks_before}
 use Rattle.codespan_laws.specs.LineLaws.{is_source_row, max_shown_lines, SourceRowsAreFew}
@@ -196,11 +196,11 @@ one_source : (line : Line) → count_by is_source_row (rows_of line) ≡ 1
 one_source line =
     omega (
       arith,
-      count-append is_source_row ((SourceRow line ∷ caret_rows line line.labels) ++ hanging_rows line (hanging line.labels)) (underline_rows line),
-      count-append is_source_row (SourceRow line ∷ caret_rows line line.labels) (hanging_rows line (hanging line.labels)),
+      count-append is_source_row ((SourceRow line ∷ caret_rows line line.labels) ++ hanging_rows line (hanging_labels line.labels)) (underline_rows line),
+      count-append is_source_row (SourceRow line ∷ caret_rows line line.labels) (hanging_rows line (hanging_labels line.labels)),
       count-cons is_source_row (SourceRow line) (caret_rows line line.labels),
       no_source_caret line line.labels,
-      no_source_hanging line (hanging line.labels),
+      no_source_hanging line (hanging_labels line.labels),
       count-map-none is_source_row (UnderlineRow line) (filter (λ (m : LaneMark). has_underline (leading_whitespace line.text) m.part) line.lanes.marks) (λ m. refl),
     )
 

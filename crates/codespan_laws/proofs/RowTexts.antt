@@ -21,7 +21,7 @@ use Rattle.codespan_picture.specs.declared.lanes.Shape.TheVariants.{Space, Bar, 
 use Rattle.codespan_picture.specs.Carets.{caret_for, max_label_end, style_under}
 use Rattle.codespan_picture.specs.CharMetrics.{char_metrics, metrics_then, width_of, width_at}
 use Rattle.codespan_picture.specs.Lanes.{LaneRow, Source, Plain, Below, Underline, corner_line, crossing_cells, label_glyph, lane_cells, lane_mark_in, row_crossing, row_shape, shape_of, style_of_lane_mark}
-use Rattle.codespan_picture.specs.Rows.{Locus, RowContext, Lanes, Line, Row, HeaderRow, SnippetStartRow, EmptyRow, BreakRow, SourceRow, CaretRow, PointerRow, HangingRow, UnderlineRow, FirstNoteRow, LaterNoteRow, FinalRow, hanging, trailing}
+use Rattle.codespan_picture.specs.Rows.{Locus, RowContext, Lanes, Line, Row, HeaderRow, SnippetStartRow, EmptyRow, BreakRow, SourceRow, CaretRow, PointerRow, HangingRow, UnderlineRow, FirstNoteRow, LaterNoteRow, FinalRow, hanging_labels, trailing_label}
 use Rattle.codespan_picture.specs.RowParts.{locus, label_message, inner_gutter_column, inner_gutter, leading_of, line_metrics, line_metrics_to_end, source_style, source_glyph, colored_text, caret_glyphs, carets, trailing_message, starts_in, max_label_start, spaces_up_to, pointer_style, pointer_at, pointers, metrics_before, metrics_up_to, start_caret, end_caret, underline_message, underline}
 use Rattle.codespan_picture.specs.RowStreams.{bracketed, leading_locus, header_row, snippet_start_row, empty_row, break_row, source_row, row_start, caret_row, pointer_row, hanging_row, underline_row, first_note_row, later_note_row, stream_of, stream_of_rows}
 use Rattle.codespan_laws.specs.TextLaws.{IsText, AreCharacters}
@@ -134,10 +134,10 @@ text-bracketed (Some []) h = text-none
 text-bracketed (Some (c ∷ cs)) h = text-both (bytes (codes "[") ++ bytes (c ∷ cs)) (bytes (codes "]")) (text-both (bytes (codes "[")) (bytes (c ∷ cs)) text-open (text-bytes (c ∷ cs) h)) text-close
 
 -- the last of some labels is one of them
-text-trailing : (severity : Severity) (labels : List LabelModel) → AllByRecursion (λ (x : LabelModel). IsText x.message) labels → IsText (trailing_message severity (trailing labels))
+text-trailing_label : (severity : Severity) (labels : List LabelModel) → AllByRecursion (λ (x : LabelModel). IsText x.message) labels → IsText (trailing_message severity (trailing_label labels))
 unfolding trailing_message
-text-trailing severity [] h = text-none
-text-trailing severity (x ∷ xs) h =
+text-trailing_label severity [] h = text-none
+text-trailing_label severity (x ∷ xs) h =
     subst (λ t. IsText (trailing_message severity t)) (sym (trailing_is (x ∷ xs))) (by (around_rightmost (x ∷ xs)) refl)
   where
     shown : (y : LabelModel) → IsText y.message → IsText (trailing_message severity (Some y))
@@ -193,20 +193,20 @@ module _ (context : RowContext) (ok : AreCharacters context.chars) where
   unfolding spaces_up_to
   text-spaces_up_to byte_index c n = cond_both (nat_le c.byte_index byte_index) (spaces n) [] IsText (λ _. text-spaces n) (λ _. text-none)
 
-  text-pointer_at : (labels hanging : List LabelModel) (c : Metrics) → IsText (pointer_at context labels hanging c)
+  text-pointer_at : (labels hanging_labels : List LabelModel) (c : Metrics) → IsText (pointer_at context labels hanging_labels c)
   unfolding pointer_at
-  text-pointer_at labels hanging c =
-      let here : Stream = label_glyph context.severity (pointer_style hanging c) context.chars.pointer_left ++ spaces_up_to (max_label_start labels) c (c.width - 1) in
-      cond_both (list_any (starts_in c) hanging) here (spaces_up_to (max_label_start labels) c c.width) IsText
-      (λ _. text-both (label_glyph context.severity (pointer_style hanging c) context.chars.pointer_left) (spaces_up_to (max_label_start labels) c (c.width - 1))
-      (text-label_glyph context.severity (pointer_style hanging c) context.chars.pointer_left ok.pointer_left) (text-spaces_up_to (max_label_start labels) c (c.width - 1)))
+  text-pointer_at labels hanging_labels c =
+      let here : Stream = label_glyph context.severity (pointer_style hanging_labels c) context.chars.pointer_left ++ spaces_up_to (max_label_start labels) c (c.width - 1) in
+      cond_both (list_any (starts_in c) hanging_labels) here (spaces_up_to (max_label_start labels) c c.width) IsText
+      (λ _. text-both (label_glyph context.severity (pointer_style hanging_labels c) context.chars.pointer_left) (spaces_up_to (max_label_start labels) c (c.width - 1))
+      (text-label_glyph context.severity (pointer_style hanging_labels c) context.chars.pointer_left ok.pointer_left) (text-spaces_up_to (max_label_start labels) c (c.width - 1)))
       (λ _. text-spaces_up_to (max_label_start labels) c c.width)
 
   text-pointers : (labels : List LabelModel) (cs : List Metrics) → IsText (pointers context labels cs)
   unfolding pointers
   text-pointers labels cs =
-      text-each (pointer_at context labels (hanging labels)) cs
-      (each_all (λ c. IsText (pointer_at context labels (hanging labels) c)) cs (text-pointer_at labels (hanging labels)))
+      text-each (pointer_at context labels (hanging_labels labels)) cs
+      (each_all (λ c. IsText (pointer_at context labels (hanging_labels labels) c)) cs (text-pointer_at labels (hanging_labels labels)))
 
   -- the underlines
   text-underline_message : (message : Stream) → IsText message → IsText (underline_message message)
@@ -240,7 +240,7 @@ module _ (context : RowContext) (ok : AreCharacters context.chars) where
   text-row (SourceRow line) h =
       followed (followed (followed (followed (text-outer_gutter_number context.padding line.number) (text-border_left context.chars ok)) (text-inner_gutter (leading_of line) Source line.lanes)) text-space) (text-colored line h)
   text-row (CaretRow line) h =
-      followed (followed (text-row_start line) (text-carets line.labels (line_metrics_to_end context line))) (text-trailing context.severity line.labels h)
+      followed (followed (text-row_start line) (text-carets line.labels (line_metrics_to_end context line))) (text-trailing_label context.severity line.labels h)
   text-row (PointerRow line) h =
       followed (text-row_start line) (text-pointers line.labels (line_metrics context line))
   text-row (HangingRow line x) h =

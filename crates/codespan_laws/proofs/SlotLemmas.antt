@@ -14,11 +14,11 @@ use Rattle.codespan_picture.specs.Carets.{style_under, max_label_end}
 use Rattle.codespan_picture.specs.declared.lanes.Shape.{Shape}
 use Rattle.codespan_picture.specs.declared.lanes.Shape.TheVariants.{Space, Bar, TopCorner, BottomCorner}
 use Rattle.codespan_picture.specs.Lanes.{lane_mark_in, label_glyph, crossing_cells, lane_cells, LaneRow}
-use Rattle.codespan_picture.specs.Rows.{Locus, RowContext, Lanes, Line, Row, HeaderRow, SnippetStartRow, EmptyRow, BreakRow, SourceRow, CaretRow, PointerRow, HangingRow, UnderlineRow, FirstNoteRow, LaterNoteRow, FinalRow, trailing, hanging}
+use Rattle.codespan_picture.specs.Rows.{Locus, RowContext, Lanes, Line, Row, HeaderRow, SnippetStartRow, EmptyRow, BreakRow, SourceRow, CaretRow, PointerRow, HangingRow, UnderlineRow, FirstNoteRow, LaterNoteRow, FinalRow, trailing_label, hanging_labels}
 use Rattle.codespan_picture.specs.RowParts.{locus, outer_gutter, outer_gutter_number, border_left, border_left_break, change, styled, label_message, inner_gutter_column, lanes_in, inner_gutter, line_metrics, source_style, source_glyph, colored_text, caret_glyphs, carets, trailing_message, spaces_up_to, pointer_at, pointers, pointer_style, starts_in, max_label_start, underline_message, underline}
 use Rattle.codespan_picture.specs.RowStreams.{bracketed, leading_locus, header_row, snippet_start_row, empty_row, break_row, source_row, row_start, caret_row, pointer_row, hanging_row, underline_row, first_note_row, later_note_row, stream_of, stream_of_rows}
 use Rattle.codespan_laws.specs.MessageLaws.{is_slot}
-use Rattle.codespan_laws.specs.TrailingLaws.{weight_of}
+use Rattle.codespan_laws.proofs.MessageLemmas.{weight_of}
 
 -- how often a stream names a label, shut
 unfoldable pub slots : ℕ → Stream → ℕ
@@ -165,18 +165,18 @@ slots-spaces_up_to k byte_index c n = by_test (nat_le c.byte_index byte_index)
     by_test true = slots-spaces k n
     by_test false = slots-nil k
 
-pub slots-pointer_at : (k : ℕ) (context : RowContext) (labels hanging : List LabelModel) (c : Metrics) → slots k (pointer_at context labels hanging c) ≡ 0
+pub slots-pointer_at : (k : ℕ) (context : RowContext) (labels hanging_labels : List LabelModel) (c : Metrics) → slots k (pointer_at context labels hanging_labels c) ≡ 0
 unfolding pointer_at
-slots-pointer_at k context labels hanging c = by_test (list_any (starts_in c) hanging)
+slots-pointer_at k context labels hanging_labels c = by_test (list_any (starts_in c) hanging_labels)
   where
     by_test : (b : Bool)
-        → slots k (if b then label_glyph context.severity (pointer_style hanging c) context.chars.pointer_left ++ spaces_up_to (max_label_start labels) c (c.width - 1) else spaces_up_to (max_label_start labels) c c.width) ≡ 0
+        → slots k (if b then label_glyph context.severity (pointer_style hanging_labels c) context.chars.pointer_left ++ spaces_up_to (max_label_start labels) c (c.width - 1) else spaces_up_to (max_label_start labels) c c.width) ≡ 0
     by_test true = simp (slots-append, slots-label_glyph, slots-spaces_up_to)
     by_test false = slots-spaces_up_to k (max_label_start labels) c c.width
 
 pub slots-pointers : (k : ℕ) (context : RowContext) (labels : List LabelModel) (cs : List Metrics) → slots k (pointers context labels cs) ≡ 0
 unfolding pointers
-slots-pointers k context labels cs = slots-flat_map k (pointer_at context labels (hanging labels)) cs (slots-pointer_at k context labels (hanging labels))
+slots-pointers k context labels cs = slots-flat_map k (pointer_at context labels (hanging_labels labels)) cs (slots-pointer_at k context labels (hanging_labels labels))
 
 ruleset parts = (slots_of_parts, slots-inner_gutter, slots-locus, slots-outer_gutter, slots-outer_gutter_number, slots-border_left, slots-border_left_break, slots-colored_text, slots-carets, slots-pointers)
 
@@ -223,7 +223,7 @@ slots-row_start k context line = simp parts
 
 -- what a row weighs
 abbrev pub row_slots : ℕ → Row → ℕ
-row_slots k (CaretRow line) = weight_of (λ x. slots k x.message) (trailing line.labels)
+row_slots k (CaretRow line) = weight_of (λ x. slots k x.message) (trailing_label line.labels)
 row_slots k (HangingRow line x) = slots k x.message
 row_slots k (UnderlineRow line m) = part_slots k m.part
 row_slots k _ = 0

@@ -79,9 +79,9 @@ module _ {Id : Type 0} (files : FileDatabase Id) (d : Diagnostic Id) (named : Na
       (each_start files.same files.file (labels_of d) (λ (f : FileModel). IsSome f.name) (each_of (λ (x : InFile Id). IsSome (files.file x.id).name) (labels_of d) named) style)
 
   -- so the output is the picture
-  pub output_stated : (style : DisplayStyle) (renderer view : Config) (loci : List Locus) → AreLoci files d style loci
-      → output style renderer view files d loci ≡ output style renderer view files d (stated_loci files d style)
-  output_stated style renderer view loci are = ap (output style renderer view files d) (loci_stated style loci are)
+  pub output_stated : (style : DisplayStyle) (renderer_config view_config : Config) (loci : List Locus) → AreLoci files d style loci
+      → output style renderer_config view_config files d loci ≡ output style renderer_config view_config files d (stated_loci files d style)
+  output_stated style renderer_config view_config loci are = ap (output style renderer_config view_config files d) (loci_stated style loci are)
 
   -- and the headers before a label that fails are those of the labels before the first one that
   -- fails
@@ -109,7 +109,7 @@ module _ {Id : Type 0} (files : FileDatabase Id) (d : Diagnostic Id) (named : Na
           ∙ none_of ls (λ id lookup m. h id lookup (Contains-append_right (l ∷ []) ls (id, lookup) m))
 
 pub output_is_picture : {Id : Type 0} (files : FileDatabase Id) (d : Diagnostic Id) → OutputIsPicture files d
-output_is_picture files d named style renderer view loci are = output_stated files d named style renderer view loci are
+output_is_picture files d named style renderer_config view_config loci are = output_stated files d named style renderer_config view_config loci are
 
 pub headers_are_before_failure : {Id : Type 0} (files : FileDatabase Id) (d : Diagnostic Id) → HeadersAreBeforeFailure files d
 headers_are_before_failure files d named config loci are before here after whole succeeded e failed =

@@ -7,7 +7,7 @@ use Rattle.codespan_base.specs.Streams.{text_of}
 use Rattle.codespan_picture.specs.declared.char_metrics.Metrics.{Metrics}
 use Rattle.codespan_picture.specs.CharMetrics.{width_of}
 use Rattle.codespan_picture.specs.Carets.{caret_cells}
-use Rattle.codespan_picture.specs.Rows.{RowContext, Line, trailing, hanging}
+use Rattle.codespan_picture.specs.Rows.{RowContext, Line, trailing_label, hanging_labels}
 use Rattle.codespan_picture.specs.RowParts.{line_metrics, line_metrics_to_end, trailing_message, starts_in, max_label_start, metrics_before, metrics_up_to, label_message}
 use Rattle.codespan_picture.specs.RowStreams.{caret_row, pointer_row, hanging_row, row_start}
 
@@ -17,14 +17,14 @@ CaretsAreCells context = (line : Line)
     → text_of (caret_row context line)
     ≡ text_of (row_start context line)
     ++ encode_utf8_all (caret_cells context.chars line.labels (line_metrics_to_end context line))
-    ++ text_of (trailing_message context.severity (trailing line.labels))
+    ++ text_of (trailing_message context.severity (trailing_label line.labels))
 
 -- ---- pointers
 
 -- a hanging label starts in a character whose first cell this is
 abbrev pub points_at : List LabelModel → List Metrics → ℕ → Bool
 points_at labels cs k =
-    list_any (λ (c : Metrics). (c.column == k) && list_any (starts_in c) (hanging labels)) cs
+    list_any (λ (c : Metrics). (c.column == k) && list_any (starts_in c) (hanging_labels labels)) cs
 
 -- the first cells of a pointer row
 abbrev pub pointer_cells : Chars → List LabelModel → List Metrics → ℕ → List ℕ
@@ -34,7 +34,7 @@ pointer_cells chars labels cs n =
 -- no hanging label starts in a character that owns no cell
 abbrev pub StartsHaveCells : List LabelModel → List Metrics → Type 0
 StartsHaveCells labels cs = (c : Metrics) (x : LabelModel)
-    → Contains cs c → Contains (hanging labels) x → IsTrue (starts_in c x) → 0 < c.width
+    → Contains cs c → Contains (hanging_labels labels) x → IsTrue (starts_in c x) → 0 < c.width
 
 -- pointers are in the first cells of the characters in which hanging labels start; a message that
 -- hangs from a character begins in that character's first cell
@@ -43,13 +43,13 @@ pub record PointersAreCells (context : RowContext) (line : Line) : Type 0 where
       ≡ text_of (row_start context line)
       ++ encode_utf8_all (pointer_cells context.chars line.labels (line_metrics context line)
       (width_of (metrics_up_to (max_label_start line.labels) (line_metrics context line))))
-  pub in_hanging_row : (x : LabelModel) → Contains (hanging line.labels) x
+  pub in_hanging_row : (x : LabelModel) → Contains (hanging_labels line.labels) x
       → text_of (hanging_row context line x)
       ≡ text_of (row_start context line)
       ++ encode_utf8_all (pointer_cells context.chars line.labels (line_metrics context line)
       (width_of (metrics_before x.start (line_metrics context line))))
       ++ text_of (label_message context.severity x.style x.message)
   pub message_begins : (x : LabelModel) (c : Metrics)
-      → Contains (hanging line.labels) x → Contains (line_metrics context line) c
+      → Contains (hanging_labels line.labels) x → Contains (line_metrics context line) c
       → x.start ≡ c.byte_index
       → width_of (metrics_before x.start (line_metrics context line)) ≡ c.column

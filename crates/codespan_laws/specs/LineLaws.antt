@@ -73,7 +73,7 @@ SourceRowsAreFew config s = (locus : Locus)
 
 -- the numbers of a file's lines never fall as the index rises
 abbrev pub NumbersAscend : FileModel → Type 0
-NumbersAscend f = (i : ℕ) → i + 1 < line_count f → f.number i ≤ f.number (i + 1)
+NumbersAscend f = (i : ℕ) → i + 1 < line_count f → f.line_number i ≤ f.line_number (i + 1)
 
 -- every drawn line's number fits the padding: in the unbroken layout, and in the classic one where
 -- the configuration shows no lines after labels and the numbers never fall
@@ -83,4 +83,4 @@ PaddingFits config ss =
     × ((s : LabeledFileModel) → Contains ss s → NumbersAscend s.file))
     → (s : LabeledFileModel) (l : ℕ) → Contains ss s
     → Contains (drawn_lines config s.file s.labels) l
-    → count_digits (s.file.number l) ≤ padding_of config ss
+    → count_digits (s.file.line_number l) ≤ padding_of config ss

@@ -32,15 +32,16 @@ message_text xs k = option_map_or (λ x. text_of x.label.message) (slice_get xs 
 -- the rich output with slots instead of the messages
 abbrev pub slotted_output : {Id : Type 0}
     → Config → Config → FileDatabase Id → Diagnostic Id → List Locus → Stream
-slotted_output renderer view files d loci =
-    rendered Rich renderer view d.severity (header_text_of d) loci
+slotted_output renderer_config view_config files d loci =
+    rendered Rich renderer_config view_config d.severity (header_text_of d) loci
     (labeled_file_models files.same files.file (all_slotted (labels_of d))) (notes_of d)
 
 -- each message has one slot in the rich output, and with the slots filled that is the output
-pub record MessagesAppearOnce {Id : Type 0} (renderer view : Config) (files : FileDatabase Id)
-    (d : Diagnostic Id) (loci : List Locus) : Type 0 where
+pub record MessagesAppearOnce {Id : Type 0} (renderer_config view_config : Config)
+    (files : FileDatabase Id) (d : Diagnostic Id) (loci : List Locus) : Type 0 where
   pub once : (k : ℕ) (x : InFile Id) → slice_get (labels_of d) k ≡ Some x
-      → count_by (is_slot k) (slotted_output renderer view files d loci)
+      → count_by (is_slot k) (slotted_output renderer_config view_config files d loci)
       ≡ (if has_message x.label then 1 else 0)
-  pub whole : filled (message_text (labels_of d)) (slotted_output renderer view files d loci)
-      ≡ output Rich renderer view files d loci
+  pub whole : filled (message_text (labels_of d))
+      (slotted_output renderer_config view_config files d loci)
+      ≡ output Rich renderer_config view_config files d loci

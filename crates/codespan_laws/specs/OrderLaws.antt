@@ -40,10 +40,12 @@ pub record SameOrders {Id : Type 0} (same : Id → Id → Bool) (file : Id → F
 pub record RenderSame {Id : Type 0} (same : Id → Id → Bool) (file : Id → FileModel)
     (xs ys : List (InFile Id)) : Type 0 where
   pub same_starts : starts same file xs Rich ≡ starts same file ys Rich
-  pub same_stream : (renderer view : Config) (severity : Severity) (heading : HeaderText)
-      (loci : List Locus) (notes : List (List ℕ))
-      → rendered Rich renderer view severity heading loci (labeled_file_models same file xs) notes
-      ≡ rendered Rich renderer view severity heading loci (labeled_file_models same file ys) notes
+  pub same_stream : (renderer_config view_config : Config) (severity : Severity)
+      (heading : HeaderText) (loci : List Locus) (notes : List (List ℕ))
+      → rendered Rich renderer_config view_config severity heading loci
+      (labeled_file_models same file xs) notes
+      ≡ rendered Rich renderer_config view_config severity heading loci
+      (labeled_file_models same file ys) notes
 
 -- where `same` is an equivalence, and equal ids have one file, a reordering that keeps these orders
 -- changes nothing in a rich output

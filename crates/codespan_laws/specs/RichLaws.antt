@@ -19,25 +19,25 @@ StartsBeforeEnds labels = (x : LabelModel) → Contains labels x → x.start ≤
 
 -- what the snippet of one file means: the view's configuration chooses its lines, and the context
 -- is that of the renderer
-pub record SnippetMeansLabels (view : Config) (context : RowContext)
+pub record SnippetMeansLabels (view_config : Config) (context : RowContext)
     (s : LabeledFileModel) : Type 0 where
-  pub drawn : RowsOfShown view s
-  pub breaks : BreaksAreGaps view s
-  pub few : SourceRowsAreFew view s
+  pub drawn : RowsOfShown view_config s
+  pub breaks : BreaksAreGaps view_config s
+  pub few : SourceRowsAreFew view_config s
   pub pointers : (l : ℕ) → StartsHaveCells (line_at s l).labels (line_metrics context (line_at s l))
       → PointersAreCells context (line_at s l)
   pub bars : StartsBeforeEnds s.labels → BarsAreLabels context.layout s
-  pub covered : StartsBeforeEnds s.labels → BreaksAreCovered view context.layout s
-  pub lanes : StartsBeforeEnds s.labels → LanesAreLines view context.layout s
+  pub covered : StartsBeforeEnds s.labels → BreaksAreCovered view_config context.layout s
+  pub lanes : StartsBeforeEnds s.labels → LanesAreLines view_config context.layout s
 
 -- what a rich output means that a view renders, whatever the loci in it
-pub record MeansLabels {Id : Type 0} (renderer view : Config) (files : FileDatabase Id)
-    (d : Diagnostic Id) : Type 0 where
+pub record MeansLabels {Id : Type 0} (renderer_config view_config : Config)
+    (files : FileDatabase Id) (d : Diagnostic Id) : Type 0 where
   pub each_file : (s : LabeledFileModel) → Contains (files_of files d) s
-      → SnippetMeansLabels view
-      (context_of renderer d.severity (padding_of view (files_of files d))) s
+      → SnippetMeansLabels view_config
+      (context_of renderer_config d.severity (padding_of view_config (files_of files d))) s
   pub carets : (context : RowContext) → CaretsAreCells context
   pub lanes : (context : RowContext) → LanesAreShown context
   pub messages : (loci : List Locus) → AreLoci files d Rich loci
-      → MessagesAppearOnce renderer view files d loci
-  pub padding_fits : PaddingFits view (files_of files d)
+      → MessagesAppearOnce renderer_config view_config files d loci
+  pub padding_fits : PaddingFits view_config (files_of files d)

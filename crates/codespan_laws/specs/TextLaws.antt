@@ -44,16 +44,17 @@ pub record AreCharacters (chars : Chars) : Type 0 where
   pub multi_left : IsScalar chars.multi_left
   pub pointer_left : IsScalar chars.pointer_left
 
-module _ {Id : Type 0} (style : DisplayStyle) (renderer view : Config)
+module _ {Id : Type 0} (style : DisplayStyle) (renderer_config view_config : Config)
     (files : FileDatabase Id) (d : Diagnostic Id) where
   -- the output with any loci is a text where the characters of the configuration are Unicode
   -- scalar values, its files are lawful, and the names of the loci are texts
   abbrev pub OutputIsText : Type 0
-  OutputIsText = AreCharacters renderer.chars → ((id : Id) → IsLawful (files.file id))
-      → (loci : List Locus) → NamesAreTexts loci → IsText (output style renderer view files d loci)
+  OutputIsText = AreCharacters renderer_config.chars → ((id : Id) → IsLawful (files.file id))
+      → (loci : List Locus) → NamesAreTexts loci
+      → IsText (output style renderer_config view_config files d loci)
 
   -- so is the picture, where the stated names are UTF-8
   abbrev pub PictureIsText : Type 0
-  PictureIsText = AreCharacters renderer.chars → ((id : Id) → IsLawful (files.file id))
+  PictureIsText = AreCharacters renderer_config.chars → ((id : Id) → IsLawful (files.file id))
       → ((id : Id) → IfSome (files.file id).name IsUtf8)
-      → IsText (picture style renderer view files d)
+      → IsText (picture style renderer_config view_config files d)

@@ -1,17 +1,22 @@
 -- The law of trailing and hanging labels: which messages a line shows.
-use Rattle.std.specs.Prelude.{◌≡◌, ℕ, ◌+◌, false, List, sum_by, Option, Some, None}
+use Rattle.std.specs.Prelude.{◌≡◌, List, ◌∷◌, ◌++◌, filter, Option, Some, None}
 use Rattle.codespan_base.specs.Labels.{LabelModel, has_message}
-use Rattle.codespan_picture.specs.Rows.{trailing, hanging}
+use Rattle.codespan_picture.specs.Rows.{trailing_label, hanging_labels}
 
--- the weight of a label, if there is one
-abbrev pub weight_of : (LabelModel → ℕ) → Option LabelModel → ℕ
-weight_of weight None = 0
-weight_of weight (Some x) = weight x
+-- the list after a label, if there is one
+abbrev pub with_first : Option LabelModel → List LabelModel → List LabelModel
+with_first None xs = xs
+with_first (Some x) xs = x ∷ xs
 
--- whatever labels weigh, the weights of the trailing label and the hanging ones sum to those of all
--- labels, if labels without a message weigh nothing; so each label with a message trails or hangs,
--- and none does both
+-- the labels with a message are, in order, the hanging ones and, at one position among them, the
+-- trailing one, if there is one
+pub record TrailsOrHangs (labels : List LabelModel) : Type 0 where
+  pub before : List LabelModel
+  pub after : List LabelModel
+  pub hang : hanging_labels labels ≡ before ++ after
+  pub with_message : filter has_message labels
+      ≡ before ++ with_first (trailing_label labels) after
+
+-- so each label with a message trails or hangs, and none does both
 abbrev pub EachTrailsOrHangs : Type 0
-EachTrailsOrHangs = (weight : LabelModel → ℕ) (labels : List LabelModel)
-    → ((x : LabelModel) → has_message x ≡ false → weight x ≡ 0)
-    → weight_of weight (trailing labels) + sum_by weight (hanging labels) ≡ sum_by weight labels
+EachTrailsOrHangs = (labels : List LabelModel) → TrailsOrHangs labels

@@ -37,9 +37,9 @@ ghost use Rattle.codespan_picture.specs.Snippets.{LabeledFileModel};
 /// breaks, carets, pointers, lanes, messages and padding together, where ids are compared by an
 /// equivalence and each file has a line.
 pub fn outputs_mean_labels<Id>()
-    ensures { (renderer view : Config) (files : FileDatabase Id) (d : Diagnostic Id)
+    ensures { (renderer_config view_config : Config) (files : FileDatabase Id) (d : Diagnostic Id)
         → IsEquivalence files.same → ((id : Id) → 0 < line_count (files.file id))
-        → MeansLabels renderer view files d }
+        → MeansLabels renderer_config view_config files d }
 {}
 
 // ---- drawn lines and breaks
@@ -119,10 +119,10 @@ pub fn lanes_take_two()
 /// States that each label with a message has it exactly once in a rich output, and that no other
 /// message is in it, where ids are compared by an equivalence and each file has a line.
 pub fn messages_appear_once<Id>()
-    ensures { (renderer view : Config) (files : FileDatabase Id) (d : Diagnostic Id)
+    ensures { (renderer_config view_config : Config) (files : FileDatabase Id) (d : Diagnostic Id)
         → IsEquivalence files.same → ((id : Id) → 0 < line_count (files.file id))
         → (loci : List Locus) → AreLoci files d Rich loci
-        → MessagesAppearOnce renderer view files d loci }
+        → MessagesAppearOnce renderer_config view_config files d loci }
 {}
 
 /// States that of a line's labels with a message at most one trails, and each other one hangs.
@@ -191,20 +191,24 @@ pub fn stated_names_make_the_headers<Id>()
 /// configuration are Unicode scalar values, its files are lawful, and the names of its loci are
 /// UTF-8; and so is the picture, where the stated names are UTF-8.
 pub fn outputs_are_texts<Id>()
-    ensures output { (style : DisplayStyle) (renderer view : Config)
-        (files : FileDatabase Id) (d : Diagnostic Id) → OutputIsText style renderer view files d }
-    ensures picture { (style : DisplayStyle) (renderer view : Config)
-        (files : FileDatabase Id) (d : Diagnostic Id) → PictureIsText style renderer view files d }
+    ensures output { (style : DisplayStyle) (renderer_config view_config : Config)
+        (files : FileDatabase Id) (d : Diagnostic Id)
+        → OutputIsText style renderer_config view_config files d }
+    ensures picture { (style : DisplayStyle) (renderer_config view_config : Config)
+        (files : FileDatabase Id) (d : Diagnostic Id)
+        → PictureIsText style renderer_config view_config files d }
 {}
 
 /// States that colors change no text: however a writer spells style marks, what it writes of an
 /// output is the plain text and, among it, the bytes of style marks. Over `NoColor` these are none,
 /// whatever the styles.
 pub fn colors_change_no_text<Id>()
-    ensures spelled { (spelling : Spelling) (style : DisplayStyle) (renderer view : Config)
-        (files : FileDatabase Id) (d : Diagnostic Id) (loci : List Locus)
-        → ColorsChangeNoText spelling (output style renderer view files d loci) }
-    ensures colorless { (styles : Styles) (style : DisplayStyle) (renderer view : Config)
-        (files : FileDatabase Id) (d : Diagnostic Id) (loci : List Locus)
-        → NoColorIsPlain styles (output style renderer view files d loci) }
+    ensures spelled { (spelling : Spelling) (style : DisplayStyle)
+        (renderer_config view_config : Config) (files : FileDatabase Id) (d : Diagnostic Id)
+        (loci : List Locus)
+        → ColorsChangeNoText spelling (output style renderer_config view_config files d loci) }
+    ensures colorless { (styles : Styles) (style : DisplayStyle)
+        (renderer_config view_config : Config) (files : FileDatabase Id) (d : Diagnostic Id)
+        (loci : List Locus)
+        → NoColorIsPlain styles (output style renderer_config view_config files d loci) }
 {}

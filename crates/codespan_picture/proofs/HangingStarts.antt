@@ -9,7 +9,7 @@ use Rattle.std.proofs.lemmas.List.Folds.{list_any-append}
 use Rattle.codespan_base.specs.Labels.{LabelModel, has_message}
 use Rattle.codespan_picture.specs.declared.char_metrics.Metrics.{Metrics}
 use Rattle.codespan_picture.specs.Carets.{max_label_end}
-use Rattle.codespan_picture.specs.Rows.{hanging}
+use Rattle.codespan_picture.specs.Rows.{hanging_labels}
 use Rattle.codespan_picture.specs.RowParts.{starts_in}
 use Rattle.codespan_picture.proofs.Rightmost.{Around, others, around_rightmost, around_trails, hanging_of, around_is, hanging_is}
 
@@ -31,8 +31,8 @@ any-others p a h =
     (λ late. or_right (list_any p a.before) (p a.here || list_any p a.after) (or_right (p a.here) (list_any p a.after) late))
     (or_cases (list_any p a.before) (list_any p a.after) (sym (list_any-append p a.before a.after) ∙ h))
 
-pub any-hanging : (p : LabelModel → Bool) (labels : List LabelModel) → list_any p (hanging labels) ≡ true → list_any p labels ≡ true
-any-hanging p labels h =
+pub any-hanging_labels : (p : LabelModel → Bool) (labels : List LabelModel) → list_any p (hanging_labels labels) ≡ true → list_any p labels ≡ true
+any-hanging_labels p labels h =
     by_rightmost (around_rightmost labels) refl (ap (list_any p) (sym (hanging_is labels)) ∙ h)
   where
     by_trail : (a : Around) → a.before ++ (a.here ∷ a.after) ≡ labels → (b : Bool)

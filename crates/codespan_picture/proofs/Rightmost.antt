@@ -6,7 +6,7 @@ use Rattle.std.specs.Option.{option_and_then, option_map, option_map_or}
 use Rattle.std.proofs.lemmas.Bool.Decides.{nat_tests}
 use Rattle.codespan_base.specs.Labels.{LabelModel, has_message}
 use Rattle.codespan_picture.specs.Carets.{max_label_end}
-use Rattle.codespan_picture.specs.Rows.{last_with_end, overlaps_any, does_trail, trailing, hanging}
+use Rattle.codespan_picture.specs.Rows.{last_with_end, overlaps_any, does_trail, trailing_label, hanging_labels}
 
 -- ---- the same by a pass over the list
 
@@ -156,7 +156,7 @@ trails_is labels a whole =
     ap (λ xs. has_message a.here && not (overlaps_any a.here xs)) (without_is labels a whole)
 
 -- the label whose message trails is the one that the pass finds
-pub trailing_is : (labels : List LabelModel) → trailing labels ≡ trailing_of (around_rightmost labels)
+pub trailing_is : (labels : List LabelModel) → trailing_label labels ≡ trailing_of (around_rightmost labels)
 trailing_is labels =
     ap (λ r. option_map (λ (e : ℕ × LabelModel). e.1) (option_and_then if_trails r)) (last_is (max_label_end labels) labels)
     ∙ by_around (around_rightmost labels) refl
@@ -178,7 +178,7 @@ trailing_is labels =
         by_test false = refl
 
 -- the labels whose messages hang are those that the pass finds
-pub hanging_is : (labels : List LabelModel) → hanging labels ≡ hanging_of labels (around_rightmost labels)
+pub hanging_is : (labels : List LabelModel) → hanging_labels labels ≡ hanging_of labels (around_rightmost labels)
 hanging_is labels =
     ap (λ r. filter has_message (option_map_or without (option_and_then if_trails r) labels)) (last_is (max_label_end labels) labels)
     ∙ by_around (around_rightmost labels) refl

@@ -32,7 +32,7 @@ numbered_lines config s =
 
 -- the digits of these lines' numbers
 abbrev pub digits_of : LabeledFileModel → List ℕ → List ℕ
-digits_of s ls = map (λ l. count_digits (s.file.number l)) ls
+digits_of s ls = map (λ l. count_digits (s.file.line_number l)) ls
 
 -- the greatest digit count among them, 0 where there is none
 abbrev pub padding_of : Config → List LabeledFileModel → ℕ

@@ -92,18 +92,19 @@ context_of config severity padding = record {
 -- renderer's the characters, the tab width and the layout
 abbrev pub rendered : DisplayStyle → Config → Config → Severity → HeaderText
     → List Locus → List LabeledFileModel → List (List ℕ) → Stream
-rendered Rich renderer view severity heading loci ss notes =
-    stream_of_rows (context_of renderer severity (padding_of view ss))
-    (rich_rows view heading loci ss notes)
-rendered Medium renderer view severity heading loci ss notes =
-    stream_of_rows (context_of renderer severity 0) (header_rows heading loci ++ note_rows notes)
-rendered Short renderer view severity heading loci ss notes =
-    stream_of_rows (context_of renderer severity 0) (header_rows heading loci)
+rendered Rich renderer_config view_config severity heading loci ss notes =
+    stream_of_rows (context_of renderer_config severity (padding_of view_config ss))
+    (rich_rows view_config heading loci ss notes)
+rendered Medium renderer_config view_config severity heading loci ss notes =
+    stream_of_rows (context_of renderer_config severity 0)
+    (header_rows heading loci ++ note_rows notes)
+rendered Short renderer_config view_config severity heading loci ss notes =
+    stream_of_rows (context_of renderer_config severity 0) (header_rows heading loci)
 
-module _ {Id : Type 0} (style : DisplayStyle) (renderer view : Config)
+module _ {Id : Type 0} (style : DisplayStyle) (renderer_config view_config : Config)
     (files : FileDatabase Id) (d : Diagnostic Id) where
   -- the output of a diagnostic with these loci
   abbrev pub output : List Locus → Stream
   output loci =
-      rendered style renderer view d.severity (header_text_of d) loci (files_of files d)
-      (notes_of d)
+      rendered style renderer_config view_config d.severity (header_text_of d) loci
+      (files_of files d) (notes_of d)

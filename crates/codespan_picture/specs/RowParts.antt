@@ -11,7 +11,7 @@ use Rattle.codespan_picture.specs.CharMetrics.{char_metrics, char_metrics_to_end
 use Rattle.codespan_picture.specs.Carets.{covers, style_under, caret_for, max_label_end}
 use Rattle.codespan_picture.specs.declared.lanes.Shape.{Shape}
 use Rattle.codespan_picture.specs.Lanes.{LaneRow, row_shape, row_crossing, lane_mark_in, shape_of, style_of_lane_mark, lane_cells, label_glyph}
-use Rattle.codespan_picture.specs.Rows.{Locus, RowContext, Lanes, Line, hanging}
+use Rattle.codespan_picture.specs.Rows.{Locus, RowContext, Lanes, Line, hanging_labels}
 
 -- ---- parts of rows
 
@@ -165,15 +165,15 @@ pointer_style labels c =
 
 -- one character's pointer or spaces
 unfoldable pub pointer_at : RowContext → List LabelModel → List LabelModel → Metrics → Stream
-pointer_at context labels hanging c =
-    if list_any (starts_in c) hanging then
-    label_glyph context.severity (pointer_style hanging c) context.chars.pointer_left
+pointer_at context labels hanging_labels c =
+    if list_any (starts_in c) hanging_labels then
+    label_glyph context.severity (pointer_style hanging_labels c) context.chars.pointer_left
     ++ spaces_up_to (max_label_start labels) c (c.width - 1)
     else spaces_up_to (max_label_start labels) c c.width
 
 -- the pointers of these characters
 unfoldable pub pointers : RowContext → List LabelModel → List Metrics → Stream
-pointers context labels cs = flat_map (pointer_at context labels (hanging labels)) cs
+pointers context labels cs = flat_map (pointer_at context labels (hanging_labels labels)) cs
 
 -- the characters of a line that begin before a byte index
 abbrev pub metrics_before : ℕ → List Metrics → List Metrics

@@ -6,7 +6,7 @@ use Rattle.codespan_base.specs.Streams.{Stream, Header, HeaderMessage, NoteBulle
 use Rattle.codespan_base.specs.Labels.{LabelModel, LaneMark}
 use Rattle.codespan_base.specs.SnippetStarts.{start_text}
 use Rattle.codespan_picture.specs.Lanes.{Source, Plain, Below, Underline}
-use Rattle.codespan_picture.specs.Rows.{Locus, HeaderText, RowContext, Lanes, Line, Row, HeaderRow, SnippetStartRow, EmptyRow, BreakRow, SourceRow, CaretRow, PointerRow, HangingRow, UnderlineRow, FirstNoteRow, LaterNoteRow, FinalRow, trailing}
+use Rattle.codespan_picture.specs.Rows.{Locus, HeaderText, RowContext, Lanes, Line, Row, HeaderRow, SnippetStartRow, EmptyRow, BreakRow, SourceRow, CaretRow, PointerRow, HangingRow, UnderlineRow, FirstNoteRow, LaterNoteRow, FinalRow, trailing_label}
 use Rattle.codespan_picture.specs.RowParts.{severity_name, locus, outer_gutter, outer_gutter_number, border_left, border_left_break, label_message, inner_gutter, leading_of, line_metrics, line_metrics_to_end, colored_text, carets, trailing_message, pointers, metrics_before, underline}
 
 -- ---- rows, before their newlines
@@ -63,7 +63,7 @@ row_start context line =
 unfoldable pub caret_row : RowContext → Line → Stream
 caret_row context line =
     row_start context line ++ carets context line.labels (line_metrics_to_end context line)
-    ++ trailing_message context.severity (trailing line.labels)
+    ++ trailing_message context.severity (trailing_label line.labels)
 
 -- the pointers under them
 unfoldable pub pointer_row : RowContext → Line → Stream

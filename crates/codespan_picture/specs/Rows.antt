@@ -75,12 +75,12 @@ trailing_entry labels =
     (last_with_end (max_label_end labels) labels)
 
 -- the label whose message trails
-abbrev pub trailing : List LabelModel → Option LabelModel
-trailing labels = option_map (λ (e : ℕ × LabelModel). e.1) (trailing_entry labels)
+abbrev pub trailing_label : List LabelModel → Option LabelModel
+trailing_label labels = option_map (λ (e : ℕ × LabelModel). e.1) (trailing_entry labels)
 
 -- all other labels with a message hang
-abbrev pub hanging : List LabelModel → List LabelModel
-hanging labels =
+abbrev pub hanging_labels : List LabelModel → List LabelModel
+hanging_labels labels =
     filter has_message (option_map_or (λ e. remove labels e.0) (trailing_entry labels) labels)
 
 -- ---- underlines
@@ -115,4 +115,4 @@ underline_rows line =
 abbrev pub rows_of : Line → List Row
 rows_of line =
     (SourceRow line ∷ caret_rows line line.labels)
-    ++ hanging_rows line (hanging line.labels) ++ underline_rows line
+    ++ hanging_rows line (hanging_labels line.labels) ++ underline_rows line

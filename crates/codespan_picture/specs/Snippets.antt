@@ -40,20 +40,20 @@ labeled_file_models same file labels =
 -- ---- the rows of one file
 
 -- how many lanes a file has
-abbrev pub lane_count : LabeledFileModel → ℕ
-lane_count s = length (multi_labels s.file s.labels)
+abbrev pub num_multi_labels : LabeledFileModel → ℕ
+num_multi_labels s = length (multi_labels s.file s.labels)
 
 -- lanes with nothing in them
 abbrev pub empty_lanes : LabeledFileModel → Lanes
-empty_lanes s = record { count = lane_count s; marks = [] }
+empty_lanes s = record { count = num_multi_labels s; marks = [] }
 
 -- a line of the file, with what its labels do on it
 abbrev pub line_at : LabeledFileModel → ℕ → Line
 line_at s l = record {
-  number = s.file.number l;
+  number = s.file.line_number l;
   text = text_without_line_end (line_text s.file l);
   labels = single_labels s.file s.labels l;
-  lanes = record { count = lane_count s; marks = lane_marks_on s.file s.labels l };
+  lanes = record { count = num_multi_labels s; marks = lane_marks_on s.file s.labels l };
 }
 
 -- the rows of a line

@@ -17,11 +17,11 @@ module _ {Id : Type 0} (files : FileDatabase Id) (d : Diagnostic Id) (style : Di
   abbrev pub stated_loci : List Locus
   stated_loci = map stated_locus (starts files.same files.file (labels_of d) style)
 
-module _ {Id : Type 0} (style : DisplayStyle) (renderer view : Config)
+module _ {Id : Type 0} (style : DisplayStyle) (renderer_config view_config : Config)
     (files : FileDatabase Id) (d : Diagnostic Id) where
   -- the picture of a diagnostic: its output with the names that the files state
   abbrev pub picture : Stream
-  picture = output style renderer view files d (stated_loci files d style)
+  picture = output style renderer_config view_config files d (stated_loci files d style)
 
 -- headers with these loci
 abbrev pub headers : HeaderText → List Locus → List Row
@@ -29,5 +29,5 @@ headers heading loci = map (λ (locus : Locus). HeaderRow (Some locus) heading) 
 
 -- the stream of these headers alone
 abbrev pub headers_at : {Id : Type 0} → Config → Diagnostic Id → List Locus → Stream
-headers_at renderer d loci =
-    stream_of_rows (context_of renderer d.severity 0) (headers (header_text_of d) loci)
+headers_at renderer_config d loci =
+    stream_of_rows (context_of renderer_config d.severity 0) (headers (header_text_of d) loci)

@@ -17,11 +17,11 @@ use Rattle.codespan_picture.specs.Lines.{shows}
 use Rattle.codespan_annotations.specs.FileIndices.{index_of_file}
 use Rattle.codespan_collect.specs.IndexedLabels.{indices_after, annotations_after}
 use Rattle.codespan_picture.specs.Snippets.{InFile}
-use Rattle.codespan_annotations.specs.LabeledFiles.{lane_count_of}
+use Rattle.codespan_annotations.specs.LabeledFiles.{num_multi_labels_of}
 use Rattle.codespan_plan.specs.SnippetLines.{single_labels_in}
 use Rattle.codespan_annotations.proofs.AnnotationOrder.{lane_mark_annotation, index_below}
 use Rattle.codespan_collect.proofs.LabelAnnotations.{is_kind, all-of_file, all-below, annotations-on_line, marks-on_line, single_labels-on_line, shown-on_line}
-use Rattle.codespan_collect.proofs.LabelIndexing.{lane_count_of-more, label_lanes}
+use Rattle.codespan_collect.proofs.LabelIndexing.{num_multi_labels_of-more, label_lanes}
 use Rattle.codespan_plan.proofs.LaneMarks.{marks_from}
 use Rattle.codespan_laws.proofs.OrderSorts.{has_range}
 use Rattle.codespan_laws.proofs.RangeLemmas.{line_of-below}
@@ -72,7 +72,7 @@ module _ {Id : Type 0} {same : Id → Id → Bool} {file : Id → FileModel} {id
   module _ (l : ℕ) where
     -- where a label of the file is after these
     abbrev indices_at : List (InFile Id) → LabelIndices
-    indices_at before = record { file = f; index = length before; lane = lane_count_of same file before id }
+    indices_at before = record { file = f; index = length before; lane = num_multi_labels_of same file before id }
 
     -- the annotations of a label on the line
     abbrev line_annotations_of : List (InFile Id) → InFile Id → List Annotation
@@ -235,11 +235,11 @@ module _ {Id : Type 0} {same : Id → Id → Bool} {file : Id → FileModel} {id
 
     -- the lane mark of a label that comes after these
     one-lane_mark : (before : List (InFile Id)) (x : InFile Id)
-        → filter (is_kind 2) (line_annotations_of before x) ≡ cond (same id x.id) (multi_annotations_if (is_single own_file x.label) (lane_mark_of (lane_count_of same file before id) x.label (part_on own_file l x.label))) []
+        → filter (is_kind 2) (line_annotations_of before x) ≡ cond (same id x.id) (multi_annotations_if (is_single own_file x.label) (lane_mark_of (num_multi_labels_of same file before id) x.label (part_on own_file l x.label))) []
     one-lane_mark before x = by_tests (same id x.id) (nat_lt l (line_count own_file)) refl
       where
         lane : ℕ
-        lane = lane_count_of same file before id
+        lane = num_multi_labels_of same file before id
 
         none : (a : Bool) → [] ≡ multi_annotations_if a (lane_mark_of lane x.label None)
         none true = refl
@@ -252,13 +252,13 @@ module _ {Id : Type 0} {same : Id → Id → Bool} {file : Id → FileModel} {id
         by_tests true false h = none (is_single own_file x.label) ∙ ap (λ o. multi_annotations_if (is_single own_file x.label) (lane_mark_of lane x.label o)) (sym (part-outside x.label h))
 
     -- the lane marks of labels that come after these, in their lanes
-    pub all-marks : (xs before : List (InFile Id)) (n : ℕ) → lane_count_of same file before id ≡ n
+    pub all-marks : (xs before : List (InFile Id)) (n : ℕ) → num_multi_labels_of same file before id ≡ n
         → filter (is_kind 2) (line_annotations_after before xs) ≡ map (lane_mark_annotation f l) (marks_from own_file l n (multi_labels own_file (labels_in xs)))
     all-marks [] before n e = refl
     all-marks (x ∷ xs) before n e =
         filter-append (is_kind 2) (line_annotations_of before x) (line_annotations_after (before ++ x ∷ []) xs)
         ∙ (λ i. (one-lane_mark before x ∙ ap (λ k. cond (same id x.id) (multi_annotations_if (is_single own_file x.label) (lane_mark_of k x.label (part_on own_file l x.label))) []) e) i
-        ++ all-marks xs (before ++ x ∷ []) (n + (if same id x.id then label_lanes own_file x.label else 0)) (lane_count_of-more same file before x id ∙ ap (λ k. k + (if same id x.id then label_lanes own_file x.label else 0)) e) i)
+        ++ all-marks xs (before ++ x ∷ []) (n + (if same id x.id then label_lanes own_file x.label else 0)) (num_multi_labels_of-more same file before x id ∙ ap (λ k. k + (if same id x.id then label_lanes own_file x.label else 0)) e) i)
         ∙ by_tests (same id x.id) (is_single own_file x.label) refl
       where
         later : ℕ → List Annotation

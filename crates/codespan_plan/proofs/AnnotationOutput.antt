@@ -19,7 +19,7 @@ use Rattle.codespan_picture.specs.Lookups.{filled_lines}
 use Rattle.codespan_picture.specs.Sequences.{break_between, in_sequence}
 use Rattle.codespan_annotations.specs.FileIndices.{IsIdAt}
 use Rattle.codespan_collect.specs.IndexedLabels.{all_annotations}
-use Rattle.codespan_picture.specs.Snippets.{InFile, LabeledFileModel, labeled_file_model, lane_count, line_at, line_rows, break_rows, rows_after, file_ids}
+use Rattle.codespan_picture.specs.Snippets.{InFile, LabeledFileModel, labeled_file_model, num_multi_labels, line_at, line_rows, break_rows, rows_after, file_ids}
 use Rattle.codespan_plan.specs.SnippetLines.{are_shown, lane_marks_in, lines_of, single_labels_in, line_of_group, rows_of_lines, fills_of, do_lane_marks_fit, does_line_fit}
 use Rattle.codespan_plan.proofs.AnnotationGroups.{lines_after, snippet_lines-by_line, all-on_line}
 use Rattle.codespan_plan.proofs.AnnotationLines as annotation_lines
@@ -30,7 +30,7 @@ use Rattle.codespan_annotations.proofs.FileIndices.{index_of_file-at}
 use Rattle.codespan_plan.proofs.LaneMarks.{ascend-climbs, marks-ascend}
 use Rattle.codespan_laws.proofs.FillLemmas.{none_past}
 use Rattle.codespan_collect.proofs.LabelAnnotations.{is_kind}
-use Rattle.codespan_collect.proofs.LabelIndexing.{AreFiles, lane_count_of-equal}
+use Rattle.codespan_collect.proofs.LabelIndexing.{AreFiles, num_multi_labels_of-equal}
 use Rattle.codespan_laws.proofs.OrderSorts.{has_range, ascending-same, sorted-ascends, sorted-keeps}
 use Rattle.codespan_laws.proofs.ListElements.{all-weaker, all-filter, all-both, all-pass, filter-filter, any-filtered}
 use Rattle.codespan_laws.proofs.SortedLists.{Rises, Climbs, Falls, filter-reverse, rises-filter, rises-from_sorted, filter-sorted_climbs, filter-sorted_falls}
@@ -75,7 +75,7 @@ module _ {Id : Type 0} {database : FileDatabase Id} (lawful : AreFiles database)
   here = record {
     index = index_of_file-at same lawful.equivalence xs f id at;
     one_file = λ i t. sym (lawful.one_file id i t);
-    lanes = λ before i t. sym (lane_count_of-equal lawful before id i t);
+    lanes = λ before i t. sym (num_multi_labels_of-equal lawful before id i t);
     some_line = lawful.some_line id;
   }
 
@@ -181,13 +181,13 @@ module _ {Id : Type 0} {database : FileDatabase Id} (lawful : AreFiles database)
       marks-rank (bucket l)
       ∙ ap lane_marks_in (of_picked l (is_kind 2) annotations
       ∙ filter-sorted_climbs is_before below_order all annotations known.permutation known.sorted (picks l (is_kind 2))
-      (subst (Climbs is_before) (sym (marks-of_all l)) (ascend-climbs f l (lane_count s) 0 (marks l) (marks-ascend s l)))
+      (subst (Climbs is_before) (sym (marks-of_all l)) (ascend-climbs f l (num_multi_labels s) 0 (marks l) (marks-ascend s l)))
       ∙ marks-of_all l)
       ∙ marks-of_annotations f l (marks l)
 
   -- a line is rendered with what its labels do on it
-  line-is : (l : ℕ) → line_of_group (file id) (lane_count s) l (bucket l) ≡ line_at s l
-  line-is l = λ i. record (line_at s l) { labels = single_labels-are l i; lanes = record { count = lane_count s; marks = marks-are l i } }
+  line-is : (l : ℕ) → line_of_group (file id) (num_multi_labels s) l (bucket l) ≡ line_at s l
+  line-is l = λ i. record (line_at s l) { labels = single_labels-are l i; lanes = record { count = num_multi_labels s; marks = marks-are l i } }
 
   -- ---- shown lines
 
@@ -216,10 +216,10 @@ module _ {Id : Type 0} {database : FileDatabase Id} (lawful : AreFiles database)
   -- ---- the snippet
 
   -- the snippet lines make the rows of the snippet
-  pub snippet-rows : rows_of_lines s.file (lane_count s) (lines_of part) ≡ rows_after s None (drawn_lines config s.file s.labels)
+  pub snippet-rows : rows_of_lines s.file (num_multi_labels s) (lines_of part) ≡ rows_after s None (drawn_lines config s.file s.labels)
   snippet-rows =
-      ap (rows_of_lines (file id) (lane_count s)) snippet_lines-are
-      ∙ snippet_lines-rows (file id) (lane_count s) bucket is_shown (line_count (file id)) (none_past config s)
+      ap (rows_of_lines (file id) (num_multi_labels s)) snippet_lines-are
+      ∙ snippet_lines-rows (file id) (num_multi_labels s) bucket is_shown (line_count (file id)) (none_past config s)
       ∙ (λ i. in_sequence (λ l. l) (break_between (break_rows (λ l. line-is l i))) (line_rows (λ l. line-is l i)) None (drawn_lines config s.file s.labels))
 
   -- they fill in the lines that are drawn and not shown
@@ -235,11 +235,11 @@ module _ {Id : Type 0} {database : FileDatabase Id} (lawful : AreFiles database)
   starts-ascend l = ascends-starts (single_labels_in (bucket l)) (single_labels-ascend f l (bucket l) (bucket-on l) (bucket-rises l))
 
   -- its lane marks ascend in the lanes of the file
-  marks-fit : (l : ℕ) → do_lane_marks_fit (lane_count s) (bucket l) ≡ true
-  marks-fit l = ap (ascend_from (lane_count s) 0) (marks-are l) ∙ marks-ascend s l
+  marks-fit : (l : ℕ) → do_lane_marks_fit (num_multi_labels s) (bucket l) ≡ true
+  marks-fit l = ap (ascend_from (num_multi_labels s) 0) (marks-are l) ∙ marks-ascend s l
 
   -- so do those of each snippet line
-  pub snippet-fits : AllByRecursion (λ snippet_line. does_line_fit (lane_count s) snippet_line ≡ true) (lines_of part)
+  pub snippet-fits : AllByRecursion (λ snippet_line. does_line_fit (num_multi_labels s) snippet_line ≡ true) (lines_of part)
   snippet-fits =
-      subst (AllByRecursion (λ snippet_line. does_line_fit (lane_count s) snippet_line ≡ true)) (sym snippet_lines-are)
-      (snippet_lines-fit (lane_count s) bucket (λ l i. starts-ascend l i && marks-fit l i) marks-fit None shown)
+      subst (AllByRecursion (λ snippet_line. does_line_fit (num_multi_labels s) snippet_line ≡ true)) (sym snippet_lines-are)
+      (snippet_lines-fit (num_multi_labels s) bucket (λ l i. starts-ascend l i && marks-fit l i) marks-fit None shown)

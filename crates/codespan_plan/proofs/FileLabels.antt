@@ -6,7 +6,7 @@ use Rattle.codespan_base.specs.Labels.{LabelModel}
 use Rattle.codespan_annotations.specs.Annotations.{Annotation}
 use Rattle.codespan_annotations.specs.FileIndices.{index_of_file}
 use Rattle.codespan_picture.specs.Snippets.{InFile}
-use Rattle.codespan_annotations.specs.LabeledFiles.{lane_count_of}
+use Rattle.codespan_annotations.specs.LabeledFiles.{num_multi_labels_of}
 use Rattle.codespan_plan.specs.SnippetLines.{single_label_of}
 use Rattle.codespan_laws.proofs.OrderSorts.{has_range}
 
@@ -29,5 +29,5 @@ is_of_range start end e = has_label_range start end (single_label_of e.kind)
 pub record HasFileIndex {Id : Type 0} (same : Id → Id → Bool) (file : Id → FileModel) (ids : List Id) (f : ℕ) (id : Id) : Type 0 where
   pub index : (i : Id) → (index_of_file same ids i == f) ≡ same id i
   pub one_file : (i : Id) → same id i ≡ true → file i ≡ file id
-  pub lanes : (before : List (InFile Id)) (i : Id) → same id i ≡ true → lane_count_of same file before i ≡ lane_count_of same file before id
+  pub lanes : (before : List (InFile Id)) (i : Id) → same id i ≡ true → num_multi_labels_of same file before i ≡ num_multi_labels_of same file before id
   pub some_line : 0 < line_count (file id)

@@ -6,7 +6,7 @@ use Rattle.std.proofs.lemmas.Bool.Decides.{nat_tests}
 use Rattle.codespan_base.specs.FileModel.{FileModel}
 use Rattle.codespan_base.specs.Labels.{LabelModel, LaneMark, MultiLabel, lane_mark_of, lane_marks_on, multi_labels, part_on}
 use Rattle.codespan_picture.specs.Arguments.{LaneMarkTuple, lane_mark_view, lanes_in_order, ascend_from}
-use Rattle.codespan_picture.specs.Snippets.{LabeledFileModel, lane_count}
+use Rattle.codespan_picture.specs.Snippets.{LabeledFileModel, num_multi_labels}
 use Rattle.codespan_annotations.specs.Annotations.{Annotation, is_before}
 use Rattle.codespan_plan.specs.SnippetLines.{do_lane_marks_fit, lane_marks_in}
 use Rattle.codespan_annotations.proofs.AnnotationOrder.{lane_below, lane_mark_annotation}
@@ -33,8 +33,8 @@ ascend-from f l count n least (y ∷ ys) low total = by_part (part_on f l y) (λ
         rw (a, b) (rest (n + 1) (omega arith))
 
 -- the lane marks of a line ascend in the lanes of its file
-pub marks-ascend : (s : LabeledFileModel) (l : ℕ) → ascend_from (lane_count s) 0 (lane_marks_on s.file s.labels l) ≡ true
-marks-ascend s l = ascend-from s.file l (lane_count s) 0 0 (multi_labels s.file s.labels) (omega arith) (omega arith)
+pub marks-ascend : (s : LabeledFileModel) (l : ℕ) → ascend_from (num_multi_labels s) 0 (lane_marks_on s.file s.labels l) ≡ true
+marks-ascend s l = ascend-from s.file l (num_multi_labels s) 0 0 (multi_labels s.file s.labels) (omega arith) (omega arith)
 
 -- ---- lane marks that ascend
 

@@ -16,7 +16,7 @@ use Rattle.codespan_picture.specs.Lines.{drawn_lines}
 use Rattle.codespan_picture.specs.Lookups.{lookups_of_file, filled_lines, first_error, locus_lookups, numbers_for_padding, filled_line_lookups}
 use Rattle.codespan_picture.specs.Padding.{count_digits, digits_of, numbered_lines, padding_of}
 use Rattle.codespan_annotations.specs.TextLoci.{IsTextLocus}
-use Rattle.codespan_picture.specs.Snippets.{InFile, LabeledFileModel, labeled_file_model, labeled_file_models, lane_count, locus_start, rows_after, file_ids}
+use Rattle.codespan_picture.specs.Snippets.{InFile, LabeledFileModel, labeled_file_model, labeled_file_models, num_multi_labels, locus_start, rows_after, file_ids}
 use Rattle.codespan_collect.specs.declared.collected.Collected.{Collected}
 use Rattle.codespan_annotations.specs.declared.labeled_files.LabeledFile.{LabeledFile as RustFile}
 use Rattle.codespan_plan.specs.declared.plan.snippet_plans.SnippetPlan.{SnippetPlan}
@@ -47,8 +47,8 @@ use Rattle.codespan_plan.proofs.SnippetLineRows.{line_of_snippet_line, lines_of_
 -- a snippet line in a layout is one of the file
 line_view-file : {Id : Type 0} (layout : Layout) (f : FileModel) (g : RustLine Id) → IsSnippetLineIn layout f g → IsSnippetLineOf f g
 line_view-file layout f (rust.Labeled line annotations) is = is
-line_view-file Classic f (rust.Filled index number annotations) is = subst (λ (o : Option ℕ). IfSome o (λ known. known ≡ f.number index)) (sym is) tt
-line_view-file Unbroken f (rust.Filled index number annotations) is = subst (λ (o : Option ℕ). IfSome o (λ known. known ≡ f.number index)) (sym is) refl
+line_view-file Classic f (rust.Filled index number annotations) is = subst (λ (o : Option ℕ). IfSome o (λ known. known ≡ f.line_number index)) (sym is) tt
+line_view-file Unbroken f (rust.Filled index number annotations) is = subst (λ (o : Option ℕ). IfSome o (λ known. known ≡ f.line_number index)) (sym is) refl
 line_view-file layout f (rust.Break next) is = is
 
 -- its lookups are those of the layout for the line that it fills in
@@ -61,7 +61,7 @@ snippet_line-lookups Unbroken f (rust.Filled index number annotations) is = ap (
 snippet_line-lookups layout f (rust.Break next) is = refl
 
 -- in the unbroken layout the digits of its number are those of its line's
-snippet_line-digits : {Id : Type 0} (f : FileModel) (g : RustLine Id) → IsSnippetLineIn Unbroken f g → line_digits g ≡ map (λ l. count_digits (f.number l)) (line_of_snippet_line (line_view g))
+snippet_line-digits : {Id : Type 0} (f : FileModel) (g : RustLine Id) → IsSnippetLineIn Unbroken f g → line_digits g ≡ map (λ l. count_digits (f.line_number l)) (line_of_snippet_line (line_view g))
 snippet_line-digits f (rust.Labeled line annotations) is = ap (λ n. count_digits n ∷ []) is.number_is
 snippet_line-digits {Id} f (rust.Filled index number annotations) is = ap (λ (o : Option ℕ). line_digits {Id = Id} (rust.Filled index o annotations)) is
 snippet_line-digits f (rust.Break next) is = refl
@@ -85,12 +85,12 @@ snippet_lines-lookups layout f (g ∷ gs) h =
 -- in the unbroken layout the digits of their numbers are those of their lines'
 snippet_lines-digits : {Id : Type 0} (f : FileModel) (gs : List (RustLine Id))
     → AllByRecursion (IsSnippetLineIn Unbroken f) gs
-    → flat_map line_digits gs ≡ map (λ l. count_digits (f.number l))
+    → flat_map line_digits gs ≡ map (λ l. count_digits (f.line_number l))
     (lines_of_snippet_lines (map line_view gs))
 snippet_lines-digits f [] h = refl
 snippet_lines-digits f (g ∷ gs) h =
     (λ i. snippet_line-digits f g h.0 i ++ snippet_lines-digits f gs h.1 i)
-    ∙ sym (map-append (λ l. count_digits (f.number l)) (line_of_snippet_line (line_view g)) (lines_of_snippet_lines (map line_view gs)))
+    ∙ sym (map-append (λ l. count_digits (f.line_number l)) (line_of_snippet_line (line_view g)) (lines_of_snippet_lines (map line_view gs)))
 
 -- ---- plans
 
@@ -99,8 +99,8 @@ snippet_lines-digits f (g ∷ gs) h =
 record AreLinesOfSnippet (config : Config) (s : LabeledFileModel) (snippet_lines : List SnippetLine) : Type 0 where
   fills : fills_of snippet_lines ≡ filled_lines config s
   lines : lines_of_snippet_lines snippet_lines ≡ drawn_lines config s.file s.labels
-  rows : rows_of_lines s.file (lane_count s) snippet_lines ≡ rows_after s None (drawn_lines config s.file s.labels)
-  fits : DoFit (lane_count s) snippet_lines
+  rows : rows_of_lines s.file (num_multi_labels s) snippet_lines ≡ rows_after s None (drawn_lines config s.file s.labels)
+  fits : DoFit (num_multi_labels s) snippet_lines
 
 -- in the unbroken layout the numbers of drawn lines count
 numbered : (config : Config) → config.layout ≡ Unbroken → (s : LabeledFileModel) → numbered_lines config s ≡ drawn_lines config s.file s.labels
@@ -168,12 +168,12 @@ module _ {Id : Type 0} {database : FileDatabase Id} (lawful : AreFiles database)
     -- it is a file of the output
     file-plan : IsSnippetPlan config (labeled f.id) snippet_plan own
     file-plan = record {
-      lanes_are = ap (λ (g : RustFile Id). g.lane_count) is.file_is ∙ known.lanes_are;
+      lanes_are = ap (λ (g : RustFile Id). g.num_multi_labels) is.file_is ∙ known.lanes_are;
       locus_is = subst (λ n. IsTextLocus (file f.id, n) (locus_view snippet_plan.locus)) (file_start-is known) is.locus_is;
       count_is = is.count_is;
       each = lines_of-file config.layout (file f.id) own is.each;
-      fits = subst (DoFit (lane_count (labeled f.id))) (sym is.are) (snippet k f.id at).fits;
-      rows = ap (rows_of_lines (file f.id) (lane_count (labeled f.id))) is.are ∙ (snippet k f.id at).rows;
+      fits = subst (DoFit (num_multi_labels (labeled f.id))) (sym is.are) (snippet k f.id at).fits;
+      rows = ap (rows_of_lines (file f.id) (num_multi_labels (labeled f.id))) is.are ∙ (snippet k f.id at).rows;
       lookups = snippet_lines-lookups config.layout (file f.id) own is.each ∙ ap (λ (snippet_lines : List SnippetLine). flat_map (filled_line_lookups config.layout) (fills_of snippet_lines)) is.are
           ∙ ap (λ (ls : List ℕ). flat_map (filled_line_lookups config.layout) ls) (snippet k f.id at).fills;
     }

@@ -64,28 +64,28 @@ in-second n a b h = omega (arith, h, greatest-append 0 a b, greatest-any (fold m
 
 module _ (f : FileModel) (x : LabelModel) where
   -- where each number fits the padding, all do
-  digits-fit : (m n a : ℕ) → ((l : ℕ) → l < a + n → spans f x l ≡ true → count_digits (f.number l) ≤ m) → AllByRecursion (λ d. d ≤ m) (flat_map (digits_on f x) (range_with_len a n))
+  digits-fit : (m n a : ℕ) → ((l : ℕ) → l < a + n → spans f x l ≡ true → count_digits (f.line_number l) ≤ m) → AllByRecursion (λ d. d ≤ m) (flat_map (digits_on f x) (range_with_len a n))
   digits-fit m zero a h = tt
   digits-fit m (suc n) a h =
       all-append (λ d. d ≤ m) (digits_on f x a) (flat_map (digits_on f x) (range_with_len (a + 1) n)) (here (spans f x a) (h a (omega arith))) (digits-fit m n (a + 1) (λ l k. h l (omega arith)))
     where
-      here : (b : Bool) → (b ≡ true → count_digits (f.number a) ≤ m) → AllByRecursion (λ d. d ≤ m) (if b then count_digits (f.number a) ∷ [] else [])
+      here : (b : Bool) → (b ≡ true → count_digits (f.line_number a) ≤ m) → AllByRecursion (λ d. d ≤ m) (if b then count_digits (f.line_number a) ∷ [] else [])
       here true fits = (fits refl, tt)
       here false fits = tt
 
   -- the number of a line that is spanned is counted
-  line-counted : (l n a : ℕ) → a ≤ l → l < a + n → spans f x l ≡ true → count_digits (f.number l) ≤ fold max 0 (flat_map (digits_on f x) (range_with_len a n))
+  line-counted : (l n a : ℕ) → a ≤ l → l < a + n → spans f x l ≡ true → count_digits (f.line_number l) ≤ fold max 0 (flat_map (digits_on f x) (range_with_len a n))
   line-counted l zero a low high t = absurd (omega arith)
   line-counted l (suc n) a low high t =
       ⊎_elim
-      (λ (e : a ≡ l). in-first (count_digits (f.number l)) (digits_on f x a) (flat_map (digits_on f x) (range_with_len (a + 1) n)) (here a e))
-      (λ (ne : a ≡ l → ⊥). in-second (count_digits (f.number l)) (digits_on f x a) (flat_map (digits_on f x) (range_with_len (a + 1) n)) (line-counted l n (a + 1) (omega arith) (omega arith) t))
+      (λ (e : a ≡ l). in-first (count_digits (f.line_number l)) (digits_on f x a) (flat_map (digits_on f x) (range_with_len (a + 1) n)) (here a e))
+      (λ (ne : a ≡ l → ⊥). in-second (count_digits (f.line_number l)) (digits_on f x a) (flat_map (digits_on f x) (range_with_len (a + 1) n)) (line-counted l n (a + 1) (omega arith) (omega arith) t))
       (cases_eq a l)
     where
-      here : (k : ℕ) → k ≡ l → count_digits (f.number l) ≤ fold max 0 (digits_on f x k)
+      here : (k : ℕ) → k ≡ l → count_digits (f.line_number l) ≤ fold max 0 (digits_on f x k)
       here k e =
-          let one : fold max 0 (digits_on f x l) ≡ max 0 (count_digits (f.number l)) = ap (λ (b : Bool). fold max 0 (if b then count_digits (f.number l) ∷ [] else [])) t in
-          subst (λ i. count_digits (f.number l) ≤ fold max 0 (digits_on f x i)) (sym e) (omega (arith, one))
+          let one : fold max 0 (digits_on f x l) ≡ max 0 (count_digits (f.line_number l)) = ap (λ (b : Bool). fold max 0 (if b then count_digits (f.line_number l) ∷ [] else [])) t in
+          subst (λ i. count_digits (f.line_number l) ≤ fold max 0 (digits_on f x i)) (sym e) (omega (arith, one))
 
 -- ---- all labels
 
@@ -115,7 +115,7 @@ module _ {Id : Type 0} (same : Id → Id → Bool) (file : Id → FileModel) (o 
 
   -- the number of a line that a label spans fits the padding
   line-fits : (k : ℕ) (d : InFile Id) → k < length xs → (l : ℕ) → l < line_count (file (get_or xs k d).id) → spans (file (get_or xs k d).id) (get_or xs k d).label l ≡ true
-      → count_digits ((file (get_or xs k d).id).number l) ≤ padding_width
+      → count_digits ((file (get_or xs k d).id).line_number l) ≤ padding_width
   line-fits k d inside l low t =
       let y = get_or xs k d in
       let f = index_of_file same ids y.id in
@@ -127,7 +127,7 @@ module _ {Id : Type 0} (same : Id → Id → Bool) (file : Id → FileModel) (o 
       let own : (same id y.id && spans (file id) y.label l) ≡ true = ap (λ b. b && spans (file id) y.label l) equal ∙ here in
       let any = spans-any id l ∙ list_any_at (λ (x : InFile Id). same id x.id && spans (file id) x.label l) xs k d inside own in
       let count : l < line_count (file id) = subst (λ m. l < line_count m) model low in
-      subst (λ m. count_digits (m.number l) ≤ padding_width) (sym model)
+      subst (λ m. count_digits (m.line_number l) ≤ padding_width) (sym model)
       (numbered-fits config (labeled_file_models same file xs) (labeled id) l (index-contained labeled ids f id at)
       (subst (λ ls. Contains ls l) (sym (numbered-spanned (labeled id)))
       (contains-filter (λ n. list_any (λ x. spans (file id) x n) (labeled id).labels) l (range_with_len 0 (line_count (file id))) any
@@ -143,17 +143,17 @@ module _ {Id : Type 0} (same : Id → Id → Bool) (file : Id → FileModel) (o 
 
   -- the number of a line that some label of the file spans is counted
   some-counted : (id : Id) (l : ℕ) → l < line_count (file id) → (ys : List (InFile Id)) → list_any (λ (x : InFile Id). same id x.id && spans (file id) x.label l) ys ≡ true
-      → count_digits ((file id).number l) ≤ fold max 0 (all_digits file ys)
+      → count_digits ((file id).line_number l) ≤ fold max 0 (all_digits file ys)
   some-counted id l low [] any = absurd (true≢false (sym any))
   some-counted id l low (y ∷ ys) any =
       ⊎_elim
       (λ (t : (same id y.id && spans (file id) y.label l) ≡ true).
       let parts = and_parts (same id y.id) (spans (file id) y.label l) t in
-      in-first (count_digits ((file id).number l)) (label_digits (file y.id) y.label) (all_digits file ys)
-      (subst (λ m. count_digits ((file id).number l) ≤ fold max 0 (label_digits m y.label)) (one_file id y.id parts.0)
+      in-first (count_digits ((file id).line_number l)) (label_digits (file y.id) y.label) (all_digits file ys)
+      (subst (λ m. count_digits ((file id).line_number l) ≤ fold max 0 (label_digits m y.label)) (one_file id y.id parts.0)
       (line-counted (file id) y.label l (line_count (file id)) 0 (omega arith) (omega (arith, low)) parts.1)))
       (λ (t : (same id y.id && spans (file id) y.label l) ≡ false).
-      in-second (count_digits ((file id).number l)) (label_digits (file y.id) y.label) (all_digits file ys)
+      in-second (count_digits ((file id).line_number l)) (label_digits (file y.id) y.label) (all_digits file ys)
       (some-counted id l low ys (sym (ap (λ b. b || list_any (λ (x : InFile Id). same id x.id && spans (file id) x.label l) ys) t) ∙ any)))
       (cases_Bool (same id y.id && spans (file id) y.label l))
 
@@ -163,7 +163,7 @@ module _ {Id : Type 0} (same : Id → Id → Bool) (file : Id → FileModel) (o 
       subst (AllByRecursion (λ n. n ≤ fold max 0 (all_digits file xs))) (sym (flat_map-map (λ (s : LabeledFileModel). digits_of s (numbered_lines config s)) labeled ids))
       (all-ids (λ n. n ≤ fold max 0 (all_digits file xs)) (λ id. digits_of (labeled id) (numbered_lines config (labeled id))) ids
       (λ f id at. subst (λ ls. AllByRecursion (λ n. n ≤ fold max 0 (all_digits file xs)) (digits_of (labeled id) ls)) (sym (numbered-spanned (labeled id)))
-      (all-lines (λ n. n ≤ fold max 0 (all_digits file xs)) (λ l. count_digits ((file id).number l)) (λ l. list_any (λ x. spans (file id) x l) (labeled id).labels)
+      (all-lines (λ n. n ≤ fold max 0 (all_digits file xs)) (λ l. count_digits ((file id).line_number l)) (λ l. list_any (λ x. spans (file id) x l) (labeled id).labels)
       (line_count (file id)) 0 (λ l low t. some-counted id l (omega (arith, low)) xs (sym (spans-any id l) ∙ t)))))
 
   -- the greatest digit count of the lines of labels is the padding

@@ -8,7 +8,7 @@ use Rattle.codespan_picture.specs.Lines.{drawn_lines}
 use Rattle.codespan_picture.specs.Lookups.{lookups_of_file, filled_lines, first_error, locus_lookups, numbers_for_padding, filled_line_lookups}
 use Rattle.codespan_picture.specs.Padding.{padding_of}
 use Rattle.codespan_picture.specs.Rows.{Locus}
-use Rattle.codespan_picture.specs.Snippets.{InFile, LabeledFileModel, labeled_file_model, labeled_file_models, lane_count, rows_after, file_ids}
+use Rattle.codespan_picture.specs.Snippets.{InFile, LabeledFileModel, labeled_file_model, labeled_file_models, num_multi_labels, rows_after, file_ids}
 use Rattle.codespan_plan.specs.declared.plan.OutputPlan.{OutputPlan}
 use Rattle.codespan_plan.specs.declared.plan.snippet_plans.SnippetPlan.{SnippetPlan}
 use Rattle.codespan_plan.specs.declared.plan.snippet_lines.SnippetLine.{SnippetLine as RustLine}
@@ -30,12 +30,12 @@ ids_of {Id} snippet_plans = map (λ (snippet_plan : SnippetPlan Id). snippet_pla
 -- their lookups
 pub record IsSnippetPlan {Id : Type 0} (config : Config) (s : LabeledFileModel)
     (snippet_plan : SnippetPlan Id) (own : List (RustLine Id)) : Type 0 where
-  pub lanes_are : snippet_plan.file.now.lane_count ≡ lane_count s
+  pub lanes_are : snippet_plan.file.now.num_multi_labels ≡ num_multi_labels s
   pub locus_is : IsLocusOfFile s (locus_view snippet_plan.locus)
   pub count_is : snippet_plan.line_total ≡ length own
   pub each : AllByRecursion (IsSnippetLineOf s.file) own
-  pub fits : DoFit (lane_count s) (map line_view own)
-  pub rows : rows_of_lines s.file (lane_count s) (map line_view own)
+  pub fits : DoFit (num_multi_labels s) (map line_view own)
+  pub rows : rows_of_lines s.file (num_multi_labels s) (map line_view own)
       ≡ rows_after s None (drawn_lines config s.file s.labels)
   pub lookups : lookups_of_lines own ≡ flat_map (filled_line_lookups config.layout)
       (filled_lines config s)

@@ -58,14 +58,14 @@ lookups_of_lines snippet_lines = flat_map lookups_of_line snippet_lines
 abbrev pub IsSnippetLineOf : {Id : Type 0} → FileModel → RustLine Id → Type 0
 IsSnippetLineOf f (rust.Labeled line annotations) = IsLineOf f line
 IsSnippetLineOf f (rust.Filled index number annotations) = IfSome number
-    (λ known. known ≡ f.number index)
+    (λ known. known ≡ f.line_number index)
 IsSnippetLineOf f (rust.Break next) = Unit {0}
 
 -- and its number is known as the layout has it
 abbrev pub IsSnippetLineIn : {Id : Type 0} → Layout → FileModel → RustLine Id → Type 0
 IsSnippetLineIn layout f (rust.Labeled line annotations) = IsLineOf f line
 IsSnippetLineIn layout f (rust.Filled index number annotations) =
-    number ≡ known_number layout (f.number index)
+    number ≡ known_number layout (f.line_number index)
 IsSnippetLineIn layout f (rust.Break next) = Unit {0}
 
 -- these lines of the file's snippet were appended

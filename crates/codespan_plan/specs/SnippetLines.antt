@@ -96,7 +96,7 @@ module _ (f : FileModel) (count : ℕ) where
   -- a line of the file with these annotations
   abbrev pub line_of_group : ℕ → List Annotation → Line
   line_of_group l es = record {
-    number = f.number l;
+    number = f.line_number l;
     text = text_without_line_end (line_text f l);
     labels = single_labels_in es;
     lanes = lanes_with es;

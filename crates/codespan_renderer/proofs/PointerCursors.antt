@@ -7,9 +7,9 @@ use Rattle.codespan_renderer.specs.declared.term.renderer.cached.label_cursor.St
 use Rattle.codespan_renderer.specs.declared.term.renderer.cached.pointers.Pointer.{Pointer}
 use Rattle.codespan_picture.specs.Arguments.{SingleLabelTuple, single_label_views}
 use Rattle.codespan_renderer.specs.Private.PointerLists.{pointer_under, pointers_in, HasPassedStarts}
-use Rattle.codespan_picture.specs.Rows.{hanging}
+use Rattle.codespan_picture.specs.Rows.{hanging_labels}
 use Rattle.codespan_picture.specs.RowParts.{max_label_start, starts_in}
-use Rattle.codespan_picture.proofs.HangingStarts.{any-below, any-hanging, starts_in-low}
+use Rattle.codespan_picture.proofs.HangingStarts.{any-below, any-hanging_labels, starts_in-low}
 use Rattle.std.specs.List.{list_any}
 use Rattle.codespan_renderer.specs.Private.BestStyles.{best_from, pointer_found}
 use Rattle.codespan_row_parts.specs.Runs.{AreHanging}
@@ -67,7 +67,7 @@ passing-more before after s t u v c left w early late same same2 = record {
 pub found-style : (labels before after bs ds : List SingleLabelTuple) (c : Metrics) (first second : Option LabelStyle) → AreHanging labels before after → bs ≡ before → ds ≡ after
     → first ≡ best_from (starts_in c) None (filter has_message (single_label_views bs))
     → second ≡ best_from (starts_in c) first (filter has_message (single_label_views ds))
-    → second ≡ pointer_found (hanging (single_label_views labels)) c
+    → second ≡ pointer_found (hanging_labels (single_label_views labels)) c
 found-style labels before after bs ds c first second h e f p q = rw (q, p, e, f) (pointer_is labels before after c h)
 
 -- there is no pointer where no label hangs
@@ -77,14 +77,14 @@ no-pointers (c ∷ cs) = no-pointers cs
 
 -- a pointer comes to those that were found
 pub found-some : (labels : List LabelModel) (ps : List Pointer) (cs left : List Metrics) (c : Metrics) (style : LabelStyle) → cs ≡ c ∷ left
-    → pointer_found (hanging labels) c ≡ Some style
-    → (ps ++ pointer_under c style ∷ []) ++ pointers_in (hanging labels) left ≡ ps ++ pointers_in (hanging labels) cs
-found-some labels ps cs left c style step is = rw (step, is) (append_assoc ps (pointer_under c style ∷ []) (pointers_in (hanging labels) left))
+    → pointer_found (hanging_labels labels) c ≡ Some style
+    → (ps ++ pointer_under c style ∷ []) ++ pointers_in (hanging_labels labels) left ≡ ps ++ pointers_in (hanging_labels labels) cs
+found-some labels ps cs left c style step is = rw (step, is) (append_assoc ps (pointer_under c style ∷ []) (pointers_in (hanging_labels labels) left))
 
 -- none does
 pub found-none : (labels : List LabelModel) (ps : List Pointer) (cs left : List Metrics) (c : Metrics) → cs ≡ c ∷ left
-    → pointer_found (hanging labels) c ≡ None
-    → ps ++ pointers_in (hanging labels) left ≡ ps ++ pointers_in (hanging labels) cs
+    → pointer_found (hanging_labels labels) c ≡ None
+    → ps ++ pointers_in (hanging_labels labels) left ≡ ps ++ pointers_in (hanging_labels labels) cs
 found-none labels ps cs left c step is = rw (step, is) refl
 
 -- both cursors are at the line's start
@@ -103,18 +103,18 @@ passing-start before after s t cs early late same_early same_late consecutive = 
 -- ---- past the greatest start
 
 -- the test of a character from which labels hang
-none-test : (labels : List LabelModel) (c : Metrics) (b : Bool) → max_label_start labels < c.byte_index → list_any (starts_in c) (hanging labels) ≡ b → b ≡ false
+none-test : (labels : List LabelModel) (c : Metrics) (b : Bool) → max_label_start labels < c.byte_index → list_any (starts_in c) (hanging_labels labels) ≡ b → b ≡ false
 none-test labels c true past is =
-    let low = any-below 0 c.byte_index (starts_in c) labels (λ x. starts_in-low c x) (any-hanging (starts_in c) labels is) in
+    let low = any-below 0 c.byte_index (starts_in c) labels (λ x. starts_in-low c x) (any-hanging_labels (starts_in c) labels is) in
     absurd (omega arith)
 none-test labels c false past is = refl
 
 -- no label hangs from a character there
-none-past : (labels : List LabelModel) (c : Metrics) → max_label_start labels < c.byte_index → pointer_found (hanging labels) c ≡ None
-none-past labels c past = rw (none-test labels c (list_any (starts_in c) (hanging labels)) past refl) refl
+none-past : (labels : List LabelModel) (c : Metrics) → max_label_start labels < c.byte_index → pointer_found (hanging_labels labels) c ≡ None
+none-past labels c past = rw (none-test labels c (list_any (starts_in c) (hanging_labels labels)) past refl) refl
 
 -- where all characters begin there, there is no pointer
-pointers-past : (labels : List LabelModel) (byte_index column : ℕ) (cs : List Metrics) → AreConsecutive byte_index column cs → max_label_start labels < byte_index → pointers_in (hanging labels) cs ≡ []
+pointers-past : (labels : List LabelModel) (byte_index column : ℕ) (cs : List Metrics) → AreConsecutive byte_index column cs → max_label_start labels < byte_index → pointers_in (hanging_labels labels) cs ≡ []
 pointers-past labels byte_index column [] consecutive past = refl
 pointers-past labels byte_index column (c ∷ cs) consecutive past =
     let there : max_label_start labels < c.byte_index = omega (arith, consecutive.0) in
@@ -123,7 +123,7 @@ pointers-past labels byte_index column (c ∷ cs) consecutive past =
 -- the next cell begins past the starts, and so do all that follow
 pub pointers-past-at : (labels before after : List SingleLabelTuple) (s t : StartCursor) (last : ℕ) (cs left : List Metrics) (c : Metrics) → cs ≡ c ∷ left
     → IsPassing before after s t cs → last < c.byte_index → last ≡ max_label_start (single_label_views labels)
-    → pointers_in (hanging (single_label_views labels)) cs ≡ []
+    → pointers_in (hanging_labels (single_label_views labels)) cs ≡ []
 pointers-past-at labels before after s t last cs left c step w past e =
     let consecutive : AreConsecutive w.byte_index w.column (c ∷ left) = rw step at w.consecutive in
     pointers-past (single_label_views labels) w.byte_index w.column cs w.consecutive (omega (arith, e, past, consecutive.0))

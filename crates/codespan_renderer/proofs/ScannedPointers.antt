@@ -13,7 +13,7 @@ use Rattle.codespan_base.specs.Streams.{Stream, bytes, spaces}
 use Rattle.codespan_picture.specs.declared.char_metrics.Metrics.{Metrics}
 use Rattle.codespan_picture.specs.Arguments.{SingleLabelTuple, single_label_view, single_label_views}
 use Rattle.codespan_picture.specs.Lanes.{label_glyph}
-use Rattle.codespan_picture.specs.Rows.{RowContext, hanging}
+use Rattle.codespan_picture.specs.Rows.{RowContext, hanging_labels}
 use Rattle.codespan_picture.specs.RowParts.{starts_in, pointer_style, max_label_start, spaces_up_to, pointer_at, pointers, metrics_before}
 use Rattle.codespan_renderer.specs.Private.BestStyles.{primary_first, best_from, pointer_found}
 use Rattle.codespan_row_parts.specs.Runs.{AreHanging}
@@ -58,11 +58,11 @@ best_is c (x ∷ xs) = best-cons (starts_in c) None x xs ∙ by_style (best_is c
 -- the style of a pointer is that of the labels of the one list and then of the other
 pub pointer_is : (labels before after : List SingleLabelTuple) (c : Metrics) → AreHanging labels before after
     → best_from (starts_in c) (best_from (starts_in c) None (filter has_message (single_label_views before))) (filter has_message (single_label_views after))
-    ≡ pointer_found (hanging (single_label_views labels)) c
+    ≡ pointer_found (hanging_labels (single_label_views labels)) c
 pointer_is labels before after c h =
     sym (best_append (starts_in c) None (filter has_message (single_label_views before)) (filter has_message (single_label_views after)))
     ∙ ap (best_from (starts_in c) None) (hanging_parts labels before after h)
-    ∙ best_is c (hanging (single_label_views labels))
+    ∙ best_is c (hanging_labels (single_label_views labels))
 
 -- a step over the label at an index
 pub best_step : (c : Metrics) (found best : Option LabelStyle) (xs : List SingleLabelTuple) (i : ℕ) (d : SingleLabelTuple) (empty : Bool) → i < length xs
@@ -86,34 +86,34 @@ spaces_none s = refl
 
 -- a character before the byte index shows its own
 pointers_next : (context : RowContext) (labels : List LabelModel) (before : ℕ) (c : Metrics) (cs : List Metrics) → c.byte_index < before
-    → pointers context labels (metrics_before before (c ∷ cs)) ≡ pointer_at context labels (hanging labels) c ++ pointers context labels (metrics_before before cs)
+    → pointers context labels (metrics_before before (c ∷ cs)) ≡ pointer_at context labels (hanging_labels labels) c ++ pointers context labels (metrics_before before cs)
 unfolding pointers
 pointers_next context labels before c cs h =
     let cached : nat_lt c.byte_index before ≡ true = lt-ltb c.byte_index before h in
     rw cached refl
 
 -- no label hangs from the character
-pub pointer_none : (context : RowContext) (labels : List LabelModel) (c : Metrics) → pointer_found (hanging labels) c ≡ None
-    → pointer_at context labels (hanging labels) c ≡ spaces_up_to (max_label_start labels) c c.width
+pub pointer_none : (context : RowContext) (labels : List LabelModel) (c : Metrics) → pointer_found (hanging_labels labels) c ≡ None
+    → pointer_at context labels (hanging_labels labels) c ≡ spaces_up_to (max_label_start labels) c c.width
 unfolding pointer_at
-pointer_none context labels c h = by_test (list_any (starts_in c) (hanging labels)) refl h
+pointer_none context labels c h = by_test (list_any (starts_in c) (hanging_labels labels)) refl h
   where
-    by_test : (b : Bool) → list_any (starts_in c) (hanging labels) ≡ b → (if b then Some (pointer_style (hanging labels) c) else None) ≡ None
-        → pointer_at context labels (hanging labels) c ≡ spaces_up_to (max_label_start labels) c c.width
+    by_test : (b : Bool) → list_any (starts_in c) (hanging_labels labels) ≡ b → (if b then Some (pointer_style (hanging_labels labels) c) else None) ≡ None
+        → pointer_at context labels (hanging_labels labels) c ≡ spaces_up_to (max_label_start labels) c c.width
     by_test true is h = cc
     by_test false is h = rw is refl
 
 -- a label of this style hangs from it
-pub pointer_some : (context : RowContext) (labels : List LabelModel) (c : Metrics) (style : LabelStyle) → pointer_found (hanging labels) c ≡ Some style
-    → pointer_at context labels (hanging labels) c
+pub pointer_some : (context : RowContext) (labels : List LabelModel) (c : Metrics) (style : LabelStyle) → pointer_found (hanging_labels labels) c ≡ Some style
+    → pointer_at context labels (hanging_labels labels) c
     ≡ label_glyph context.severity style context.chars.pointer_left ++ spaces_up_to (max_label_start labels) c (c.width - 1)
 unfolding pointer_at
-pointer_some context labels c style h = by_test (list_any (starts_in c) (hanging labels)) refl h
+pointer_some context labels c style h = by_test (list_any (starts_in c) (hanging_labels labels)) refl h
   where
-    by_test : (b : Bool) → list_any (starts_in c) (hanging labels) ≡ b → (if b then Some (pointer_style (hanging labels) c) else None) ≡ Some style
-        → pointer_at context labels (hanging labels) c
+    by_test : (b : Bool) → list_any (starts_in c) (hanging_labels labels) ≡ b → (if b then Some (pointer_style (hanging_labels labels) c) else None) ≡ Some style
+        → pointer_at context labels (hanging_labels labels) c
         ≡ label_glyph context.severity style context.chars.pointer_left ++ spaces_up_to (max_label_start labels) c (c.width - 1)
-    by_test true is h = let same : pointer_style (hanging labels) c ≡ style = cc in rw (is, same) refl
+    by_test true is h = let same : pointer_style (hanging_labels labels) c ≡ style = cc in rw (is, same) refl
     by_test false is h = cc
 
 -- the spaces of a character are added to the pending ones
@@ -133,7 +133,7 @@ spaces_past reach c width s h =
 
 -- what is still to be written begins with the pending spaces and a pointer
 pub pointer_first : (context : RowContext) (labels : List LabelModel) (before reach : ℕ) (left : List Metrics) (c : Metrics) (cs : List Metrics) (pending : ℕ) (style : LabelStyle)
-    → reach ≡ max_label_start labels → left ≡ c ∷ cs → c.byte_index < before → pointer_found (hanging labels) c ≡ Some style
+    → reach ≡ max_label_start labels → left ≡ c ∷ cs → c.byte_index < before → pointer_found (hanging_labels labels) c ≡ Some style
     → spaces pending ++ pointers context labels (metrics_before before left)
     ≡ (spaces pending ++ label_glyph context.severity style context.chars.pointer_left)
     ++ (spaces_up_to reach c (c.width - 1) ++ pointers context labels (metrics_before before cs))
@@ -142,7 +142,7 @@ pointer_first context labels before reach left c cs pending style far step h fou
 
 -- it begins with the pending spaces and those of a character
 pub spaces_first : (context : RowContext) (labels : List LabelModel) (before reach : ℕ) (left : List Metrics) (c : Metrics) (cs : List Metrics) (pending : ℕ)
-    → reach ≡ max_label_start labels → left ≡ c ∷ cs → c.byte_index < before → pointer_found (hanging labels) c ≡ None
+    → reach ≡ max_label_start labels → left ≡ c ∷ cs → c.byte_index < before → pointer_found (hanging_labels labels) c ≡ None
     → spaces pending ++ pointers context labels (metrics_before before left)
     ≡ spaces pending ++ (spaces_up_to reach c c.width ++ pointers context labels (metrics_before before cs))
 spaces_first context labels before reach left c cs pending far step h found =

@@ -11,13 +11,13 @@ use Rattle.codespan_renderer.specs.declared.term.renderer.cached.pointers.Pointe
 use Rattle.codespan_picture.specs.CharMetrics.{width_of}
 use Rattle.codespan_picture.specs.Lanes.{label_glyph}
 use Rattle.codespan_renderer.specs.Private.PointerLists.{pointer_under, pointers_in, pointers_before, spaced}
-use Rattle.codespan_picture.specs.Rows.{RowContext, hanging}
+use Rattle.codespan_picture.specs.Rows.{RowContext, hanging_labels}
 use Rattle.codespan_picture.specs.RowParts.{starts_in, pointer_style, max_label_start, spaces_up_to, pointers, metrics_before, metrics_up_to}
 use Rattle.codespan_renderer.specs.Private.BestStyles.{pointer_found}
 use Rattle.std.specs.Prelude.{if◌then◌else◌}
 use Rattle.std.specs.List.{list_any}
 use Rattle.codespan_renderer.proofs.ScannedPointers.{spaces_none, spaces_due, spaces_past, spaces_last, pointer_none, pointer_some}
-use Rattle.codespan_picture.proofs.HangingStarts.{any-below, any-hanging, starts_in-low}
+use Rattle.codespan_picture.proofs.HangingStarts.{any-below, any-hanging_labels, starts_in-low}
 use Rattle.codespan_picture.proofs.Consecutive.{AreConsecutive, none-before}
 use Rattle.codespan_row_parts.proofs.Widths.{width-in, width-out}
 use Rattle.codespan_row_parts.proofs.ScanState.{ConsecutiveWithin, ScanState}
@@ -48,18 +48,18 @@ spaced-end context edge column before ps i h = let none : drop i ps ≡ [] = gri
 -- ---- the pointers of cells
 
 -- what is found by a test holds only of characters that begin at the greatest start or before it
-found-near : (labels : List LabelModel) (c : Metrics) (style : LabelStyle) → pointer_found (hanging labels) c ≡ Some style → c.byte_index ≤ max_label_start labels
-found-near labels c style found = by_test (list_any (starts_in c) (hanging labels)) refl found
+found-near : (labels : List LabelModel) (c : Metrics) (style : LabelStyle) → pointer_found (hanging_labels labels) c ≡ Some style → c.byte_index ≤ max_label_start labels
+found-near labels c style found = by_test (list_any (starts_in c) (hanging_labels labels)) refl found
   where
-    by_test : (b : Bool) → list_any (starts_in c) (hanging labels) ≡ b → (if b then Some (pointer_style (hanging labels) c) else None) ≡ Some style
+    by_test : (b : Bool) → list_any (starts_in c) (hanging_labels labels) ≡ b → (if b then Some (pointer_style (hanging_labels labels) c) else None) ≡ Some style
         → c.byte_index ≤ max_label_start labels
-    by_test true is h = any-below 0 c.byte_index (starts_in c) labels (starts_in-low c) (any-hanging (starts_in c) labels is)
+    by_test true is h = any-below 0 c.byte_index (starts_in c) labels (starts_in-low c) (any-hanging_labels (starts_in c) labels is)
     by_test false is h = cc
 
 -- past the greatest start nothing is shown
 record ShowsNothing (context : RowContext) (labels : List LabelModel) (cs : List Metrics) : Type 0 where
   pub drawn : pointers context labels cs ≡ []
-  pub found : pointers_in (hanging labels) cs ≡ []
+  pub found : pointers_in (hanging_labels labels) cs ≡ []
   pub width : width_of (metrics_up_to (max_label_start labels) cs) ≡ 0
 
 far-char_metrics : (context : RowContext) (labels : List LabelModel) (byte_index column : ℕ) (cs : List Metrics) → AreConsecutive byte_index column cs → max_label_start labels < byte_index
@@ -68,9 +68,9 @@ unfolding pointers
 far-char_metrics context labels byte_index column [] adjacent far = record { drawn = refl; found = refl; width = refl }
 far-char_metrics context labels byte_index column (c ∷ cs) adjacent far =
     by_found (let here = adjacent.0 in omega arith) (far-char_metrics context labels (byte_index + c.bytes) (column + c.width) cs adjacent.3 (omega arith))
-    (pointer_found (hanging labels) c) refl
+    (pointer_found (hanging_labels labels) c) refl
   where
-    by_found : max_label_start labels < c.byte_index → ShowsNothing context labels cs → (o : Option LabelStyle) → pointer_found (hanging labels) c ≡ o
+    by_found : max_label_start labels < c.byte_index → ShowsNothing context labels cs → (o : Option LabelStyle) → pointer_found (hanging_labels labels) c ≡ o
         → ShowsNothing context labels (c ∷ cs)
     by_found past rest None is = record {
       drawn = rw (pointer_none context labels c is, spaces_past (max_label_start labels) c c.width (pointers context labels cs) past) rest.drawn;
@@ -85,7 +85,7 @@ regroup_pointer pending lane_mark after rest = simp append_assoc
 -- the pending spaces, and then what the cells show
 pub spaced-char_metrics : (context : RowContext) (labels : List LabelModel) (byte_index column at : ℕ) (cs : List Metrics) → AreConsecutive byte_index column cs → at ≤ column
     → spaces (column - at) ++ pointers context labels cs
-    ≡ spaced context (column + width_of (metrics_up_to (max_label_start labels) cs)) at (pointers_in (hanging labels) cs)
+    ≡ spaced context (column + width_of (metrics_up_to (max_label_start labels) cs)) at (pointers_in (hanging_labels labels) cs)
 unfolding pointers
 spaced-char_metrics context labels byte_index column at [] adjacent low = let e : column + 0 ≡ column = omega arith in rw e (append-nil (spaces (column - at)))
 spaced-char_metrics context labels byte_index column at (c ∷ cs) adjacent low =
@@ -93,11 +93,11 @@ spaced-char_metrics context labels byte_index column at (c ∷ cs) adjacent low 
   where
     by_reach : ((from : ℕ) → from ≤ column + c.width
         → spaces (column + c.width - from) ++ pointers context labels cs
-        ≡ spaced context (column + c.width + width_of (metrics_up_to (max_label_start labels) cs)) from (pointers_in (hanging labels) cs))
+        ≡ spaced context (column + c.width + width_of (metrics_up_to (max_label_start labels) cs)) from (pointers_in (hanging_labels labels) cs))
         → (b : Bool) → nat_le c.byte_index (max_label_start labels) ≡ b
         → spaces (column - at) ++ pointers context labels (c ∷ cs)
-        ≡ spaced context (column + width_of (metrics_up_to (max_label_start labels) (c ∷ cs))) at (pointers_in (hanging labels) (c ∷ cs))
-    by_reach again true near = by_found (pointer_found (hanging labels) c) refl
+        ≡ spaced context (column + width_of (metrics_up_to (max_label_start labels) (c ∷ cs))) at (pointers_in (hanging_labels labels) (c ∷ cs))
+    by_reach again true near = by_found (pointer_found (hanging_labels labels) c) refl
       where
         low_byte_index : c.byte_index ≤ max_label_start labels
         low_byte_index = grind (arith, nat_tests)
@@ -105,9 +105,9 @@ spaced-char_metrics context labels byte_index column at (c ∷ cs) adjacent low 
         edges : column + width_of (metrics_up_to (max_label_start labels) (c ∷ cs)) ≡ column + c.width + width_of (metrics_up_to (max_label_start labels) cs)
         edges = omega (arith, width-in (max_label_start labels) c cs low_byte_index)
 
-        by_found : (o : Option LabelStyle) → pointer_found (hanging labels) c ≡ o
+        by_found : (o : Option LabelStyle) → pointer_found (hanging_labels labels) c ≡ o
             → spaces (column - at) ++ pointers context labels (c ∷ cs)
-            ≡ spaced context (column + width_of (metrics_up_to (max_label_start labels) (c ∷ cs))) at (pointers_in (hanging labels) (c ∷ cs))
+            ≡ spaced context (column + width_of (metrics_up_to (max_label_start labels) (c ∷ cs))) at (pointers_in (hanging_labels labels) (c ∷ cs))
         by_found None is =
             let more : column - at + c.width ≡ column + c.width - at = omega arith in
             rw (pointer_none context labels c is, spaces_due (max_label_start labels) c (column - at) c.width (pointers context labels cs) low_byte_index, is, edges, more)
@@ -118,7 +118,7 @@ spaced-char_metrics context labels byte_index column at (c ∷ cs) adjacent low 
             let far_edge = column + c.width + width_of (metrics_up_to (max_label_start labels) cs) in
             let more : 0 + (c.width - 1) ≡ column + c.width - (column + min c.width 1) = omega arith in
             let drawn : spaces (column - at) ++ pointers context labels (c ∷ cs)
-            ≡ spaced context (column + c.width + width_of (metrics_up_to (max_label_start labels) cs)) at (pointers_in (hanging labels) (c ∷ cs)) =
+            ≡ spaced context (column + c.width + width_of (metrics_up_to (max_label_start labels) cs)) at (pointers_in (hanging_labels labels) (c ∷ cs)) =
             rw (pointer_some context labels c style is, is)
             (regroup_pointer (spaces (column - at)) lane_mark (spaces_up_to (max_label_start labels) c (c.width - 1)) rest
             ∙ ap (λ s. spaces (column - at) ++ lane_mark ++ s)
@@ -126,8 +126,8 @@ spaced-char_metrics context labels byte_index column at (c ∷ cs) adjacent low 
             ∙ spaces_due (max_label_start labels) c 0 (c.width - 1) rest low_byte_index
             ∙ ap (λ n. spaces n ++ rest) more
             ∙ again (column + min c.width 1) (omega arith))
-            ∙ ap (λ k. spaces (k - at) ++ lane_mark ++ spaced context far_edge (k + min c.width 1) (pointers_in (hanging labels) cs)) (sym adjacent.1)) in
-            drawn ∙ ap (λ n. spaced context n at (pointers_in (hanging labels) (c ∷ cs))) (sym edges)
+            ∙ ap (λ k. spaces (k - at) ++ lane_mark ++ spaced context far_edge (k + min c.width 1) (pointers_in (hanging_labels labels) cs)) (sym adjacent.1)) in
+            drawn ∙ ap (λ n. spaced context n at (pointers_in (hanging_labels labels) (c ∷ cs))) (sym edges)
     by_reach again false far =
         let none = far-char_metrics context labels byte_index column (c ∷ cs) adjacent (let here = adjacent.0 in grind (arith, nat_tests)) in
         let e : column + 0 ≡ column = omega arith in
@@ -135,10 +135,10 @@ spaced-char_metrics context labels byte_index column at (c ∷ cs) adjacent low 
 
 -- all cells from the line's start
 pub spaced-line : (context : RowContext) (labels : List LabelModel) (cs : List Metrics) → AreConsecutive 0 0 cs
-    → spaced context (width_of (metrics_up_to (max_label_start labels) cs)) 0 (pointers_in (hanging labels) cs) ≡ pointers context labels cs
+    → spaced context (width_of (metrics_up_to (max_label_start labels) cs)) 0 (pointers_in (hanging_labels labels) cs) ≡ pointers context labels cs
 spaced-line context labels cs adjacent =
     let e : width_of (metrics_up_to (max_label_start labels) cs) ≡ 0 + width_of (metrics_up_to (max_label_start labels) cs) = omega arith in
-    ap (λ n. spaced context n 0 (pointers_in (hanging labels) cs)) e
+    ap (λ n. spaced context n 0 (pointers_in (hanging_labels labels) cs)) e
     ∙ sym (spaced-char_metrics context labels 0 0 0 cs adjacent (omega arith)) ∙ spaces_none (pointers context labels cs)
 
 -- ---- the cells before a byte index
@@ -181,25 +181,25 @@ before-reach before reach (c ∷ cs) low = by_test (before-reach before reach cs
 
 -- the cells before a byte index from the line's start
 pub spaced-before : (context : RowContext) (labels : List LabelModel) (before : ℕ) (cs : List Metrics) → AreConsecutive 0 0 cs → before ≤ max_label_start labels
-    → spaced context (width_of (metrics_before before cs)) 0 (pointers_before before (pointers_in (hanging labels) cs)) ≡ pointers context labels (metrics_before before cs)
+    → spaced context (width_of (metrics_before before cs)) 0 (pointers_before before (pointers_in (hanging_labels labels) cs)) ≡ pointers context labels (metrics_before before cs)
 spaced-before context labels before cs adjacent near =
-    ap (λ ds. spaced context (width_of ds) 0 (pointers_before before (pointers_in (hanging labels) cs))) (sym (before-reach before (max_label_start labels) cs near))
-    ∙ ap (spaced context (width_of (metrics_up_to (max_label_start labels) (metrics_before before cs))) 0) (sym (before-found (hanging labels) before cs))
+    ap (λ ds. spaced context (width_of ds) 0 (pointers_before before (pointers_in (hanging_labels labels) cs))) (sym (before-reach before (max_label_start labels) cs near))
+    ∙ ap (spaced context (width_of (metrics_up_to (max_label_start labels) (metrics_before before cs))) 0) (sym (before-found (hanging_labels labels) before cs))
     ∙ spaced-line context labels (metrics_before before cs) (before-consecutive before 0 0 cs adjacent)
 
 -- ---- as rows have them
 
 -- all pointers of a line
 pub spaced-all : (context : RowContext) (labels : List LabelModel) (cs : List Metrics) (ps : List Pointer) (top reach edge : ℕ) → AreConsecutive 0 0 cs → metrics_before top cs ≡ cs
-    → ps ≡ pointers_in (hanging labels) cs → reach ≡ max_label_start labels → edge ≡ width_of (metrics_up_to reach cs)
+    → ps ≡ pointers_in (hanging_labels labels) cs → reach ≡ max_label_start labels → edge ≡ width_of (metrics_up_to reach cs)
     → spaced context edge 0 (pointers_before top ps) ≡ pointers context labels cs
 spaced-all context labels cs ps top reach edge adjacent all found far wide =
-    let cached = sym (before-found (hanging labels) top cs) ∙ ap (pointers_in (hanging labels)) all in
+    let cached = sym (before-found (hanging_labels labels) top cs) ∙ ap (pointers_in (hanging_labels labels)) all in
     rw (wide, far, found, cached) (spaced-line context labels cs adjacent)
 
 -- those before a byte index
 pub spaced-near : (context : RowContext) (labels : List LabelModel) (cs : List Metrics) (ps : List Pointer) (before edge : ℕ) → AreConsecutive 0 0 cs → before ≤ max_label_start labels
-    → ps ≡ pointers_in (hanging labels) cs → edge ≡ width_of (metrics_before before cs)
+    → ps ≡ pointers_in (hanging_labels labels) cs → edge ≡ width_of (metrics_before before cs)
     → spaced context edge 0 (pointers_before before ps) ≡ pointers context labels (metrics_before before cs)
 spaced-near context labels cs ps before edge adjacent near found wide =
     rw (wide, found) (spaced-before context labels before cs adjacent near)

@@ -14,7 +14,7 @@ use Rattle.codespan_base.specs.Labels.{LabelModel, has_message, is_empty_stream}
 use Rattle.codespan_base.specs.Streams.{Stream, bytes, newline}
 use Rattle.codespan_picture.specs.Carets.{max_label_end}
 use Rattle.codespan_picture.specs.Arguments.{SingleLabelTuple, single_label_view, single_label_views}
-use Rattle.codespan_picture.specs.Rows.{RowContext, Line, HangingRow, last_with_end, overlaps_any, does_trail, trailing_entry, trailing, hanging, hanging_rows}
+use Rattle.codespan_picture.specs.Rows.{RowContext, Line, HangingRow, last_with_end, overlaps_any, does_trail, trailing_entry, trailing_label, hanging_labels, hanging_rows}
 use Rattle.codespan_picture.specs.RowStreams.{pointer_row, hanging_row, stream_of, stream_of_rows}
 use Rattle.codespan_row_parts.specs.Runs.{label_entry_view, AreHanging, hanging_stream}
 
@@ -130,7 +130,7 @@ entry_trails xs k end d h greatest last holds =
 pub trailing_here : (xs : List SingleLabelTuple) (k end : ℕ) (d : SingleLabelTuple) → k < length xs → end ≡ max_label_end (single_label_views xs)
     → last_with_end end (single_label_views xs) ≡ label_entry_view xs (Some k)
     → option_map_or (does_trail (single_label_views xs)) (label_entry_view xs (Some k)) false ≡ true
-    → Some (single_label_view (get_or xs k d)) ≡ trailing (single_label_views xs)
+    → Some (single_label_view (get_or xs k d)) ≡ trailing_label (single_label_views xs)
 trailing_here xs k end d h greatest last holds =
     ap (option_map (λ (e : ℕ × LabelModel). e.1)) (sym (entry_trails xs k end d h greatest last holds))
 
@@ -173,7 +173,7 @@ no_entry xs r end greatest last h =
 
 pub nothing_trails : (xs : List SingleLabelTuple) (r : Option ℕ) (end : ℕ) → end ≡ max_label_end (single_label_views xs)
     → last_with_end end (single_label_views xs) ≡ label_entry_view xs r
-    → option_map_or (does_trail (single_label_views xs)) (label_entry_view xs r) false ≡ false → None ≡ trailing (single_label_views xs)
+    → option_map_or (does_trail (single_label_views xs)) (label_entry_view xs r) false ≡ false → None ≡ trailing_label (single_label_views xs)
 nothing_trails xs r end greatest last h =
     ap (option_map (λ (e : ℕ × LabelModel). e.1)) (sym (no_entry xs r end greatest last h))
 
@@ -188,7 +188,7 @@ none_trails xs r end greatest last h =
 
 -- the labels that hang are those with a message of the one list and then of the other
 pub hanging_parts : (labels before after : List SingleLabelTuple) → AreHanging labels before after
-    → filter has_message (single_label_views before) ++ filter has_message (single_label_views after) ≡ hanging (single_label_views labels)
+    → filter has_message (single_label_views before) ++ filter has_message (single_label_views after) ≡ hanging_labels (single_label_views labels)
 hanging_parts labels before after h =
     sym (filter-append has_message (single_label_views before) (single_label_views after)) ∙ ap (filter has_message) (sym (map-append single_label_view before after)) ∙ h.are
 
@@ -243,13 +243,13 @@ some_message (x ∷ xs) h none = by_message (some_message xs) (has_message (sing
 
 -- no label hangs
 pub none_hangs : (labels before after : List SingleLabelTuple) → AreHanging labels before after
-    → list_any has_message (single_label_views before) ≡ false → list_any has_message (single_label_views after) ≡ false → hanging (single_label_views labels) ≡ []
+    → list_any has_message (single_label_views before) ≡ false → list_any has_message (single_label_views after) ≡ false → hanging_labels (single_label_views labels) ≡ []
 none_hangs labels before after h early late = rw (← hanging_parts labels before after h, no_message before early, no_message after late) refl
 
 -- so nothing is written of any
 pub nothing_hangs : (context : RowContext) (line : Line) (labels before after : List SingleLabelTuple) → AreHanging labels before after
     → list_any has_message (single_label_views before) ≡ false → list_any has_message (single_label_views after) ≡ false
-    → stream_of_rows context (hanging_rows line (hanging (single_label_views labels))) ≡ []
+    → stream_of_rows context (hanging_rows line (hanging_labels (single_label_views labels))) ≡ []
 nothing_hangs context line labels before after h early late = rw (none_hangs labels before after h early late) refl
 
 -- the pointers, and the messages that hang, the last one first
@@ -273,7 +273,7 @@ none-right (x ∷ xs) ys e = cc
 -- labels hang
 pub all_hanging : (context : RowContext) (line : Line) (labels before after : List SingleLabelTuple) → AreHanging labels before after
     → (list_any has_message (single_label_views before) ≡ true) ⊎ (list_any has_message (single_label_views after) ≡ true)
-    → stream_of_rows context (hanging_rows line (hanging (single_label_views labels)))
+    → stream_of_rows context (hanging_rows line (hanging_labels (single_label_views labels)))
     ≡ pointer_row context line ++ newline ++ hanging_stream context line (filter has_message (single_label_views after))
     ++ hanging_stream context line (filter has_message (single_label_views before))
 all_hanging context line labels before after h some =

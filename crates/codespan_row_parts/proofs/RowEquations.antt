@@ -12,7 +12,7 @@ use Rattle.codespan_base.proofs.Repeats.{repeat-add}
 use Rattle.codespan_row_parts.specs.declared.lanes.LaneRow.TheVariants.{Source, Plain, Below}
 use Rattle.codespan_picture.specs.Arguments.{SingleLabelTuple, single_label_views}
 use Rattle.codespan_row_parts.specs.LineViews.{row_lanes_view}
-use Rattle.codespan_picture.specs.Rows.{RowContext, Lanes, Line, Row, SourceRow, caret_rows, hanging, hanging_rows, underline_rows, rows_of}
+use Rattle.codespan_picture.specs.Rows.{RowContext, Lanes, Line, Row, SourceRow, caret_rows, hanging_labels, hanging_rows, underline_rows, rows_of}
 use Rattle.codespan_picture.specs.RowStreams.{bracketed, caret_row, source_row, stream_of, stream_of_rows}
 use Rattle.std.specs.Prelude.{codes}
 use Rattle.std.specs.Str.{IsUtf8}
@@ -86,11 +86,11 @@ row_and_end context row = stream_of context row ++ newline
 
 -- one part after another
 pub line_rows : (context : RowContext) (line : Line) → stream_of_rows context (rows_of line)
-    ≡ source_row context line ++ newline ++ stream_of_rows context (caret_rows line line.labels) ++ stream_of_rows context (hanging_rows line (hanging line.labels)) ++ stream_of_rows context (underline_rows line)
+    ≡ source_row context line ++ newline ++ stream_of_rows context (caret_rows line line.labels) ++ stream_of_rows context (hanging_rows line (hanging_labels line.labels)) ++ stream_of_rows context (underline_rows line)
 line_rows context line =
-    flat_map-append (row_and_end context) ((SourceRow line ∷ caret_rows line line.labels) ++ hanging_rows line (hanging line.labels)) (underline_rows line)
+    flat_map-append (row_and_end context) ((SourceRow line ∷ caret_rows line line.labels) ++ hanging_rows line (hanging_labels line.labels)) (underline_rows line)
     ∙ ap (λ (l : Stream). l ++ stream_of_rows context (underline_rows line))
-    (flat_map-append (row_and_end context) (SourceRow line ∷ caret_rows line line.labels) (hanging_rows line (hanging line.labels)))
+    (flat_map-append (row_and_end context) (SourceRow line ∷ caret_rows line line.labels) (hanging_rows line (hanging_labels line.labels)))
 
 -- the carets of a line that has none
 pub caret_rows_none : (context : RowContext) (line : Line) (labels : List SingleLabelTuple) → length labels ≤ 0 → stream_of_rows context (caret_rows line (single_label_views labels)) ≡ []

@@ -26,11 +26,11 @@ rendered_start config padding locus =
 
 -- a line of the source, with the labels inside it and the lane marks on it
 abbrev pub source_line : ℕ → List ℕ → List SingleLabelTuple → ℕ → List LaneMarkTuple → Line
-source_line number source labels lane_count marks = record {
+source_line number source labels num_multi_labels marks = record {
   number = number;
   text = text_without_line_end source;
   labels = single_label_views labels;
-  lanes = lanes_of lane_count marks;
+  lanes = lanes_of num_multi_labels marks;
 }
 
 -- all rows of a line of the source
@@ -40,13 +40,13 @@ rendered_source config severity padding line =
 
 -- a row of a snippet without text
 abbrev pub rendered_empty : Config → Severity → ℕ → ℕ → List LaneMarkTuple → Stream
-rendered_empty config severity padding lane_count marks =
-    empty_row (context_of config severity padding) (lanes_of lane_count marks) ++ newline
+rendered_empty config severity padding num_multi_labels marks =
+    empty_row (context_of config severity padding) (lanes_of num_multi_labels marks) ++ newline
 
 -- the row of a break
 abbrev pub rendered_break : Config → Severity → ℕ → ℕ → List LaneMarkTuple → Stream
-rendered_break config severity padding lane_count marks =
-    break_row (context_of config severity padding) (lanes_of lane_count marks) ++ newline
+rendered_break config severity padding num_multi_labels marks =
+    break_row (context_of config severity padding) (lanes_of num_multi_labels marks) ++ newline
 
 -- the later rows of a note
 abbrev pub later_note_rows : ℕ → List (List ℕ) → Stream

@@ -9,7 +9,7 @@ use Rattle.codespan_picture.specs.declared.char_metrics.Metrics.{Metrics}
 use Rattle.codespan_picture.specs.CharMetrics.{char_metrics, char_metrics_to_end}
 use Rattle.codespan_picture.specs.Arguments.{SingleLabelTuple, LaneMarkTuple, single_label_view, single_label_views, lane_mark_view, locus_view, text_now}
 use Rattle.codespan_picture.specs.Lanes.{Source, Underline, crossing_cells, label_glyph}
-use Rattle.codespan_picture.specs.Rows.{caret_rows, hanging, hanging_rows}
+use Rattle.codespan_picture.specs.Rows.{caret_rows, hanging_labels, hanging_rows}
 use Rattle.codespan_picture.specs.RowParts.{border_left, carets, metrics_before, outer_gutter, label_message, leading_of, outer_gutter_number, pointers, inner_gutter, severity_name}
 use Rattle.codespan_picture.specs.RowStreams.{bracketed, leading_locus, pointer_row, stream_of_rows}
 use Rattle.codespan_picture.specs.declared.arguments.Locus as rust_locus
@@ -104,4 +104,4 @@ messages_view x line found =
 abbrev pub hanging_rows_view : context.RowContext → rust_line.Line → Stream
 hanging_rows_view x line =
     stream_of_rows (context_view x)
-    (hanging_rows (line_view line) (hanging (single_label_views line.labels.now)))
+    (hanging_rows (line_view line) (hanging_labels (single_label_views line.labels.now)))

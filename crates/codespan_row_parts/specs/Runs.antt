@@ -8,7 +8,7 @@ use Rattle.codespan_base.specs.Labels.{LabelModel, has_message}
 use Rattle.codespan_base.specs.Streams.{Stream, spaces, repeated}
 use Rattle.codespan_picture.specs.Carets.{caret_for}
 use Rattle.codespan_picture.specs.Arguments.{SingleLabelTuple, single_label_view, single_label_views}
-use Rattle.codespan_picture.specs.Rows.{RowContext, Line, HangingRow, hanging}
+use Rattle.codespan_picture.specs.Rows.{RowContext, Line, HangingRow, hanging_labels}
 use Rattle.codespan_picture.specs.RowStreams.{stream_of_rows}
 
 -- a run of carets of a style, or of spaces
@@ -35,7 +35,7 @@ label_entry_view xs (Some k) = option_map (λ x. (k, single_label_view x)) (slic
 pub record AreHanging (labels before after : List SingleLabelTuple) : Type 0 where
   pub are :
       filter has_message (single_label_views (before ++ after))
-      ≡ hanging (single_label_views labels)
+      ≡ hanging_labels (single_label_views labels)
 
 -- the two lists are a prefix of the labels and a suffix of them
 pub record ArePieces (labels before after : List SingleLabelTuple) : Type 0 where

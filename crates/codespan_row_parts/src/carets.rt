@@ -10,7 +10,7 @@ ghost use Rattle.codespan_row_parts.specs.LineViews.{context_view, line_view};
 ghost use Rattle.codespan_row_parts.specs.RowViews.{carets_view, line_metrics_to_end_view, label_message_view};
 ghost use Rattle.codespan_picture.specs.RowParts.{carets, change, trailing_message};
 ghost use Rattle.codespan_picture.specs.RowStreams.{caret_row};
-ghost use Rattle.codespan_picture.specs.Rows.{trailing};
+ghost use Rattle.codespan_picture.specs.Rows.{trailing_label};
 ghost use Rattle.codespan_row_parts.specs.LineSources.{char_input};
 
 use crate::char_cursor::CharCursor;
@@ -136,12 +136,13 @@ pub fn write_message<W: PutStyle>(
 fn write_trailing<W: PutStyle>(
     w: &mut W,
     severity: Severity,
-    trailing: Option<&SingleLabel<'_>>,
+    trailing_label: Option<&SingleLabel<'_>>,
 ) -> Result<(), W::Error>
-    ensures { Writes (W.sink w.old) (trailing_message severity (optional_label_view trailing.entry))
+    ensures { Writes (W.sink w.old)
+        (trailing_message severity (optional_label_view trailing_label.entry))
         result (W.sink w.new) }
 {
-    match trailing {
+    match trailing_label {
         Some(label) => {
             write_space(w)?;
             write_message(w, severity, label)
@@ -168,14 +169,14 @@ pub fn write_caret_row<W: PutStyle, S: LineSource>(
     messages: Messages<'_, '_>,
 ) -> Result<(), W::Error>
     requires input { S.input source.now ≡ char_input context line }
-    requires trailing { optional_label_view messages.trailing
-        ≡ trailing (single_label_views line.labels.now) }
+    requires trailing_label { optional_label_view messages.trailing_label
+        ≡ trailing_label (single_label_views line.labels.now) }
     ensures { Writes (W.sink w.old)
         (caret_row (context_view context.entry) (line_view line.entry) ++ newline) result
         (W.sink w.new) }
 {
     write_row_start(w, context, line)?;
     write_carets(w, context, line, source)?;
-    write_trailing(w, context.severity, messages.trailing)?;
+    write_trailing(w, context.severity, messages.trailing_label)?;
     write_newline(w)
 }

@@ -73,7 +73,8 @@ pub trait LineSource {
         messages: Messages<'_, '_>,
     ) -> Result<(), W::Error>
         requires input { input self.now ≡ char_input context line }
-        requires hanging { AreHanging line.labels.now messages.before.now messages.after.now }
+        requires hanging_labels { AreHanging line.labels.now messages.before.now
+            messages.after.now }
         ensures { Writes (W.sink w.old)
             (pointers_view context.entry line.entry (line_metrics_view context.entry line.entry))
             result (W.sink w.new) };
@@ -99,7 +100,8 @@ pub trait LineSource {
         before: usize,
     ) -> Result<(), W::Error>
         requires input { input self.now ≡ char_input context line }
-        requires hanging { AreHanging line.labels.now messages.before.now messages.after.now }
+        requires hanging_labels { AreHanging line.labels.now messages.before.now
+            messages.after.now }
         requires near { before ≤ max_label_start (single_label_views line.labels.now) }
         ensures { Writes (W.sink w.old) (pointers_before_view context.entry line.entry before)
             result (W.sink w.new) };

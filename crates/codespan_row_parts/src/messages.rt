@@ -6,7 +6,7 @@ ghost use Rattle.std.specs.Option.{option_map_or};
 ghost use Rattle.codespan_base.specs.Labels.{has_message};
 ghost use Rattle.codespan_picture.specs.Arguments.{single_label_view, single_label_views};
 ghost use Rattle.codespan_row_parts.specs.Runs.{optional_label_view, label_entry_view, AreHanging, ArePieces};
-ghost use Rattle.codespan_picture.specs.Rows.{trailing, last_with_end, overlaps_any, does_trail};
+ghost use Rattle.codespan_picture.specs.Rows.{trailing_label, last_with_end, overlaps_any, does_trail};
 
 use crate::carets::{is_overlapping, max_label_end};
 use codespan_picture::arguments::SingleLabel;
@@ -15,7 +15,7 @@ use codespan_picture::arguments::SingleLabel;
 #[derive(Clone, Copy)]
 pub struct Messages<'row, 'd> {
     /// The label whose message trails.
-    pub trailing: Option<&'row SingleLabel<'d>>,
+    pub trailing_label: Option<&'row SingleLabel<'d>>,
     /// The labels that may hang: those before the trailing one, or all where none trails.
     pub before: &'row [SingleLabel<'d>],
     /// The labels that may hang after these: those after the trailing one, or none.
@@ -26,19 +26,19 @@ impl<'row, 'd> Messages<'row, 'd> {
     /// Finds the trailing label: the last of those with the greatest end, where it has a message
     /// and overlaps no other label. Each other label with a message hangs.
     pub fn of(labels: &'row [SingleLabel<'d>]) -> Messages<'row, 'd>
-        ensures trailing { optional_label_view result.trailing
-            ≡ trailing (single_label_views labels.now) }
-        ensures hanging { AreHanging labels.now result.before.now result.after.now }
+        ensures trailing_label { optional_label_view result.trailing_label
+            ≡ trailing_label (single_label_views labels.now) }
+        ensures hanging_labels { AreHanging labels.now result.before.now result.after.now }
         ensures pieces { ArePieces labels.now result.before.now result.after.now }
     {
         match last_with_end(labels, max_label_end(labels)) {
             Some(index) if does_trail(labels, index) => Messages {
-                trailing: Some(&labels[index]),
+                trailing_label: Some(&labels[index]),
                 before: &labels[..index],
                 after: &labels[index + 1..],
             },
             _ => Messages {
-                trailing: None,
+                trailing_label: None,
                 before: labels,
                 after: &[],
             },

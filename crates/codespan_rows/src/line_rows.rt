@@ -3,7 +3,7 @@
 ghost use Rattle.std.specs.Prelude.{◌≡◌};
 ghost use Rattle.codespan_base.specs.WriterLaw.{Writes};
 ghost use Rattle.codespan_picture.specs.Arguments.{single_label_views};
-ghost use Rattle.codespan_picture.specs.Rows.{rows_of, trailing};
+ghost use Rattle.codespan_picture.specs.Rows.{rows_of, trailing_label};
 ghost use Rattle.codespan_picture.specs.RowStreams.{stream_of_rows};
 ghost use Rattle.codespan_row_parts.specs.LineSources.{char_input};
 ghost use Rattle.codespan_row_parts.specs.LineViews.{context_view, line_view};
@@ -28,8 +28,8 @@ fn write_caret_rows<W: PutStyle, S: LineSource>(
     messages: Messages<'_, '_>,
 ) -> Result<(), W::Error>
     requires input { S.input source.now ≡ char_input context line }
-    requires trailing { optional_label_view messages.trailing
-        ≡ trailing (single_label_views line.labels.now) }
+    requires trailing_label { optional_label_view messages.trailing_label
+        ≡ trailing_label (single_label_views line.labels.now) }
     ensures { Writes (W.sink w.old) (caret_rows_view context.entry line.entry) result
         (W.sink w.new) }
 {

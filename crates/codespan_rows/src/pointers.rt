@@ -73,7 +73,7 @@ fn write_pointer_row<W: PutStyle, S: LineSource>(
     rows: &RowsUnder<'_, '_, S>,
 ) -> Result<(), W::Error>
     requires input { S.input rows.now.source.now ≡ char_input rows.now.context rows.now.line }
-    requires hanging { AreHanging rows.now.line.labels.now
+    requires hanging_labels { AreHanging rows.now.line.labels.now
         rows.now.messages.before.now rows.now.messages.after.now }
     ensures { Writes (W.sink w.old)
         (pointer_row (context_view rows.now.context) (line_view rows.now.line) ++ newline)
@@ -92,7 +92,7 @@ fn write_hanging_row<W: PutStyle, S: LineSource>(
     label: &SingleLabel<'_>,
 ) -> Result<(), W::Error>
     requires input { S.input rows.now.source.now ≡ char_input rows.now.context rows.now.line }
-    requires hanging { AreHanging rows.now.line.labels.now
+    requires hanging_labels { AreHanging rows.now.line.labels.now
         rows.now.messages.before.now rows.now.messages.after.now }
     requires near { (single_label_view label.now).start
         ≤ max_label_start (single_label_views rows.now.line.labels.now) }
@@ -115,7 +115,7 @@ fn write_hanging_rows<W: PutStyle, S: LineSource>(
     labels: &[SingleLabel<'_>],
 ) -> Result<(), W::Error>
     requires input { S.input rows.now.source.now ≡ char_input rows.now.context rows.now.line }
-    requires hanging { AreHanging rows.now.line.labels.now
+    requires hanging_labels { AreHanging rows.now.line.labels.now
         rows.now.messages.before.now rows.now.messages.after.now }
     requires near { max_label_start (single_label_views labels.now)
         ≤ max_label_start (single_label_views rows.now.line.labels.now) }
@@ -137,7 +137,7 @@ fn write_pointers_and_messages<W: PutStyle, S: LineSource>(
     rows: &RowsUnder<'_, '_, S>,
 ) -> Result<(), W::Error>
     requires input { S.input rows.now.source.now ≡ char_input rows.now.context rows.now.line }
-    requires hanging { AreHanging rows.now.line.labels.now
+    requires hanging_labels { AreHanging rows.now.line.labels.now
         rows.now.messages.before.now rows.now.messages.after.now }
     requires pieces { ArePieces rows.now.line.labels.now
         rows.now.messages.before.now rows.now.messages.after.now }
@@ -168,7 +168,7 @@ pub fn write_hanging<W: PutStyle, S: LineSource>(
     messages: Messages<'_, '_>,
 ) -> Result<(), W::Error>
     requires input { S.input source.now ≡ char_input context line }
-    requires hanging { AreHanging line.labels.now messages.before.now messages.after.now }
+    requires hanging_labels { AreHanging line.labels.now messages.before.now messages.after.now }
     requires pieces { ArePieces line.labels.now messages.before.now messages.after.now }
     ensures { Writes (W.sink w.old) (hanging_rows_view context.entry line.entry)
         result (W.sink w.new) }

@@ -24,7 +24,7 @@ pub newline_lawful : (name text : List ℕ) (first_line : ℕ) (stated : ℕ →
 newline_lawful name text first_line stated u fits =
     let f : FileModel =
     file_of (record { cut = newline_text name text first_line; stated_location = stated }) in
-    renumbered_lawful (simple_file (Some name) text) f.number f.column f.location
+    renumbered_lawful (simple_file (Some name) text) f.line_number f.column_number f.location
     (simple_lawful (Some name) text u fits)
 
 -- the test finds only boundaries

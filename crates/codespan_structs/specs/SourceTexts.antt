@@ -70,8 +70,8 @@ file_of s = record {
   text = s.cut.text;
   starts = s.cut.starts;
   ends = s.cut.ends;
-  number = s.cut.number;
-  column = cut_column s.cut;
+  line_number = s.cut.number;
+  column_number = cut_column s.cut;
   location = λ byte. unwrap_or (s.stated_location byte) (cut_location s.cut byte);
 }
 

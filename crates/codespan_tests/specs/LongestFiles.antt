@@ -37,8 +37,8 @@ longest_file name = record {
   text = longest_text;
   starts = longest_starts;
   ends = longest_starts;
-  number = λ i. i;
-  column = λ i byte. 1;
+  line_number = λ i. i;
+  column_number = λ i byte. 1;
   location = λ byte. record { line_number = byte; column_number = 1 };
 }
 

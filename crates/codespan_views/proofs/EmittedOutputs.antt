@@ -41,12 +41,12 @@ text_prefix : (old new : Sink) (s : Stream) → old.frame.spelling ≡ no_style_
 text_prefix old new s plain p = record { prefix = p.prefix; rest = p.rest; whole = p.whole ∙ ap (λ (spelling : Spelling). spelled spelling s) plain; contents = p.contents }
 
 -- what has been written before an error of lookups, in other words about the writer
-written_before-other : {Id : Type 0} (files : FileDatabase Id) (view : Config) (d : Diagnostic Id) (loci : List Locus) (style : DisplayStyle) {A B : Type 0} {P Q : List Locus → Type 0} (e : Error)
-    → (A → B) → ((ps : List Locus) → P ps → Q ps) → WrittenBefore view files d loci A P e style → WrittenBefore view files d loci B Q e style
-written_before-other files view d loci Rich e unchanged wrote left = λ h. ⊎_elim (λ a. inl (unchanged a)) (λ k. inr k) (left h)
-written_before-other files view d loci Medium e unchanged wrote left =
+written_before-other : {Id : Type 0} (files : FileDatabase Id) (view_config : Config) (d : Diagnostic Id) (loci : List Locus) (style : DisplayStyle) {A B : Type 0} {P Q : List Locus → Type 0} (e : Error)
+    → (A → B) → ((ps : List Locus) → P ps → Q ps) → WrittenBefore view_config files d loci A P e style → WrittenBefore view_config files d loci B Q e style
+written_before-other files view_config d loci Rich e unchanged wrote left = λ h. ⊎_elim (λ a. inl (unchanged a)) (λ k. inr k) (left h)
+written_before-other files view_config d loci Medium e unchanged wrote left =
     record { before = left.before; here = left.here; after = left.after; whole = left.whole; succeed = left.succeed; fails = left.fails; wrote = wrote _ left.wrote }
-written_before-other files view d loci Short e unchanged wrote left =
+written_before-other files view_config d loci Short e unchanged wrote left =
     record { before = left.before; here = left.here; after = left.after; whole = left.whole; succeed = left.succeed; fails = left.fails; wrote = wrote _ left.wrote }
 
 module _ {Id : Type 0} {config : Config} {files : FileDatabase Id} {d : Diagnostic Id} where

@@ -31,51 +31,51 @@ use Rattle.codespan_views.proofs.PlannedFiles.{drop-end, followed-at, ids-count,
 
 -- ---- the files from an index on
 
-module _ {Id : Type 0} (database : FileDatabase Id) (view : RichDiagnostic Id) where
+module _ {Id : Type 0} (database : FileDatabase Id) (view_config : RichDiagnostic Id) where
   -- a file with its labels
   abbrev pub labeled : Id → LabeledFileModel
-  labeled = labeled_file_model database.same database.file (labels_of (diagnostic_of view))
+  labeled = labeled_file_model database.same database.file (labels_of (diagnostic_of view_config))
 
   -- the lookups with a file's snippet
   abbrev pub snippet_lookups_of : Id → List (Id × Lookup)
-  snippet_lookups_of = λ id. lookups_of_file id (snippet_lookups database (labels_of (diagnostic_of view)) (view_config_of view) id)
+  snippet_lookups_of = λ id. lookups_of_file id (snippet_lookups database (labels_of (diagnostic_of view_config)) (view_config_of view_config) id)
 
   module _ (output_plan : OutputPlan Id) where
     -- the rows of the files from an index on
     abbrev pub rows_left : ℕ → List Row
-    rows_left k = snippets (view_config_of view) (has_any (notes_of (diagnostic_of view))) (drop k (loci_of output_plan.snippet_plans.items)) (map labeled (drop k (ids_of output_plan.snippet_plans.items)))
+    rows_left k = snippets (view_config_of view_config) (has_any (notes_of (diagnostic_of view_config))) (drop k (loci_of output_plan.snippet_plans.items)) (map labeled (drop k (ids_of output_plan.snippet_plans.items)))
 
     -- their lookups
     abbrev pub lookups_left : ℕ → List (Id × Lookup)
     lookups_left k = flat_map snippet_lookups_of (drop k (ids_of output_plan.snippet_plans.items))
 
     -- the files before this index are rendered, and all lookups with them succeeded
-    pub record SnippetsLeft (renderer : Config) (k : ℕ) (old now : Sink) : Type 0 where
+    pub record SnippetsLeft (renderer_config : Config) (k : ℕ) (old now : Sink) : Type 0 where
       pub rows : List Row
-      pub rendered : IsLookupRun None old (stream_of_rows (context_of renderer (diagnostic_of view).severity output_plan.padding) rows) (Ok tt) now
+      pub rendered : IsLookupRun None old (stream_of_rows (context_of renderer_config (diagnostic_of view_config).severity output_plan.padding) rows) (Ok tt) now
       pub rows_whole : rows ++ rows_left k ≡ rows_left 0
       pub lookups : List (Id × Lookup)
       pub succeeded : first_error database.failure lookups ≡ None
       pub lookups_whole : lookups ++ lookups_left k ≡ lookups_left 0
 
 -- no file is rendered
-pub left-start : {Id : Type 0} {database : FileDatabase Id} {view : RichDiagnostic Id} {renderer : Config} {output_plan : OutputPlan Id} {s : Sink}
-    → SnippetsLeft database view output_plan renderer 0 s s
+pub left-start : {Id : Type 0} {database : FileDatabase Id} {view_config : RichDiagnostic Id} {renderer_config : Config} {output_plan : OutputPlan Id} {s : Sink}
+    → SnippetsLeft database view_config output_plan renderer_config 0 s s
 left-start = record { rows = []; rendered = run_of_nothing; rows_whole = refl; lookups = []; succeeded = refl; lookups_whole = refl }
 
-module _ {Id : Type 0} {database : FileDatabase Id} {view : RichDiagnostic Id} {renderer : Config} {output_plan : OutputPlan Id} {k : ℕ} {old mid : Sink}
-    (planned : IsOutputPlan database (view_config_of view) (labels_of (diagnostic_of view)) output_plan) (left : SnippetsLeft database view output_plan renderer k old mid) where
+module _ {Id : Type 0} {database : FileDatabase Id} {view_config : RichDiagnostic Id} {renderer_config : Config} {output_plan : OutputPlan Id} {k : ℕ} {old mid : Sink}
+    (planned : IsOutputPlan database (view_config_of view_config) (labels_of (diagnostic_of view_config)) output_plan) (left : SnippetsLeft database view_config output_plan renderer_config k old mid) where
   -- what all rows share, in a configuration
   abbrev context_by : Config → RowContext
-  context_by config = context_of config (diagnostic_of view).severity output_plan.padding
+  context_by config = context_of config (diagnostic_of view_config).severity output_plan.padding
 
   -- what all of them do
   abbrev context : RowContext
-  context = context_by renderer
+  context = context_by renderer_config
 
   -- whether there are notes after the snippets
   abbrev has_notes : Bool
-  has_notes = has_any (notes_of (diagnostic_of view))
+  has_notes = has_any (notes_of (diagnostic_of view_config))
 
   -- what names the files, and where they start
   abbrev ids : List Id
@@ -86,29 +86,29 @@ module _ {Id : Type 0} {database : FileDatabase Id} {view : RichDiagnostic Id} {
 
   -- the rows of these files, whose snippets have these loci
   abbrev rows_at : List Locus → List Id → List Row
-  rows_at ps js = snippets (view_config_of view) has_notes ps (map (labeled database view) js)
+  rows_at ps js = snippets (view_config_of view_config) has_notes ps (map (labeled database view_config) js)
 
   -- the rows of the files from an index on, and their lookups
   abbrev rest : ℕ → List Row
-  rest = rows_left database view output_plan
+  rest = rows_left database view_config output_plan
 
   abbrev lookups_from : ℕ → List (Id × Lookup)
-  lookups_from = lookups_left database view output_plan
+  lookups_from = lookups_left database view_config output_plan
 
   -- the rows of all files
   abbrev all_rows : List Row
-  all_rows = snippets (view_config_of view) has_notes loci (labeled_file_models database.same database.file (labels_of (diagnostic_of view)))
+  all_rows = snippets (view_config_of view_config) has_notes loci (labeled_file_models database.same database.file (labels_of (diagnostic_of view_config)))
 
   -- what all their lookups fail with
   abbrev all_failure : Option Error
-  all_failure = first_error database.failure (late_lookups database (labels_of (diagnostic_of view)) (view_config_of view))
+  all_failure = first_error database.failure (late_lookups database (labels_of (diagnostic_of view_config)) (view_config_of view_config))
 
   -- from the first index on these are all of them
   rows-all : rest 0 ≡ all_rows
   rows-all = ap (rows_at loci) planned.ids_are
 
   failure-all : first_error database.failure (lookups_from 0) ≡ all_failure
-  failure-all = ap (λ js. first_error database.failure (flat_map (snippet_lookups_of database view) js)) planned.ids_are
+  failure-all = ap (λ js. first_error database.failure (flat_map (snippet_lookups_of database view_config) js)) planned.ids_are
 
   -- all files are rendered
   pub left-end : {snippet_plans : List (SnippetPlan Id)} → snippet_plans ≡ output_plan.snippet_plans.items → length snippet_plans ≤ k → WritesWithLookups all_failure old (stream_of_rows context all_rows) (Ok tt) mid
@@ -118,7 +118,7 @@ module _ {Id : Type 0} {database : FileDatabase Id} {view : RichDiagnostic Id} {
       subst₂ (λ (o : Option Error) (s : Stream). WritesWithLookups o old s (Ok tt) mid)
       (sym left.succeeded ∙ ap (first_error database.failure)
       (sym (append-nil left.lookups) ∙ ap
-      (λ js. left.lookups ++ flat_map (snippet_lookups_of database view) js) (sym none)
+      (λ js. left.lookups ++ flat_map (snippet_lookups_of database view_config) js) (sym none)
       ∙ left.lookups_whole) ∙ failure-all)
       (ap (stream_of_rows context) (sym (append-nil left.rows) ∙ ap (λ r. left.rows ++ r) (sym (no-rows (drop k loci)) ∙ ap (rows_at (drop k loci)) (sym none))
       ∙ left.rows_whole ∙ rows-all))
@@ -129,35 +129,35 @@ module _ {Id : Type 0} {database : FileDatabase Id} {view : RichDiagnostic Id} {
       no-rows (p ∷ ps) = refl
 
   module _ {snippet_plan : SnippetPlan Id} {snippet_lines : List (RustLine Id)} {notes next : Bool} {now : Config} (at : IsElementAt output_plan.snippet_plans.items k snippet_plan)
-      (is : IsSnippetPlan (view_config_of view) (labeled database view snippet_plan.file.now.id) snippet_plan
+      (is : IsSnippetPlan (view_config_of view_config) (labeled database view_config snippet_plan.file.now.id) snippet_plan
       snippet_lines) (notes_are : notes ≡ has_notes)
       (next_is : next ≡ nat_lt (k + 1) (length output_plan.snippet_plans.items))
-      (equal : now ≡ renderer) where
+      (equal : now ≡ renderer_config) where
     -- the file with its labels
     abbrev own : LabeledFileModel
-    own = labeled database view snippet_plan.file.now.id
+    own = labeled database view_config snippet_plan.file.now.id
 
     -- the rows of the file at the index
     abbrev rows_here : List Row
-    rows_here = snippet (view_config_of view) (locus_view snippet_plan.locus) own ++ row_after (has_any (drop (k + 1) ids) || has_notes) own
+    rows_here = snippet (view_config_of view_config) (locus_view snippet_plan.locus) own ++ row_after (has_any (drop (k + 1) ids) || has_notes) own
 
     -- its lookups
     abbrev lookups_here : List (Id × Lookup)
-    lookups_here = snippet_lookups_of database view snippet_plan.file.now.id
+    lookups_here = snippet_lookups_of database view_config snippet_plan.file.now.id
 
     -- these rows come first among those that are left
     rows-next : rest k ≡ rows_here ++ rest (k + 1)
     rows-next = ap (λ (ps : List Locus). rows_at ps (drop k ids)) (drop-one loci k (locus_view snippet_plan.locus) (locus-inside at) (locus-at at))
         ∙ ap (rows_at (locus_view snippet_plan.locus ∷ drop (k + 1) loci)) (drop-one ids k snippet_plan.file.now.id (id-inside at) (id-at at))
-        ∙ ap (λ (b : Bool). (snippet (view_config_of view) (locus_view snippet_plan.locus) own ++ row_after b own) ++ rest (k + 1)) (followed-mapped (drop (k + 1) ids))
+        ∙ ap (λ (b : Bool). (snippet (view_config_of view_config) (locus_view snippet_plan.locus) own ++ row_after b own) ++ rest (k + 1)) (followed-mapped (drop (k + 1) ids))
       where
-        followed-mapped : (js : List Id) → (has_any (map (labeled database view) js) || has_notes) ≡ (has_any js || has_notes)
+        followed-mapped : (js : List Id) → (has_any (map (labeled database view_config) js) || has_notes) ≡ (has_any js || has_notes)
         followed-mapped [] = refl
         followed-mapped (j ∷ js) = refl
 
     -- and so do its lookups
     lookups-next : lookups_from k ≡ lookups_here ++ lookups_from (k + 1)
-    lookups-next = ap (flat_map (snippet_lookups_of database view)) (drop-one ids k snippet_plan.file.now.id (id-inside at) (id-at at))
+    lookups-next = ap (flat_map (snippet_lookups_of database view_config)) (drop-one ids k snippet_plan.file.now.id (id-inside at) (id-at at))
 
     -- something follows the file
     abbrev follows : Bool
@@ -191,13 +191,13 @@ module _ {Id : Type 0} {database : FileDatabase Id} {view : RichDiagnostic Id} {
         run_as (or_failure-none snippet_lines_failure ∙ ap (λ (ls : List Lookup). first_error database.failure (lookups_of_file snippet_plan.file.now.id (Source ∷ ls))) is.lookups)
         (sym (rows-two context (rows_in snippet_plan (database.file snippet_plan.file.now.id) snippet_lines) (trailing_border_rows snippet_plan follows))
         ∙ ap (stream_of_rows context) (rows-are is follows)
-        ∙ ap (λ (b : Bool). stream_of_rows context (snippet (view_config_of view) (locus_view snippet_plan.locus) own ++ row_after b own)) followed)
+        ∙ ap (λ (b : Bool). stream_of_rows context (snippet (view_config_of view_config) (locus_view snippet_plan.locus) own ++ row_after b own)) followed)
         both
 
     -- the file is rendered
     left-next : {new : Sink} → IsLookupRun (first_error database.failure lookups_here) mid
         (stream_of_rows context rows_here) (Ok tt) new
-        → SnippetsLeft database view output_plan renderer (k + 1) old new
+        → SnippetsLeft database view_config output_plan renderer_config (k + 1) old new
     left-next rendered =
         record {
           rows = left.rows ++ rows_here;
@@ -243,7 +243,7 @@ module _ {Id : Type 0} {database : FileDatabase Id} {view : RichDiagnostic Id} {
           inner new r writes) io))
 
       -- it was written
-      pub next-file : {new : Sink} → WroteStream inner (stream_of_rows (context_by after) (trailing_border_rows snippet_plan follows)) new → SnippetsLeft database view output_plan renderer (k + 1) old new
+      pub next-file : {new : Sink} → WroteStream inner (stream_of_rows (context_by after) (trailing_border_rows snippet_plan follows)) new → SnippetsLeft database view_config output_plan renderer_config (k + 1) old new
       next-file written = left-next (end-here written tt)
 
       -- it was cut short

@@ -49,7 +49,7 @@ module _ {F Id : Type 0} {database : F → FileDatabase Id} {context : SnippetCo
 
   -- the rows of its lines
   abbrev line_rows : List Row
-  line_rows = rows_of_lines ((database context.files.now).file snippet_plan.file.now.id) snippet_plan.file.now.lane_count (map line_view own)
+  line_rows = rows_of_lines ((database context.files.now).file snippet_plan.file.now.id) snippet_plan.file.now.num_multi_labels (map line_view own)
 
   -- the error of the lookups of these snippet lines
   abbrev lookups_failure : List (SnippetLine Id) → Option Error

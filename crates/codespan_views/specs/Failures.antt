@@ -24,7 +24,7 @@ SomeFails files lookups = (error : Error) × FailsWith files lookups error
 -- ---- what has been written by then: `unchanged` says that nothing has, and `Wrote loci` that the
 -- headers with these loci have, and nothing else
 
-module _ {Id : Type 0} (view : Config) (files : FileDatabase Id) (d : Diagnostic Id)
+module _ {Id : Type 0} (view_config : Config) (files : FileDatabase Id) (d : Diagnostic Id)
     (loci : List Locus) (unchanged : Type 0) (Wrote : List Locus → Type 0) (e : Error) where
   -- in short and medium style a lookup for the header of a primary label fails, and the headers of
   -- the labels before it have been written, whole
@@ -43,7 +43,7 @@ module _ {Id : Type 0} (view : Config) (files : FileDatabase Id) (d : Diagnostic
   WrittenBefore Rich =
       e ≡ FormatError
       → unchanged
-      ⊎ (first_error files.failure (late_lookups files (labels_of d) view) ≡ Some e)
+      ⊎ (first_error files.failure (late_lookups files (labels_of d) view_config) ≡ Some e)
   WrittenBefore Medium = FailsAtLabel
   WrittenBefore Short = FailsAtLabel
 
@@ -51,7 +51,7 @@ module _ {Id : Type 0} (view : Config) (files : FileDatabase Id) (d : Diagnostic
   -- then it has not; in rich style nothing has been written where a lookup before the header fails
   pub record FailsAs (style : DisplayStyle) (writer_failed writer_unchanged : Type 0) : Type 0 where
     pub error_is : (IsIo e × writer_failed)
-        ⊎ (writer_unchanged × IsLookupError files (lookups_in style view files d) e
+        ⊎ (writer_unchanged × IsLookupError files (lookups_in style view_config files d) e
         × WrittenBefore style)
     pub early : style ≡ Rich
-        → SomeFails files (early_lookups files (labels_of d) view) → unchanged
+        → SomeFails files (early_lookups files (labels_of d) view_config) → unchanged

@@ -8,11 +8,11 @@ use Rattle.codespan_picture.specs.Picture.{AreLoci, NamesAreTexts, output}
 use Rattle.codespan_picture.specs.Rows.{Locus}
 use Rattle.codespan_picture.specs.Lookups.{AllSucceed, IsLookupError, lookups_in}
 
-module _ {Id : Type 0} (view : Config) (files : FileDatabase Id) (d : Diagnostic Id)
+module _ {Id : Type 0} (view_config : Config) (files : FileDatabase Id) (d : Diagnostic Id)
     (style : DisplayStyle) where
   -- no lookup failed, and each name is a text
   pub record Succeeds (loci : List Locus) : Type 0 where
-    pub lookups_succeed : AllSucceed files.failure (lookups_in style view files d)
+    pub lookups_succeed : AllSucceed files.failure (lookups_in style view_config files d)
     pub texts : NamesAreTexts loci
 
 module _ {Id : Type 0} (config : Config) (files : FileDatabase Id) (d : Diagnostic Id) where

@@ -4,7 +4,7 @@ use Rattle.std.specs.Prelude.{◌≡◌, true, ℕ, List, Option, Result, MatchR
 use Rattle.codespan_picture.specs.Types.{Diagnostic, Error, Config, DisplayStyle, Rich}
 use Rattle.codespan_base.specs.FileModel.{FileDatabase}
 use Rattle.codespan_base.specs.Streams.{text_of}
-use Rattle.codespan_base.specs.WriterLaw.{PrefixAppended, WritesOrPrefix, Sink, extended, is_known, failing, with_written, are_known}
+use Rattle.codespan_base.specs.WriterLaw.{AppendsBytes, WritesOrPrefix, Sink, extended, is_known, failing, with_written, are_known}
 use Rattle.codespan_laws.specs.RichLaws.{MeansLabels}
 use Rattle.codespan_picture.specs.Picture.{AreLoci, output}
 use Rattle.codespan_picture.specs.StatedPicture.{headers_at}
@@ -20,9 +20,7 @@ module _ {Id : Type 0} (config : Config) (files : FileDatabase Id) (d : Diagnost
       : Type 0 where
     pub loci : List Locus
     pub are_loci : AreLoci files d config.display_style loci
-    pub received : are_known old ≡ true
-        → MatchResult r (λ _. new ≡ extended old (text_at config files d loci))
-        (λ _. PrefixAppended old (text_at config files d loci) new)
+    pub received : AppendsBytes old (text_at config files d loci) r new
     pub on_end : MatchResult r (λ _. Succeeds config files d config.display_style loci)
         (λ e. FailsAs config files d loci
         (new ≡ old)
@@ -30,24 +28,24 @@ module _ {Id : Type 0} (config : Config) (files : FileDatabase Id) (d : Diagnost
         e config.display_style (Unit {0}) (Unit {0}))
     pub means : config.display_style ≡ Rich → MeansLabels config config files d
 
-module _ {Id : Type 0} (style : DisplayStyle) (renderer view : Config) (files : FileDatabase Id)
-    (d : Diagnostic Id) where
+module _ {Id : Type 0} (style : DisplayStyle) (renderer_config view_config : Config)
+    (files : FileDatabase Id) (d : Diagnostic Id) where
   -- the call writes the output with some loci, and where it fails a prefix of it, to a writer of
   -- styles; the frame, which is all of the writer but its bytes, is unchanged, but that the writer
   -- has failed where the error is its own
   pub record WritesOutput (old : Sink) (r : Result (Unit {0}) Error) (new : Sink) : Type 0 where
     pub loci : List Locus
     pub are_loci : AreLoci files d style loci
-    pub received : WritesOrPrefix old (output style renderer view files d loci) r new
+    pub received : WritesOrPrefix old (output style renderer_config view_config files d loci) r new
     pub on_end :
         MatchResult r
-        (λ _. (new.frame ≡ old.frame) × Succeeds view files d style loci)
-        (λ e. FailsAs view files d loci
+        (λ _. (new.frame ≡ old.frame) × Succeeds view_config files d style loci)
+        (λ e. FailsAs view_config files d loci
         (new ≡ old)
-        (λ wrote. is_known old ≡ true → new ≡ with_written old (headers_at renderer d wrote))
+        (λ wrote. is_known old ≡ true → new ≡ with_written old (headers_at renderer_config d wrote))
         e style (new.frame ≡ failing old.frame) (new.frame ≡ old.frame))
 
   -- the call writes the output, and whatever the result, in rich style the output means the labels
   pub record WritesStyled (old : Sink) (r : Result (Unit {0}) Error) (new : Sink) : Type 0 where
     pub writes : WritesOutput old r new
-    pub means : style ≡ Rich → MeansLabels renderer view files d
+    pub means : style ≡ Rich → MeansLabels renderer_config view_config files d

@@ -34,7 +34,7 @@ fn render_start<F, FileId, W: WriteStyle>(
     renderer.render_snippet_empty(
         context.padding,
         context.severity,
-        snippet_plan.file.lane_count,
+        snippet_plan.file.num_multi_labels,
         &[],
     )
 }
@@ -61,7 +61,7 @@ pub fn render_snippet<'files, 'd, F: Files<'files>, W: WriteStyle>(
     snippet_lines: &[SnippetLine<'_, 'd, F::FileId>],
 ) -> Result<(), Error>
     requires { AreLinesOf ((F.database context.now.files.now).file snippet_plan.now.file.now.id)
-        snippet_plan.now.file.now.lane_count snippet_lines.now }
+        snippet_plan.now.file.now.num_multi_labels snippet_lines.now }
     ensures { RendersSnippet W.sink F.database context.now snippet_plan.now snippet_lines.now
         renderer.old
         result renderer.new }
@@ -75,7 +75,7 @@ pub fn render_snippet<'files, 'd, F: Files<'files>, W: WriteStyle>(
             id: snippet_plan.file.id,
         },
         text: source.as_str(),
-        lane_count: snippet_plan.file.lane_count,
+        num_multi_labels: snippet_plan.file.num_multi_labels,
     };
     snippet.render_lines(renderer, labels, snippet_lines)
 }
@@ -98,7 +98,7 @@ pub fn render_trailing_border<F, FileId, W: WriteStyle>(
         renderer.render_snippet_empty(
             context.padding,
             context.severity,
-            snippet_plan.file.lane_count,
+            snippet_plan.file.num_multi_labels,
             &[],
         )
     } else {

@@ -50,10 +50,10 @@ mapped_text name text settings =
 -- the file with lines that are numbered by their indices
 abbrev pub from_zero : FileModel → FileModel
 from_zero f = record f {
-  number = λ i. i;
+  line_number = λ i. i;
   location = λ byte. record {
     line_number = line_of f.starts byte;
-    column_number = f.column (line_of f.starts byte) byte;
+    column_number = f.column_number (line_of f.starts byte) byte;
   };
 }
 

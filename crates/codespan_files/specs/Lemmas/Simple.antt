@@ -179,7 +179,7 @@ text_fits file = file.fits
 -- the law says nothing of numbers, columns and locations
 pub renumbered_lawful : (f : FileModel) (number : ℕ → ℕ) (column : ℕ → ℕ → ℕ)
     (location : ℕ → Location) → IsLawful f
-    → IsLawful (record f { number = number; column = column; location = location })
+    → IsLawful (record f { line_number = number; column_number = column; location = location })
 renumbered_lawful f number column location law = record {
   is_text = law.is_text;
   fits = law.fits;

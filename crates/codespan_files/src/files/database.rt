@@ -168,7 +168,7 @@ impl<'a, Name: Display + 'a, Source: AsStr + 'a> Files<'a> for SimpleFiles<Name,
         ensures number { IfOk result (λ number. number ≡ line_index + 1) }
         ensures default { FailsBy (line_number_failure line_index) result }
         ensures value { IfOk result (λ number.
-            number ≡ (file_in Name.output self.now id).number line_index) }
+            number ≡ (file_in Name.output self.now id).line_number line_index) }
         ensures failed { FailsBy (error_in self.now id (LineNumber line_index)) result }
         ensures memory { NeedsNoMemory result }
     {
@@ -190,7 +190,7 @@ impl<'a, Name: Display + 'a, Source: AsStr + 'a> Files<'a> for SimpleFiles<Name,
         byte_index: usize,
     ) -> Result<usize, Error>
         ensures value { IfOk result (λ number.
-            number ≡ (file_in Name.output self.now id).column line_index byte_index) }
+            number ≡ (file_in Name.output self.now id).column_number line_index byte_index) }
         ensures failed { FailsBy (error_in self.now id (ColumnNumber line_index byte_index))
             result }
         ensures memory { NeedsNoMemory result }

@@ -60,7 +60,7 @@ impl<Name: Drop, Source: AsStr + Drop> MappedFile<Name, Source> {
 impl<Name, Source: AsStr> MappedFile<Name, Source> {
     ghost use Rattle.codespan_files.specs.DatabaseViews.{mapped_name_of, mapped_source_of, mapped_text_of, settings_of};
     ghost use Rattle.codespan_files.specs.LawfulFiles.{FailsBy};
-    ghost use Rattle.codespan_files.specs.SimpleModel.{past_end};
+    ghost use Rattle.codespan_files.specs.SimpleModel.{line_failure};
     ghost use Rattle.codespan_files.specs.MappedModel.{setting, with_number};
 
     /// Sets the number of the line at this index, from 0; replaces an earlier one. The law
@@ -79,7 +79,7 @@ impl<Name, Source: AsStr> MappedFile<Name, Source> {
         ensures ok { OnOk result
             (settings_of self.new ≡ with_number line_index number (settings_of self.old)) }
         ensures err { OnErr result (settings_of self.new ≡ settings_of self.old) }
-        ensures failed { FailsBy (past_end (mapped_text_of self.old) line_index) result }
+        ensures failed { FailsBy (line_failure (mapped_text_of self.old) line_index) result }
     {
         let lines = self.file.line_count();
         if line_index >= lines {
@@ -127,7 +127,7 @@ impl<Name, Source: AsStr> MappedFile<Name, Source> {
 /// No call allocates. Names are borrowed, since the clone of a name need not display the same text.
 impl<'a, Name: Display + 'a, Source: AsStr + 'a> Files<'a> for MappedFile<Name, Source> {
     ghost use Rattle.codespan_files.specs.DatabaseViews.{mapped_error_of, mapped_file_of, mapped_name_of, mapped_text_of, settings_of};
-    ghost use Rattle.codespan_files.specs.SimpleModel.{past_end};
+    ghost use Rattle.codespan_files.specs.SimpleModel.{line_failure};
     ghost use Rattle.codespan_files.specs.MappedModel.{mapped_column, mapped_location, number_from, setting};
     ghost use Rattle.codespan_files.specs.FileModel.{line_of};
     ghost use Rattle.codespan_files.specs.LawfulFiles.{IsLineRange, NeedsNoMemory, FailsBy};
@@ -228,7 +228,7 @@ impl<'a, Name: Display + 'a, Source: AsStr + 'a> Files<'a> for MappedFile<Name, 
     fn column_number(&'a self, id: (), line_index: usize, byte_index: usize) -> Result<usize, Error>
         ensures value { IfOk result (λ number.
             number ≡ mapped_column (mapped_text_of self.now) line_index byte_index) }
-        ensures failed { FailsBy (past_end (mapped_text_of self.now) line_index) result }
+        ensures failed { FailsBy (line_failure (mapped_text_of self.now) line_index) result }
         ensures memory { NeedsNoMemory result }
     {
         let range = self.line_range(id, line_index)?;
@@ -265,7 +265,7 @@ impl<'a, Name: Display + 'a, Source: AsStr + 'a> Files<'a> for MappedFile<Name, 
     #[tactic(auto, using(crate::specs::Lemmas::Mapped::mapped_range))]
     fn line_range(&'a self, id: (), line_index: usize) -> Result<Range<usize>, Error>
         ensures value { IfOk result (IsLineRange (mapped_file_of Name.output self.now) line_index) }
-        ensures failed { FailsBy (past_end (mapped_text_of self.now) line_index) result }
+        ensures failed { FailsBy (line_failure (mapped_text_of self.now) line_index) result }
         ensures memory { NeedsNoMemory result }
     {
         let range = self.file.line_range(id, line_index)?;

@@ -93,7 +93,7 @@ impl<Name, Source: AsStr> SimpleFile<Name, Source> {
 /// No call allocates. Names are borrowed, since the clone of a name need not display the same text.
 impl<'a, Name: Display + 'a, Source: AsStr + 'a> Files<'a> for SimpleFile<Name, Source> {
     ghost use Rattle.codespan_files.specs.DatabaseViews.{file_of, name_of, text_of};
-    ghost use Rattle.codespan_files.specs.SimpleModel.{simple_failure, simple_column, simple_location, past_end};
+    ghost use Rattle.codespan_files.specs.SimpleModel.{simple_failure, simple_column, simple_location, line_failure};
     ghost use Rattle.codespan_files.specs.FileModel.{line_of};
     ghost use Rattle.codespan_files.specs.LawfulFiles.{IsLineRange, NeedsNoMemory, FailsBy, line_number_failure};
     ghost use Rattle.codespan_files.specs.Lemmas.Simple.{simple_lawful, simple_past_end, text_fits, text_is_utf8};
@@ -179,7 +179,7 @@ impl<'a, Name: Display + 'a, Source: AsStr + 'a> Files<'a> for SimpleFile<Name, 
     fn column_number(&'a self, id: (), line_index: usize, byte_index: usize) -> Result<usize, Error>
         ensures value { IfOk result (λ number.
             number ≡ simple_column (text_of self.now) line_index byte_index) }
-        ensures failed { FailsBy (past_end (text_of self.now) line_index) result }
+        ensures failed { FailsBy (line_failure (text_of self.now) line_index) result }
         ensures memory { NeedsNoMemory result }
     {
         let range = self.line_range(id, line_index)?;
@@ -210,7 +210,7 @@ impl<'a, Name: Display + 'a, Source: AsStr + 'a> Files<'a> for SimpleFile<Name, 
     /// text has no such line.
     fn line_range(&'a self, _id: (), line_index: usize) -> Result<Range<usize>, Error>
         ensures value { IfOk result (IsLineRange (file_of Name.output self.now) line_index) }
-        ensures failed { FailsBy (past_end (text_of self.now) line_index) result }
+        ensures failed { FailsBy (line_failure (text_of self.now) line_index) result }
         ensures memory { NeedsNoMemory result }
     {
         let count = self.line_starts.len();

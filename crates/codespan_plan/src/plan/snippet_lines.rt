@@ -88,7 +88,7 @@ impl<'files, F: Files<'files>> LinePlanner<'files, F> {
     fn known_number(&self, index: usize) -> Result<Option<usize>, Error>
         ensures number { IfOk result (λ number. number
             ≡ known_number self.now.layout
-            ((model_of F.database self.now.file).number index)) }
+            ((model_of F.database self.now.file).line_number index)) }
         ensures failed { FailsBy (numbers_failure F.database self.now
             (index ∷ [])) result }
     {

@@ -4,7 +4,7 @@ use Rattle.std.specs.List.{list_any}
 use Rattle.codespan_picture.specs.Types.{LabelStyle, Primary}
 use Rattle.codespan_base.specs.Labels.{LabelModel}
 use Rattle.codespan_picture.specs.declared.char_metrics.Metrics.{Metrics}
-use Rattle.codespan_picture.specs.Rows.{hanging}
+use Rattle.codespan_picture.specs.Rows.{hanging_labels}
 use Rattle.codespan_picture.specs.RowParts.{starts_in, pointer_style}
 
 -- of two styles a primary one takes precedence
@@ -19,5 +19,5 @@ best_from passes found xs =
 
 -- the style of the pointer under a character, where a label hangs from it
 abbrev pub pointer_found : List LabelModel → Metrics → Option LabelStyle
-pointer_found hanging c =
-    if list_any (starts_in c) hanging then Some (pointer_style hanging c) else None
+pointer_found hanging_labels c =
+    if list_any (starts_in c) hanging_labels then Some (pointer_style hanging_labels c) else None

@@ -25,7 +25,8 @@ pointer_under c style = record {
 
 -- the pointers under characters, where labels hang from them
 abbrev pub pointers_in : List LabelModel → List Metrics → List Pointer
-pointers_in hanging cs = filter_map (λ c. option_map (pointer_under c) (pointer_found hanging c)) cs
+pointers_in hanging_labels cs =
+    filter_map (λ c. option_map (pointer_under c) (pointer_found hanging_labels c)) cs
 
 -- the pointers of characters that begin before a byte index
 abbrev pub pointers_before : ℕ → List Pointer → List Pointer

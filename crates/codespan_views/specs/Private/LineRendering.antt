@@ -14,23 +14,23 @@ use Rattle.codespan_views.specs.Private.Rendering.{RendersRowsWithLookups}
 use Rattle.codespan_plan.specs.SnippetLines.{SnippetLine, does_line_fit, rows_of_line, rows_of_lines, DoFit}
 
 -- these are lines of the file, and they fit in so many lanes
-pub record AreLinesOf {Id : Type 0} (f : FileModel) (lane_count : ℕ)
+pub record AreLinesOf {Id : Type 0} (f : FileModel) (num_multi_labels : ℕ)
     (snippet_lines : List (RustLine Id)) : Type 0 where
   pub each : AllByRecursion (IsSnippetLineOf f) snippet_lines
-  pub fit : DoFit lane_count (map line_view snippet_lines)
+  pub fit : DoFit num_multi_labels (map line_view snippet_lines)
 
 -- the snippet has the text of its file, and these are lines of it
 pub record HasLines {F Id Name Source : Type 0} (database : F → FileDatabase Id)
     (snippet : Snippet F Id Name Source) (snippet_lines : List (RustLine Id)) : Type 0 where
   pub text : snippet.text.now ≡ (model_of database snippet.file).text
-  pub are : AreLinesOf (model_of database snippet.file) snippet.lane_count snippet_lines
+  pub are : AreLinesOf (model_of database snippet.file) snippet.num_multi_labels snippet_lines
 
 -- the snippet has the text of its file, and this is a line of it
 pub record HasLine {F Id Name Source : Type 0} (database : F → FileDatabase Id)
     (snippet : Snippet F Id Name Source) (snippet_line : RustLine Id) : Type 0 where
   pub text : snippet.text.now ≡ (model_of database snippet.file).text
   pub is : IsSnippetLineOf (model_of database snippet.file) snippet_line
-  pub fits : IsTrue (does_line_fit snippet.lane_count (line_view snippet_line))
+  pub fits : IsTrue (does_line_fit snippet.num_multi_labels (line_view snippet_line))
 
 module _ {W F Id Name Source : Type 0} (sink : W → Sink) (database : F → FileDatabase Id)
     (snippet : Snippet F Id Name Source) where
@@ -47,11 +47,11 @@ module _ {W F Id Name Source : Type 0} (sink : W → Sink) (database : F → Fil
       → Renderer W
       → Type 0
   RendersLine lookups snippet_line =
-      RendersFileRows lookups (λ f. rows_of_line f snippet.lane_count snippet_line)
+      RendersFileRows lookups (λ f. rows_of_line f snippet.num_multi_labels snippet_line)
 
   -- the call renders these lines, one after another, and makes their lookups
   abbrev pub RendersLines : List (RustLine Id) → Renderer W → Result (Unit {0}) Error → Renderer W
       → Type 0
   RendersLines snippet_lines =
       RendersFileRows (lookups_of_lines snippet_lines)
-      (λ f. rows_of_lines f snippet.lane_count (map line_view snippet_lines))
+      (λ f. rows_of_lines f snippet.num_multi_labels (map line_view snippet_lines))

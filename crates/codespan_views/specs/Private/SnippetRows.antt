@@ -18,7 +18,7 @@ use Rattle.codespan_plan.specs.SnippetLines.{rows_of_lines}
 module _ {Id : Type 0} (snippet_plan : SnippetPlan Id) where
   -- a row with its lanes and nothing else
   abbrev pub empty_row : Row
-  empty_row = EmptyRow (record { count = snippet_plan.file.now.lane_count; marks = [] })
+  empty_row = EmptyRow (record { count = snippet_plan.file.now.num_multi_labels; marks = [] })
 
   -- its first rows
   abbrev pub start_rows : List Row
@@ -31,7 +31,8 @@ module _ {Id : Type 0} (snippet_plan : SnippetPlan Id) where
   -- its rows before that one, where these are its lines
   abbrev pub rows_in : FileModel → List (RustLine Id) → List Row
   rows_in f snippet_lines =
-      start_rows ++ rows_of_lines f snippet_plan.file.now.lane_count (map line_view snippet_lines)
+      start_rows
+      ++ rows_of_lines f snippet_plan.file.now.num_multi_labels (map line_view snippet_lines)
 
 -- the lookups of a snippet of these lines
 abbrev pub lookups_with : {Id : Type 0} → List (RustLine Id) → List Lookup

@@ -37,7 +37,7 @@ pub struct Snippet<'context, 'files, F: Files<'files>> {
     /// The source of the file.
     pub text: &'context str,
     /// The number of its lanes: one for each multi-line label.
-    pub lane_count: usize,
+    pub num_multi_labels: usize,
 }
 
 impl<'context, 'files, F: Files<'files>> Snippet<'context, 'files, F> {
@@ -135,7 +135,7 @@ impl<'context, 'files, F: Files<'files>> Snippet<'context, 'files, F> {
             ≡ (model_of F.database self.now.file).text }
         requires line { IsLineOf (model_of F.database self.now.file) line }
         requires fits { IsTrue
-            (do_annotations_fit self.now.lane_count (map annotation_view annotations.now)) }
+            (do_annotations_fit self.now.num_multi_labels (map annotation_view annotations.now)) }
         ensures { RendersLine W.sink F.database self.now []
             (Labeled line.index (map annotation_view annotations.now)) renderer.old result
             renderer.new }
@@ -143,7 +143,7 @@ impl<'context, 'files, F: Files<'files>> Snippet<'context, 'files, F> {
         labels.refill(annotations)?;
         let source = &self.text[line.start..line.end];
         let lanes = Lanes {
-            count: self.lane_count,
+            count: self.num_multi_labels,
             marks: labels.multi_labels.as_slice(),
         };
         let line = Line::new(line.number, source, labels.single_labels.as_slice(), lanes);
@@ -167,7 +167,7 @@ impl<'context, 'files, F: Files<'files>> Snippet<'context, 'files, F> {
         labels: &mut LineBuffers<'d>,
         next: &[Annotation<'d, F::FileId>],
     ) -> Result<(), Error>
-        requires fits { IsTrue (do_lane_marks_fit self.now.lane_count
+        requires fits { IsTrue (do_lane_marks_fit self.now.num_multi_labels
             (map annotation_view next.now)) }
         ensures { RendersLine W.sink F.database self.now []
             (Break (map annotation_view next.now))
@@ -177,7 +177,7 @@ impl<'context, 'files, F: Files<'files>> Snippet<'context, 'files, F> {
         renderer.render_snippet_break(
             self.context.padding,
             self.context.severity,
-            self.lane_count,
+            self.num_multi_labels,
             labels.multi_labels.as_slice(),
         )
     }

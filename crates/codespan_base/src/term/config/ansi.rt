@@ -2,7 +2,7 @@
 
 ghost use Rattle.std.specs.Prelude.{◌≡◌, [], ◌∷◌};
 ghost use Rattle.codespan_base.specs.Ansi.{color_number, ansi_bold, ansi_color, ansi_style, ansi_reset};
-ghost use Rattle.codespan_base.specs.ColorLaw.{AppendsBytes};
+ghost use Rattle.codespan_base.specs.WriterLaw.{AppendsBytes};
 
 use crate::term::config::color::{Color, ColorSpec, WriteColor};
 use crate::term::config::writing::write_all;

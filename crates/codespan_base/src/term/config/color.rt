@@ -1,7 +1,7 @@
 //! Colors, styles, and the trait of writers that write them.
 
 ghost use Rattle.std.specs.Prelude.{◌≡◌};
-ghost use Rattle.codespan_base.specs.ColorLaw.{AppendsBytes};
+ghost use Rattle.codespan_base.specs.WriterLaw.{AppendsBytes};
 
 use std::io;
 use std::io::Write;

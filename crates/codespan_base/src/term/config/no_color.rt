@@ -1,7 +1,7 @@
 //! Text without styles.
 
 ghost use Rattle.std.specs.Prelude.{◌≡◌, []};
-ghost use Rattle.codespan_base.specs.ColorLaw.{AppendsBytes};
+ghost use Rattle.codespan_base.specs.WriterLaw.{AppendsBytes};
 ghost use Rattle.codespan_base.specs.Writers.{WritesNothing};
 
 use crate::term::config::color::{ColorSpec, WriteColor};

@@ -6,9 +6,8 @@
 ghost use Rattle.std.specs.Prelude.{◌≡◌, ◌≤◌, ◌*◌, [], length, take, drop, decimal};
 ghost use Rattle.std.specs.List.{repeat};
 ghost use Rattle.std.specs.Io.{WritesAtMost};
-ghost use Rattle.codespan_base.specs.ColorLaw.{AppendsBytes};
 ghost use Rattle.codespan_base.specs.Streams.{bytes, glyph, spaces, repeated};
-ghost use Rattle.codespan_base.specs.WriterLaw.{Frame, Puts, Writes, with_flag};
+ghost use Rattle.codespan_base.specs.WriterLaw.{Frame, Puts, Writes, with_flag, AppendsBytes};
 ghost use Rattle.codespan_base.specs.Writers.{WritesNothing};
 
 use crate::term::config::plain_ref::PlainWriterRef;

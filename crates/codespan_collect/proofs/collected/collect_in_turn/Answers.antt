@@ -5,7 +5,7 @@ use Rattle.std.proofs.lemmas.Result.{err_from_is_err_and}
 use Rattle.codespan_annotations.specs.declared.labeled_files.LabeledFile.{LabeledFile as RustFile}
 use Rattle.codespan_collect.specs.CollectedLabels.{FindsLines, collected_label}
 use Rattle.codespan_annotations.specs.AnnotationViews.{Adds, IsOfFiles}
-use Rattle.codespan_annotations.specs.LabeledFiles.{ids_view, lanes_view, lane_count_of, lanes_with_label}
+use Rattle.codespan_annotations.specs.LabeledFiles.{ids_view, lanes_view, num_multi_labels_of, lanes_with_label}
 use Rattle.codespan_annotations.specs.FileStarts.{file_start}
 use Rattle.codespan_picture.specs.Picture.{label_of}
 use Rattle.codespan_picture.specs.Snippets.{file_ids}
@@ -84,10 +84,10 @@ index-requires g c =
 -- the lane that the label is given is the number of those of its file
 lane_there : (g : Over) (c : After-index g)
     → c.in_ok-file.file < length c.get_or_insert_file.new.files.items
-    → c.index.result.now.lane_count ≡ get_or (lanes_view c.get_or_insert_file.new.files.items)
+    → c.index.result.now.num_multi_labels ≡ get_or (lanes_view c.get_or_insert_file.new.files.items)
     c.in_ok-file.file 0
 lane_there g c inside =
-    let lanes : RustFile g.row.F-FileId.Denot → ℕ = λ f. f.lane_count in
+    let lanes : RustFile g.row.F-FileId.Denot → ℕ = λ f. f.num_multi_labels in
     ap lanes c.index.ensures ∙ sym (get_or-map lanes c.get_or_insert_file.new.files.items c.in_ok-file.file c.index.result.now 0 inside)
 
 pub add_label-requires : goal.add_label-requires
@@ -135,7 +135,7 @@ returns-clause-collected g c =
         ids_are = done.ids_are;
         labels_are = each-labels same file xs c.loop-index.labeled.items
             (done.starts_are ∙ ap (map (file_start same xs)) (sym done.ids_are))
-            (done.lanes_are ∙ ap (map (lane_count_of same file xs)) (sym done.ids_are));
+            (done.lanes_are ∙ ap (map (num_multi_labels_of same file xs)) (sym done.ids_are));
         padding_is = done.counted;
       };
       adds = subst (λ js. Adds (IsOfFiles file js) [] c.loop-index.found.annotations.items (annotations_after same file c.args.config.now (file_ids same xs) [] xs)) (sym done.ids_are) done.added;

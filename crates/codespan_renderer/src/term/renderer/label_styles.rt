@@ -5,7 +5,7 @@ ghost use Rattle.codespan_base.specs.Labels.{has_message, is_primary};
 ghost use Rattle.codespan_picture.specs.Arguments.{single_label_view, single_label_views};
 ghost use Rattle.codespan_picture.specs.Carets.{covers, style_under};
 ghost use Rattle.codespan_picture.specs.RowParts.{starts_in};
-ghost use Rattle.codespan_picture.specs.Rows.{hanging};
+ghost use Rattle.codespan_picture.specs.Rows.{hanging_labels};
 ghost use Rattle.codespan_row_parts.specs.CharCursors.{is_covered};
 ghost use Rattle.codespan_row_parts.specs.Runs.{AreHanging};
 ghost use Rattle.codespan_renderer.specs.Private.BestStyles.{best_from, pointer_found, primary_first};
@@ -100,7 +100,7 @@ pub fn pointer_in(
     metrics: Metrics,
 ) -> Option<LabelStyle>
     requires { AreHanging labels.now messages.before.now messages.after.now }
-    ensures { result ≡ pointer_found (hanging (single_label_views labels.now)) metrics }
+    ensures { result ≡ pointer_found (hanging_labels (single_label_views labels.now)) metrics }
 {
     best_start(
         best_start(None, messages.before, metrics),

@@ -13,7 +13,7 @@ loop-label-init g c =
 pub write_hanging_row-requires : goal.write_hanging_row-requires
 write_hanging_row-requires g c = record {
   input = c.requires.input;
-  hanging = c.requires.hanging;
+  hanging_labels = c.requires.hanging_labels;
   near = (near-last _ _ _ _ c.in-Some.ensures.steps c.loop-label.invariant.near).here;
 }
 

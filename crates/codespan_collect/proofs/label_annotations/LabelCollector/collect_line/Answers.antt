@@ -74,7 +74,7 @@ returns-clause-padding g c =
     let x = label_of_collector g.F.Files.database c.args.self.now c.args.label.now in
     let lines = c.args.self.now.lines in
     let found = line_found g c in
-    let number = found.1.number_is ∙ ap x.file.number found.0 in
+    let number = found.1.number_is ∙ ap x.file.line_number found.0 in
     let digits : FoundAnnotations g.row.F-FileId.Denot → ℕ = λ f. f.padding.digits in
     λ _. elim c.if-is_spanned.branch [
       | then-is_spanned w ↦ padding-spanned x lines.first lines.last c.args.index c.requires.first

@@ -5,7 +5,7 @@ ghost use Rattle.std.specs.Prelude.{◌≡◌, ◌≤◌, ◌++◌, IsTrue, leng
 ghost use Rattle.std.specs.Str.{chars};
 ghost use Rattle.codespan_picture.specs.CharMetrics.{char_metrics, metrics_then, width_of};
 ghost use Rattle.codespan_picture.specs.Arguments.{lane_mark_view, single_label_views, starts_in_order};
-ghost use Rattle.codespan_picture.specs.Rows.{hanging};
+ghost use Rattle.codespan_picture.specs.Rows.{hanging_labels};
 ghost use Rattle.codespan_renderer.specs.Private.MetricsLeft.{after_last};
 ghost use Rattle.codespan_renderer.specs.Private.CursorStates.{IsBefore, HasReturned};
 ghost use Rattle.codespan_renderer.specs.Private.CachedMetrics.{AreCached, ReachesPast, cached_left, reach_of};
@@ -79,7 +79,7 @@ pub struct CachedLine<'cache, 'row, 'd> {
     ghost enough: { ReachesPast (reach_of (single_label_views line.labels.now)
         (map lane_mark_view line.lanes.marks.now)) rest },
     ghost ordered: { IsTrue (starts_in_order (single_label_views line.labels.now)) },
-    ghost found: { pointers.now ≡ pointers_in (hanging (single_label_views line.labels.now))
+    ghost found: { pointers.now ≡ pointers_in (hanging_labels (single_label_views line.labels.now))
         (char_metrics tab_width line.text.now) },
 }
 

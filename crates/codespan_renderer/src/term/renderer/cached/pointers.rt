@@ -7,7 +7,7 @@ ghost use Rattle.codespan_picture.specs.Arguments.{single_label_views, starts_in
 ghost use Rattle.codespan_row_parts.specs.LineViews.{context_view};
 ghost use Rattle.codespan_renderer.specs.Private.CachedMetrics.{cached_left};
 ghost use Rattle.codespan_renderer.specs.Private.PointerLists.{pointer_under, pointers_in, pointers_before, spaced};
-ghost use Rattle.codespan_picture.specs.Rows.{hanging};
+ghost use Rattle.codespan_picture.specs.Rows.{hanging_labels};
 ghost use Rattle.codespan_row_parts.specs.Runs.{AreHanging};
 
 use crate::term::renderer::cached::cached_metrics::CachedMetrics;
@@ -83,12 +83,12 @@ pub fn find_pointers(
     messages: Messages<'_, '_>,
     characters: CachedMetrics<'_, '_>,
 ) -> Result<(), Error>
-    requires hanging { AreHanging line.labels.now messages.before.now messages.after.now }
+    requires hanging_labels { AreHanging line.labels.now messages.before.now messages.after.now }
     requires before { IsTrue (starts_in_order (single_label_views messages.before.now)) }
     requires after { IsTrue (starts_in_order (single_label_views messages.after.now)) }
     requires characters { cached_left characters ≡ char_metrics tab_width line.text.now }
     ensures found { IfOk result (λ _. pointers.new.items
-        ≡ pointers_in (hanging (single_label_views line.entry.labels.now))
+        ≡ pointers_in (hanging_labels (single_label_views line.entry.labels.now))
         (char_metrics tab_width line.entry.text.now)) }
     ensures failed { OnErr result (IsErrOf result Error.OutOfMemory) }
 {

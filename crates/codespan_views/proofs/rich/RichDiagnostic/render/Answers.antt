@@ -13,8 +13,8 @@ use Rattle.codespan_views.proofs.RichParts.{bare-whole}
 use Rattle.codespan_views.proofs.rich.RichDiagnostic.render.Goals as goal
 
 -- what is written means the labels, whether there are any or not
-written : {Id : Type 0} {renderer view : Config} {files : FileDatabase Id} {equal : Id → Id → Bool} {d : Diagnostic Id} {old new : Sink} {r : Result (Unit {0}) Error}
-    → files.same ≡ equal → IsEquivalence equal → ((id : Id) → IsLawful (files.file id)) → WritesOutput Rich renderer view files d old r new → WritesStyled Rich renderer view files d old r new
+written : {Id : Type 0} {renderer_config view_config : Config} {files : FileDatabase Id} {equal : Id → Id → Bool} {d : Diagnostic Id} {old new : Sink} {r : Result (Unit {0}) Error}
+    → files.same ≡ equal → IsEquivalence equal → ((id : Id) → IsLawful (files.file id)) → WritesOutput Rich renderer_config view_config files d old r new → WritesStyled Rich renderer_config view_config files d old r new
 written is equal lawful writes = record {
   writes = writes;
   means = λ rich. output_means_labels _ _ _ _ (subst IsEquivalence (sym is) equal) (λ i. (lawful i).some_line);

@@ -8,9 +8,9 @@ use Rattle.codespan_views.proofs.rich.RichDiagnostic.render_labels.Goals as goal
 
 pub plan_output-requires : goal.plan_output-requires
 plan_output-requires g c κs =
-    let view = view_config_of c.args.self.now in (
+    let view_config = view_config_of c.args.self.now in (
       (refl, tt),
-      subst (λ ls. IsCollected (g.F.Files.database c.args.files.now) view (map label_of ls) c.in_ok-collected.collected) (sym c.in_ok-collected.ensures.labels) c.in_ok-collected.ensures.collected,
+      subst (λ ls. IsCollected (g.F.Files.database c.args.files.now) view_config (map label_of ls) c.in_ok-collected.collected) (sym c.in_ok-collected.ensures.labels) c.in_ok-collected.ensures.collected,
     )
 
 pub render_snippets-requires : goal.render_snippets-requires

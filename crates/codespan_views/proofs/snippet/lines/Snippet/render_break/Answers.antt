@@ -18,7 +18,7 @@ returns-in_err-fill_multi_labels g c =
     rw p.1 (allocation_failed (out_of_memory p.2 c.in_err-fill_multi_labels.ensures.failed))
 
 pub render_snippet_break-requires : goal.render_snippet_break-requires
-render_snippet_break-requires g c = lanes_fit c.args.self.now.lane_count
+render_snippet_break-requires g c = lanes_fit c.args.self.now.num_multi_labels
     (map annotation_view c.args.next.now) _
     (ap (map lane_mark_view) c.as_slice.ensures.value
     ∙ c.in_ok-fill_multi_labels.ensures.multi_labels) c.requires.fits
@@ -28,4 +28,4 @@ returns g c =
     let snippet = c.args.self.now in
     let context = context_of (config_of c.args.renderer.now) snippet.context.now.severity snippet.context.now.padding in
     let marks = ap (map lane_mark_view) c.as_slice.ensures.value ∙ c.in_ok-fill_multi_labels.ensures.multi_labels in
-    renders_alone (renders_as (ap (λ (ms : List LaneMark). break_row context (record { count = snippet.lane_count; marks = ms }) ++ newline) marks ∙ sym (append-nil _)) c.render_snippet_break.ensures)
+    renders_alone (renders_as (ap (λ (ms : List LaneMark). break_row context (record { count = snippet.num_multi_labels; marks = ms }) ++ newline) marks ∙ sym (append-nil _)) c.render_snippet_break.ensures)

@@ -19,7 +19,7 @@ pub invariant_of-lanes : goal.invariant_of-lanes
 invariant_of-lanes g c =
     let marks = ap (map lane_mark_view) c.as_slice.ensures.value ∙ c.in_ok-refill.ensures.multi_labels in
     record {
-      in_order = lanes_fit c.args.self.now.lane_count
+      in_order = lanes_fit c.args.self.now.num_multi_labels
           (map annotation_view c.args.annotations.now) _ marks
           (both-true (starts_in_order (single_labels_in (map annotation_view c.args.annotations.now)))
           _ c.requires.fits).1;

@@ -32,9 +32,9 @@ render_snippet_line-requires g c κs =
       record {
         text = c.requires.text;
         is = subst (IsSnippetLineOf f) (sym c.snippet_line-item.is) (All-from_recursion (IsSnippetLineOf f) snippet_lines c.requires.are.each i _ c.loop-snippet_line-test.true);
-        fits = ap (λ snippet_line. does_line_fit snippet.lane_count (line_view snippet_line)) c.snippet_line-item.is
-            ∙ All-from_recursion (λ snippet_line. does_line_fit snippet.lane_count (line_view snippet_line) ≡ true) snippet_lines
-            (all-mapped line_view (λ snippet_line. does_line_fit snippet.lane_count snippet_line ≡ true) snippet_lines c.requires.are.fit) i _ c.loop-snippet_line-test.true;
+        fits = ap (λ snippet_line. does_line_fit snippet.num_multi_labels (line_view snippet_line)) c.snippet_line-item.is
+            ∙ All-from_recursion (λ snippet_line. does_line_fit snippet.num_multi_labels (line_view snippet_line) ≡ true) snippet_lines
+            (all-mapped line_view (λ snippet_line. does_line_fit snippet.num_multi_labels snippet_line ≡ true) snippet_lines c.requires.are.fit) i _ c.loop-snippet_line-test.true;
       },
     )
 

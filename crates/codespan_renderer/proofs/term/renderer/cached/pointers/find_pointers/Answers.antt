@@ -14,7 +14,7 @@ pub returns-then-not-has_any_message-2-clause-found : goal.returns-then-not-has_
 returns-then-not-has_any_message-2-clause-found c =
     let early = sym c.has_any_message.ensures ∙ c.if-not-has_any_message.true in
     let late = sym c.has_any_message-then-not-has_any_message.ensures ∙ c.if-not-has_any_message-2.true in
-    rw (c.clear.ensures.items, none_hangs _ _ _ c.requires.hanging early late) (sym (no-pointers (char_metrics c.args.tab_width c.args.line.text.now)))
+    rw (c.clear.ensures.items, none_hangs _ _ _ c.requires.hanging_labels early late) (sym (no-pointers (char_metrics c.args.tab_width c.args.line.text.now)))
 
 pub loop-metrics-init : goal.loop-metrics-init
 loop-metrics-init c =
@@ -38,7 +38,7 @@ loop-metrics-preserved-in-Continue-1 c =
     let step = c.in-Some.ensures.steps in
     let early = c.best_start-early.ensures in
     let late = c.best_start.ensures in
-    let style = found-style c.args.line.labels.now _ _ _ _ c.in-Some.metrics _ _ c.requires.hanging i.cursor.same_early i.cursor.same_late early.best late.best in
+    let style = found-style c.args.line.labels.now _ _ _ _ c.in-Some.metrics _ _ c.requires.hanging_labels i.cursor.same_early i.cursor.same_late early.best late.best in
     record {
       cursor = passing-more _ _ _ _ _ _ _ _ (passing-at _ _ _ _ _ _ c.in-Some.metrics step i.cursor) early.passed late.passed early.labels late.labels;
       scan_state = scan_state-more _ _ _ c.in-Some.metrics _ (omega arith) (omega arith) (rw step at i.scan_state);
@@ -52,7 +52,7 @@ loop-metrics-preserved c =
     let step = c.in-Some.ensures.steps in
     let early = c.best_start-early.ensures in
     let late = c.best_start.ensures in
-    let style = found-style c.args.line.labels.now _ _ _ _ c.in-Some.metrics _ _ c.requires.hanging i.cursor.same_early i.cursor.same_late early.best late.best in
+    let style = found-style c.args.line.labels.now _ _ _ _ c.in-Some.metrics _ _ c.requires.hanging_labels i.cursor.same_early i.cursor.same_late early.best late.best in
     record {
       cursor = passing-more _ _ _ _ _ _ _ _ (passing-at _ _ _ _ _ _ c.in-Some.metrics step i.cursor) early.passed late.passed early.labels late.labels;
       scan_state = scan_state-more _ _ _ c.in-Some.metrics _ (omega arith) (omega arith) (rw step at i.scan_state);
