@@ -51,19 +51,20 @@ typedef struct codespan_line {
 } codespan_line;
 
 /* The location that is shown for a byte at which a label starts: a line and a column number. */
-typedef struct codespan_locus {
+typedef struct codespan_location {
     size_t byte; /* byte index in the file */
     size_t line_number;
     size_t column_number;
-} codespan_locus;
+} codespan_location;
 
 /* A file, or a window of a large one.
  *
  * `source` is the whole file, and then first_byte and first_line are 0; or a window of it, some
  * whole lines one after another, and then they say where it starts. All byte indices, those of
  * labels too, count from the start of the file, not of the window. An index before the window is
- * taken as the start of the window, those of lines and loci before they are checked. A label past
- * the end of the window is rendered as in a file that ends there; a line past it is invalid. */
+ * taken as the start of the window, those of lines and locations before they are checked. A label
+ * past the end of the window is rendered as in a file that ends there; a line past it is
+ * invalid. */
 typedef struct codespan_file {
     codespan_text name;
     codespan_text source;
@@ -78,10 +79,10 @@ typedef struct codespan_file {
      * ends are boundaries of characters. */
     const codespan_line *lines;
     size_t lines_length;
-    /* Loci that are shown in place of those that are computed, in strictly ascending order of their
+    /* Locations that are shown in place of computed ones, in strictly ascending order of their
      * bytes. A computed one has the number of the byte's line and counts characters from 1. */
-    const codespan_locus *loci;
-    size_t loci_length;
+    const codespan_location *locations;
+    size_t locations_length;
 } codespan_file;
 
 /* ---- diagnostics ---- */
@@ -263,14 +264,14 @@ enum {
     CODESPAN_ARGUMENT_LAYOUT = 3,
     CODESPAN_ARGUMENT_SPELLING = 4,
     CODESPAN_ARGUMENT_CHARACTERS = 5,
-    CODESPAN_ARGUMENT_SNIPPET_START = 6, /* not UTF-8 */
-    CODESPAN_ARGUMENT_CHARACTER = 7,     /* no Unicode scalar value; index: the field, from 0 for
-                                          * source_border_left to 14 for pointer_left */
-    CODESPAN_ARGUMENT_COLOR = 8,         /* index: the style, from 0 for header_bug to 14 */
-    CODESPAN_ARGUMENT_FILE_NAME = 9,     /* not UTF-8; index: the file */
-    CODESPAN_ARGUMENT_FILE_SOURCE = 10,  /* not UTF-8; index: the file */
-    CODESPAN_ARGUMENT_FILE_LINES = 11,   /* index: the file */
-    CODESPAN_ARGUMENT_FILE_LOCI = 12,    /* index: the file */
+    CODESPAN_ARGUMENT_SNIPPET_START = 6,   /* not UTF-8 */
+    CODESPAN_ARGUMENT_CHARACTER = 7,       /* no Unicode scalar value; index: the field, from 0 for
+                                            * source_border_left to 14 for pointer_left */
+    CODESPAN_ARGUMENT_COLOR = 8,           /* index: the style, from 0 for header_bug to 14 */
+    CODESPAN_ARGUMENT_FILE_NAME = 9,       /* not UTF-8; index: the file */
+    CODESPAN_ARGUMENT_FILE_SOURCE = 10,    /* not UTF-8; index: the file */
+    CODESPAN_ARGUMENT_FILE_LINES = 11,     /* index: the file */
+    CODESPAN_ARGUMENT_FILE_LOCATIONS = 12, /* index: the file */
     CODESPAN_ARGUMENT_SEVERITY = 13,
     CODESPAN_ARGUMENT_CODE = 14,          /* not UTF-8 */
     CODESPAN_ARGUMENT_MESSAGE = 15,       /* not UTF-8 */
@@ -325,7 +326,7 @@ static const size_t codespan_nothing = 0;
 
 #define CODESPAN_NO_FILES ((const codespan_file *)(const void *)&codespan_nothing)
 #define CODESPAN_NO_LINES ((const codespan_line *)(const void *)&codespan_nothing)
-#define CODESPAN_NO_LOCI ((const codespan_locus *)(const void *)&codespan_nothing)
+#define CODESPAN_NO_LOCATIONS ((const codespan_location *)(const void *)&codespan_nothing)
 #define CODESPAN_NO_LABELS ((const codespan_label *)(const void *)&codespan_nothing)
 #define CODESPAN_NO_NOTES ((const codespan_text *)(const void *)&codespan_nothing)
 
@@ -349,7 +350,7 @@ static inline codespan_text codespan_text_from(const char *string) {
 
 /* Returns a whole file, whose lines start after newlines. */
 static inline codespan_file codespan_new_file(codespan_text name, codespan_text source) {
-    codespan_file file = {name, source, 0, 0, CODESPAN_NO_LINES, 0, CODESPAN_NO_LOCI, 0};
+    codespan_file file = {name, source, 0, 0, CODESPAN_NO_LINES, 0, CODESPAN_NO_LOCATIONS, 0};
     return file;
 }
 

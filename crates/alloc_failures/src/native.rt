@@ -3,7 +3,7 @@
 use crate::outcome::{Outcome, Wrong, judge_made};
 use codespan_native::emit::emit;
 use codespan_native::raw::{
-    Detail, RawChars, RawColorSpec, RawConfig, RawDiagnostic, RawFile, RawLabel, RawStyles, RawText,
+    RawChars, RawColorSpec, RawConfig, RawDiagnostic, RawFile, RawLabel, RawStyles, RawText,
 };
 use codespan_native::status::{OK, OUT_OF_MEMORY};
 use std::alloc::Global;
@@ -22,7 +22,7 @@ static FILES: [RawFile<'static>; 1] = [RawFile {
     first_byte: 0,
     first_line: 0,
     lines: &[],
-    loci: &[],
+    locations: &[],
 }];
 
 /// The diagnostic.
@@ -106,24 +106,11 @@ const NO_COLOR: RawColorSpec = RawColorSpec {
 /// Makes a call of `emit` and judges it.
 pub fn judge_native(alloc: Global) -> Outcome {
     let mut out = UNWRITTEN;
-    let mut written = 0;
-    let mut detail = Detail {
-        argument: 0,
-        index: 0,
-    };
-    let status = emit(
-        alloc,
-        &FILES,
-        &DIAGNOSTIC,
-        &CONFIG,
-        &mut out,
-        &mut written,
-        &mut detail,
-    );
-    if status == OK {
-        judge_made(written == OUTPUT.len() && out.starts_with(OUTPUT))
-    } else if status == OUT_OF_MEMORY {
-        judge_unwritten(&out, written)
+    let outcome = emit(alloc, &FILES, &DIAGNOSTIC, &CONFIG, &mut out);
+    if outcome.status == OK {
+        judge_made(outcome.written == OUTPUT.len() && out.starts_with(OUTPUT))
+    } else if outcome.status == OUT_OF_MEMORY {
+        judge_unwritten(&out, outcome.written)
     } else {
         Outcome::Wrong(Wrong::Failure)
     }

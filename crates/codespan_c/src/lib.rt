@@ -5,7 +5,8 @@ ghost use Rattle.std.specs.Prelude.{◌≡◌, ◌≢◌, ◌≤◌, ◌↔◌};
 ghost use Rattle.codespan_native.specs.declared.error.Argument.TheVariants.{LabelFile};
 ghost use Rattle.codespan_native.specs.Meaning.{Means, NoLookupFails, output_bytes};
 ghost use Rattle.codespan_native.specs.Results.{IsTooSmall, IsUnchanged, IsWritten};
-ghost use Rattle.codespan_native.specs.StatusTexts.{text_for};
+ghost use Rattle.codespan_native.specs.Statuses.{OK, TOO_SMALL, OUT_OF_MEMORY, FILE_MISSING, INVALID};
+ghost use Rattle.codespan_native.specs.StatusTexts.{STATUS_TEXT_MAX, text_for};
 ghost use Rattle.codespan_native.specs.Validity.{AreValid, FirstInvalidIs, NamesFirstInvalid, no_detail};
 
 use codespan_native::emit::emit;
@@ -24,27 +25,30 @@ pub extern "C" fn codespan_emit(
     written: &mut usize,
     detail: &mut Detail,
 ) -> u32
-    ensures ok { result ≡ 0
+    ensures ok { result ≡ OK
         → IsWritten (output_bytes files.now diagnostic.now config.now)
         out.old out.new written.new }
-    ensures too_small { result ≡ 1
+    ensures too_small { result ≡ TOO_SMALL
         → IsTooSmall (output_bytes files.now diagnostic.now config.now)
         out.old out.new written.new }
-    ensures unchanged { 2 ≤ result → IsUnchanged out.old out.new written.new }
-    ensures valid { (result ≤ 2) ↔ AreValid files.now diagnostic.now config.now }
-    ensures missing { (result ≡ 3)
+    ensures unchanged { OUT_OF_MEMORY ≤ result → IsUnchanged out.old out.new written.new }
+    ensures valid { (result ≤ OUT_OF_MEMORY) ↔ AreValid files.now diagnostic.now config.now }
+    ensures missing { (result ≡ FILE_MISSING)
         ↔ FirstInvalidIs files.now diagnostic.now config.now (λ a. a ≡ LabelFile) }
-    ensures invalid { (result ≡ 4)
+    ensures invalid { (result ≡ INVALID)
         ↔ FirstInvalidIs files.now diagnostic.now config.now (λ a. a ≢ LabelFile) }
-    ensures named { 3 ≤ result
+    ensures named { FILE_MISSING ≤ result
         → NamesFirstInvalid files.now diagnostic.now config.now detail.new }
-    ensures none_named { result ≤ 2 → detail.new ≡ no_detail }
-    ensures found { result ≤ 2 → NoLookupFails files.now diagnostic.now }
-    ensures means { result ≤ 1 → config.now.display_style ≡ 0
+    ensures none_named { result ≤ OUT_OF_MEMORY → detail.new ≡ no_detail }
+    ensures found { result ≤ OUT_OF_MEMORY → NoLookupFails files.now diagnostic.now }
+    ensures means { result ≤ TOO_SMALL → config.now.display_style ≡ 0
         → Means files.now diagnostic.now config.now }
-    ensures status { result ≤ 4 }
+    ensures status { result ≤ INVALID }
 {
-    emit(alloc, files, diagnostic, config, out, written, detail)
+    let outcome = emit(alloc, files, diagnostic, config, out);
+    *written = outcome.written;
+    *detail = outcome.detail;
+    outcome.status
 }
 
 /// Returns the ABI version of the layouts of the structs.
@@ -63,12 +67,12 @@ pub extern "C" fn codespan_status_text(
     text: &mut [u8],
     written: &mut usize,
 ) -> u32
-    ensures ok { result ≡ 0
+    ensures ok { result ≡ OK
         → IsWritten (text_for status argument) text.old text.new written.new }
-    ensures too_small { result ≡ 1
+    ensures too_small { result ≡ TOO_SMALL
         → IsTooSmall (text_for status argument) text.old text.new written.new }
-    ensures short { written.new ≤ 128 }
-    ensures status { result ≤ 1 }
+    ensures short { written.new ≤ STATUS_TEXT_MAX }
+    ensures status { result ≤ TOO_SMALL }
 {
     write_status(status, argument, text, written)
 }

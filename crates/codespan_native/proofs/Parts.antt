@@ -1,6 +1,6 @@
 -- Valid arguments have valid parts, as the calls of `output_of` require.
 use Rattle.std.proofs.Common.{◌≡◌, All, List, arith}
-use Rattle.codespan_structs.specs.declared.error.Argument.TheVariants.{Characters, SnippetStart, Character, FileName, FileSource, FileLines, FileLoci, Code, Message, LabelMessage, Note}
+use Rattle.codespan_structs.specs.declared.error.Argument.TheVariants.{Characters, SnippetStart, Character, FileName, FileSource, FileLines, FileLocations, Code, Message, LabelMessage, Note}
 use Rattle.codespan_structs.specs.declared.raw.RawConfig.{RawConfig}
 use Rattle.codespan_structs.specs.declared.raw.RawDiagnostic.{RawDiagnostic}
 use Rattle.codespan_structs.specs.declared.raw.RawFile.{RawFile}
@@ -36,7 +36,7 @@ module _ (files : List RawFile) (d : RawDiagnostic) (c : RawConfig) (valid : Are
     name = valid FileName k f below;
     source = valid FileSource k f below;
     lines = valid FileLines k f below;
-    loci = valid FileLoci k f below;
+    locations = valid FileLocations k f below;
   }
 
   pub valid_diagnostic : IsValidDiagnostic d

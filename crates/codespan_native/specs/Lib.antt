@@ -9,6 +9,7 @@ pub use Rattle.codespan_structs.specs.Spellings
 pub use Rattle.codespan_structs.specs.Validity
 pub use Rattle.codespan_structs.specs.ValidParts
 pub use Rattle.codespan_structs.specs.Results
+pub use Rattle.codespan_structs.specs.Statuses
 pub use Rattle.codespan_structs.specs.StatusTexts
 -- the output of the structs, and what it means
 pub mod Meaning

@@ -4,6 +4,7 @@ ghost use Rattle.std.specs.Prelude.{◌≡◌, ◌≢◌, ◌≤◌, ◌↔◌, 
 ghost use Rattle.codespan_structs.specs.declared.error.Argument.TheVariants.{LabelFile};
 ghost use Rattle.codespan_native.specs.Meaning.{Means, NoLookupFails, output_bytes};
 ghost use Rattle.codespan_structs.specs.Results.{IsTooSmall, IsUnchanged, IsWritten};
+ghost use Rattle.codespan_structs.specs.Statuses.{OK, TOO_SMALL, OUT_OF_MEMORY, FILE_MISSING, INVALID};
 ghost use Rattle.codespan_structs.specs.Validity.{AreValid, FirstInvalidIs, NamesFirstInvalid, no_detail};
 
 use crate::render::render;
@@ -15,8 +16,18 @@ use codespan_structs::status::{NO_ARGUMENT, OUT_OF_MEMORY, status_for};
 use codespan_structs::validate::first_invalid;
 use std::alloc::Global;
 
-/// Renders a diagnostic over files into `out`, and returns a status, a constant of
-/// [`codespan_structs::status`]:
+/// What a call returns, besides the bytes that it writes.
+#[derive(Drop)]
+pub struct Outcome {
+    /// The status, a constant of [`codespan_structs::status`].
+    pub status: u32,
+    /// The length of the output in bytes; 0 where there is none.
+    pub written: usize,
+    /// The first invalid argument, or none.
+    pub detail: Detail,
+}
+
+/// Renders a diagnostic over files into `out`. By the status of the outcome:
 ///
 /// - `OK`: the first `written` bytes of `out` are the output, and the rest of `out` is unchanged.
 /// - `TOO_SMALL`: `out` is too small for the output, whose length in bytes is `written`.
@@ -33,40 +44,58 @@ pub fn emit(
     diagnostic: &RawDiagnostic<'_>,
     config: &RawConfig<'_>,
     out: &mut [u8],
-    written: &mut usize,
-    detail: &mut Detail,
-) -> u32
-    ensures ok { result ≡ 0
+) -> Outcome
+    ensures ok { result.status ≡ OK
         → IsWritten (output_bytes files.now diagnostic.now config.now)
-        out.old out.new written.new }
-    ensures too_small { result ≡ 1
+        out.old out.new result.written }
+    ensures too_small { result.status ≡ TOO_SMALL
         → IsTooSmall (output_bytes files.now diagnostic.now config.now)
-        out.old out.new written.new }
-    ensures unchanged { 2 ≤ result → IsUnchanged out.old out.new written.new }
-    ensures valid { (result ≤ 2) ↔ AreValid files.now diagnostic.now config.now }
-    ensures missing { (result ≡ 3)
+        out.old out.new result.written }
+    ensures unchanged { OUT_OF_MEMORY ≤ result.status
+        → IsUnchanged out.old out.new result.written }
+    ensures valid { (result.status ≤ OUT_OF_MEMORY)
+        ↔ AreValid files.now diagnostic.now config.now }
+    ensures missing { (result.status ≡ FILE_MISSING)
         ↔ FirstInvalidIs files.now diagnostic.now config.now (λ a. a ≡ LabelFile) }
-    ensures invalid { (result ≡ 4)
+    ensures invalid { (result.status ≡ INVALID)
         ↔ FirstInvalidIs files.now diagnostic.now config.now (λ a. a ≢ LabelFile) }
-    ensures named { 3 ≤ result
-        → NamesFirstInvalid files.now diagnostic.now config.now detail.new }
-    ensures none_named { result ≤ 2 → detail.new ≡ no_detail }
-    ensures found { result ≤ 2 → NoLookupFails files.now diagnostic.now }
-    ensures means { result ≤ 1 → config.now.display_style ≡ 0
+    ensures named { FILE_MISSING ≤ result.status
+        → NamesFirstInvalid files.now diagnostic.now config.now result.detail }
+    ensures none_named { result.status ≤ OUT_OF_MEMORY → result.detail ≡ no_detail }
+    ensures found { result.status ≤ OUT_OF_MEMORY → NoLookupFails files.now diagnostic.now }
+    ensures means { result.status ≤ TOO_SMALL → config.now.display_style ≡ 0
         → Means files.now diagnostic.now config.now }
-    ensures status { result ≤ 4 }
+    ensures status { result.status ≤ INVALID }
 {
-    *written = 0;
     if let Some(invalid) = first_invalid(files, diagnostic, config) {
-        detail.argument = invalid.argument.number();
-        detail.index = invalid.index;
-        return status_for(invalid.argument);
+        return Outcome {
+            status: status_for(invalid.argument),
+            written: 0,
+            detail: Detail {
+                argument: invalid.argument.number(),
+                index: invalid.index,
+            },
+        };
     }
-    detail.argument = NO_ARGUMENT;
-    detail.index = 0;
+    let detail = Detail {
+        argument: NO_ARGUMENT,
+        index: 0,
+    };
     match output_of(alloc, files, diagnostic, config) {
-        Ok(output) => copy_out(output.as_slice(), out, written),
-        Err(OutOfMemory) => OUT_OF_MEMORY,
+        Ok(output) => {
+            let mut written = 0;
+            let status = copy_out(output.as_slice(), out, &mut written);
+            Outcome {
+                status,
+                written,
+                detail,
+            }
+        }
+        Err(OutOfMemory) => Outcome {
+            status: OUT_OF_MEMORY,
+            written: 0,
+            detail,
+        },
     }
 }
 

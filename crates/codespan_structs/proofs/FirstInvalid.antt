@@ -4,7 +4,7 @@ use Rattle.std.specs.Prelude.{IsTrue, MatchOption}
 use Rattle.std.proofs.lemmas.Bool.{cases_lt}
 use Rattle.std.specs.List.{HoldsAt}
 use Rattle.codespan_structs.specs.declared.error.Argument.{Argument}
-use Rattle.codespan_structs.specs.declared.error.Argument.TheVariants.{Abi, DisplayStyle, Layout, Spelling, Characters, SnippetStart, Character, Color, FileName, FileSource, FileLines, FileLoci, Severity, Code, Message, LabelStyle, LabelMessage, LabelFile, Note}
+use Rattle.codespan_structs.specs.declared.error.Argument.TheVariants.{Abi, DisplayStyle, Layout, Spelling, Characters, SnippetStart, Character, Color, FileName, FileSource, FileLines, FileLocations, Severity, Code, Message, LabelStyle, LabelMessage, LabelFile, Note}
 use Rattle.codespan_structs.specs.declared.raw.RawConfig.{RawConfig}
 use Rattle.codespan_structs.specs.declared.raw.RawDiagnostic.{RawDiagnostic}
 use Rattle.codespan_structs.specs.declared.raw.RawFile.{RawFile}
@@ -48,7 +48,7 @@ abbrev pub in_order : List Argument
 in_order =
     Abi ∷ DisplayStyle ∷ Layout ∷ Spelling ∷ Characters
     ∷ SnippetStart ∷ Character ∷ Color ∷ FileName ∷ FileSource
-    ∷ FileLines ∷ FileLoci ∷ Severity ∷ Code ∷ Message
+    ∷ FileLines ∷ FileLocations ∷ Severity ∷ Code ∷ Message
     ∷ LabelStyle ∷ LabelMessage ∷ LabelFile ∷ Note ∷ []
 
 -- the argument of a number
@@ -64,7 +64,7 @@ at_number Color i d e = let at : i ≡ 7 = omega (arith, e) in rw at refl
 at_number FileName i d e = let at : i ≡ 8 = omega (arith, e) in rw at refl
 at_number FileSource i d e = let at : i ≡ 9 = omega (arith, e) in rw at refl
 at_number FileLines i d e = let at : i ≡ 10 = omega (arith, e) in rw at refl
-at_number FileLoci i d e = let at : i ≡ 11 = omega (arith, e) in rw at refl
+at_number FileLocations i d e = let at : i ≡ 11 = omega (arith, e) in rw at refl
 at_number Severity i d e = let at : i ≡ 12 = omega (arith, e) in rw at refl
 at_number Code i d e = let at : i ≡ 13 = omega (arith, e) in rw at refl
 at_number Message i d e = let at : i ≡ 14 = omega (arith, e) in rw at refl

@@ -1,5 +1,5 @@
--- What the binary searches of lines and loci find, for `StatedText::line_index` and
--- `SourceFile::stated_location`, and the loci of which `ascend` looks at one.
+-- What the binary searches of lines and locations find, for `StatedText::line_index` and
+-- `SourceFile::stated_location`, and the locations of which `ascend` looks at one.
 use Rattle.std.proofs.Common.{◌≡◌, ◌≢◌, ℕ, zero, suc, ◌+◌, ◌-◌, ◌<◌, ◌≤◌, Bool, true, false, List, [], ◌∷◌, length, Some, None, Result, Ok, Err, drop, get_or, refl, sym, ap, ◌∙◌, arith, inl, inr, lt-ltb, le-leb}
 use Rattle.std.specs.Prelude.{◌&&◌, ◌==◌, nat_lt, nat_le, slice_index, MatchResult}
 use Rattle.std.specs.Ordering.{nat_cmp, ordering_index}
@@ -16,9 +16,9 @@ use Rattle.codespan_base.specs.declared.files.Location.{Location}
 use Rattle.codespan_base.specs.FileModel.{line_of}
 use Rattle.codespan_base.specs.Lemmas.Lines.{count_split}
 use Rattle.codespan_structs.specs.declared.raw.RawLine.{RawLine}
-use Rattle.codespan_structs.specs.declared.raw.RawLocus.{RawLocus}
+use Rattle.codespan_structs.specs.declared.raw.RawLocation.{RawLocation}
 use Rattle.codespan_base.specs.Lines.{is_char_boundary}
-use Rattle.codespan_structs.specs.StatedLines.{ascend_from, ascends, follow, locus_at, starts_of}
+use Rattle.codespan_structs.specs.StatedLines.{ascend_from, ascends, follow, location_at, starts_of}
 
 -- ---- lines
 
@@ -82,13 +82,13 @@ module _ (first : ℕ) where
       ] in
       (some_started, ap (λ c. c - 1) (sym counted))
 
--- ---- loci
+-- ---- locations
 
-abbrev pub no_locus : RawLocus
-no_locus = record { byte = 0; line_number = 0; column_number = 0 }
+abbrev pub no_location : RawLocation
+no_location = record { byte = 0; line_number = 0; column_number = 0 }
 
--- the location of a locus
-abbrev pub location_of : RawLocus → Location
+-- the location as the files of Rust have it
+abbrev pub location_of : RawLocation → Location
 location_of l = record { line_number = l.line_number; column_number = l.column_number }
 
 -- numbers that differ are not equal by the test
@@ -96,15 +96,15 @@ ne-eqb : (a b : ℕ) → a ≢ b → (a == b) ≡ false
 ne-eqb a b n = elim (eqb_tells a b) [ inl p ↦ absurd (n p.1) | inr p ↦ p.0 ]
 
 module _ (first : ℕ) where
-  abbrev pub byte_at : List RawLocus → ℕ → ℕ
-  byte_at loci i = (slice_index_or loci i no_locus).byte - first
+  abbrev pub byte_at : List RawLocation → ℕ → ℕ
+  byte_at locations i = (slice_index_or locations i no_location).byte - first
 
   both : (a b : Bool) → (a && b) ≡ true → (a ≡ true) × (b ≡ true)
   both true b e = (refl, e)
   both false b e = absurd (cc)
 
-  -- loci that ascend from a byte on lie after it, and ascend
-  after : (byte : ℕ) (ls : List RawLocus) → ascend_from first byte ls ≡ true
+  -- locations that ascend from a byte on lie after it, and ascend
+  after : (byte : ℕ) (ls : List RawLocation) → ascend_from first byte ls ≡ true
       → (k : ℕ) → k < length ls → byte < byte_at ls k
   after byte [] e k h = absurd (omega (arith, h))
   after byte (l ∷ ls) e zero h =
@@ -115,13 +115,13 @@ module _ (first : ℕ) where
       let later = after (l.byte - first) ls a.1 k (omega (arith, h)) in
       omega (arith, here, later)
 
-  rest_ascends : (byte : ℕ) (ls : List RawLocus) → ascend_from first byte ls ≡ true
+  rest_ascends : (byte : ℕ) (ls : List RawLocation) → ascend_from first byte ls ≡ true
       → ascends first ls ≡ true
   rest_ascends byte [] e = refl
   rest_ascends byte (l ∷ ls) e = (both (nat_lt byte (l.byte - first)) _ e).1
 
-  -- a locus before another is of a lower byte
-  sorted : (ls : List RawLocus) → ascends first ls ≡ true → (i j : ℕ) → i < j → j < length ls
+  -- a location before another is of a lower byte
+  sorted : (ls : List RawLocation) → ascends first ls ≡ true → (i j : ℕ) → i < j → j < length ls
       → byte_at ls i < byte_at ls j
   sorted [] e i j h k = absurd (omega (arith, k))
   sorted (l ∷ ls) e i zero h k = absurd (omega (arith, h))
@@ -130,16 +130,16 @@ module _ (first : ℕ) where
       sorted ls (rest_ascends (l.byte - first) ls e) i j (omega (arith, h)) (omega (arith, k))
 
   -- the comparisons with a byte rise
-  comparisons_rise : (ls : List RawLocus) → ascends first ls ≡ true → (byte : ℕ)
+  comparisons_rise : (ls : List RawLocation) → ascends first ls ≡ true → (byte : ℕ)
       → IsNonDecreasingBy (λ l. ordering_index (nat_cmp (l.byte - first) byte)) ls
   comparisons_rise ls e byte =
-      IsNonDecreasingBy-from_default (λ (l : RawLocus). ordering_index (nat_cmp (l.byte - first) byte)) ls no_locus (λ i j le in_range.
+      IsNonDecreasingBy-from_default (λ (l : RawLocation). ordering_index (nat_cmp (l.byte - first) byte)) ls no_location (λ i j le in_range.
       let up : byte_at ls i ≤ byte_at ls j = grind (arith, sorted ls e i j, λ (same : i ≡ j). ap (byte_at ls) same) in
       grind (arith, nat_tests, up))
 
-  -- the locus of a byte is the one that is found
-  found_at : (ls : List RawLocus) → ascends first ls ≡ true → (byte i : ℕ) → i < length ls
-      → byte_at ls i ≡ byte → locus_at first ls byte ≡ Some (location_of (slice_index_or ls i no_locus))
+  -- the location of a byte is the one that is found
+  found_at : (ls : List RawLocation) → ascends first ls ≡ true → (byte i : ℕ) → i < length ls
+      → byte_at ls i ≡ byte → location_at first ls byte ≡ Some (location_of (slice_index_or ls i no_location))
   found_at [] e byte i h same = absurd (omega (arith, h))
   found_at (l ∷ ls) e byte zero h same = rw (eq-eqb (l.byte - first) byte same) refl
   found_at (l ∷ ls) e byte (suc i) h same =
@@ -147,36 +147,36 @@ module _ (first : ℕ) where
       rw (ne-eqb (l.byte - first) byte (λ equal. absurd (omega (arith, before, same, equal))))
       (found_at ls (rest_ascends (l.byte - first) ls e) byte i (omega (arith, h)) same)
 
-  -- there is none where no locus is of the byte
-  found_none : (ls : List RawLocus) (byte : ℕ)
-      → ((k : ℕ) → k < length ls → byte_at ls k ≢ byte) → locus_at first ls byte ≡ None
+  -- there is none where no location is of the byte
+  found_none : (ls : List RawLocation) (byte : ℕ)
+      → ((k : ℕ) → k < length ls → byte_at ls k ≢ byte) → location_at first ls byte ≡ None
   found_none [] byte others = refl
   found_none (l ∷ ls) byte others =
       rw (ne-eqb (l.byte - first) byte (others 0 (omega arith)))
       (found_none ls byte (λ k h. others (suc k) (omega (arith, h))))
 
   -- what a search by the bytes finds
-  pub locus_found : (ls : List RawLocus) → ascends first ls ≡ true → (byte : ℕ)
+  pub location_found : (ls : List RawLocation) → ascends first ls ≡ true → (byte : ℕ)
       → (r : Result ℕ ℕ) → IsSearchInRange r (length ls)
       → IsBinarySearchResult (λ l. nat_cmp (l.byte - first) byte) ls r
-      → MatchResult r (λ i. locus_at first ls byte ≡ Some (location_of (slice_index_or ls i no_locus)))
-      (λ _. locus_at first ls byte ≡ None)
-  locus_found ls e byte (Ok i) within equal =
-      found_at ls e byte i within (ranked _ byte _ (sym (equal no_locus)))
-  locus_found ls e byte (Err i) within splits =
+      → MatchResult r (λ i. location_at first ls byte ≡ Some (location_of (slice_index_or ls i no_location)))
+      (λ _. location_at first ls byte ≡ None)
+  location_found ls e byte (Ok i) within equal =
+      found_at ls e byte i within (ranked _ byte _ (sym (equal no_location)))
+  location_found ls e byte (Err i) within splits =
       let halves = splits (comparisons_rise ls e byte) in
       found_none ls byte (λ k h. elim (cases_lt k i) [
-        | inl p ↦ let less = ranked _ byte _ (sym (halves.0 k no_locus (omega arith) p)) in λ same. absurd (omega (arith, less, same))
-        | inr p ↦ let more = ranked _ byte _ (sym (halves.1 k no_locus p h)) in λ same. absurd (omega (arith, more, same))
+        | inl p ↦ let less = ranked _ byte _ (sym (halves.0 k no_location (omega arith) p)) in λ same. absurd (omega (arith, less, same))
+        | inr p ↦ let more = ranked _ byte _ (sym (halves.1 k no_location p h)) in λ same. absurd (omega (arith, more, same))
       ])
 
--- a locus after the last one, so that the others decide
-pub ascend-more : (first : ℕ) (loci : List RawLocus) (i : ℕ) (d : RawLocus) (byte next : ℕ) (whole : Bool) → i < length loci → next ≡ (get_or loci i d).byte - first → byte < next
-    → ascend_from first byte (drop i loci) ≡ whole → ascend_from first next (drop (i + 1) loci) ≡ whole
-ascend-more first loci i d byte next whole inside is later before =
+-- a location after the last one, so that the others decide
+pub ascend-more : (first : ℕ) (locations : List RawLocation) (i : ℕ) (d : RawLocation) (byte next : ℕ) (whole : Bool) → i < length locations → next ≡ (get_or locations i d).byte - first → byte < next
+    → ascend_from first byte (drop i locations) ≡ whole → ascend_from first next (drop (i + 1) locations) ≡ whole
+ascend-more first locations i d byte next whole inside is later before =
     let test : nat_lt byte next ≡ true = grind (arith, nat_tests) in
-    let more = λ (n : ℕ). nat_lt byte n && ascend_from first n (drop (i + 1) loci) in
-    ap (λ (t : Bool). t && ascend_from first next (drop (i + 1) loci)) (sym test) ∙ ap more is ∙ ap (ascend_from first byte) (sym (drop_more loci i d inside)) ∙ before
+    let more = λ (n : ℕ). nat_lt byte n && ascend_from first n (drop (i + 1) locations) in
+    ap (λ (t : Bool). t && ascend_from first next (drop (i + 1) locations)) (sym test) ∙ ap more is ∙ ap (ascend_from first byte) (sym (drop_more locations i d inside)) ∙ before
 
 -- a line that follows the last one, so that the others decide
 pub follow-more : (text : List ℕ) (first : ℕ) (lines : List RawLine) (i : ℕ) (d : RawLine)

@@ -31,7 +31,7 @@ use Rattle.codespan_structs.specs.declared.raw.RawLine.{RawLine}
 use Rattle.codespan_structs.specs.declared.raw.RawStyles.{RawStyles}
 use Rattle.codespan_structs.specs.declared.raw.RawText.{RawText}
 use Rattle.codespan_structs.specs.StyleMarkBytes.{style_mark_spelling}
-use Rattle.codespan_structs.specs.StatedLines.{locus_at}
+use Rattle.codespan_structs.specs.StatedLines.{location_at}
 use Rattle.codespan_structs.specs.SourceTexts.{CutText, SourceView, database_of, stated_text, newline_text}
 
 -- ---- numbers of the header
@@ -186,7 +186,7 @@ cut_by name text first_byte first_line (l ∷ ls) = stated_text name text first_
 abbrev pub source_in : RawFile → SourceView
 source_in f = record {
   cut = cut_by f.name.now f.source.now f.first_byte f.first_line f.lines.now;
-  stated_location = locus_at f.first_byte f.loci.now;
+  stated_location = location_at f.first_byte f.locations.now;
 }
 
 -- the files

@@ -11,7 +11,8 @@ pub mod Spellings
 pub mod Validity
 pub mod ValidParts
 pub mod Results
--- texts of statuses
+-- statuses, and their texts
+pub mod Statuses
 pub mod StatusTexts
 -- lemmas, which a reader may skip
 pub mod Lemmas

@@ -1,10 +1,10 @@
--- Lines and loci that a caller states, in a window of a file from the byte `first` on; an index
--- before the window counts as its start.
+-- Lines and locations that a caller states, in a window of a file from the byte `first` on; an
+-- index before the window counts as its start.
 use Rattle.std.specs.Prelude.{ℕ, ◌-◌, Bool, true, false, ◌&&◌, ◌==◌, nat_lt, nat_le, if◌then◌else◌, List, [], ◌∷◌, map, Option, Some, None}
 use Rattle.codespan_base.specs.declared.files.Location.{Location}
 use Rattle.codespan_base.specs.Lines.{is_char_boundary}
 use Rattle.codespan_structs.specs.declared.raw.RawLine.{RawLine}
-use Rattle.codespan_structs.specs.declared.raw.RawLocus.{RawLocus}
+use Rattle.codespan_structs.specs.declared.raw.RawLocation.{RawLocation}
 
 -- whether lines follow one that has this start and this end: each starts after the start of the one
 -- before it, and not before its end
@@ -37,20 +37,20 @@ abbrev pub numbers_of : List RawLine → List ℕ
 numbers_of lines = map (λ l. l.number) lines
 
 -- the location that is stated for a byte
-abbrev pub locus_at : ℕ → List RawLocus → ℕ → Option Location
-locus_at first [] byte = None
-locus_at first (l ∷ ls) byte =
+abbrev pub location_at : ℕ → List RawLocation → ℕ → Option Location
+location_at first [] byte = None
+location_at first (l ∷ ls) byte =
     if (l.byte - first) == byte
     then Some (record { line_number = l.line_number; column_number = l.column_number })
-    else locus_at first ls byte
+    else location_at first ls byte
 
--- whether the bytes of loci ascend strictly from this one on
-abbrev pub ascend_from : ℕ → ℕ → List RawLocus → Bool
+-- whether the bytes of locations ascend strictly from this one on
+abbrev pub ascend_from : ℕ → ℕ → List RawLocation → Bool
 ascend_from first byte [] = true
 ascend_from first byte (l ∷ ls) =
     nat_lt byte (l.byte - first) && ascend_from first (l.byte - first) ls
 
--- whether the bytes of loci ascend strictly
-abbrev pub ascends : ℕ → List RawLocus → Bool
+-- whether the bytes of locations ascend strictly
+abbrev pub ascends : ℕ → List RawLocation → Bool
 ascends first [] = true
 ascends first (l ∷ ls) = ascend_from first (l.byte - first) ls

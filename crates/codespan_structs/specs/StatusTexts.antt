@@ -1,41 +1,50 @@
 -- The texts of statuses and arguments, which are ASCII.
 use Rattle.std.specs.Prelude.{ℕ, ◌==◌, if◌then◌else◌, List, ◌++◌, codes}
+use Rattle.codespan_structs.specs.declared.error.Argument.TheVariants.{Abi, DisplayStyle, Layout, Spelling, Characters, SnippetStart, Character, Color, FileName, FileSource, FileLines, FileLocations, Severity, Code, Message, LabelStyle, LabelMessage, Note}
+use Rattle.codespan_structs.specs.Statuses.{OK, TOO_SMALL, OUT_OF_MEMORY, FILE_MISSING, INVALID}
+use Rattle.codespan_structs.specs.Validity.{number_of}
+
+-- the greatest length of a text, in bytes
+abbrev pub STATUS_TEXT_MAX : ℕ
+STATUS_TEXT_MAX = 128
 
 -- what a status means
 abbrev pub status_text : ℕ → List ℕ
 status_text s =
-    if s == 0 then codes "the output was written" else
-    if s == 1 then codes "the output does not fit into the buffer" else
-    if s == 2 then codes "out of memory" else
-    if s == 3 then codes "the file of a label is not one of the files" else
+    if s == OK then codes "the output was written" else
+    if s == TOO_SMALL then codes "the output does not fit into the buffer" else
+    if s == OUT_OF_MEMORY then codes "out of memory" else
+    if s == FILE_MISSING then codes "the file of a label is not one of the files" else
     codes "unknown status"
 
 -- what an argument must be
 abbrev pub argument_text : ℕ → List ℕ
 argument_text a =
-    if a == 1 then codes "the ABI version must be that of the library" else
-    if a == 2 then codes "the display style must be one of those of the header" else
-    if a == 3 then codes "the layout must be one of those of the header" else
-    if a == 4 then codes "the spelling must be one of those of the header" else
-    if a == 5 then codes "the choice of characters must be one of those of the header" else
-    if a == 6 then codes "the text before a locus must be UTF-8" else
-    if a == 7 then codes "a character must be a Unicode scalar value" else
-    if a == 8 then codes "a color must be one of those of the header" else
-    if a == 9 then codes "the name of a file must be UTF-8" else
-    if a == 10 then codes "the source of a file must be UTF-8" else
-    if a == 11 then
+    if a == number_of Abi then codes "the ABI version must be that of the library" else
+    if a == number_of DisplayStyle then
+    codes "the display style must be one of those of the header" else
+    if a == number_of Layout then codes "the layout must be one of those of the header" else
+    if a == number_of Spelling then codes "the spelling must be one of those of the header" else
+    if a == number_of Characters then
+    codes "the choice of characters must be one of those of the header" else
+    if a == number_of SnippetStart then codes "the text before a locus must be UTF-8" else
+    if a == number_of Character then codes "a character must be a Unicode scalar value" else
+    if a == number_of Color then codes "a color must be one of those of the header" else
+    if a == number_of FileName then codes "the name of a file must be UTF-8" else
+    if a == number_of FileSource then codes "the source of a file must be UTF-8" else
+    if a == number_of FileLines then
     codes "the lines of a file must start with its source, ascend without overlap and end inside"
-    ++ codes " it, at boundaries of characters"
-    else
-    if a == 12 then codes "the loci of a file must ascend strictly" else
-    if a == 13 then codes "the severity must be one of those of the header" else
-    if a == 14 then codes "the code must be UTF-8" else
-    if a == 15 then codes "the message must be UTF-8" else
-    if a == 16 then codes "the style of a label must be one of those of the header" else
-    if a == 17 then codes "the message of a label must be UTF-8" else
-    if a == 19 then codes "a note must be UTF-8" else
+    ++ codes " it, at boundaries of characters" else
+    if a == number_of FileLocations then codes "the locations of a file must ascend strictly" else
+    if a == number_of Severity then codes "the severity must be one of those of the header" else
+    if a == number_of Code then codes "the code must be UTF-8" else
+    if a == number_of Message then codes "the message must be UTF-8" else
+    if a == number_of LabelStyle then
+    codes "the style of a label must be one of those of the header" else
+    if a == number_of LabelMessage then codes "the message of a label must be UTF-8" else
+    if a == number_of Note then codes "a note must be UTF-8" else
     codes "an argument is invalid"
 
--- of a status with an argument: of 4, that an argument is invalid, what it must be
+-- of a status with an argument: of an invalid one, what it must be
 abbrev pub text_for : ℕ → ℕ → List ℕ
-text_for status argument = if status == 4 then argument_text argument else status_text status
+text_for status argument = if status == INVALID then argument_text argument else status_text status

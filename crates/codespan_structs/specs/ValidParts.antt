@@ -6,7 +6,7 @@ use Rattle.codespan_structs.specs.declared.raw.RawChars.{RawChars}
 use Rattle.codespan_structs.specs.declared.raw.RawConfig.{RawConfig}
 use Rattle.codespan_structs.specs.declared.raw.RawDiagnostic.{RawDiagnostic}
 use Rattle.codespan_structs.specs.declared.raw.RawFile.{RawFile}
-use Rattle.codespan_structs.specs.Validity.{HasTextMessage, HasTextName, HasTextSource, HasValidLines, HasValidLoci, IsValidText}
+use Rattle.codespan_structs.specs.Validity.{HasTextMessage, HasTextName, HasTextSource, HasValidLines, HasValidLocations, IsValidText}
 
 -- the caller's characters
 pub record AreCustomChars (c : RawChars) : Type 0 where
@@ -37,7 +37,7 @@ pub record IsValidFile (f : RawFile) : Type 0 where
   pub name : HasTextName f
   pub source : HasTextSource f
   pub lines : HasValidLines f
-  pub loci : HasValidLoci f
+  pub locations : HasValidLocations f
 
 -- the diagnostic
 pub record IsValidDiagnostic (d : RawDiagnostic) : Type 0 where

@@ -4,7 +4,7 @@ use Rattle.std.specs.List.{slice_index_or, HoldsAt, AllWithin}
 use Rattle.std.specs.Char.{InScalarRange}
 use Rattle.std.specs.Str.{IsUtf8}
 use Rattle.codespan_structs.specs.declared.error.Argument.{Argument}
-use Rattle.codespan_structs.specs.declared.error.Argument.TheVariants.{Abi, DisplayStyle, Layout, Spelling, Characters, SnippetStart, Character, Color, FileName, FileSource, FileLines, FileLoci, Severity, Code, Message, LabelStyle, LabelMessage, LabelFile, Note}
+use Rattle.codespan_structs.specs.declared.error.Argument.TheVariants.{Abi, DisplayStyle, Layout, Spelling, Characters, SnippetStart, Character, Color, FileName, FileSource, FileLines, FileLocations, Severity, Code, Message, LabelStyle, LabelMessage, LabelFile, Note}
 use Rattle.codespan_structs.specs.declared.raw.Detail.{Detail}
 use Rattle.codespan_structs.specs.declared.raw.RawChars.{RawChars}
 use Rattle.codespan_structs.specs.declared.raw.RawColorSpec.{RawColorSpec}
@@ -16,6 +16,7 @@ use Rattle.codespan_structs.specs.declared.raw.RawLine.{RawLine}
 use Rattle.codespan_structs.specs.declared.raw.RawStyles.{RawStyles}
 use Rattle.codespan_structs.specs.declared.raw.RawText.{RawText}
 use Rattle.codespan_structs.specs.StatedLines.{are_lines, ascends}
+use Rattle.codespan_structs.specs.Statuses.{FILE_MISSING, INVALID}
 
 -- ---- values
 
@@ -55,8 +56,8 @@ HasTextSource f = IsUtf8 f.source.now
 abbrev pub HasValidLines : RawFile → Type 0
 HasValidLines f = AreValidLines f.source.now f.first_byte f.lines.now
 
-abbrev pub HasValidLoci : RawFile → Type 0
-HasValidLoci f = ascends f.first_byte f.loci.now ≡ true
+abbrev pub HasValidLocations : RawFile → Type 0
+HasValidLocations f = ascends f.first_byte f.locations.now ≡ true
 
 abbrev pub HasLabelStyle : RawLabel → Type 0
 HasLabelStyle l = l.style ≤ 1
@@ -86,7 +87,7 @@ number_of Color = 8
 number_of FileName = 9
 number_of FileSource = 10
 number_of FileLines = 11
-number_of FileLoci = 12
+number_of FileLocations = 12
 number_of Severity = 13
 number_of Code = 14
 number_of Message = 15
@@ -130,7 +131,7 @@ module _ (files : List RawFile) (d : RawDiagnostic) (c : RawConfig) where
   IsValidAt FileName i = HoldsIfAt HasTextName files i
   IsValidAt FileSource i = HoldsIfAt HasTextSource files i
   IsValidAt FileLines i = HoldsIfAt HasValidLines files i
-  IsValidAt FileLoci i = HoldsIfAt HasValidLoci files i
+  IsValidAt FileLocations i = HoldsIfAt HasValidLocations files i
   IsValidAt Severity i = d.severity ≤ 4
   IsValidAt Code i = IsUtf8 d.code.now
   IsValidAt Message i = IsUtf8 d.message.now
@@ -166,5 +167,5 @@ no_detail = record { argument = 0; index = 0 }
 
 -- the status of a call whose first invalid argument is this one
 abbrev pub status_for : Argument → ℕ
-status_for LabelFile = 3
-status_for _ = 4
+status_for LabelFile = FILE_MISSING
+status_for _ = INVALID

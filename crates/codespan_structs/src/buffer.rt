@@ -2,16 +2,17 @@
 
 ghost use Rattle.std.specs.Prelude.{◌≡◌, ◌≤◌, length};
 ghost use Rattle.codespan_structs.specs.Results.{IsTooSmall, IsWritten};
+ghost use Rattle.codespan_structs.specs.Statuses.{OK, TOO_SMALL};
 
 use crate::status::{OK, TOO_SMALL};
 
 /// Copies the bytes to the front of `out` where they fit, and sets `written` to their number.
 /// Returns [`OK`], or [`TOO_SMALL`] and leaves `out` unchanged.
 pub fn copy_out(bytes: &[u8], out: &mut [u8], written: &mut usize) -> u32
-    ensures ok { result ≡ 0 → IsWritten bytes.now out.old out.new written.new }
-    ensures too_small { result ≡ 1 → IsTooSmall bytes.now out.old out.new written.new }
+    ensures ok { result ≡ OK → IsWritten bytes.now out.old out.new written.new }
+    ensures too_small { result ≡ TOO_SMALL → IsTooSmall bytes.now out.old out.new written.new }
     ensures set { written.new ≡ length bytes.now }
-    ensures status { result ≤ 1 }
+    ensures status { result ≤ TOO_SMALL }
 {
     let length = bytes.len();
     *written = length;

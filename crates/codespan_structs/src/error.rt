@@ -3,7 +3,7 @@
 use std::alloc::{AllocError, AllocFailed};
 
 /// An argument that can be invalid, by its number in the header.
-#[derive(Clone, Copy, Debug, PartialEq, Eq)]
+#[derive(Clone, Copy)]
 pub enum Argument {
     /// The ABI version. Invalid unless it is [`ABI`](crate::raw::ABI).
     Abi = 1,
@@ -29,8 +29,8 @@ pub enum Argument {
     /// A file's lines. Invalid unless there are none or they start with its source, ascend without
     /// overlap and end inside it, at boundaries of characters.
     FileLines = 11,
-    /// A file's loci. Invalid unless their bytes ascend strictly.
-    FileLoci = 12,
+    /// A file's locations. Invalid unless their bytes ascend strictly.
+    FileLocations = 12,
     /// The severity. Invalid above 4.
     Severity = 13,
     /// The code. Invalid unless UTF-8.
@@ -60,7 +60,7 @@ impl Argument {
 }
 
 /// An allocation failed.
-#[derive(Clone, Copy, Debug, PartialEq, Eq)]
+#[derive(Clone, Copy, Debug)]
 pub struct OutOfMemory;
 
 impl From<AllocError> for OutOfMemory {

@@ -32,7 +32,7 @@ pub struct RawLine {
 /// The line and column number that are shown for a byte at which a label starts.
 #[derive(Drop)]
 #[repr(C)]
-pub struct RawLocus {
+pub struct RawLocation {
     /// Byte index in the file.
     pub byte: usize,
     /// The line number.
@@ -55,8 +55,8 @@ pub struct RawFile<'a> {
     pub first_line: usize,
     /// The lines of `source`; where there are none, a line starts after each newline.
     pub lines: &'a [RawLine],
-    /// The loci that are shown in place of computed ones.
-    pub loci: &'a [RawLocus],
+    /// The locations that are shown in place of computed ones.
+    pub locations: &'a [RawLocation],
 }
 
 /// A label.

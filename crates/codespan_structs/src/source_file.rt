@@ -1,52 +1,56 @@
-//! A file of C: a text cut into lines, with loci of the caller.
+//! A file of C: a text cut into lines, with locations of the caller.
 
 ghost use Rattle.std.specs.Prelude.{◌≡◌, true, IfOk, None};
 ghost use Rattle.codespan_base.specs.FileModel.{line_of};
 ghost use Rattle.codespan_base.specs.LawfulFiles.{FailsBy};
-ghost use Rattle.codespan_structs.specs.StatedLines.{ascends, locus_at};
+ghost use Rattle.codespan_structs.specs.StatedLines.{ascends, location_at};
 ghost use Rattle.codespan_structs.specs.SourceTexts.{IsRangeIn, cut_column, file_of, past_last};
 
 mod newline;
 mod stated;
 mod text;
 
-use crate::raw::RawLocus;
+use crate::raw::RawLocation;
 use codespan_base::files::{Error, Location, column_index};
 pub use newline::NewlineText;
 pub use stated::StatedText;
 use std::ops::Range;
 pub use text::SourceText;
 
-/// A file: a text cut into lines, and loci of the caller.
+/// A file: a text cut into lines, and locations of the caller.
 #[derive(Drop)]
 pub struct SourceFile<'a> {
     /// The text, with its name and its lines.
     text: SourceText<'a>,
     /// Byte index in the file of the first byte of the text.
     first_byte: usize,
-    /// The loci of the caller, in ascending order of their bytes.
-    loci: &'a [RawLocus],
-    ghost ascending: { ascends first_byte loci.now ≡ true },
+    /// The locations of the caller, in ascending order of their bytes.
+    locations: &'a [RawLocation],
+    ghost ascending: { ascends first_byte locations.now ≡ true },
 }
 
 impl<'a> SourceFile<'a> {
     ghost use Rattle.codespan_structs.specs.SourceModel.{cut_of, source_of};
 
     /// Returns the file of a text, which starts at the byte `first_byte` of the file, with these
-    /// loci.
+    /// locations.
     ///
     /// # Requires
     ///
-    /// The bytes of the loci ascend strictly. One before `first_byte` counts as `first_byte`.
-    pub fn new(text: SourceText<'a>, first_byte: usize, loci: &'a [RawLocus]) -> SourceFile<'a>
-        requires { ascends first_byte loci.now ≡ true }
+    /// The bytes of the locations ascend strictly. One before `first_byte` counts as `first_byte`.
+    pub fn new(
+        text: SourceText<'a>,
+        first_byte: usize,
+        locations: &'a [RawLocation],
+    ) -> SourceFile<'a>
+        requires { ascends first_byte locations.now ≡ true }
         ensures cut { (source_of result).cut ≡ cut_of text.entry }
-        ensures stated { (source_of result).stated_location ≡ locus_at first_byte loci.now }
+        ensures stated { (source_of result).stated_location ≡ location_at first_byte locations.now }
     {
         SourceFile {
             text,
             first_byte,
-            loci,
+            locations,
         }
     }
 
@@ -109,15 +113,15 @@ impl<'a> SourceFile<'a> {
         ensures { result ≡ (source_of self.now).stated_location byte_index }
     {
         let first_byte = self.first_byte;
-        match self
-            .loci
-            .binary_search_by_key(&byte_index, |locus| locus.byte.saturating_sub(first_byte))
-        {
+        match self.locations.binary_search_by_key(
+            &byte_index,
+            |location| location.byte.saturating_sub(first_byte),
+        ) {
             Ok(index) => {
-                let locus = &self.loci[index];
+                let location = &self.locations[index];
                 Some(Location {
-                    line_number: locus.line_number,
-                    column_number: locus.column_number,
+                    line_number: location.line_number,
+                    column_number: location.column_number,
                 })
             }
             Err(_) => None,
@@ -130,7 +134,7 @@ impl<'a> SourceFile<'a> {
     ///
     /// None but [`Error::OutOfMemory`], by the contract: the line of a byte is there. Nothing is
     /// allocated, so that neither occurs.
-    #[tactic(auto, using(crate::specs::SourceModel::byte_has_line))]
+    #[tactic(auto, using(crate::proofs::FileLines::byte_has_line))]
     pub fn location(&self, byte_index: usize) -> Result<Location, Error>
         ensures value { IfOk result (λ location.
             location ≡ (file_of (source_of self.now)).location byte_index) }

@@ -1,8 +1,9 @@
 //! The files of C as a file database.
 
-ghost use Rattle.std.specs.Prelude.{◌≡◌, [], ◌∷◌, ◌++◌, OnOk, IfOk, IfErr, OnErr, IsErrOf, refl, slice_get, Some, None, length};
-ghost use Rattle.codespan_base.specs.declared.files.Error.TheVariants.{FileMissing, OutOfMemory};
+ghost use Rattle.std.specs.Prelude.{◌≡◌, [], ◌∷◌, ◌++◌, OnOk, IfOk, IfErr, refl, slice_get, Some, None, length};
+ghost use Rattle.codespan_base.specs.declared.files.Error.TheVariants.{FileMissing};
 
+use crate::error::OutOfMemory;
 use crate::source_file::SourceFile;
 use codespan_base::files::{Error, Files, Location};
 use std::alloc::Global;
@@ -38,11 +39,10 @@ impl<'a> SourceFiles<'a> {
     ///
     /// # Errors
     ///
-    /// [`Error::OutOfMemory`] where an allocation fails.
-    pub fn add(&mut self, file: SourceFile<'a>) -> Result<(), Error>
-        ensures ok { OnOk result
+    /// [`OutOfMemory`] where an allocation fails.
+    pub fn add(&mut self, file: SourceFile<'a>) -> Result<(), OutOfMemory>
+        ensures { OnOk result
             (sources_of self.new ≡ sources_of self.old ++ source_of file.entry ∷ []) }
-        ensures failed { OnErr result (IsErrOf result OutOfMemory) }
     {
         self.files.push(file)?;
         Ok(())
@@ -68,8 +68,9 @@ impl<'a> SourceFiles<'a> {
 
 impl<'files, 'a: 'files> Files<'files> for SourceFiles<'a> {
     ghost use Rattle.codespan_base.specs.Lemmas.Missing.{same_at};
+    ghost use Rattle.codespan_structs.specs.Lemmas.SourceFiles.{database_is_lawful, database_fails_past_end};
+    ghost use Rattle.codespan_structs.specs.SourceModel.{sources_of};
     ghost use Rattle.codespan_structs.specs.SourceTexts.{database_of};
-    ghost use Rattle.codespan_structs.specs.SourceModel.{sources_of, database_is_lawful, database_fails_past_end};
 
     /// The index of a file.
     type FileId = usize;

@@ -2,7 +2,8 @@
 
 ghost use Rattle.std.specs.Prelude.{◌≡◌, ◌≤◌, length};
 ghost use Rattle.codespan_structs.specs.Results.{IsTooSmall, IsWritten};
-ghost use Rattle.codespan_structs.specs.StatusTexts.{argument_text, status_text, text_for};
+ghost use Rattle.codespan_structs.specs.Statuses.{OK, TOO_SMALL};
+ghost use Rattle.codespan_structs.specs.StatusTexts.{STATUS_TEXT_MAX, argument_text, status_text, text_for};
 ghost use Rattle.codespan_structs.specs.Validity.{status_for};
 
 use crate::buffer::copy_out;
@@ -26,6 +27,34 @@ pub const INVALID: u32 = 4;
 /// The number of no argument.
 pub const NO_ARGUMENT: u32 = 0;
 
+/// That an argument is invalid, of a number that has no text of its own.
+const ANY_ARGUMENT_TEXT: &str = "an argument is invalid";
+
+/// What each argument must be, by its number.
+static ARGUMENT_TEXTS: [&str; 20] = [
+    ANY_ARGUMENT_TEXT,
+    "the ABI version must be that of the library",
+    "the display style must be one of those of the header",
+    "the layout must be one of those of the header",
+    "the spelling must be one of those of the header",
+    "the choice of characters must be one of those of the header",
+    "the text before a locus must be UTF-8",
+    "a character must be a Unicode scalar value",
+    "a color must be one of those of the header",
+    "the name of a file must be UTF-8",
+    "the source of a file must be UTF-8",
+    "the lines of a file must start with its source, ascend without overlap and end inside it, at \
+     boundaries of characters",
+    "the locations of a file must ascend strictly",
+    "the severity must be one of those of the header",
+    "the code must be UTF-8",
+    "the message must be UTF-8",
+    "the style of a label must be one of those of the header",
+    "the message of a label must be UTF-8",
+    ANY_ARGUMENT_TEXT,
+    "a note must be UTF-8",
+];
+
 /// Returns the status of a call whose first invalid argument is this one.
 pub fn status_for(argument: Argument) -> u32
     ensures { result ≡ status_for argument }
@@ -43,7 +72,7 @@ pub fn status_for(argument: Argument) -> u32
         | Argument::FileName
         | Argument::FileSource
         | Argument::FileLines
-        | Argument::FileLoci
+        | Argument::FileLocations
         | Argument::Severity
         | Argument::Code
         | Argument::Message
@@ -59,11 +88,11 @@ pub fn status_for(argument: Argument) -> u32
 /// Of [`INVALID`] it says what the argument must be: `argument` is the number of an [`Argument`],
 /// and is read for this status alone.
 pub fn write_status(status: u32, argument: u32, out: &mut [u8], written: &mut usize) -> u32
-    ensures ok { result ≡ 0 → IsWritten (text_for status argument) out.old out.new written.new }
-    ensures too_small { result ≡ 1
+    ensures ok { result ≡ OK → IsWritten (text_for status argument) out.old out.new written.new }
+    ensures too_small { result ≡ TOO_SMALL
         → IsTooSmall (text_for status argument) out.old out.new written.new }
-    ensures short { written.new ≤ 128 }
-    ensures status { result ≤ 1 }
+    ensures short { written.new ≤ STATUS_TEXT_MAX }
+    ensures status { result ≤ TOO_SMALL }
 {
     let text = if status == INVALID {
         argument_text(argument)
@@ -76,13 +105,13 @@ pub fn write_status(status: u32, argument: u32, out: &mut [u8], written: &mut us
 /// Returns what a status means.
 fn status_text(status: u32) -> &'static str
     ensures value { result.now ≡ status_text status }
-    ensures short { length result.now ≤ 128 }
+    ensures short { length result.now ≤ STATUS_TEXT_MAX }
 {
     match status {
-        0 => "the output was written",
-        1 => "the output does not fit into the buffer",
-        2 => "out of memory",
-        3 => "the file of a label is not one of the files",
+        OK => "the output was written",
+        TOO_SMALL => "the output does not fit into the buffer",
+        OUT_OF_MEMORY => "out of memory",
+        FILE_MISSING => "the file of a label is not one of the files",
         _ => "unknown status",
     }
 }
@@ -90,30 +119,10 @@ fn status_text(status: u32) -> &'static str
 /// Returns what an argument must be.
 fn argument_text(argument: u32) -> &'static str
     ensures value { result.now ≡ argument_text argument }
-    ensures short { length result.now ≤ 128 }
+    ensures short { length result.now ≤ STATUS_TEXT_MAX }
 {
-    match argument {
-        1 => "the ABI version must be that of the library",
-        2 => "the display style must be one of those of the header",
-        3 => "the layout must be one of those of the header",
-        4 => "the spelling must be one of those of the header",
-        5 => "the choice of characters must be one of those of the header",
-        6 => "the text before a locus must be UTF-8",
-        7 => "a character must be a Unicode scalar value",
-        8 => "a color must be one of those of the header",
-        9 => "the name of a file must be UTF-8",
-        10 => "the source of a file must be UTF-8",
-        11 => {
-            "the lines of a file must start with its source, ascend without overlap and end \
-             inside it, at boundaries of characters"
-        }
-        12 => "the loci of a file must ascend strictly",
-        13 => "the severity must be one of those of the header",
-        14 => "the code must be UTF-8",
-        15 => "the message must be UTF-8",
-        16 => "the style of a label must be one of those of the header",
-        17 => "the message of a label must be UTF-8",
-        19 => "a note must be UTF-8",
-        _ => "an argument is invalid",
+    match ARGUMENT_TEXTS.get(argument as usize) {
+        Some(text) => text,
+        None => ANY_ARGUMENT_TEXT,
     }
 }

@@ -15,6 +15,28 @@ use std::io::Write;
 /// The byte before the number of a style mark. UTF-8 never has it.
 const STYLE_MARK_BYTE: u8 = 255;
 
+/// The number of the style mark of a header's message. Those of headers are the ranks of severities.
+const HEADER_MESSAGE: u8 = 5;
+
+/// The number of the style mark of a line's number.
+const LINE_NUMBER: u8 = 6;
+
+/// The number of the style mark of a note's bullet.
+const NOTE_BULLET: u8 = 7;
+
+/// The number of the style mark of the border left of the source.
+const SOURCE_BORDER: u8 = 8;
+
+/// The number of the style mark of a primary label of a help; of other severities their ranks are
+/// added.
+const PRIMARY_LABEL: u8 = 9;
+
+/// The number of the style mark of a secondary label, likewise.
+const SECONDARY_LABEL: u8 = 14;
+
+/// The number of the style mark after which text has no style.
+const RESET: u8 = 19;
+
 /// A writer that spells each style mark as the byte 255 and its number.
 #[derive(Drop)]
 pub struct StyleMarkWriter<W> {
@@ -98,31 +120,31 @@ impl<W: Write> WriteStyle for StyleMarkWriter<W> {
     }
 
     fn set_header_message(&mut self) -> io::Result<()> {
-        self.write_style_mark(5)
+        self.write_style_mark(HEADER_MESSAGE)
     }
 
     fn set_line_number(&mut self) -> io::Result<()> {
-        self.write_style_mark(6)
+        self.write_style_mark(LINE_NUMBER)
     }
 
     fn set_note_bullet(&mut self) -> io::Result<()> {
-        self.write_style_mark(7)
+        self.write_style_mark(NOTE_BULLET)
     }
 
     fn set_source_border(&mut self) -> io::Result<()> {
-        self.write_style_mark(8)
+        self.write_style_mark(SOURCE_BORDER)
     }
 
     fn set_label(&mut self, severity: Severity, label_style: LabelStyle) -> io::Result<()> {
         let number = severity_rank(severity);
         match label_style {
-            LabelStyle::Primary => self.write_style_mark(9 + number),
-            LabelStyle::Secondary => self.write_style_mark(14 + number),
+            LabelStyle::Primary => self.write_style_mark(PRIMARY_LABEL + number),
+            LabelStyle::Secondary => self.write_style_mark(SECONDARY_LABEL + number),
         }
     }
 
     fn reset(&mut self) -> io::Result<()> {
-        self.write_style_mark(19)
+        self.write_style_mark(RESET)
     }
 
     fn put(&mut self, bytes: &[u8]) -> io::Result<usize> {

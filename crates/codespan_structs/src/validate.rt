@@ -14,7 +14,7 @@ use crate::validate::config::{character_index, color_index, is_snippet_start_val
 use crate::validate::diagnostic::{
     label_file_index, label_message_index, label_style_index, note_index,
 };
-use crate::validate::files::{lines_index, loci_index, name_index, source_index};
+use crate::validate::files::{lines_index, locations_index, name_index, source_index};
 use crate::validate::values::is_text;
 
 /// An invalid argument.
@@ -40,7 +40,7 @@ const ARGUMENTS: [Argument; 19] = [
     Argument::FileName,
     Argument::FileSource,
     Argument::FileLines,
-    Argument::FileLoci,
+    Argument::FileLocations,
     Argument::Severity,
     Argument::Code,
     Argument::Message,
@@ -90,7 +90,7 @@ fn invalid_index(
         Argument::FileName => name_index(files),
         Argument::FileSource => source_index(files),
         Argument::FileLines => lines_index(files),
-        Argument::FileLoci => loci_index(files),
+        Argument::FileLocations => locations_index(files),
         Argument::Severity => index_unless(diagnostic.severity <= 4),
         Argument::Code => index_unless(is_text(diagnostic.code)),
         Argument::Message => index_unless(is_text(diagnostic.message)),

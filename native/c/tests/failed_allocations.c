@@ -83,18 +83,18 @@ static codespan_text long_source(void) {
     return codespan_text_from(source);
 }
 
-/* Renders over a short file, one with lines and loci of the caller, and a window of a long one. */
+/* Renders over a short file, one with stated lines and locations, and a window of a long one. */
 static size_t fail_all(codespan_config *config) {
     codespan_line lines[] = {{0, 4, 7}, {4, 8, 8}, {8, 13, 9}};
-    codespan_locus loci[] = {{4, 80, 3}};
+    codespan_location locations[] = {{4, 80, 3}};
     codespan_file files[3];
     files[0] =
         codespan_new_file(codespan_text_from("a"), codespan_text_from("one\ntwo\n\tthree\n"));
     files[1] = codespan_new_file(codespan_text_from("b"), codespan_text_from("one\ntwo\nthree"));
     files[1].lines = lines;
     files[1].lines_length = 3;
-    files[1].loci = loci;
-    files[1].loci_length = 1;
+    files[1].locations = locations;
+    files[1].locations_length = 1;
     files[2] = codespan_new_file(codespan_text_from("c"), long_source());
     files[2].first_byte = 1000;
     files[2].first_line = 50;

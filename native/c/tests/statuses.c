@@ -6,7 +6,7 @@
 struct sample {
     codespan_config config;
     codespan_line lines[3];
-    codespan_locus loci[2];
+    codespan_location locations[2];
     codespan_file files[2];
     codespan_label labels[3];
     codespan_text notes[2];
@@ -15,9 +15,9 @@ struct sample {
 
 static void set_files(struct sample *sample) {
     codespan_line lines[] = {{100, 104, 7}, {104, 108, 8}, {108, 113, 9}};
-    codespan_locus loci[] = {{100, 70, 1}, {104, 80, 1}};
+    codespan_location locations[] = {{100, 70, 1}, {104, 80, 1}};
     memcpy(sample->lines, lines, sizeof lines);
-    memcpy(sample->loci, loci, sizeof loci);
+    memcpy(sample->locations, locations, sizeof locations);
     sample->files[0] =
         codespan_new_file(codespan_text_from("a.txt"), codespan_text_from("one\ntwo\nthree\n"));
     sample->files[1] =
@@ -25,8 +25,8 @@ static void set_files(struct sample *sample) {
     sample->files[1].first_byte = 100;
     sample->files[1].lines = sample->lines;
     sample->files[1].lines_length = 3;
-    sample->files[1].loci = sample->loci;
-    sample->files[1].loci_length = 2;
+    sample->files[1].locations = sample->locations;
+    sample->files[1].locations_length = 2;
 }
 
 static void set_sample(struct sample *sample) {
@@ -88,7 +88,7 @@ static void set_lines_that_overlap(struct sample *s) { s->lines[1].start = 103; 
 static void set_reversed_line(struct sample *s) { s->lines[1].end = 103; }
 static void set_line_past_the_end(struct sample *s) { s->lines[2].end = 114; }
 static void set_line_inside_a_character(struct sample *s) { s->lines[2].end = 112; }
-static void set_locus_twice(struct sample *s) { s->loci[1].byte = 100; }
+static void set_location_twice(struct sample *s) { s->locations[1].byte = 100; }
 static void set_severity(struct sample *s) { s->diagnostic.severity = 5; }
 static void set_code(struct sample *s) { s->diagnostic.code = cut(); }
 static void set_message(struct sample *s) { s->diagnostic.message = cut(); }
@@ -148,7 +148,7 @@ static const struct invalid_case INVALID_CASES[] = {
     {set_reversed_line, CODESPAN_INVALID, {CODESPAN_ARGUMENT_FILE_LINES, 1}},
     {set_line_past_the_end, CODESPAN_INVALID, {CODESPAN_ARGUMENT_FILE_LINES, 1}},
     {set_line_inside_a_character, CODESPAN_INVALID, {CODESPAN_ARGUMENT_FILE_LINES, 1}},
-    {set_locus_twice, CODESPAN_INVALID, {CODESPAN_ARGUMENT_FILE_LOCI, 1}},
+    {set_location_twice, CODESPAN_INVALID, {CODESPAN_ARGUMENT_FILE_LOCATIONS, 1}},
     {set_severity, CODESPAN_INVALID, {CODESPAN_ARGUMENT_SEVERITY, 0}},
     {set_code, CODESPAN_INVALID, {CODESPAN_ARGUMENT_CODE, 0}},
     {set_message, CODESPAN_INVALID, {CODESPAN_ARGUMENT_MESSAGE, 0}},

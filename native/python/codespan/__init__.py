@@ -20,7 +20,7 @@ from . import _native
 
 __all__ = [
     'Argument', 'Characters', 'Chars', 'Color', 'ColorSpec', 'Config', 'Diagnostic',
-    'DisplayStyle', 'File', 'InvalidArgument', 'Label', 'LabelStyle', 'Layout', 'Line', 'Locus',
+    'DisplayStyle', 'File', 'InvalidArgument', 'Label', 'LabelStyle', 'Layout', 'Line', 'Location',
     'Severity', 'Spelling', 'Styles', 'byte_index', 'emit',
 ]
 
@@ -93,7 +93,7 @@ class Line:
 
 
 @dataclass(frozen=True)
-class Locus:
+class Location:
     """The location that is shown for a byte at which a label starts: a line and a column number."""
     byte: int  #: byte index in the file
     line_number: int
@@ -108,7 +108,7 @@ class File:
     first_byte: int = 0  #: byte index in the file of the first byte of `source`
     first_line: int = 0  #: number of lines of the file before `source`
     lines: Sequence[Line] = ()  #: its lines, in ascending order; none: they start after newlines
-    loci: Sequence[Locus] = ()  #: loci shown in place of those that are computed
+    locations: Sequence[Location] = ()  #: locations shown in place of those that are computed
 
 
 @dataclass(frozen=True)
@@ -215,7 +215,7 @@ class Argument(IntEnum):
     FILE_NAME = 9  #: index: the file
     FILE_SOURCE = 10  #: index: the file
     FILE_LINES = 11  #: index: the file
-    FILE_LOCI = 12  #: index: the file
+    FILE_LOCATIONS = 12  #: index: the file
     SEVERITY = 13
     CODE = 14
     MESSAGE = 15

@@ -24,15 +24,15 @@ class Line(c.Structure):
     _fields_ = [('start', c.c_size_t), ('end', c.c_size_t), ('number', c.c_size_t)]
 
 
-class Locus(c.Structure):
+class Location(c.Structure):
     _fields_ = [('byte', c.c_size_t), ('line_number', c.c_size_t), ('column_number', c.c_size_t)]
 
 
 class File(c.Structure):
     _fields_ = [('name', Text), ('source', Text), ('first_byte', c.c_size_t),
                 ('first_line', c.c_size_t), ('lines', c.POINTER(Line)),
-                ('lines_length', c.c_size_t), ('loci', c.POINTER(Locus)),
-                ('loci_length', c.c_size_t)]
+                ('lines_length', c.c_size_t), ('locations', c.POINTER(Location)),
+                ('locations_length', c.c_size_t)]
 
 
 class Label(c.Structure):
@@ -146,14 +146,15 @@ def line_of(line):
     return Line(number(line.start), number(line.end), number(line.number))
 
 
-def locus_of(locus):
-    return Locus(number(locus.byte), number(locus.line_number), number(locus.column_number))
+def location_of(location):
+    return Location(number(location.byte), number(location.line_number),
+                    number(location.column_number))
 
 
 def file_of(file):
     return File(text_of(file.name), text_of(file.source), number(file.first_byte),
                 number(file.first_line), *array_of(Line, map(line_of, file.lines)),
-                *array_of(Locus, map(locus_of, file.loci)))
+                *array_of(Location, map(location_of, file.locations)))
 
 
 def label_of(label):

@@ -12,7 +12,7 @@ from pathlib import Path
 import codespan
 from codespan import _native
 from codespan import (Argument, Characters, Chars, ColorSpec, Config, Diagnostic, DisplayStyle,
-                      File, InvalidArgument, Label, LabelStyle, Line, Locus, Severity, Spelling,
+                      File, InvalidArgument, Label, LabelStyle, Line, Location, Severity, Spelling,
                       Styles)
 
 HEADER = Path(__file__).resolve().parents[2] / 'include' / 'codespan.h'
@@ -80,14 +80,14 @@ class Output(unittest.TestCase):
         output = codespan.emit([LINES], diagnostic, Config(DisplayStyle.SHORT))
         self.assertEqual(output, 'a.txt:2:2: bug: m\na.txt:3:2: bug: m\n')
 
-    def test_custom_lines_and_loci(self):
+    def test_custom_lines_and_locations(self):
         lines = [Line(0, 4, 70), Line(4, 8, 80), Line(8, 14, 90)]
         diagnostic = Diagnostic('m', Severity.NOTE, labels=[Label(5, 6, 'x')])
         rest = ['   │', '80 │ two', '   │  ^ x', '', '']
         file = dataclasses.replace(LINES, lines=lines)
         self.assertEqual(codespan.emit([file], diagnostic),
                          '\n'.join(['note: m', '   ┌─ a.txt:80:2', *rest]))
-        file = dataclasses.replace(file, loci=[Locus(5, 31, 41)])
+        file = dataclasses.replace(file, locations=[Location(5, 31, 41)])
         self.assertEqual(codespan.emit([file], diagnostic),
                          '\n'.join(['note: m', '   ┌─ a.txt:31:41', *rest]))
 
@@ -228,7 +228,7 @@ class Errors(unittest.TestCase):
 
 
 STRUCTS = {
-    'text': _native.Text, 'line': _native.Line, 'locus': _native.Locus, 'file': _native.File,
+    'text': _native.Text, 'line': _native.Line, 'location': _native.Location, 'file': _native.File,
     'label': _native.Label, 'diagnostic': _native.Diagnostic, 'chars': _native.Chars,
     'color_spec': _native.ColorSpec, 'styles': _native.Styles, 'config': _native.Config,
     'detail': _native.Detail,

@@ -12,7 +12,7 @@ use crate::diagnostic::{LabelStyle, Severity};
 use crate::term::{Chars, Config, DisplayStyle};
 
 use ffi::EmitError;
-pub(crate) use layout::{File, Label, Line, Locus, Slice};
+pub(crate) use layout::{File, Label, Line, Location, Slice};
 pub(crate) use style_marks::{replay, write_text};
 
 /// What a panic says of a file database whose lines the archive does not accept.

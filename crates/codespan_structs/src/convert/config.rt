@@ -12,7 +12,7 @@ use crate::raw::{RawConfig, TAB_WIDTH_MAX};
 use codespan_base::term::{Config, DisplayStyle, Layout, Styles};
 
 /// How style marks are spelled.
-#[derive(Clone, Copy, Debug, PartialEq, Eq)]
+#[derive(Clone, Copy)]
 pub enum Spelling {
     /// As nothing.
     Plain,

@@ -27,7 +27,7 @@ pub fn convert_files<'a>(alloc: Global, raw: &[RawFile<'a>]) -> Result<SourceFil
 {
     let mut files = SourceFiles::new(alloc);
     for file in raw {
-        files.add(file_of(alloc, file)?).map_err(|_| OutOfMemory)?;
+        files.add(file_of(alloc, file)?)?;
     }
     Ok(files)
 }
@@ -38,7 +38,7 @@ fn file_of<'a>(alloc: Global, raw: &RawFile<'a>) -> Result<SourceFile<'a>, OutOf
     ensures { IfOk result (λ file. source_of file ≡ source_in raw.now) }
 {
     let text = source_text_of(alloc, raw)?;
-    Ok(SourceFile::new(text, raw.first_byte, raw.loci))
+    Ok(SourceFile::new(text, raw.first_byte, raw.locations))
 }
 
 /// Returns the text of a file, cut into lines.
@@ -49,8 +49,7 @@ fn source_text_of<'a>(alloc: Global, raw: &RawFile<'a>) -> Result<SourceText<'a>
     let name = text_of(raw.name);
     let source = text_of(raw.source);
     Ok(if raw.lines.is_empty() {
-        let text = NewlineText::new(alloc, name, source, raw.first_line);
-        SourceText::Newline(text.map_err(|_| OutOfMemory)?)
+        SourceText::Newline(NewlineText::new(alloc, name, source, raw.first_line)?)
     } else {
         SourceText::Stated(StatedText::new(name, source, raw.first_byte, raw.lines))
     })

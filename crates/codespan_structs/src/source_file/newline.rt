@@ -1,11 +1,11 @@
 //! Texts cut at newlines.
 
-ghost use Rattle.std.specs.Prelude.{◌≡◌, IfOk, OnErr, IsErrOf};
+ghost use Rattle.std.specs.Prelude.{◌≡◌, IfOk};
 ghost use Rattle.codespan_base.specs.FileModel.{line_of};
 ghost use Rattle.codespan_base.specs.LawfulFiles.{FailsBy};
-ghost use Rattle.codespan_base.specs.declared.files.Error.TheVariants.{OutOfMemory};
 ghost use Rattle.codespan_structs.specs.SourceTexts.{IsRangeIn, newline_text, past_last};
 
+use crate::error::OutOfMemory;
 use codespan_base::files::{Error, Files, SimpleFile};
 use std::alloc::Global;
 use std::ops::Range;
@@ -27,21 +27,20 @@ impl<'a> NewlineText<'a> {
     ///
     /// # Errors
     ///
-    /// [`Error::OutOfMemory`] where an allocation fails.
+    /// [`OutOfMemory`] where an allocation fails.
     pub fn new(
         alloc: Global,
         name: &'a str,
         source: &'a str,
         first_line: usize,
-    ) -> Result<NewlineText<'a>, Error>
-        ensures value { IfOk result (λ text.
+    ) -> Result<NewlineText<'a>, OutOfMemory>
+        ensures { IfOk result (λ text.
             newline_of text ≡ newline_text name.now source.now first_line) }
-        ensures failed { OnErr result (IsErrOf result OutOfMemory) }
     {
-        Ok(NewlineText {
-            file: SimpleFile::new(alloc, name, source)?,
-            first_line,
-        })
+        match SimpleFile::new(alloc, name, source) {
+            Ok(file) => Ok(NewlineText { file, first_line }),
+            Err(_) => Err(OutOfMemory),
+        }
     }
 
     /// Returns the name.

@@ -3,9 +3,9 @@
 ghost use Rattle.std.specs.Prelude.{◌≡◌, IsTrue, ◌↔◌};
 ghost use Rattle.codespan_base.specs.Lines.{is_char_boundary};
 ghost use Rattle.codespan_structs.specs.StatedLines.{are_lines, ascends};
-ghost use Rattle.codespan_structs.specs.Validity.{FindsWithout, HasTextName, HasTextSource, HasValidLines, HasValidLoci};
+ghost use Rattle.codespan_structs.specs.Validity.{FindsWithout, HasTextName, HasTextSource, HasValidLines, HasValidLocations};
 
-use crate::raw::{RawFile, RawLine, RawLocus};
+use crate::raw::{RawFile, RawLine, RawLocation};
 use crate::validate::values::is_text;
 
 /// Returns the index of the first file whose name is not UTF-8.
@@ -29,13 +29,13 @@ pub fn lines_index(files: &[RawFile<'_>]) -> Option<usize>
     files.iter().position(|file| !has_valid_lines(file))
 }
 
-/// Returns the index of the first file whose loci do not ascend.
-pub fn loci_index(files: &[RawFile<'_>]) -> Option<usize>
-    ensures { FindsWithout HasValidLoci files.now result }
+/// Returns the index of the first file whose locations do not ascend.
+pub fn locations_index(files: &[RawFile<'_>]) -> Option<usize>
+    ensures { FindsWithout HasValidLocations files.now result }
 {
     files
         .iter()
-        .position(|file| !ascend(file.first_byte, file.loci))
+        .position(|file| !ascend(file.first_byte, file.locations))
 }
 
 /// Returns whether a file states no lines, or lines of its source.
@@ -84,16 +84,17 @@ fn is_char_boundary(text: &[u8], index: usize) -> bool
     }
 }
 
-/// Returns whether the bytes of these loci, in a window of a file from a byte on, ascend strictly.
-fn ascend(first_byte: usize, loci: &[RawLocus]) -> bool
-    ensures { result ≡ ascends first_byte loci.now }
+/// Returns whether the bytes of these locations, in a window of a file from a byte on, ascend
+/// strictly.
+fn ascend(first_byte: usize, locations: &[RawLocation]) -> bool
+    ensures { result ≡ ascends first_byte locations.now }
 {
-    let Some((first, rest)) = loci.split_first() else {
+    let Some((first, rest)) = locations.split_first() else {
         return true;
     };
     let mut byte = first.byte.saturating_sub(first_byte);
-    for locus in rest {
-        let next = locus.byte.saturating_sub(first_byte);
+    for location in rest {
+        let next = location.byte.saturating_sub(first_byte);
         if next <= byte {
             return false;
         }

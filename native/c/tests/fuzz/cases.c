@@ -1,6 +1,13 @@
 #include "cases.h"
 
-enum { FILES_MAX = 3, LABELS_MAX = 6, NOTES_MAX = 3, LINES_MAX = 6, LOCI_MAX = 3, TEXT_MAX = 1024 };
+enum {
+    FILES_MAX = 3,
+    LABELS_MAX = 6,
+    NOTES_MAX = 3,
+    LINES_MAX = 6,
+    LOCATIONS_MAX = 3,
+    TEXT_MAX = 1024
+};
 
 /* What makes a case. Where `may_be_invalid`, some arguments are invalid, most of the time. */
 struct maker {
@@ -105,19 +112,19 @@ static void set_lines(struct maker *maker, codespan_file *file) {
     file->lines_length = count;
 }
 
-static void set_loci(struct maker *maker, codespan_file *file) {
-    codespan_locus loci[LOCI_MAX];
+static void set_locations(struct maker *maker, codespan_file *file) {
+    codespan_location locations[LOCATIONS_MAX];
     size_t byte = file->first_byte + below(&maker->random, 4);
-    size_t count = below(&maker->random, LOCI_MAX + 1);
+    size_t count = below(&maker->random, LOCATIONS_MAX + 1);
     for (size_t i = 0; i < count; i++) {
-        codespan_locus locus = {byte, wide_number(&maker->random, 90),
-                                wide_number(&maker->random, 90)};
-        loci[i] = locus;
+        codespan_location location = {byte, wide_number(&maker->random, 90),
+                                      wide_number(&maker->random, 90)};
+        locations[i] = location;
         byte = may_be_invalid_now(maker) ? wide_number(&maker->random, 90)
                                          : byte + 1 + below(&maker->random, 8);
     }
-    file->loci = PUT(maker, loci, count);
-    file->loci_length = count;
+    file->locations = PUT(maker, locations, count);
+    file->locations_length = count;
 }
 
 static codespan_file make_file(struct maker *maker) {
@@ -131,7 +138,7 @@ static codespan_file make_file(struct maker *maker) {
     if (one_in(&maker->random, 3))
         set_lines(maker, &file);
     if (one_in(&maker->random, 3))
-        set_loci(maker, &file);
+        set_locations(maker, &file);
     return file;
 }
 

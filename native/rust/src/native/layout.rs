@@ -78,7 +78,7 @@ pub(crate) struct Line {
 
 /// The location that is shown for a byte at which a label starts.
 #[repr(C)]
-pub(crate) struct Locus {
+pub(crate) struct Location {
     pub(crate) byte: usize,
     pub(crate) line_number: usize,
     pub(crate) column_number: usize,
@@ -92,7 +92,7 @@ pub(crate) struct File<'a> {
     pub(crate) first_byte: usize,
     pub(crate) first_line: usize,
     pub(crate) lines: Slice<'a, Line>,
-    pub(crate) loci: Slice<'a, Locus>,
+    pub(crate) locations: Slice<'a, Location>,
 }
 
 /// A label: its style, the index of its file, its bytes and its message.

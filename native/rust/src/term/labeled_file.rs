@@ -104,9 +104,9 @@ impl<FileId: Copy + PartialEq> LabeledFile<FileId> {
         &self.lines
     }
 
-    /// Returns the location that is shown, in an excerpt of this file.
-    pub(super) fn locus(&self, excerpt: &Excerpt<'_>) -> native::Locus {
-        native::Locus {
+    /// Returns the location that is shown, for its byte in an excerpt of this file.
+    pub(super) fn native_location(&self, excerpt: &Excerpt<'_>) -> native::Location {
+        native::Location {
             byte: excerpt.byte(self.start),
             line_number: self.location.line_number,
             column_number: self.location.column_number,
@@ -117,7 +117,7 @@ impl<FileId: Copy + PartialEq> LabeledFile<FileId> {
     pub(super) fn native<'a>(
         &'a self,
         excerpt: &'a Excerpt<'_>,
-        locus: &'a native::Locus,
+        location: &'a native::Location,
     ) -> native::File<'a> {
         native::File {
             name: self.name.as_str().into(),
@@ -125,7 +125,7 @@ impl<FileId: Copy + PartialEq> LabeledFile<FileId> {
             first_byte: 0,
             first_line: 0,
             lines: native::Slice::new(excerpt.lines()),
-            loci: native::Slice::new(slice::from_ref(locus)),
+            locations: native::Slice::new(slice::from_ref(location)),
         }
     }
 

@@ -125,12 +125,12 @@ impl<'diagnostic, FileId: Copy + PartialEq> Snippets<'diagnostic, FileId> {
             })
             .collect::<Result<_, _>>()?;
         let excerpted = self.files.iter().zip(&excerpts);
-        let loci: Vec<_> = excerpted
-            .map(|(file, excerpt)| file.locus(excerpt))
+        let locations: Vec<_> = excerpted
+            .map(|(file, excerpt)| file.native_location(excerpt))
             .collect();
-        let parts = self.files.iter().zip(&excerpts).zip(&loci);
+        let parts = self.files.iter().zip(&excerpts).zip(&locations);
         let native_files: Vec<_> = parts
-            .map(|((file, excerpt), locus)| file.native(excerpt, locus))
+            .map(|((file, excerpt), location)| file.native(excerpt, location))
             .collect();
         let labels: Vec<_> = (self.labels.iter())
             .map(|label| label.native(&excerpts[label.file]))

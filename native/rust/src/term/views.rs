@@ -6,7 +6,7 @@ use core::slice;
 
 use crate::diagnostic::{Diagnostic, LabelStyle};
 use crate::files::{Error, Files};
-use crate::native::{self, replay, Locus, Request, Slice, Spelling};
+use crate::native::{self, replay, Request, Slice, Spelling};
 use crate::term::renderer::Renderer;
 use crate::term::snippets::Snippets;
 use crate::term::{Config, DisplayStyle};
@@ -221,7 +221,7 @@ where
 /// What a header shows of its label.
 struct Header {
     name: String,
-    locus: Locus,
+    location: native::Location,
 }
 
 impl Header {
@@ -234,7 +234,7 @@ impl Header {
         let location = files.location(id, byte)?;
         Ok(Header {
             name,
-            locus: Locus {
+            location: native::Location {
                 byte: 0,
                 line_number: location.line_number,
                 column_number: location.column_number,
@@ -250,7 +250,7 @@ impl Header {
             first_byte: 0,
             first_line: 0,
             lines: Slice::new(&[]),
-            loci: Slice::new(slice::from_ref(&self.locus)),
+            locations: Slice::new(slice::from_ref(&self.location)),
         }
     }
 }

@@ -5,7 +5,7 @@ use Rattle.codespan_native.proofs.emit.emit.Goals as goal
 pub returns-in-Some-clause-named : goal.returns-in-Some-clause-named
 returns-in-Some-clause-named c = λ _. record {
   argument = c.in-Some.invalid.argument;
-  number_is = c.number-detail.ensures;
+  number_is = c.number.ensures;
   first = c.in-Some.ensures.some;
 }
 

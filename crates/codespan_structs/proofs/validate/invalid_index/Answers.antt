@@ -1,6 +1,6 @@
 use Rattle.std.proofs.Common.{◌≡◌, eq-eqb, eqb-true}
 use Rattle.codespan_structs.proofs.FirstInvalid.{by_index, by_test}
-use Rattle.codespan_structs.specs.Validity.{HasLabelStyle, HasTextMessage, HasTextName, HasTextSource, HasValidLines, HasValidLoci, IsOfAFile, IsValidText}
+use Rattle.codespan_structs.specs.Validity.{HasLabelStyle, HasTextMessage, HasTextName, HasTextSource, HasValidLines, HasValidLocations, IsOfAFile, IsValidText}
 use Rattle.codespan_structs.proofs.validate.invalid_index.Goals as goal
 
 pub returns-in-Character : goal.returns-in-Character
@@ -18,8 +18,8 @@ returns-in-FileSource c = rw c.in-FileSource.is (by_index HasTextSource _ _ c.so
 pub returns-in-FileLines : goal.returns-in-FileLines
 returns-in-FileLines c = rw c.in-FileLines.is (by_index HasValidLines _ _ c.lines_index.ensures)
 
-pub returns-in-FileLoci : goal.returns-in-FileLoci
-returns-in-FileLoci c = rw c.in-FileLoci.is (by_index HasValidLoci _ _ c.loci_index.ensures)
+pub returns-in-FileLocations : goal.returns-in-FileLocations
+returns-in-FileLocations c = rw c.in-FileLocations.is (by_index HasValidLocations _ _ c.locations_index.ensures)
 
 pub returns-in-LabelStyle : goal.returns-in-LabelStyle
 returns-in-LabelStyle c = rw c.in-LabelStyle.is (by_index HasLabelStyle _ _ c.label_style_index.ensures)

@@ -86,8 +86,8 @@ macro_rules! assert_layout {
 fn structs_are_those_of_the_header() {
     assert_layout!("codespan_text", Text<'_>, length);
     assert_layout!("codespan_line", Line, start end number);
-    assert_layout!("codespan_locus", Locus, byte line_number column_number);
-    assert_layout!("codespan_file", File<'_>, name source first_byte first_line lines loci);
+    assert_layout!("codespan_location", Location, byte line_number column_number);
+    assert_layout!("codespan_file", File<'_>, name source first_byte first_line lines locations);
     assert_layout!("codespan_label", Label<'_>, style file start end message);
     assert_layout!("codespan_diagnostic", Diagnostic<'_>, severity code message labels notes);
     assert_layout!("codespan_color_spec", ColorSpec, fg bg bold intense);

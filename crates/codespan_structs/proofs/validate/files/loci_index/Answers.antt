@@ -1,8 +1,0 @@
-use Rattle.std.proofs.Common.{rules}
-use Rattle.std.proofs.lemmas.Iterator.{IsFirst-from_position, YieldsList-from_slice}
-use borrow.Author.Tests.{tests}
-use Rattle.codespan_structs.specs.Validity.{HasValidLoci}
-use Rattle.codespan_structs.proofs.validate.files.loci_index.Goals as goal
-
-pub returns : goal.returns
-returns c = IsFirst-from_position _ _ _ (λ x. ¬ HasValidLoci x) HasValidLoci c.position.ensures.ran (YieldsList-from_slice c.args.files.now cc) (λ x q k. search (rules, tests)) (λ x q k. search (rules, tests))
