@@ -36,20 +36,36 @@ pub fn is_file_missing<T>(returned: &Result<T, Error>) -> bool {
     matches!(returned, Err(Error::FileMissing))
 }
 
-/// Returns whether a call failed with `LineTooLarge`, with these values of `given` and `max`.
-pub fn is_line_too_large<T>(returned: &Result<T, Error>, limits: (usize, usize)) -> bool {
-    match returned {
-        Err(Error::LineTooLarge { given, max }) => (*given, *max) == limits,
-        _ => false,
-    }
+/// Asserts that a call failed with `FileMissing`.
+pub fn assert_file_missing<T>(rt: &impl Abort, returned: &Result<T, Error>) {
+    assert!(rt; is_file_missing(returned));
 }
 
-/// Returns whether a call failed with `ColumnTooLarge`, with these values of `given` and `max`.
-pub fn is_column_too_large<T>(returned: &Result<T, Error>, limits: (usize, usize)) -> bool {
-    match returned {
-        Err(Error::ColumnTooLarge { given, max }) => (*given, *max) == limits,
-        _ => false,
-    }
+/// Asserts that a call failed with `FormatError`.
+pub fn assert_format_error<T>(rt: &impl Abort, returned: &Result<T, Error>) {
+    assert!(rt; matches!(returned, Err(Error::FormatError)));
+}
+
+/// Asserts that a call failed with `LineTooLarge`, with these values of `given` and `max`.
+pub fn assert_line_too_large<T>(
+    rt: &impl Abort,
+    returned: &Result<T, Error>,
+    limits: (usize, usize),
+) {
+    assert!(rt;
+        matches!(returned, Err(Error::LineTooLarge { given, max }) if (*given, *max) == limits)
+    );
+}
+
+/// Asserts that a call failed with `ColumnTooLarge`, with these values of `given` and `max`.
+pub fn assert_column_too_large<T>(
+    rt: &impl Abort,
+    returned: &Result<T, Error>,
+    limits: (usize, usize),
+) {
+    assert!(rt;
+        matches!(returned, Err(Error::ColumnTooLarge { given, max }) if (*given, *max) == limits)
+    );
 }
 
 /// Returns the byte index in `InvalidCharBoundary`, where a call failed with it.

@@ -2,7 +2,7 @@
 
 ghost use Rattle.std.specs.Prelude.{◌≡◌, ◌∷◌, [], IfOk, string_bytes, codes, map};
 
-use crate::asserts::assert_same;
+use crate::asserts::{assert_format_error, assert_same};
 use codespan_base::diagnostic::{Diagnostic, Label, LabelStyle, Severity};
 use codespan_base::files::Error;
 use std::alloc::{AllocError, Global};
@@ -50,13 +50,18 @@ fn with_iterator(alloc: Global, notes: Vec<String>) -> Result<Diagnostic<usize>,
     Diagnostic::error(alloc).with_notes_iter(notes.into_iter())
 }
 
+/// Asserts that a value is less than another one, and that one greater.
+fn assert_ascends<T: PartialOrd>(rt: &impl Abort, less: &T, greater: &T) {
+    assert!(rt; less < greater && greater > less);
+}
+
 #[test]
 fn orders_of_severities_and_label_styles(rt: HostRuntime) {
-    assert!(rt; Severity::Bug > Severity::Error);
-    assert!(rt; Severity::Error > Severity::Warning);
-    assert!(rt; Severity::Warning > Severity::Note);
-    assert!(rt; Severity::Note > Severity::Help);
-    assert!(rt; LabelStyle::Primary < LabelStyle::Secondary);
+    assert_ascends(&rt, &Severity::Error, &Severity::Bug);
+    assert_ascends(&rt, &Severity::Warning, &Severity::Error);
+    assert_ascends(&rt, &Severity::Note, &Severity::Warning);
+    assert_ascends(&rt, &Severity::Help, &Severity::Note);
+    assert_ascends(&rt, &LabelStyle::Primary, &LabelStyle::Secondary);
 }
 
 /// Asserts that a diagnostic has this severity, and nothing else.
@@ -182,15 +187,16 @@ fn with_notes_of_three(alloc: Global) -> Result<Diagnostic<usize>, Error> {
         .with_notes_iter(third.into_iter())
 }
 
+/// The files of these labels.
+static IDS: [usize; 3] = [7, 8, 9];
+
 #[test]
 fn lists_of_labels(rt: HostRuntime) -> Result<(), Fail> {
     let whole = with_labels_of_three(rt.alloc())?;
-    let ids: Vec<usize> = whole
-        .labels
-        .iter()
-        .map(|label| label.file_id)
-        .collect(rt.alloc())?;
-    assert_same(&rt, &ids.as_slice(), &[7, 8, 9].as_slice());
+    assert_same(&rt, &whole.labels.len(), &IDS.len());
+    for (label, id) in whole.labels.iter().zip(IDS.iter()) {
+        assert_same(&rt, &label.file_id, id);
+    }
     Ok(())
 }
 
@@ -202,20 +208,15 @@ fn lists_of_notes(rt: HostRuntime) -> Result<(), Fail> {
     Ok(())
 }
 
-/// Returns whether a builder failed with `FormatError`.
-fn is_format_error<T>(returned: &Result<T, Error>) -> bool {
-    matches!(returned, Err(Error::FormatError))
-}
-
 #[test]
 fn failing_display(rt: HostRuntime) {
     let alloc = rt.alloc();
     let label = Label::primary(alloc, 0usize, 0..1).with_message(StopsAfterTwoBytes);
-    assert!(rt; is_format_error(&label));
+    assert_format_error(&rt, &label);
     let message = Diagnostic::<usize>::error(alloc).with_message(StopsAfterTwoBytes);
-    assert!(rt; is_format_error(&message));
+    assert_format_error(&rt, &message);
     let code = Diagnostic::<usize>::error(alloc).with_code(StopsAfterTwoBytes);
-    assert!(rt; is_format_error(&code));
+    assert_format_error(&rt, &code);
     let note = Diagnostic::<usize>::error(alloc).with_note(StopsAfterTwoBytes);
-    assert!(rt; is_format_error(&note));
+    assert_format_error(&rt, &note);
 }

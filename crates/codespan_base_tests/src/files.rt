@@ -4,31 +4,37 @@ mod example;
 mod generic;
 mod ids;
 
-use crate::asserts::{assert_ok, assert_same, assert_same_at, is_file_missing, is_line_too_large};
+use crate::asserts::{
+    assert_file_missing, assert_line_too_large, assert_ok, assert_same, assert_same_at,
+    is_file_missing,
+};
 use codespan_base::files::{
     Error, Files, MappedFile, SimpleFile, SimpleFiles, column_index, default_line_number,
     line_starts,
 };
 use std::alloc::{AllocError, Global};
+use std::process::Abort;
 use std::test::Fail;
 use std::{fmt, io};
+
+/// Bytes, and their columns in the line `2..13` of the text below.
+static COLUMNS: [(usize, usize); 8] = [
+    (0, 0),
+    (2, 0),
+    (3, 0),
+    (6, 1),
+    (10, 2),
+    (12, 2),
+    (13, 3),
+    (14, 3),
+];
 
 #[test]
 fn columns_and_starts(rt: HostRuntime) -> Result<(), Fail> {
     let text = "\n\n🗻∈🌏\n\n";
     assert_same(&rt, &column_index(text, 0..1, 0), &0);
-    let bytes = [
-        (0, 0),
-        (2, 0),
-        (3, 0),
-        (6, 1),
-        (10, 2),
-        (12, 2),
-        (13, 3),
-        (14, 3),
-    ];
-    for (byte, column) in bytes {
-        assert_same_at(&rt, byte, &column_index(text, 2..13, byte), &column);
+    for (byte, column) in &COLUMNS {
+        assert_same_at(&rt, *byte, &column_index(text, 2..13, *byte), column);
     }
     let starts: Vec<usize> = line_starts(FOUR_LINES).collect(rt.alloc())?;
     assert_same(&rt, &starts.as_slice(), &[0, 4, 9, 10].as_slice());
@@ -38,10 +44,13 @@ fn columns_and_starts(rt: HostRuntime) -> Result<(), Fail> {
 /// A text of four lines, the second of which ends with two characters, and the last with none.
 const FOUR_LINES: &str = "foo\nbar\r\n\nbaz";
 
+/// Its lines.
+static LINES: [&str; 4] = ["foo\n", "bar\r\n", "\n", "baz"];
+
 #[test]
 fn ranges_of_lines(rt: HostRuntime) -> Result<(), Fail> {
     let file = SimpleFile::new(rt.alloc(), "f", FOUR_LINES)?;
-    for (line, part) in ["foo\n", "bar\r\n", "\n", "baz"].iter().enumerate() {
+    for (line, part) in LINES.iter().enumerate() {
         let range = file.line_range((), line)?;
         assert_same_at(&rt, line, &FOUR_LINES.get(range), &Some(*part));
     }
@@ -59,21 +68,20 @@ fn indices_of_lines(rt: HostRuntime) -> Result<(), Fail> {
 #[test]
 fn line_past_the_last(rt: HostRuntime) -> Result<(), Fail> {
     let file = SimpleFile::new(rt.alloc(), "f", "a\nb")?;
-    assert!(rt; is_line_too_large(&file.line_range((), 2), (2, 1)));
+    assert_line_too_large(&rt, &file.line_range((), 2), (2, 1));
     Ok(())
 }
 
-/// Counts the lookups of a file that fail with `FileMissing`, of the six that need the file.
-fn missing_lookups<'a, F: Files<'a>>(files: &'a F, id: F::FileId) -> usize {
-    let failures = [
+/// Returns of each of the six lookups that need the file whether it fails with `FileMissing`.
+fn missing_lookups<'a, F: Files<'a>>(files: &'a F, id: F::FileId) -> [bool; 6] {
+    [
         is_file_missing(&files.name(id)),
         is_file_missing(&files.source(id)),
         is_file_missing(&files.line_index(id, 0)),
         is_file_missing(&files.column_number(id, 0, 0)),
         is_file_missing(&files.location(id, 0)),
         is_file_missing(&files.line_range(id, 0)),
-    ];
-    failures.iter().filter(|failed| **failed).count()
+    ]
 }
 
 /// Returns the files `f` of `"ab"` and `g` of `"c\nd"`.
@@ -84,12 +92,15 @@ fn two_files(alloc: Global) -> Result<SimpleFiles<&'static str, &'static str>, E
     Ok(files)
 }
 
+/// Ids, and whether their files are missing in a database of three files.
+static MISSING: [(usize, bool); 4] = [(0, false), (2, false), (3, true), (7, true)];
+
 #[test]
 fn file_database(rt: HostRuntime) -> Result<(), Fail> {
     let mut files = two_files(rt.alloc())?;
     assert_ok(&rt, files.add("h", ""), 2);
-    for (id, missing) in [(0, 0), (2, 0), (3, 6), (7, 6)] {
-        assert_same_at(&rt, id, &missing_lookups(&files, id), &missing);
+    for (id, is_missing) in &MISSING {
+        assert_same_at(&rt, *id, &missing_lookups(&files, *id), &[*is_missing; 6]);
     }
     assert_ok(&rt, files.line_number(7, 0), 1);
     Ok(())
@@ -101,7 +112,7 @@ fn file_of_database(rt: HostRuntime) -> Result<(), Fail> {
     let file = files.get(1)?;
     assert_same(&rt, file.name(), &"g");
     assert_same(&rt, file.source(), &"c\nd");
-    assert!(rt; is_file_missing(&files.get(2)));
+    assert_file_missing(&rt, &files.get(2));
     Ok(())
 }
 
@@ -114,12 +125,15 @@ fn line_text<'a>(
     Ok(file.source(())?.get(range))
 }
 
+/// Lines, and their numbers where line 2 has the number 100.
+static NUMBERS: [(usize, usize); 4] = [(0, 1), (1, 2), (2, 100), (3, 101)];
+
 #[test]
 fn mapped_numbers(rt: HostRuntime) -> Result<(), Fail> {
     let mut file = MappedFile::new(rt.alloc(), "m", "a\nb\nc\nd")?;
     file.set_line(2, 100)?;
-    for (line, number) in [(0, 1), (1, 2), (2, 100), (3, 101)] {
-        assert_ok(&rt, file.line_number((), line), number);
+    for (line, number) in &NUMBERS {
+        assert_ok(&rt, file.line_number((), *line), *number);
     }
     assert_ok(&rt, line_text(&file, 1), Some("b"));
     Ok(())
@@ -130,8 +144,8 @@ fn mapped_overflow(rt: HostRuntime) -> Result<(), Fail> {
     let mut file = MappedFile::new(rt.alloc(), "m", "a\nb\nc\nd")?;
     file.set_line(1, usize::MAX)?;
     assert_ok(&rt, file.line_number((), 1), usize::MAX);
-    assert!(rt; is_line_too_large(&file.line_number((), 2), (2, 1)));
-    assert!(rt; is_line_too_large(&file.set_line(4, 1), (4, 3)));
+    assert_line_too_large(&rt, &file.line_number((), 2), (2, 1));
+    assert_line_too_large(&rt, &file.set_line(4, 1), (4, 3));
     assert_ok(&rt, file.line_number((), 0), 1);
     assert_ok(&rt, file.line_number((), 1), usize::MAX);
     Ok(())
@@ -143,7 +157,7 @@ fn greatest_indices(rt: HostRuntime) -> Result<(), Fail> {
     assert_same(&rt, &column_index("ab", 5..1, 9), &0);
     let file = SimpleFile::new(rt.alloc(), "f", "a\nb")?;
     let past_end = file.line_range((), usize::MAX);
-    assert!(rt; is_line_too_large(&past_end, (usize::MAX, 1)));
+    assert_line_too_large(&rt, &past_end, (usize::MAX, 1));
     Ok(())
 }
 
@@ -152,38 +166,61 @@ fn greatest_numbers(rt: HostRuntime) -> Result<(), Fail> {
     let file = SimpleFile::new(rt.alloc(), "f", "a\nb")?;
     assert_ok(&rt, file.line_number((), usize::MAX - 1), usize::MAX);
     let limits = (usize::MAX, usize::MAX - 1);
-    assert!(rt; is_line_too_large(&file.line_number((), usize::MAX), limits));
-    assert!(rt; is_line_too_large(&default_line_number(usize::MAX), limits));
+    assert_line_too_large(&rt, &file.line_number((), usize::MAX), limits);
+    assert_line_too_large(&rt, &default_line_number(usize::MAX), limits);
+    Ok(())
+}
+
+/// Errors, and their texts.
+static ERRORS: [(Error, &str); 5] = [
+    (Error::FileMissing, "file missing"),
+    (
+        Error::IndexTooLarge { given: 9, max: 4 },
+        "invalid index 9, maximum index is 4",
+    ),
+    (
+        Error::LineTooLarge { given: 2, max: 1 },
+        "invalid line 2, maximum line is 1",
+    ),
+    (
+        Error::ColumnTooLarge { given: 8, max: 3 },
+        "invalid column 8, maximum column 3",
+    ),
+    (
+        Error::InvalidCharBoundary { given: 1 },
+        "index is not a code point boundary",
+    ),
+];
+
+/// Asserts that an error has this text.
+fn assert_error_text(
+    rt: &impl Abort,
+    alloc: Global,
+    error: &Error,
+    text: &str,
+) -> Result<(), AllocError> {
+    assert_same(rt, &error.to_string(alloc)?.as_str(), &text);
     Ok(())
 }
 
 #[test]
 fn error_texts(rt: HostRuntime) -> Result<(), Fail> {
-    let cause = io::Error::from(io::ErrorKind::BrokenPipe);
-    let errors = [
-        (Error::FileMissing, "file missing"),
-        (
-            Error::IndexTooLarge { given: 9, max: 4 },
-            "invalid index 9, maximum index is 4",
-        ),
-        (
-            Error::LineTooLarge { given: 2, max: 1 },
-            "invalid line 2, maximum line is 1",
-        ),
-        (
-            Error::ColumnTooLarge { given: 8, max: 3 },
-            "invalid column 8, maximum column 3",
-        ),
-        (
-            Error::InvalidCharBoundary { given: 1 },
-            "index is not a code point boundary",
-        ),
-        (Error::from(cause), "broken pipe"),
-        (Error::from(fmt::Error), "formatting error"),
-        (Error::from(AllocError), "out of memory"),
-    ];
-    for (error, text) in &errors {
-        assert_same(&rt, &error.to_string(rt.alloc())?.as_str(), text);
+    for (error, text) in &ERRORS {
+        assert_error_text(&rt, rt.alloc(), error, text)?;
     }
+    Ok(())
+}
+
+#[test]
+fn converted_error_texts(rt: HostRuntime) -> Result<(), Fail> {
+    let cause = Error::from(io::Error::from(io::ErrorKind::BrokenPipe));
+    assert_error_text(&rt, rt.alloc(), &cause, "broken pipe")?;
+    assert_error_text(
+        &rt,
+        rt.alloc(),
+        &Error::from(fmt::Error),
+        "formatting error",
+    )?;
+    assert_error_text(&rt, rt.alloc(), &Error::from(AllocError), "out of memory")?;
     Ok(())
 }

@@ -1,7 +1,7 @@
 //! Tests of the views and of the calls that emit, beside the rows of `writer_runs`.
 
 mod endless;
-mod failures;
+pub mod failures;
 mod flushing;
 mod label_orders;
 mod listing;

@@ -54,6 +54,16 @@ pub struct Output {
 }
 
 impl Output {
+    /// Returns an output that fails this write, or each flush.
+    fn new(alloc: Global, failed_write: Option<usize>, fails_flush: bool) -> Self {
+        Output {
+            accepted: Vec::new(alloc),
+            writes: 0,
+            failed_write,
+            fails_flush,
+        }
+    }
+
     /// Returns what it has taken, as a text.
     pub fn text(&self) -> &str {
         match std::str::from_utf8(self.accepted.as_slice()) {
@@ -139,18 +149,8 @@ pub fn run_over(
         reads: 0,
         failed_read: failing.read,
     };
-    let mut output = Output {
-        accepted: Vec::new(alloc),
-        writes: 0,
-        failed_write: failing.write,
-        fails_flush: failing.flush,
-    };
-    let mut error_output = Output {
-        accepted: Vec::new(alloc),
-        writes: 0,
-        failed_write: failing.error_write,
-        fails_flush: false,
-    };
+    let mut output = Output::new(alloc, failing.write, failing.flush);
+    let mut error_output = Output::new(alloc, failing.error_write, false);
     let status = run(alloc, &args, &mut input, &mut output, &mut error_output);
     Ok(Outcome {
         status,
@@ -160,49 +160,39 @@ pub fn run_over(
     })
 }
 
-/// The arguments of a run, its input, and what is seen of it where nothing fails: the output, what
-/// is written to `error_output`, and the status.
+/// The arguments of a run, its input, and what is seen of it: the output, what is written to
+/// `error_output`, and the status.
 pub type Run<'run> = (&'run [&'run str], &'run [u8], (&'run str, &'run str, u8));
 
-/// Asserts what is seen of a run.
-pub fn assert_seen(rt: &impl Abort, outcome: &Outcome, run: &Run<'_>) {
+/// Asserts what is seen of a run of this name in which this fails. It reads nothing exactly where
+/// its arguments are wrong.
+pub fn check_run<R: Abort + AllocGlobal>(
+    rt: &R,
+    name: &str,
+    failing: Failing,
+    run: &Run<'_>,
+) -> Result<(), Fail> {
     let (words, text, expected) = run;
-    assert_eq!(rt; outcome.seen(), *expected, "{words:?} {text:?}");
-}
-
-/// Asserts what is seen of a run where nothing fails.
-pub fn check_run<R: Abort + AllocGlobal>(rt: &R, run: &Run<'_>) -> Result<(), Fail> {
-    let (words, text, _) = run;
-    let outcome = run_over(rt.alloc(), words, text, Failing::default())?;
-    assert_seen(rt, &outcome, run);
+    let outcome = run_over(rt.alloc(), words, text, failing)?;
+    assert_eq!(rt; outcome.seen(), *expected, "{name}: {words:?} {text:?}");
+    assert!(rt;
+        (outcome.reads == 0) == (outcome.status == 2),
+        "{name}: {words:?}"
+    );
     Ok(())
 }
 
-/// Asserts what is seen of each of these runs where nothing fails.
-fn check<R: Abort + AllocGlobal>(rt: &R, runs: &[Run<'_>]) -> Result<(), Fail> {
-    for run in runs {
-        check_run(rt, run)?;
-    }
-    Ok(())
-}
+/// What is seen of a run with wrong arguments.
+const MISUSED: (&str, &str, u8) = ("", USAGE, 2);
 
 /// The runs of `report_run`.
-static REPORT_RUN: [Run<'static>; 2] = [
+const REPORT_RUN: [Run<'static>; 2] = [
     (&REQUEST, b"abc\n", (OUTPUT, "", 0)),
-    (
-        &["rich", "f.txt", "0", "x", "bad"],
-        b"abc\n",
-        ("", USAGE, 2),
-    ),
+    (&["rich", "f.txt", "0", "x", "bad"], b"abc\n", MISUSED),
 ];
 
-#[test]
-fn report_run(rt: HostRuntime) -> Result<(), Fail> {
-    check(&rt, &REPORT_RUN)
-}
-
 /// The runs of `report_short_and_medium`.
-static REPORT_SHORT_AND_MEDIUM: [Run<'static>; 2] = [
+const REPORT_SHORT_AND_MEDIUM: [Run<'static>; 2] = [
     (
         &["short", "f.txt", "0", "3", "bad"],
         b"abc\n",
@@ -215,57 +205,45 @@ static REPORT_SHORT_AND_MEDIUM: [Run<'static>; 2] = [
     ),
 ];
 
-#[test]
-fn report_short_and_medium(rt: HostRuntime) -> Result<(), Fail> {
-    check(&rt, &REPORT_SHORT_AND_MEDIUM)
-}
-
 /// The run of `report_two_lines`.
-static REPORT_TWO_LINES: [Run<'static>; 1] = [(
+const REPORT_TWO_LINES: [Run<'static>; 1] = [(
     &["rich", "f.txt", "0", "4", "bad"],
     b"abc\nd",
     (TWO_LINES, "", 0),
 )];
 
-#[test]
-fn report_two_lines(rt: HostRuntime) -> Result<(), Fail> {
-    check(&rt, &REPORT_TWO_LINES)
-}
-
-/// Arguments that are wrong.
-static WRONG_ARGUMENTS: [&[&str]; 15] = [
-    &[],
-    &["rich"],
-    &["rich", "f.txt", "0", "3"],
-    &["rich", "f.txt", "0", "3", "bad", "worse"],
-    &["", "f.txt", "0", "3", "bad"],
-    &["shorter", "f.txt", "0", "3", "bad"],
-    &["Rich", "f.txt", "0", "3", "bad"],
-    &["rich", "f.txt", "+0", "3", "bad"],
-    &["rich", "f.txt", "0", "+3", "bad"],
-    &["rich", "f.txt", "-0", "3", "bad"],
-    &["rich", "f.txt", "", "3", "bad"],
-    &["rich", "f.txt", "0", "", "bad"],
-    &["rich", "f.txt", "0", "3 ", "bad"],
-    &["rich", "f.txt", "0", "٣", "bad"],
-    &["rich", "f.txt", "0", "18446744073709551616", "bad"],
+/// The runs of `wrong_arguments`.
+const WRONG_ARGUMENTS: [Run<'static>; 15] = [
+    (&[], b"abc\n", MISUSED),
+    (&["rich"], b"abc\n", MISUSED),
+    (&["rich", "f.txt", "0", "3"], b"abc\n", MISUSED),
+    (
+        &["rich", "f.txt", "0", "3", "bad", "worse"],
+        b"abc\n",
+        MISUSED,
+    ),
+    (&["", "f.txt", "0", "3", "bad"], b"abc\n", MISUSED),
+    (&["shorter", "f.txt", "0", "3", "bad"], b"abc\n", MISUSED),
+    (&["Rich", "f.txt", "0", "3", "bad"], b"abc\n", MISUSED),
+    (&["rich", "f.txt", "+0", "3", "bad"], b"abc\n", MISUSED),
+    (&["rich", "f.txt", "0", "+3", "bad"], b"abc\n", MISUSED),
+    (&["rich", "f.txt", "-0", "3", "bad"], b"abc\n", MISUSED),
+    (&["rich", "f.txt", "", "3", "bad"], b"abc\n", MISUSED),
+    (&["rich", "f.txt", "0", "", "bad"], b"abc\n", MISUSED),
+    (&["rich", "f.txt", "0", "3 ", "bad"], b"abc\n", MISUSED),
+    (&["rich", "f.txt", "0", "٣", "bad"], b"abc\n", MISUSED),
+    (
+        &["rich", "f.txt", "0", "18446744073709551616", "bad"],
+        b"abc\n",
+        MISUSED,
+    ),
 ];
-
-#[test]
-fn wrong_arguments(rt: HostRuntime) -> Result<(), Fail> {
-    for words in &WRONG_ARGUMENTS {
-        let outcome = run_over(rt.alloc(), words, b"abc\n", Failing::default())?;
-        assert_seen(&rt, &outcome, &(words, b"abc\n", ("", USAGE, 2)));
-        assert!(rt; outcome.reads == 0, "{words:?}");
-    }
-    Ok(())
-}
 
 /// The output of a label from the start of `abc` to the greatest index.
 const TO_GREATEST_INDEX: &str = "error: bad\n  ┌─ f.txt:1:1\n  │\n1 │ abc\n  │ ^^^^ bad\n\n";
 
 /// The runs of `right_numbers`: the greatest number, and numbers with leading zeros.
-static RIGHT_NUMBERS: [Run<'static>; 2] = [
+const RIGHT_NUMBERS: [Run<'static>; 2] = [
     (
         &["rich", "f.txt", "0", "18446744073709551615", "bad"],
         b"abc",
@@ -278,19 +256,29 @@ static RIGHT_NUMBERS: [Run<'static>; 2] = [
     ),
 ];
 
-#[test]
-fn right_numbers(rt: HostRuntime) -> Result<(), Fail> {
-    check(&rt, &RIGHT_NUMBERS)
-}
-
 /// The runs of `input_not_utf8`.
-static INPUT_NOT_UTF8: [Run<'static>; 3] = [
+const INPUT_NOT_UTF8: [Run<'static>; 3] = [
     (&REQUEST, b"\xff", ("", NOT_UTF8, 1)),
     (&REQUEST, b"abc\xe2\x94", ("", NOT_UTF8, 1)),
     (&REQUEST, b"\xc0\x80\n", ("", NOT_UTF8, 1)),
 ];
 
+/// The runs in which nothing fails, by name.
+static RUNS: [(&str, &[Run<'static>]); 6] = [
+    ("report_run", &REPORT_RUN),
+    ("report_short_and_medium", &REPORT_SHORT_AND_MEDIUM),
+    ("report_two_lines", &REPORT_TWO_LINES),
+    ("wrong_arguments", &WRONG_ARGUMENTS),
+    ("right_numbers", &RIGHT_NUMBERS),
+    ("input_not_utf8", &INPUT_NOT_UTF8),
+];
+
 #[test]
-fn input_not_utf8(rt: HostRuntime) -> Result<(), Fail> {
-    check(&rt, &INPUT_NOT_UTF8)
+fn runs(rt: HostRuntime) -> Result<(), Fail> {
+    for (name, runs) in &RUNS {
+        for run in *runs {
+            check_run(&rt, name, Failing::default(), run)?;
+        }
+    }
+    Ok(())
 }

@@ -1,6 +1,6 @@
 //! Direct calls of `Renderer`, beside those of the table of `writer_runs`.
 
-use crate::asserts::assert_bytes;
+use crate::asserts::{assert_bytes, assert_stopped};
 use codespan_base::diagnostic::{LabelStyle, Severity};
 use codespan_base::files::{Error, Location};
 use codespan_base::term::{
@@ -45,22 +45,32 @@ fn lanes_in_order_test(rt: HostRuntime) {
     }
 }
 
+/// Renders a row without text, of this padding and so many lanes.
+fn render_empty_row<W: WriteStyle>(w: &mut W, padding: usize, lanes: usize) -> Result<(), Error> {
+    let config = Config::default();
+    let mut renderer = Renderer::new(w, &config);
+    renderer.render_snippet_empty(padding, Severity::Error, lanes, &[])
+}
+
+/// A padding, a number of lanes, and the first ten bytes of the row.
+static ENDLESS: [(usize, usize, &str); 2] = [
+    (usize::MAX, 0, "          "),
+    (0, usize::MAX, " │      "),
+];
+
 /// A padding and lanes of the greatest `usize` are written until the writer fails.
 #[test]
 fn endless_padding(rt: HostRuntime) -> Result<(), Fail> {
-    let config = Config::default();
-    for (padding, lanes, expected) in [(usize::MAX, 0, "          "), (0, usize::MAX, " │      ")] {
+    for (padding, lanes, expected) in &ENDLESS {
         let mut plain = PlainWriter::new(Stopping::new(rt.alloc(), 1, 10, Stop::Fails));
-        let mut renderer = Renderer::new(&mut plain, &config);
-        let result = renderer.render_snippet_empty(padding, Severity::Error, lanes, &[]);
-        assert!(rt; matches!(result, Err(Error::Io(_))));
-        assert_bytes(&rt, plain.into_inner().text.as_slice(), expected);
+        let failed = render_empty_row(&mut plain, *padding, *lanes);
+        assert_stopped(&rt, &failed, plain.into_inner().text.as_slice(), expected);
     }
     Ok(())
 }
 
 /// Writes a style mark of each kind and some text, and then flushes once.
-fn write_marks<W: WriteStyle>(w: &mut W) -> io::Result<()> {
+pub fn write_marks<W: WriteStyle>(w: &mut W) -> io::Result<()> {
     set_styles(w)?;
     w.write_all(b"text")?;
     w.put(b"\n")?;
@@ -106,42 +116,52 @@ fn first_locus(alloc: Global) -> Result<Locus, Error> {
     })
 }
 
+/// The mark of a line with a lane.
+static MARKS: [LaneMark; 1] = [FIRST];
+
 /// Renders a line with a lane. Its lanes are in order, as the call requires.
 fn render_line<W: WriteStyle>(
     rt: &impl Abort,
     renderer: &mut Renderer<'_, '_, W>,
 ) -> Result<(), Error> {
-    let marks = [(0, LabelStyle::Primary, MultiLabel::Left)];
-    assert!(rt; lanes_in_order(1, &marks));
-    renderer.render_snippet_source(1, 1, "ab", Severity::Error, &[], 1, &marks)
+    assert!(rt; lanes_in_order(1, &MARKS));
+    renderer.render_snippet_source(1, 1, "ab", Severity::Error, &[], 1, &MARKS)
 }
 
-/// Renders rows by each call, writes a style mark of each kind and some text, and flushes once.
-fn render_rows<W: WriteStyle>(
-    rt: &impl Abort,
+/// Renders the rows above a line.
+fn render_above<W: WriteStyle>(
     renderer: &mut Renderer<'_, '_, W>,
     locus: &Locus,
 ) -> Result<(), Error> {
     renderer.render_header(Some(locus), Severity::Error, Some("E0001"), "m")?;
     renderer.render_snippet_start(1, locus)?;
-    renderer.render_snippet_empty(1, Severity::Error, 1, &[])?;
-    render_line(rt, renderer)?;
+    renderer.render_snippet_empty(1, Severity::Error, 1, &[])
+}
+
+/// Renders the rows below a line.
+fn render_below<W: WriteStyle>(renderer: &mut Renderer<'_, '_, W>) -> Result<(), Error> {
     renderer.render_snippet_break(1, Severity::Error, 1, &[])?;
     renderer.render_snippet_note(1, "a\nb")?;
-    renderer.render_empty()?;
-    write_marks(renderer)?;
+    renderer.render_empty()
+}
+
+/// Renders rows by each call, writes a style mark of each kind and some text, and flushes once.
+fn render_rows<W: WriteStyle>(rt: &impl Abort, w: &mut W, locus: &Locus) -> Result<(), Error> {
+    let config = Config::default();
+    let mut renderer = Renderer::new(w, &config);
+    render_above(&mut renderer, locus)?;
+    render_line(rt, &mut renderer)?;
+    render_below(&mut renderer)?;
+    write_marks(&mut renderer)?;
     Ok(())
 }
 
 /// A renderer passes on a flush, and no other call flushes.
 #[test]
 fn only_flush_flushes(rt: HostRuntime) -> Result<(), Fail> {
-    let config = Config::default();
     let locus = first_locus(rt.alloc())?;
     let mut inner = Counting::default();
-    let mut plain = PlainWriter::new(&mut inner);
-    let mut renderer = Renderer::new(&mut plain, &config);
-    render_rows(&rt, &mut renderer, &locus)?;
+    render_rows(&rt, &mut PlainWriter::new(&mut inner), &locus)?;
     assert!(rt; inner.flushes == 1);
     Ok(())
 }

@@ -1,6 +1,6 @@
 //! Each lookup, called through the trait alone, over each file database.
 
-use crate::asserts::{assert_ok, is_file_missing};
+use crate::asserts::{assert_file_missing, assert_ok};
 use crate::files::example::Listing;
 use codespan_base::files::{
     Error, Files, Location, MappedFile, SimpleFile, SimpleFiles, default_column_number,
@@ -121,6 +121,6 @@ fn generic_calls_of_simple_files(rt: HostRuntime) -> Result<(), Fail> {
     let lookups = lookups_at(rt.alloc(), &database, 0, 7)?;
     assert!(rt; lookups.are_of_second_line("bär\n", 2));
     assert_ok(&rt, default_column_number(&database, 0, 1, 7), 3);
-    assert!(rt; is_file_missing(&lookups_at(rt.alloc(), &database, 7, 0)));
+    assert_file_missing(&rt, &lookups_at(rt.alloc(), &database, 7, 0));
     Ok(())
 }

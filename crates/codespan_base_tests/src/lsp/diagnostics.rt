@@ -1,6 +1,6 @@
 //! Worked diagnostics, and the first program of `docs/LSP.md`.
 
-use crate::asserts::{assert_same, is_column_too_large, is_file_missing};
+use crate::asserts::{assert_column_too_large, assert_file_missing, assert_same};
 use codespan_base::diagnostic::{Diagnostic, Label, Severity};
 use codespan_base::files::{Error, Files, SimpleFile, SimpleFiles};
 use codespan_lsp::{
@@ -156,7 +156,7 @@ fn no_primary_label(rt: HostRuntime) -> Result<(), Fail> {
 fn label_past_end(rt: HostRuntime) -> Result<(), Fail> {
     let file = SimpleFile::new(rt.alloc(), "f", "abc")?;
     let label = Label::primary(rt.alloc(), (), 0..9);
-    assert!(rt; is_column_too_large(&of_warning(rt.alloc(), &file, label), (9, 3)));
+    assert_column_too_large(&rt, &of_warning(rt.alloc(), &file, label), (9, 3));
     Ok(())
 }
 
@@ -165,5 +165,5 @@ fn label_past_end(rt: HostRuntime) -> Result<(), Fail> {
 fn missing_file(rt: HostRuntime) {
     let files: SimpleFiles<&str, &str> = SimpleFiles::new(rt.alloc());
     let label = Label::primary(rt.alloc(), 0, 0..0);
-    assert!(rt; is_file_missing(&of_warning(rt.alloc(), &files, label)));
+    assert_file_missing(&rt, &of_warning(rt.alloc(), &files, label));
 }

@@ -1,6 +1,9 @@
 //! Positions and bytes that have no counterpart.
 
-use crate::asserts::{invalid_boundary, is_column_too_large, is_file_missing, is_line_too_large};
+use crate::asserts::{
+    assert_column_too_large, assert_file_missing, assert_line_too_large, assert_same_at,
+    invalid_boundary,
+};
 use crate::lsp::positions::{at, unicode_files};
 use codespan_base::files::SimpleFile;
 use codespan_lsp::{Position, PositionEncoding, byte_index_to_position, position_to_byte_index};
@@ -20,7 +23,12 @@ fn inside_characters(rt: HostRuntime) -> Result<(), Fail> {
     let file = SimpleFile::new(rt.alloc(), "f", "a𐐀b")?;
     for byte_index in 2..5 {
         let result = byte_index_to_position(&file, (), byte_index);
-        assert!(rt; invalid_boundary(&result) == Some(byte_index));
+        assert_same_at(
+            &rt,
+            byte_index,
+            &invalid_boundary(&result),
+            &Some(byte_index),
+        );
     }
     for (encoding, character) in &INSIDE {
         let result = encoding.position_to_byte_index(&file, (), &at(0, *character));
@@ -37,7 +45,7 @@ fn assert_past_line(
     limits: (usize, usize),
 ) {
     let past = position_to_byte_index(file, (), &position);
-    assert!(rt; is_column_too_large(&past, limits));
+    assert_column_too_large(rt, &past, limits);
 }
 
 /// Asserts that a position is past the last line, with these limits.
@@ -48,7 +56,7 @@ fn assert_past_lines(
     limits: (usize, usize),
 ) {
     let past = position_to_byte_index(file, (), &position);
-    assert!(rt; is_line_too_large(&past, limits));
+    assert_line_too_large(rt, &past, limits);
 }
 
 /// Asserts that a byte is past the end of the text, with these limits.
@@ -59,7 +67,7 @@ fn assert_past_text(
     limits: (usize, usize),
 ) {
     let past = byte_index_to_position(file, (), byte_index);
-    assert!(rt; is_column_too_large(&past, limits));
+    assert_column_too_large(rt, &past, limits);
 }
 
 /// Past the end of a line, of the lines and of the text.
@@ -87,7 +95,7 @@ fn past_empty_file(rt: HostRuntime) -> Result<(), Fail> {
 #[test]
 fn missing_file(rt: HostRuntime) -> Result<(), Fail> {
     let files = unicode_files(rt.alloc())?;
-    assert!(rt; is_file_missing(&byte_index_to_position(&files, 2, 0)));
-    assert!(rt; is_file_missing(&position_to_byte_index(&files, 2, &at(0, 0))));
+    assert_file_missing(&rt, &byte_index_to_position(&files, 2, 0));
+    assert_file_missing(&rt, &position_to_byte_index(&files, 2, &at(0, 0)));
     Ok(())
 }

@@ -232,7 +232,7 @@ fn spans(rt: HostRuntime) -> Result<(), Fail> {
         assert_same(&rt, &range_to_byte_span(&file, (), &range)?, span);
     }
     let late = byte_span_to_range(&file, (), 0..2);
-    assert!(rt; invalid_boundary(&late) == Some(2));
+    assert_same(&rt, &invalid_boundary(&late), &Some(2));
     Ok(())
 }
 
@@ -255,6 +255,6 @@ fn documented(rt: HostRuntime) -> Result<(), Fail> {
     let file = SimpleFile::new(rt.alloc(), "f", "\na𐐀b")?;
     assert_counterparts(&rt, &file, (), &DOCUMENTED)?;
     let returned = position_to_byte_index(&file, (), &at(1, 2));
-    assert!(rt; invalid_boundary(&returned) == Some(2));
+    assert_same(&rt, &invalid_boundary(&returned), &Some(2));
     Ok(())
 }

@@ -1,7 +1,7 @@
 //! Which calls flush.
 
 use crate::asserts::assert_same;
-use crate::writers::written::{Part, styled, write_and_flush};
+use crate::writers::written::{Part, styled, write_part};
 use codespan_base::term::config::plain_ref::PlainWriterRef;
 use codespan_base::term::{Ansi, NoColor, PlainWriter};
 use std::io;
@@ -11,14 +11,14 @@ use test_writers::counting::Counting;
 /// Returns how often a writer of plain text flushes.
 fn flushes_of_plain() -> io::Result<usize> {
     let mut inner = Counting::default();
-    write_and_flush(&mut PlainWriter::new(&mut inner))?;
+    write_part(&mut PlainWriter::new(&mut inner), Part::Flushed)?;
     Ok(inner.flushes)
 }
 
 /// Returns how often a writer of plain text over a borrowed one flushes.
 fn flushes_of_plain_ref() -> io::Result<usize> {
     let mut inner = Counting::default();
-    write_and_flush(&mut PlainWriterRef::new(&mut inner))?;
+    write_part(&mut PlainWriterRef::new(&mut inner), Part::Flushed)?;
     Ok(inner.flushes)
 }
 

@@ -70,17 +70,28 @@ fn assert_stops(rt: &impl Abort, alloc: Global, case: &Case) {
     assert_is_right(rt, &plain.into_inner(), result.is_ok(), PLAIN_PARTS, case);
 }
 
+/// How writers stop.
+static STOPS: [Stop; 4] = [
+    Stop::Fails,
+    Stop::IsInterrupted,
+    Stop::TakesNothing,
+    Stop::TakesOneByte,
+];
+
+/// The most bytes that a write takes.
+static MOST: [usize; 4] = [1, 2, 5, 100];
+
 #[test]
 fn rows_over_writers_that_stop(rt: HostRuntime) {
-    for stop in [
-        Stop::Fails,
-        Stop::IsInterrupted,
-        Stop::TakesNothing,
-        Stop::TakesOneByte,
-    ] {
-        for most in [1, 2, 5, 100] {
+    for stop in &STOPS {
+        for most in &MOST {
             for writes in 0..100 {
-                assert_stops(&rt, rt.alloc(), &Case { stop, most, writes });
+                let case = Case {
+                    stop: *stop,
+                    most: *most,
+                    writes,
+                };
+                assert_stops(&rt, rt.alloc(), &case);
             }
         }
     }

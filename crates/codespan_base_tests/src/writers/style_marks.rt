@@ -67,32 +67,34 @@ fn coloured_header(rt: HostRuntime) -> Result<(), Fail> {
     Ok(())
 }
 
+/// A foreground and a background color, whether they are intense, and their escape sequences.
+static COLORS: [(Option<Color>, Option<Color>, bool, &str); 5] = [
+    (None, Some(Color::Black), false, "\x1b[0m\x1b[40m"),
+    (
+        Some(Color::White),
+        Some(Color::Blue),
+        false,
+        "\x1b[0m\x1b[37m\x1b[44m",
+    ),
+    (
+        Some(Color::Black),
+        Some(Color::Red),
+        true,
+        "\x1b[0m\x1b[38;5;8m\x1b[48;5;9m",
+    ),
+    (
+        Some(Color::Magenta),
+        Some(Color::White),
+        true,
+        "\x1b[0m\x1b[38;5;13m\x1b[48;5;15m",
+    ),
+    (None, None, true, "\x1b[0m"),
+];
+
 #[test]
 fn foreground_and_background_colors(rt: HostRuntime) -> Result<(), Fail> {
-    let table = [
-        (None, Some(Color::Black), false, "\x1b[0m\x1b[40m"),
-        (
-            Some(Color::White),
-            Some(Color::Blue),
-            false,
-            "\x1b[0m\x1b[37m\x1b[44m",
-        ),
-        (
-            Some(Color::Black),
-            Some(Color::Red),
-            true,
-            "\x1b[0m\x1b[38;5;8m\x1b[48;5;9m",
-        ),
-        (
-            Some(Color::Magenta),
-            Some(Color::White),
-            true,
-            "\x1b[0m\x1b[38;5;13m\x1b[48;5;15m",
-        ),
-        (None, None, true, "\x1b[0m"),
-    ];
-    for (fg, bg, intense, expected) in table {
-        let text = color_sequences(rt.alloc(), fg, bg, intense)?;
+    for (fg, bg, intense, expected) in &COLORS {
+        let text = color_sequences(rt.alloc(), *fg, *bg, *intense)?;
         assert_text(&rt, text.as_slice(), expected);
     }
     Ok(())

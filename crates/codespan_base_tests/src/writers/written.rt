@@ -14,36 +14,38 @@ use std::io;
 use std::process::Abort;
 use test_writers::example::{TagColor, TagWriter};
 
-/// Ends the line of a style mark, once it is written.
-fn end_style_mark<W: WriteStyle>(w: &mut W, set: io::Result<()>) -> io::Result<()> {
-    set?;
+/// The severities.
+static SEVERITIES: [Severity; 5] = [
+    Severity::Bug,
+    Severity::Error,
+    Severity::Warning,
+    Severity::Note,
+    Severity::Help,
+];
+
+/// Writes the style marks of a severity, each before a newline.
+fn write_severity<W: WriteStyle>(w: &mut W, severity: Severity) -> io::Result<()> {
+    w.set_header(severity)?;
+    put_all(w, b"\n")?;
+    w.set_label(severity, LabelStyle::Primary)?;
+    put_all(w, b"\n")?;
+    w.set_label(severity, LabelStyle::Secondary)?;
     put_all(w, b"\n")
 }
 
-/// Writes every style mark, each before a newline.
+/// Writes every style mark, each but the reset before a newline.
 fn write_style_marks<W: WriteStyle>(w: &mut W) -> io::Result<()> {
-    for severity in [
-        Severity::Bug,
-        Severity::Error,
-        Severity::Warning,
-        Severity::Note,
-        Severity::Help,
-    ] {
-        let set = w.set_header(severity);
-        end_style_mark(w, set)?;
-        let set = w.set_label(severity, LabelStyle::Primary);
-        end_style_mark(w, set)?;
-        let set = w.set_label(severity, LabelStyle::Secondary);
-        end_style_mark(w, set)?;
+    for severity in &SEVERITIES {
+        write_severity(w, *severity)?;
     }
-    let set = w.set_header_message();
-    end_style_mark(w, set)?;
-    let set = w.set_line_number();
-    end_style_mark(w, set)?;
-    let set = w.set_note_bullet();
-    end_style_mark(w, set)?;
-    let set = w.set_source_border();
-    end_style_mark(w, set)?;
+    w.set_header_message()?;
+    put_all(w, b"\n")?;
+    w.set_line_number()?;
+    put_all(w, b"\n")?;
+    w.set_note_bullet()?;
+    put_all(w, b"\n")?;
+    w.set_source_border()?;
+    put_all(w, b"\n")?;
     w.reset()
 }
 
@@ -57,9 +59,8 @@ fn write_header<W: WriteStyle>(w: &mut W) -> io::Result<()> {
     put_all(w, b"\n")
 }
 
-/// Writes every style mark, some text by `put` and by `write_all`, and then flushes once.
-pub fn write_and_flush<W: WriteStyle>(w: &mut W) -> io::Result<()> {
-    write_style_marks(w)?;
+/// Writes some text by `put` and by `write_all`, and then flushes once.
+fn write_and_flush<W: WriteStyle>(w: &mut W) -> io::Result<()> {
     put_all(w, b"text")?;
     put_spaces(w, 70)?;
     w.write_all(b"text")?;
@@ -86,7 +87,7 @@ pub enum Part {
 }
 
 /// Writes a part.
-fn write_part<W: WriteStyle>(w: &mut W, part: Part) -> io::Result<()> {
+pub fn write_part<W: WriteStyle>(w: &mut W, part: Part) -> io::Result<()> {
     match part {
         Part::EveryStyleMark => write_style_marks(w),
         Part::Header => write_header(w),
@@ -94,7 +95,10 @@ fn write_part<W: WriteStyle>(w: &mut W, part: Part) -> io::Result<()> {
         Part::Repeated(c, count) => put_repeated(w, c, count),
         Part::Spaces(count) => put_spaces(w, count),
         Part::Number(number) => put_number(w, number),
-        Part::Flushed => write_and_flush(w),
+        Part::Flushed => {
+            write_style_marks(w)?;
+            write_and_flush(w)
+        }
     }
 }
 

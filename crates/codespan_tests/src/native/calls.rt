@@ -1,9 +1,9 @@
 //! Calls as C makes them.
 
-use crate::asserts::assert_bytes;
+use crate::asserts::{assert_bytes, assert_row};
 use codespan_native::emit::emit;
 use codespan_native::raw::{
-    Detail, RawChars, RawColorSpec, RawConfig, RawDiagnostic, RawFile, RawLabel, RawLine, RawLocus,
+    RawChars, RawColorSpec, RawConfig, RawDiagnostic, RawFile, RawLabel, RawLine, RawLocation,
     RawStyles, RawText,
 };
 use codespan_native::status::write_status;
@@ -92,185 +92,160 @@ const FILE: RawFile<'static> = RawFile {
     first_byte: 0,
     first_line: 0,
     lines: &[],
-    loci: &[],
+    locations: &[],
 };
 
-/// Asserts that a call over these files writes this output.
-fn assert_emits(
-    rt: &impl Abort,
-    alloc: Global,
-    files: &[RawFile<'_>],
-    diagnostic: &RawDiagnostic<'_>,
-    output: &str,
-) {
-    let mut out = [0u8; 1024];
-    let mut written = 0;
-    let mut detail = Detail {
-        argument: 0,
-        index: 0,
-    };
-    let status = emit(
-        alloc,
-        files,
-        diagnostic,
-        &CONFIG,
-        &mut out,
-        &mut written,
-        &mut detail,
-    );
-    assert!(rt; status == 0);
-    assert_bytes(rt, &out[..written], output);
-}
-
-/// Asserts that a call without files returns this status, names this argument by its number and its
-/// index, and writes nothing.
-fn assert_fails(
-    rt: &impl Abort,
-    alloc: Global,
-    diagnostic: &RawDiagnostic<'_>,
-    expected: (u32, u32, usize),
-) {
-    let mut out = [7u8; 4];
-    let mut written = 9;
-    let mut detail = Detail {
-        argument: 9,
-        index: 9,
-    };
-    let status = emit(
-        alloc,
-        &[],
-        diagnostic,
-        &CONFIG,
-        &mut out,
-        &mut written,
-        &mut detail,
-    );
-    assert!(rt; (status, detail.argument, detail.index) == expected);
-    assert!(rt; written == 0 && out == [7, 7, 7, 7]);
-}
-
-/// The file and the diagnostic of `a_file_cut_at_newlines`.
-static CUT_AT_NEWLINES: (&[RawFile<'_>], RawDiagnostic<'_>) = (
-    &[RawFile {
-        source: b"abc\n",
-        ..FILE
-    }],
-    RawDiagnostic {
-        severity: 3,
-        code: b"E1",
-        labels: &[RawLabel {
-            end: 3,
-            message: b"here",
-            ..LABEL
-        }],
-        notes: &[RawText { bytes: b"a note" }],
-        ..DIAGNOSTIC
-    },
+/// A call: its name, its files, its diagnostic and its output.
+type Call<'call> = (
+    &'call str,
+    &'call [RawFile<'call>],
+    RawDiagnostic<'call>,
+    &'call str,
 );
 
-#[test]
-fn a_file_cut_at_newlines(rt: HostRuntime) {
-    let (files, diagnostic) = &CUT_AT_NEWLINES;
-    let output = "error[E1]: bad\n  @ f.txt:1:1\n  !\n1 ! abc\n  ! $$$ here\n  !\n  # a note\n\n";
-    assert_emits(&rt, rt.alloc(), files, diagnostic, output);
-}
-
-/// The file and the diagnostic of `a_window_from_line_100`.
-static WINDOW: (&[RawFile<'_>], RawDiagnostic<'_>) = (
-    &[RawFile {
-        source: b"one\ntwo\n",
-        first_byte: 5000,
-        first_line: 99,
-        ..FILE
-    }],
-    RawDiagnostic {
-        severity: 2,
-        labels: &[RawLabel {
-            start: 5004,
-            end: 5007,
-            ..LABEL
+/// Calls that write an output.
+static CALLS: [Call<'static>; 3] = [
+    (
+        "a_file_cut_at_newlines",
+        &[RawFile {
+            source: b"abc\n",
+            ..FILE
         }],
-        ..DIAGNOSTIC
-    },
-);
-
-#[test]
-fn a_window_from_line_100(rt: HostRuntime) {
-    let (files, diagnostic) = &WINDOW;
-    let output = "warning: bad\n    @ f.txt:101:1\n    !\n101 ! two\n    ! $$$\n\n";
-    assert_emits(&rt, rt.alloc(), files, diagnostic, output);
-}
-
-/// The file and the diagnostic of `given_lines_and_loci`.
-static LINES_AND_LOCI: (&[RawFile<'_>], RawDiagnostic<'_>) = (
-    &[RawFile {
-        source: b"one;two;",
-        first_byte: 10,
-        lines: &[
-            RawLine {
-                start: 10,
-                end: 13,
-                number: 7,
-            },
-            RawLine {
+        RawDiagnostic {
+            severity: 3,
+            code: b"E1",
+            labels: &[RawLabel {
+                end: 3,
+                message: b"here",
+                ..LABEL
+            }],
+            notes: &[RawText { bytes: b"a note" }],
+            ..DIAGNOSTIC
+        },
+        "error[E1]: bad\n  @ f.txt:1:1\n  !\n1 ! abc\n  ! $$$ here\n  !\n  # a note\n\n",
+    ),
+    (
+        "a_window_from_line_100",
+        &[RawFile {
+            source: b"one\ntwo\n",
+            first_byte: 5000,
+            first_line: 99,
+            ..FILE
+        }],
+        RawDiagnostic {
+            severity: 2,
+            labels: &[RawLabel {
+                start: 5004,
+                end: 5007,
+                ..LABEL
+            }],
+            ..DIAGNOSTIC
+        },
+        "warning: bad\n    @ f.txt:101:1\n    !\n101 ! two\n    ! $$$\n\n",
+    ),
+    (
+        "given_lines_and_locations",
+        &[RawFile {
+            source: b"one;two;",
+            first_byte: 10,
+            lines: &[
+                RawLine {
+                    start: 10,
+                    end: 13,
+                    number: 7,
+                },
+                RawLine {
+                    start: 14,
+                    end: 17,
+                    number: 9,
+                },
+            ],
+            locations: &[RawLocation {
+                byte: 14,
+                line_number: 70,
+                column_number: 80,
+            }],
+            ..FILE
+        }],
+        RawDiagnostic {
+            labels: &[RawLabel {
                 start: 14,
                 end: 17,
-                number: 9,
-            },
-        ],
-        loci: &[RawLocus {
-            byte: 14,
-            line_number: 70,
-            column_number: 80,
-        }],
-        ..FILE
-    }],
-    RawDiagnostic {
-        labels: &[RawLabel {
-            start: 14,
-            end: 17,
-            ..LABEL
-        }],
-        ..DIAGNOSTIC
-    },
-);
-
-#[test]
-fn given_lines_and_loci(rt: HostRuntime) {
-    let (files, diagnostic) = &LINES_AND_LOCI;
-    let output = "help: bad\n  @ f.txt:70:80\n  !\n9 ! two\n  ! $$$\n\n";
-    assert_emits(&rt, rt.alloc(), files, diagnostic, output);
-}
-
-/// The diagnostic of `an_invalid_argument_before_others`.
-static INVALID: RawDiagnostic<'static> = RawDiagnostic {
-    labels: &[
-        LABEL,
-        RawLabel {
-            message: b"\xff",
-            ..LABEL
+                ..LABEL
+            }],
+            ..DIAGNOSTIC
         },
-    ],
-    notes: &[RawText { bytes: b"\xff" }],
-    ..DIAGNOSTIC
-};
+        "help: bad\n  @ f.txt:70:80\n  !\n9 ! two\n  ! $$$\n\n",
+    ),
+];
 
-#[test]
-fn an_invalid_argument_before_others(rt: HostRuntime) {
-    // INVALID, for the message of the label 1: the file of a label and a note come after it
-    assert_fails(&rt, rt.alloc(), &INVALID, (4, 17, 1));
+/// Asserts the status and the output of a call.
+fn assert_emits(rt: &impl Abort, alloc: Global, call: &Call<'_>) {
+    let (name, files, diagnostic, output) = call;
+    let mut out = [0u8; 1024];
+    let outcome = emit(alloc, files, diagnostic, &CONFIG, &mut out);
+    assert!(rt; outcome.status == 0, "{name}");
+    assert_row(rt, name, &out[..outcome.written], output);
 }
 
-/// The diagnostic of `a_missing_file_before_a_note`.
-static MISSING: RawDiagnostic<'static> = RawDiagnostic {
-    notes: &[RawText { bytes: b"\xff" }],
-    ..DIAGNOSTIC
-};
+#[test]
+fn calls(rt: HostRuntime) {
+    for call in &CALLS {
+        assert_emits(&rt, rt.alloc(), call);
+    }
+}
+
+/// A call without files that fails: its name, its diagnostic, the status, and which argument is
+/// named, by its number and its index.
+type FailedCall<'call> = (&'call str, RawDiagnostic<'call>, (u32, u32, usize));
+
+/// Calls that fail.
+static FAILED_CALLS: [FailedCall<'static>; 2] = [
+    // INVALID, for the message of the label 1: the file of a label and a note come after it
+    (
+        "an_invalid_argument_before_others",
+        RawDiagnostic {
+            labels: &[
+                LABEL,
+                RawLabel {
+                    message: b"\xff",
+                    ..LABEL
+                },
+            ],
+            notes: &[RawText { bytes: b"\xff" }],
+            ..DIAGNOSTIC
+        },
+        (4, 17, 1),
+    ),
+    // FILE_MISSING, for the label 0: the note comes after it
+    (
+        "a_missing_file_before_a_note",
+        RawDiagnostic {
+            notes: &[RawText { bytes: b"\xff" }],
+            ..DIAGNOSTIC
+        },
+        (3, 18, 0),
+    ),
+];
+
+/// Asserts that a call fails so, and writes nothing.
+fn assert_fails(rt: &impl Abort, alloc: Global, call: &FailedCall<'_>) {
+    let (name, diagnostic, expected) = call;
+    let mut out = [7u8; 4];
+    let outcome = emit(alloc, &[], diagnostic, &CONFIG, &mut out);
+    let detail = outcome.detail;
+    assert!(rt;
+        (outcome.status, detail.argument, detail.index) == *expected,
+        "{name}"
+    );
+    assert!(rt; outcome.written == 0 && out == [7, 7, 7, 7], "{name}");
+}
 
 #[test]
-fn a_missing_file_before_a_note(rt: HostRuntime) {
-    // FILE_MISSING, for the label 0: the note comes after it
-    assert_fails(&rt, rt.alloc(), &MISSING, (3, 18, 0));
+fn failed_calls(rt: HostRuntime) {
+    for call in &FAILED_CALLS {
+        assert_fails(&rt, rt.alloc(), call);
+    }
 }
 
 /// Asserts that the text of a status, whose argument has this number, is this.

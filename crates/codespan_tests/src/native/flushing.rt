@@ -1,20 +1,17 @@
 //! Which calls of the writer with style marks in band flush, and what its `write` takes.
 
 use crate::asserts::assert_bytes;
+use crate::rows::write_marks;
 use codespan_native::style_mark_writer::StyleMarkWriter;
 use std::io::Write;
 use std::test::Fail;
 use test_writers::counting::Counting;
-use test_writers::marks::set_styles;
 
 /// The writer passes on a flush, and no other call flushes.
 #[test]
 fn only_flush_flushes(rt: HostRuntime) -> Result<(), Fail> {
     let mut inner = Counting::default();
-    let mut writer = StyleMarkWriter::new(&mut inner);
-    set_styles(&mut writer)?;
-    writer.write_all(b"text")?;
-    writer.flush()?;
+    write_marks(&mut StyleMarkWriter::new(&mut inner))?;
     assert!(rt; inner.flushes == 1);
     Ok(())
 }

@@ -1,12 +1,11 @@
 //! A tab of the greatest `usize`.
 
-use crate::asserts::assert_bytes;
+use crate::asserts::assert_stopped;
 use crate::outputs::rendering::render_styled;
 use codespan_reporting::diagnostic::{Diagnostic, Label};
 use codespan_reporting::files::{Error, SimpleFile};
 use codespan_reporting::term::{Config, NoColor, RichDiagnostic, emit_to_io_write};
 use std::alloc::Global;
-use std::process::Abort;
 use std::test::Fail;
 use test_writers::stopping::{Stop, Stopping};
 
@@ -27,12 +26,6 @@ fn after_tab(alloc: Global) -> Result<Diagnostic<()>, Error> {
 /// What is written of a tab of the greatest width by 40 writes of a byte each.
 const PREFIX: &str = "error: \n  ┌─ f:1:2\n  │\n1 │      ";
 
-/// Asserts that a rendering failed with `Io` after this prefix.
-fn assert_stopped(rt: &impl Abort, failed: &Result<(), Error>, text: &[u8]) {
-    assert!(rt; matches!(failed, Err(Error::Io(_))));
-    assert_bytes(rt, text, PREFIX);
-}
-
 /// A tab of the greatest width is written as spaces until the writer fails.
 #[test]
 fn endless_tab(rt: HostRuntime) -> Result<(), Fail> {
@@ -40,7 +33,7 @@ fn endless_tab(rt: HostRuntime) -> Result<(), Fail> {
     let diagnostic = after_tab(rt.alloc())?;
     let mut inner = Stopping::new(rt.alloc(), 1, 40, Stop::Fails);
     let failed = emit_to_io_write(&mut inner, &widest_tabs(), &file, &diagnostic);
-    assert_stopped(&rt, &failed, inner.text.as_slice());
+    assert_stopped(&rt, &failed, inner.text.as_slice(), PREFIX);
     Ok(())
 }
 
@@ -53,6 +46,7 @@ fn endless_tab_without_color(rt: HostRuntime) -> Result<(), Fail> {
     let view = RichDiagnostic::new(&diagnostic, &config);
     let inner = NoColor::new(Stopping::new(rt.alloc(), 1, 40, Stop::Fails));
     let (without_color, failed) = render_styled(inner, &config, view, &file);
-    assert_stopped(&rt, &failed, without_color.into_inner().text.as_slice());
+    let inner = without_color.into_inner();
+    assert_stopped(&rt, &failed, inner.text.as_slice(), PREFIX);
     Ok(())
 }

@@ -1,5 +1,7 @@
 //! Rendering that fails.
 
+mod order;
+
 use crate::outputs::listing::{Failed, Listing};
 use crate::outputs::rendering::assert_view_writes;
 use codespan_reporting::diagnostic::{Diagnostic, Label};
@@ -13,8 +15,8 @@ use std::process::Abort;
 use std::test::Fail;
 
 /// A lookup of a [`Listing`], with its byte or its line, if it has one. Both are 0-based indices.
-#[derive(Drop)]
-enum LookupCall {
+#[derive(Clone, Copy)]
+pub enum LookupCall {
     Name,
     Source,
     Location(usize),
@@ -26,7 +28,7 @@ enum LookupCall {
 impl LookupCall {
     /// Returns these failures and that of this lookup. With the line of a byte those of later bytes
     /// fail too.
-    fn failed_beside(&self, mut failed: Failed) -> Failed {
+    pub fn failed_beside(&self, mut failed: Failed) -> Failed {
         match *self {
             LookupCall::Name => failed.name = true,
             LookupCall::Source => failed.source = true,
@@ -39,7 +41,7 @@ impl LookupCall {
     }
 
     /// Returns whether the error that was returned is that of this lookup.
-    fn failed_in<T>(&self, returned: &Result<T, Error>) -> bool {
+    pub fn failed_in<T>(&self, returned: &Result<T, Error>) -> bool {
         let numbers = match *self {
             LookupCall::Name => (1, 0),
             LookupCall::Source => (2, 0),
@@ -55,8 +57,11 @@ impl LookupCall {
     }
 }
 
-/// The lookups of a label of the first byte, and what is written before each.
-static LOOKUPS: [(LookupCall, &str); 7] = [
+/// A lookup, and what is written before it.
+pub type Lookup = (LookupCall, &'static str);
+
+/// The lookups of a label of the first byte.
+static LOOKUPS: [Lookup; 7] = [
     (LookupCall::LineIndex(0), ""),
     (LookupCall::LineIndex(1), ""),
     (LookupCall::LineRange(0), ""),
@@ -87,13 +92,13 @@ fn with_label(alloc: Global) -> Result<Diagnostic<()>, Error> {
 
 /// What the view and a call that emits return.
 #[derive(Drop)]
-struct Returned {
-    rendered: Result<(), Error>,
-    emitted: Result<String, Error>,
+pub struct Returned {
+    pub rendered: Result<(), Error>,
+    pub emitted: Result<String, Error>,
 }
 
 /// Returns what is returned of a diagnostic, and asserts that the view writes this text before.
-fn returned_after<'files, F: Files<'files>>(
+pub fn returned_after<'files, F: Files<'files>>(
     rt: &impl Abort,
     files: &'files F,
     diagnostic: &Diagnostic<F::FileId>,
@@ -106,66 +111,8 @@ fn returned_after<'files, F: Files<'files>>(
     })
 }
 
-/// Returns, in their order, the lookups of a label over the lines 1 to 3, of one inside line 7, and
-/// of the line 5, which is filled in between those around them.
-fn lookups_in_order(alloc: Global, layout: Layout) -> Result<Vec<LookupCall>, Error> {
-    let mut order = Vec::new(alloc);
-    push_label(&mut order, 2, 7, 0..5)?;
-    push_label(&mut order, 14, 15, 6..9)?;
-    for lookup in last_lookups(layout) {
-        order.push(lookup)?;
-    }
-    Ok(order)
-}
-
-/// Adds the lookups of a label from one byte to another, on these lines.
-fn push_label(
-    order: &mut Vec<LookupCall>,
-    start: usize,
-    end: usize,
-    lines: Range<usize>,
-) -> Result<(), Error> {
-    order.push(LookupCall::LineIndex(start))?;
-    order.push(LookupCall::LineIndex(end))?;
-    for line in lines {
-        order.push(LookupCall::LineRange(line))?;
-        order.push(LookupCall::LineNumber(line))?;
-    }
-    Ok(())
-}
-
-/// Returns the lookups after those of the labels.
-fn last_lookups(layout: Layout) -> [LookupCall; 5] {
-    let (name, number) = (LookupCall::Name, LookupCall::LineNumber(5));
-    let (location, source) = (LookupCall::Location(2), LookupCall::Source);
-    let range = LookupCall::LineRange(5);
-    match layout {
-        Layout::Classic => [name, location, source, range, number],
-        Layout::Unbroken => [number, name, location, source, range],
-    }
-}
-
-/// Returns what is written before this lookup of those.
-fn written_before(lookup: &LookupCall, layout: Layout) -> &'static str {
-    let lines_before = "error: \n\
-                        \x20 ┌─ f:1:1\n\
-                        \x20 │  \n\
-                        0 │   a\n\
-                        1 │ ╭ b\n\
-                        2 │ │ c\n\
-                        3 │ │ d\n\
-                        \x20 │ ╰─^\n\
-                        4 │   e\n";
-    match *lookup {
-        LookupCall::Source => "error: \n",
-        LookupCall::LineRange(5) => lines_before,
-        LookupCall::LineNumber(5) if matches!(layout, Layout::Classic) => lines_before,
-        _ => "",
-    }
-}
-
 /// Returns a diagnostic with labels of these two ranges, without messages.
-fn with_two_labels(
+pub fn with_two_labels(
     alloc: Global,
     first: Range<usize>,
     second: Range<usize>,
@@ -173,59 +120,6 @@ fn with_two_labels(
     Diagnostic::error(alloc)
         .with_label(Label::primary(alloc, (), first))?
         .with_label(Label::primary(alloc, (), second))
-}
-
-/// Returns a configuration with a line before each label and one after it.
-fn around_labels<'chars>(layout: Layout) -> Config<'chars> {
-    Config {
-        before_label_lines: 1,
-        after_label_lines: 1,
-        layout,
-        ..Config::default()
-    }
-}
-
-/// Asserts that the error of the first one of two lookups that fail is returned.
-fn assert_first_error(
-    rt: &impl Abort,
-    diagnostic: &Diagnostic<()>,
-    layout: Layout,
-    first: &LookupCall,
-    next: &LookupCall,
-) -> Result<(), Error> {
-    let failed = first.failed_beside(next.failed_beside(Failed::default()));
-    let source = "a\nb\nc\nd\ne\nf\ng\nh\ni";
-    let files = Listing::new(*diagnostic.labels.allocator(), "f", source, failed)?;
-    let (config, prefix) = (around_labels(layout), written_before(first, layout));
-    let returned = assert_view_writes(rt, &config, &files, diagnostic, prefix)?;
-    assert!(rt; first.failed_in(&returned));
-    Ok(())
-}
-
-/// Asserts so of each of these lookups, and the next one.
-fn assert_first_errors(
-    rt: &impl Abort,
-    diagnostic: &Diagnostic<()>,
-    layout: Layout,
-    order: &[LookupCall],
-) -> Result<(), Error> {
-    for (position, first) in order.iter().enumerate() {
-        let next = order.get(position + 1).unwrap_or(first);
-        assert_first_error(rt, diagnostic, layout, first, next)?;
-    }
-    Ok(())
-}
-
-/// Of two lookups that fail the first one's error is returned. Each lookup of an output fails in
-/// turn, together with the next one.
-#[test]
-fn first_error(rt: HostRuntime) -> Result<(), Fail> {
-    let diagnostic = with_two_labels(rt.alloc(), 2..7, 14..15)?;
-    for layout in [Layout::Classic, Layout::Unbroken] {
-        let order = lookups_in_order(rt.alloc(), layout)?;
-        assert_first_errors(&rt, &diagnostic, layout, order.as_slice())?;
-    }
-    Ok(())
 }
 
 /// Asserts that the failed number of a filled line is returned after this text.

@@ -6,12 +6,13 @@ use codespan_reporting::term::{
     Config, DisplayStyle, PlainWriter, emit, emit_to_io_write, emit_to_write_style,
 };
 use std::alloc::Global;
+use std::io::Write;
 use std::test::Fail;
 use test_writers::counting::Counting;
 
 /// Emits a diagnostic by each call that writes.
-fn emit_by_each(
-    inner: &mut Counting,
+fn emit_by_each<W: Write>(
+    inner: &mut W,
     config: &Config<'_>,
     file: &SimpleFile<&str, &str>,
     diagnostic: &Diagnostic<()>,
@@ -35,15 +36,18 @@ fn flushes_in(alloc: Global, display_style: DisplayStyle) -> Result<usize, Error
     Ok(inner.flushes)
 }
 
+/// Each style.
+static STYLES: [DisplayStyle; 3] = [
+    DisplayStyle::Rich,
+    DisplayStyle::Medium,
+    DisplayStyle::Short,
+];
+
 /// No call that emits flushes, in any style.
 #[test]
 fn no_emit_flushes(rt: HostRuntime) -> Result<(), Fail> {
-    for style in [
-        DisplayStyle::Rich,
-        DisplayStyle::Medium,
-        DisplayStyle::Short,
-    ] {
-        let flushes = flushes_in(rt.alloc(), style)?;
+    for style in &STYLES {
+        let flushes = flushes_in(rt.alloc(), *style)?;
         assert!(rt; flushes == 0);
     }
     Ok(())

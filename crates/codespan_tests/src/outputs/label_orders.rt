@@ -92,13 +92,16 @@ fn assert_in_order(
     assert_output(rt, &Config::default(), files, &diagnostic, output)
 }
 
+/// The orders.
+static ORDERS: [Order; 3] = [Order::Forward, Order::Backward, Order::OddFirst];
+
 #[test]
 fn label_orders(rt: HostRuntime) -> Result<(), Fail> {
     let source = source_of(rt.alloc())?;
     let files = SimpleFile::new(rt.alloc(), "f", source.as_str())?;
     let output = output(rt.alloc())?;
-    for order in [Order::Forward, Order::Backward, Order::OddFirst] {
-        assert_in_order(&rt, rt.alloc(), &files, order, output.as_str())?;
+    for order in &ORDERS {
+        assert_in_order(&rt, rt.alloc(), &files, *order, output.as_str())?;
     }
     Ok(())
 }

@@ -97,15 +97,21 @@ fn assert_header(rt: &impl Abort, alloc: Global, config: &Config<'_>) -> Result<
     Ok(())
 }
 
+/// The layouts.
+static LAYOUTS: [Layout; 2] = [Layout::Classic, Layout::Unbroken];
+
+/// Numbers of lines after a label.
+static AFTER_LABEL: [usize; 5] = [0, 3, 4, 5, usize::MAX];
+
 /// A context ends with the greatest index, and rendering goes on: the header is written, and then
 /// the source is looked up.
 #[test]
 fn context_past_all_indices(rt: HostRuntime) -> Result<(), Fail> {
-    for layout in [Layout::Classic, Layout::Unbroken] {
-        for after_label_lines in [0, 3, 4, 5, usize::MAX] {
+    for layout in &LAYOUTS {
+        for after_label_lines in &AFTER_LABEL {
             let config = Config {
-                after_label_lines,
-                layout,
+                after_label_lines: *after_label_lines,
+                layout: *layout,
                 ..Config::default()
             };
             assert_header(&rt, rt.alloc(), &config)?;

@@ -1,6 +1,7 @@
 //! A failed line number, a missing file, and a view and a renderer of two configurations.
 
-use crate::outputs::rendering::{assert_view_writes, files_of, in_first_and_eighth, render_alike};
+use crate::outputs::failures::returned_after;
+use crate::outputs::rendering::{files_of, in_first_and_eighth, render_alike};
 use codespan_reporting::diagnostic::{Diagnostic, Label};
 use codespan_reporting::files::{Error, MappedFile, SimpleFile};
 use codespan_reporting::term::{Chars, Config, Layout, RichDiagnostic, emit_into_string};
@@ -30,23 +31,15 @@ fn mapped_overflow(rt: HostRuntime) -> Result<(), Fail> {
     Ok(())
 }
 
-/// A call that emits fails with `FileMissing` where a label is in a missing file.
+/// A view and a call that emits fail with `FileMissing` where a label is in a missing file. The
+/// view writes nothing.
 #[test]
 fn missing_file(rt: HostRuntime) -> Result<(), Fail> {
     let files = files_of(rt.alloc(), &[("f", "ab")])?;
     let diagnostic = in_first_and_eighth(rt.alloc())?;
-    let failed = emit_into_string(&Config::default(), &files, &diagnostic);
-    assert!(rt; matches!(failed, Err(Error::FileMissing)));
-    Ok(())
-}
-
-/// A view fails with `FileMissing` there, and writes nothing.
-#[test]
-fn missing_file_in_view(rt: HostRuntime) -> Result<(), Fail> {
-    let files = files_of(rt.alloc(), &[("f", "ab")])?;
-    let diagnostic = in_first_and_eighth(rt.alloc())?;
-    let failed = assert_view_writes(&rt, &Config::default(), &files, &diagnostic, "")?;
-    assert!(rt; matches!(failed, Err(Error::FileMissing)));
+    let returned = returned_after(&rt, &files, &diagnostic, "")?;
+    assert!(rt; matches!(returned.rendered, Err(Error::FileMissing)));
+    assert!(rt; matches!(returned.emitted, Err(Error::FileMissing)));
     Ok(())
 }
 
@@ -98,34 +91,46 @@ fn assert_rendered_by_two(
     rendered.returned_after(rt, output)
 }
 
+/// The layouts of the view and of the renderer, and the output.
+static TWO_CONFIGURATIONS: [(Layout, Layout, &str); 2] = [
+    (
+        Layout::Unbroken,
+        Layout::Classic,
+        "error: \n\
+        \x20  --> f:5:2\n\
+        \x20  |  \n\
+        \x204 |   d\n\
+        \x205 | /   gh\n\
+        \x20  |      - q\n\
+        \x206 | | i\n\
+        \x20  . |\n\
+        \x209 | |   l\n\
+        \x20  | \\---^ p\n\
+        10 |   m\n\n",
+    ),
+    (
+        Layout::Classic,
+        Layout::Unbroken,
+        "error: \n\
+        \x20 --> f:5:2\n\
+        \x20 |  \n\
+        4 |   d\n\
+        5 | /   gh\n\
+        \x20 | |    - q\n\
+        6 | | i\n\
+        \x20 . |\n\
+        9 | |   l\n\
+        \x20 | \\---^ p\n\
+        10 |   m\n\n",
+    ),
+];
+
 /// The view's configuration chooses the lines and the padding width; the renderer's chooses the
 /// characters, the tab stops and whether a lane goes on below its corner.
 #[test]
 fn two_configurations(rt: HostRuntime) -> Result<(), Fail> {
-    let unbroken_numbers = "error: \n\
-                            \x20  --> f:5:2\n\
-                            \x20  |  \n\
-                            \x204 |   d\n\
-                            \x205 | /   gh\n\
-                            \x20  |      - q\n\
-                            \x206 | | i\n\
-                            \x20  . |\n\
-                            \x209 | |   l\n\
-                            \x20  | \\---^ p\n\
-                            10 |   m\n\n";
-    let unbroken_lanes = "error: \n\
-                          \x20 --> f:5:2\n\
-                          \x20 |  \n\
-                          4 |   d\n\
-                          5 | /   gh\n\
-                          \x20 | |    - q\n\
-                          6 | | i\n\
-                          \x20 . |\n\
-                          9 | |   l\n\
-                          \x20 | \\---^ p\n\
-                          10 |   m\n\n";
-    let (classic, unbroken) = (Layout::Classic, Layout::Unbroken);
-    assert_rendered_by_two(&rt, rt.alloc(), unbroken, classic, unbroken_numbers)?;
-    assert_rendered_by_two(&rt, rt.alloc(), classic, unbroken, unbroken_lanes)?;
+    for (of_view, of_renderer, output) in &TWO_CONFIGURATIONS {
+        assert_rendered_by_two(&rt, rt.alloc(), *of_view, *of_renderer, output)?;
+    }
     Ok(())
 }

@@ -1,6 +1,6 @@
 //! Tests of short and medium style, and of the calls that emit.
 
-use crate::asserts::{assert_bytes, assert_text};
+use crate::asserts::assert_bytes;
 use crate::outputs::rendering::{assert_output, files_of, in_first_and_eighth};
 use codespan_reporting::diagnostic::{Diagnostic, Label};
 use codespan_reporting::files::{Error, SimpleFiles};
@@ -22,68 +22,104 @@ fn in_style<'chars>(display_style: DisplayStyle) -> Config<'chars> {
     }
 }
 
-/// A style, what a string or a vector holds, and what it holds once a bug is appended.
-type Appended<'text> = (DisplayStyle, &'text str, &'text str);
+/// What a call that emits returned, and what its string or its writer holds then.
+#[derive(Drop)]
+struct Emitted {
+    returned: Result<(), Error>,
+    bytes: Vec<u8>,
+}
 
-/// What is appended in each style.
-static APPENDED: [Appended<'static>; 3] = [
-    (DisplayStyle::Rich, "kept", "keptbug: \n\n"),
-    (DisplayStyle::Medium, "kept", "keptbug: \n"),
-    (DisplayStyle::Short, "kept", "keptbug: \n"),
+impl Emitted {
+    /// Asserts that the call succeeded, and what is held.
+    fn assert_ok(&self, rt: &impl Abort, text: &str) {
+        assert!(rt; self.returned.is_ok());
+        assert_bytes(rt, self.bytes.as_slice(), text);
+    }
+
+    /// Asserts that a file was missing, and what is held.
+    fn assert_missing(&self, rt: &impl Abort, text: &str) {
+        assert!(rt; matches!(self.returned, Err(Error::FileMissing)));
+        assert_bytes(rt, self.bytes.as_slice(), text);
+    }
+}
+
+/// Emits to a string that holds this text.
+fn emitted_to_string(
+    kept: &str,
+    config: &Config<'_>,
+    files: &SimpleFiles<&str, &str>,
+    diagnostic: &Diagnostic<usize>,
+) -> Result<Emitted, Error> {
+    let mut string = kept.to_string(*diagnostic.labels.allocator())?;
+    let returned = emit_to_string(&mut string, config, files, diagnostic);
+    let bytes = string.into_bytes();
+    Ok(Emitted { returned, bytes })
+}
+
+/// Emits to a vector that holds this text, by [`emit_to_io_write`].
+fn emitted_to_io_write(
+    kept: &str,
+    config: &Config<'_>,
+    files: &SimpleFiles<&str, &str>,
+    diagnostic: &Diagnostic<usize>,
+) -> Result<Emitted, Error> {
+    let mut bytes = kept.to_string(*diagnostic.labels.allocator())?.into_bytes();
+    let returned = emit_to_io_write(&mut bytes, config, files, diagnostic);
+    Ok(Emitted { returned, bytes })
+}
+
+/// Emits to a vector that holds this text, by [`emit`].
+fn emitted_by_emit(
+    kept: &str,
+    config: &Config<'_>,
+    files: &SimpleFiles<&str, &str>,
+    diagnostic: &Diagnostic<usize>,
+) -> Result<Emitted, Error> {
+    let mut bytes = kept.to_string(*diagnostic.labels.allocator())?.into_bytes();
+    let returned = emit(&mut bytes, config, files, diagnostic);
+    Ok(Emitted { returned, bytes })
+}
+
+/// Emits to a writer of styles, as plain text.
+fn emitted_to_write_style(
+    config: &Config<'_>,
+    files: &SimpleFiles<&str, &str>,
+    diagnostic: &Diagnostic<usize>,
+) -> Emitted {
+    let mut plain = PlainWriter::new(Vec::new(*diagnostic.labels.allocator()));
+    let returned = emit_to_write_style(&mut plain, config, files, diagnostic);
+    let bytes = plain.into_inner();
+    Emitted { returned, bytes }
+}
+
+/// Asserts by each call that appends that a string or a vector keeps what it holds, and then holds
+/// this text.
+fn assert_appended(
+    rt: &impl Abort,
+    alloc: Global,
+    config: &Config<'_>,
+    text: &str,
+) -> Result<(), Error> {
+    let files = SimpleFiles::new(alloc);
+    let bug = Diagnostic::bug(alloc);
+    emitted_to_string("kept", config, &files, &bug)?.assert_ok(rt, text);
+    emitted_to_io_write("kept", config, &files, &bug)?.assert_ok(rt, text);
+    emitted_by_emit("kept", config, &files, &bug)?.assert_ok(rt, text);
+    Ok(())
+}
+
+/// A style, and what is held once a bug is appended to `kept`.
+static APPENDED: [(DisplayStyle, &str); 3] = [
+    (DisplayStyle::Rich, "keptbug: \n\n"),
+    (DisplayStyle::Medium, "keptbug: \n"),
+    (DisplayStyle::Short, "keptbug: \n"),
 ];
-
-/// Asserts what is appended to a string.
-fn assert_to_string(
-    rt: &impl Abort,
-    files: &SimpleFiles<&str, &str>,
-    bug: &Diagnostic<usize>,
-    appended: &Appended<'_>,
-) -> Result<(), Error> {
-    let (style, prefix, text) = appended;
-    let config = in_style(*style);
-    let mut string = prefix.to_string(*bug.labels.allocator())?;
-    emit_to_string(&mut string, &config, files, bug)?;
-    assert_text(rt, string.as_str(), text);
-    Ok(())
-}
-
-/// Asserts what is appended to a vector.
-fn assert_to_io_write(
-    rt: &impl Abort,
-    files: &SimpleFiles<&str, &str>,
-    bug: &Diagnostic<usize>,
-    appended: &Appended<'_>,
-) -> Result<(), Error> {
-    let (style, prefix, text) = appended;
-    let mut bytes = prefix.to_string(*bug.labels.allocator())?.into_bytes();
-    emit_to_io_write(&mut bytes, &in_style(*style), files, bug)?;
-    assert_bytes(rt, bytes.as_slice(), text);
-    Ok(())
-}
-
-/// Asserts what [`emit`] appends to a vector.
-fn assert_emit(
-    rt: &impl Abort,
-    files: &SimpleFiles<&str, &str>,
-    bug: &Diagnostic<usize>,
-    appended: &Appended<'_>,
-) -> Result<(), Error> {
-    let (style, prefix, text) = appended;
-    let mut bytes = prefix.to_string(*bug.labels.allocator())?.into_bytes();
-    emit(&mut bytes, &in_style(*style), files, bug)?;
-    assert_bytes(rt, bytes.as_slice(), text);
-    Ok(())
-}
 
 /// Each call that appends keeps what a string or a vector holds.
 #[test]
 fn bare_bug(rt: HostRuntime) -> Result<(), Fail> {
-    let files = SimpleFiles::new(rt.alloc());
-    let bug = Diagnostic::bug(rt.alloc());
-    for appended in &APPENDED {
-        assert_to_string(&rt, &files, &bug, appended)?;
-        assert_to_io_write(&rt, &files, &bug, appended)?;
-        assert_emit(&rt, &files, &bug, appended)?;
+    for (style, text) in &APPENDED {
+        assert_appended(&rt, rt.alloc(), &in_style(*style), text)?;
     }
     Ok(())
 }
@@ -171,52 +207,6 @@ fn tags_of_styles(rt: HostRuntime) -> Result<(), Fail> {
     Ok(())
 }
 
-/// Asserts that a file was missing, and that a writer has this text.
-fn assert_missing(rt: &impl Abort, failed: &Result<(), Error>, bytes: &[u8], text: &str) {
-    assert!(rt; matches!(failed, Err(Error::FileMissing)));
-    assert_bytes(rt, bytes, text);
-}
-
-/// Asserts that a string is unchanged.
-fn assert_unchanged(
-    rt: &impl Abort,
-    alloc: Global,
-    config: &Config<'_>,
-    files: &SimpleFiles<&str, &str>,
-    diagnostic: &Diagnostic<usize>,
-) -> Result<(), Error> {
-    let mut string = "kept".to_string(alloc)?;
-    let failed = emit_to_string(&mut string, config, files, diagnostic);
-    assert_missing(rt, &failed, string.as_bytes(), "kept");
-    Ok(())
-}
-
-/// Asserts that a file is missing by [`emit_to_write_style`], and that its writer has this text.
-fn assert_write_style_stops(
-    rt: &impl Abort,
-    config: &Config<'_>,
-    files: &SimpleFiles<&str, &str>,
-    diagnostic: &Diagnostic<usize>,
-    written: &str,
-) {
-    let mut plain = PlainWriter::new(Vec::new(*diagnostic.labels.allocator()));
-    let failed = emit_to_write_style(&mut plain, config, files, diagnostic);
-    assert_missing(rt, &failed, plain.into_inner().as_slice(), written);
-}
-
-/// Asserts that a file is missing by [`emit_to_io_write`], and that its writer has this text.
-fn assert_io_write_stops(
-    rt: &impl Abort,
-    config: &Config<'_>,
-    files: &SimpleFiles<&str, &str>,
-    diagnostic: &Diagnostic<usize>,
-    written: &str,
-) {
-    let mut bytes = Vec::new(*diagnostic.labels.allocator());
-    let failed = emit_to_io_write(&mut bytes, config, files, diagnostic);
-    assert_missing(rt, &failed, bytes.as_slice(), written);
-}
-
 /// Asserts that a file is missing by each call that emits to a writer, which then has this text, or
 /// to a string, which is unchanged.
 fn assert_missing_by_each_call(
@@ -227,9 +217,9 @@ fn assert_missing_by_each_call(
 ) -> Result<(), Error> {
     let files = files_of(alloc, &[("f", "ab")])?;
     let diagnostic = in_first_and_eighth(alloc)?;
-    assert_unchanged(rt, alloc, config, &files, &diagnostic)?;
-    assert_write_style_stops(rt, config, &files, &diagnostic, written);
-    assert_io_write_stops(rt, config, &files, &diagnostic, written);
+    emitted_to_string("kept", config, &files, &diagnostic)?.assert_missing(rt, "kept");
+    emitted_to_write_style(config, &files, &diagnostic).assert_missing(rt, written);
+    emitted_to_io_write("", config, &files, &diagnostic)?.assert_missing(rt, written);
     Ok(())
 }
 

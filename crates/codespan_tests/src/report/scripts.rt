@@ -2,24 +2,19 @@
 
 mod errors;
 
-use crate::report::{Failing, check_run, run_over};
-use std::process::Abort;
+use crate::report::scripts::errors::{
+    SCRIPTS_WITH_BAD_NUMBERS, SCRIPTS_WITH_UNKNOWN_SEVERITIES, SCRIPTS_WITH_UNKNOWN_WORDS,
+    SCRIPTS_WITHOUT_END,
+};
+use crate::report::{Failing, Run, check_run, run_over};
 use std::test::Fail;
 
 /// The style of a run over the file `f.txt`, its script, and what is to be seen of it: the output,
 /// what is written to `error_output`, and the status.
 pub type ScriptRun<'run> = (&'run str, &'run str, (&'run str, &'run str, u8));
 
-/// Runs the scripts.
-fn check<R: Abort + AllocGlobal>(rt: &R, runs: &[ScriptRun<'_>]) -> Result<(), Fail> {
-    for (style, input, expected) in runs {
-        check_run(rt, &(&[*style, "f.txt"], input.as_bytes(), *expected))?;
-    }
-    Ok(())
-}
-
 /// The run of `script_run`.
-static SCRIPT_RUN: [ScriptRun<'static>; 1] = [(
+const SCRIPT_RUN: [ScriptRun<'static>; 1] = [(
     "rich",
     "message bad\nprimary 0 3 here\nnote why\n---\nabc\n",
     (
@@ -29,13 +24,8 @@ static SCRIPT_RUN: [ScriptRun<'static>; 1] = [(
     ),
 )];
 
-#[test]
-fn script_run(rt: HostRuntime) -> Result<(), Fail> {
-    check(&rt, &SCRIPT_RUN)
-}
-
 /// The run of `script_unknown_word`.
-static SCRIPT_UNKNOWN_WORD: [ScriptRun<'static>; 1] = [(
+const SCRIPT_UNKNOWN_WORD: [ScriptRun<'static>; 1] = [(
     "rich",
     "message a\ncolour red\n---\n",
     (
@@ -49,13 +39,8 @@ static SCRIPT_UNKNOWN_WORD: [ScriptRun<'static>; 1] = [(
     ),
 )];
 
-#[test]
-fn script_unknown_word(rt: HostRuntime) -> Result<(), Fail> {
-    check(&rt, &SCRIPT_UNKNOWN_WORD)
-}
-
 /// The runs of `script_repeated_word`. In the last one the repeated severity is unknown too.
-static SCRIPT_REPEATED_WORD: [ScriptRun<'static>; 3] = [
+const SCRIPT_REPEATED_WORD: [ScriptRun<'static>; 3] = [
     (
         "rich",
         "code A\ncode B\n---\n",
@@ -104,13 +89,8 @@ static SCRIPT_REPEATED_WORD: [ScriptRun<'static>; 3] = [
     ),
 ];
 
-#[test]
-fn script_repeated_word(rt: HostRuntime) -> Result<(), Fail> {
-    check(&rt, &SCRIPT_REPEATED_WORD)
-}
-
 /// The runs of `script_bad_number_and_end`.
-static SCRIPT_BAD_NUMBER_AND_END: [ScriptRun<'static>; 3] = [
+const SCRIPT_BAD_NUMBER_AND_END: [ScriptRun<'static>; 3] = [
     (
         "rich",
         "primary 0 x\n---\n",
@@ -136,13 +116,8 @@ static SCRIPT_BAD_NUMBER_AND_END: [ScriptRun<'static>; 3] = [
     ("short", "", ("", MISSING_END, 3)),
 ];
 
-#[test]
-fn script_bad_number_and_end(rt: HostRuntime) -> Result<(), Fail> {
-    check(&rt, &SCRIPT_BAD_NUMBER_AND_END)
-}
-
 /// The runs of `script_medium_and_short`.
-static SCRIPT_MEDIUM_AND_SHORT: [ScriptRun<'static>; 4] = [
+const SCRIPT_MEDIUM_AND_SHORT: [ScriptRun<'static>; 4] = [
     (
         "medium",
         "secondary 5 2 back\n---\nab\ncdef\n",
@@ -165,13 +140,8 @@ static SCRIPT_MEDIUM_AND_SHORT: [ScriptRun<'static>; 4] = [
     ),
 ];
 
-#[test]
-fn script_medium_and_short(rt: HostRuntime) -> Result<(), Fail> {
-    check(&rt, &SCRIPT_MEDIUM_AND_SHORT)
-}
-
 /// The runs of `scripts_that_are_read`.
-static SCRIPTS_THAT_ARE_READ: [ScriptRun<'static>; 7] = [
+const SCRIPTS_THAT_ARE_READ: [ScriptRun<'static>; 7] = [
     ("rich", "---", ("error: \n\n", "", 0)),
     ("rich", "---\r\nabc", ("error: \n\n", "", 0)),
     ("rich", "---\n---\nx", ("error: \n\n", "", 0)),
@@ -181,13 +151,8 @@ static SCRIPTS_THAT_ARE_READ: [ScriptRun<'static>; 7] = [
     ("rich", "---\nbad\n", ("error: \n\n", "", 0)),
 ];
 
-#[test]
-fn scripts_that_are_read(rt: HostRuntime) -> Result<(), Fail> {
-    check(&rt, &SCRIPTS_THAT_ARE_READ)
-}
-
 /// The runs of `scripts_with_labels_and_notes`.
-static SCRIPTS_WITH_LABELS_AND_NOTES: [ScriptRun<'static>; 6] = [
+const SCRIPTS_WITH_LABELS_AND_NOTES: [ScriptRun<'static>; 6] = [
     (
         "rich",
         "primary 0 1  two\n---\nabc\n",
@@ -228,9 +193,36 @@ static SCRIPTS_WITH_LABELS_AND_NOTES: [ScriptRun<'static>; 6] = [
     ),
 ];
 
+/// The runs over scripts, by name.
+static SCRIPTS: [(&str, &[ScriptRun<'static>]); 11] = [
+    ("script_run", &SCRIPT_RUN),
+    ("script_unknown_word", &SCRIPT_UNKNOWN_WORD),
+    ("script_repeated_word", &SCRIPT_REPEATED_WORD),
+    ("script_bad_number_and_end", &SCRIPT_BAD_NUMBER_AND_END),
+    ("script_medium_and_short", &SCRIPT_MEDIUM_AND_SHORT),
+    ("scripts_that_are_read", &SCRIPTS_THAT_ARE_READ),
+    (
+        "scripts_with_labels_and_notes",
+        &SCRIPTS_WITH_LABELS_AND_NOTES,
+    ),
+    ("scripts_with_unknown_words", &SCRIPTS_WITH_UNKNOWN_WORDS),
+    (
+        "scripts_with_unknown_severities",
+        &SCRIPTS_WITH_UNKNOWN_SEVERITIES,
+    ),
+    ("scripts_with_bad_numbers", &SCRIPTS_WITH_BAD_NUMBERS),
+    ("scripts_without_end", &SCRIPTS_WITHOUT_END),
+];
+
 #[test]
-fn scripts_with_labels_and_notes(rt: HostRuntime) -> Result<(), Fail> {
-    check(&rt, &SCRIPTS_WITH_LABELS_AND_NOTES)
+fn scripts(rt: HostRuntime) -> Result<(), Fail> {
+    for (name, runs) in &SCRIPTS {
+        for (style, input, expected) in *runs {
+            let run: Run<'_> = (&[*style, "f.txt"], input.as_bytes(), *expected);
+            check_run(&rt, name, Failing::default(), &run)?;
+        }
+    }
+    Ok(())
 }
 
 /// What a run over an empty script writes to `error_output`, in short style.

@@ -1,7 +1,7 @@
 //! Tests of what no contract says: whole documents, against HTML's own entities.
 
-use crate::asserts::assert_text;
-use crate::styled::texts::assert_html;
+use crate::asserts::{assert_row, assert_text};
+use crate::styled::texts::text_of;
 use codespan_base::diagnostic::{Diagnostic, Label, LabelStyle, Severity};
 use codespan_base::files::{Error, SimpleFile};
 use codespan_base::term::{Config, DisplayStyle};
@@ -10,30 +10,37 @@ use codespan_views::emitting::emit_into_string;
 use std::alloc::{AllocError, Global};
 use std::test::Fail;
 
-#[test]
-fn entities(rt: HostRuntime) -> Result<(), Fail> {
-    let part = (
-        Style::Label(Severity::Help, LabelStyle::Primary),
-        "<script>alert(\"1\" & '2')</script>",
-    );
-    let want = "<pre class=\"diagnostic\">\n\
-                <span class=\"primary-label-help\">\
-                &lt;script&gt;alert(&quot;1&quot; &amp; &#39;2&#39;)&lt;/script&gt;\
-                </span></pre>";
-    assert_html(&rt, rt.alloc(), part, want)?;
-    Ok(())
-}
+/// The parts of texts, by what is tested, and the document.
+static DOCUMENTS: [(&str, (Style, &str), &str); 2] = [
+    (
+        "entities",
+        (
+            Style::Label(Severity::Help, LabelStyle::Primary),
+            "<script>alert(\"1\" & '2')</script>",
+        ),
+        "<pre class=\"diagnostic\">\n\
+        <span class=\"primary-label-help\">\
+        &lt;script&gt;alert(&quot;1&quot; &amp; &#39;2&#39;)&lt;/script&gt;\
+        </span></pre>",
+    ),
+    (
+        "excluded_characters",
+        (
+            Style::Plain,
+            "\0\x1b[31m\r\x7f\u{9b}\u{fdd0}\u{fffe}\u{10ffff}\t\x0c\u{a0}\u{fdcf}\u{10fffd}",
+        ),
+        "<pre class=\"diagnostic\">\n\
+        \u{fffd}\u{fffd}[31m\u{fffd}\u{fffd}\u{fffd}\u{fffd}\u{fffd}\u{fffd}\
+        \t\x0c\u{a0}\u{fdcf}\u{10fffd}</pre>",
+    ),
+];
 
 #[test]
-fn excluded_characters(rt: HostRuntime) -> Result<(), Fail> {
-    let part = (
-        Style::Plain,
-        "\0\x1b[31m\r\x7f\u{9b}\u{fdd0}\u{fffe}\u{10ffff}\t\x0c\u{a0}\u{fdcf}\u{10fffd}",
-    );
-    let want = "<pre class=\"diagnostic\">\n\
-                \u{fffd}\u{fffd}[31m\u{fffd}\u{fffd}\u{fffd}\u{fffd}\u{fffd}\u{fffd}\
-                \t\x0c\u{a0}\u{fdcf}\u{10fffd}</pre>";
-    assert_html(&rt, rt.alloc(), part, want)?;
+fn documents(rt: HostRuntime) -> Result<(), Fail> {
+    for (name, part, want) in &DOCUMENTS {
+        let html = to_html(rt.alloc(), &text_of(rt.alloc(), &[*part])?)?;
+        assert_row(&rt, name, html.as_bytes(), want);
+    }
     Ok(())
 }
 

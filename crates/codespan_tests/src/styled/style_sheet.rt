@@ -49,7 +49,7 @@ fn with_color(color: Color) -> Styles {
     styles
 }
 
-/// Asserts that a style sheet has these colors, a color and the bright one of it.
+/// Asserts that a style sheet has these colors alone, a color and the bright one of it.
 fn assert_colors(
     rt: &impl Abort,
     alloc: Global,
@@ -57,16 +57,25 @@ fn assert_colors(
     normal: &str,
     bright: &str,
 ) -> Result<(), Error> {
-    let first = format!(in alloc;
+    let want = format!(in alloc;
         ".diagnostic .header-bug {{ background-color: {normal}; }}\n\
-         .diagnostic .header-error {{ }}\n"
-    )?;
-    let last = format!(in alloc;
-        ".diagnostic .note-bullet {{ color: {bright}; font-weight: bold; }}\n"
+         .diagnostic .header-error {{ }}\n\
+         .diagnostic .header-warning {{ }}\n\
+         .diagnostic .header-note {{ }}\n\
+         .diagnostic .header-help {{ }}\n\
+         .diagnostic .header-message {{ }}\n\
+         .diagnostic .primary-label-bug {{ }}\n\
+         .diagnostic .primary-label-error {{ }}\n\
+         .diagnostic .primary-label-warning {{ }}\n\
+         .diagnostic .primary-label-note {{ }}\n\
+         .diagnostic .primary-label-help {{ }}\n\
+         .diagnostic .secondary-label {{ }}\n\
+         .diagnostic .line-number {{ }}\n\
+         .diagnostic .source-border {{ }}\n\
+         .diagnostic .note-bullet {{ color: {bright}; font-weight: bold; }}\n"
     )?;
     let css = html_styles(alloc, &with_color(color))?;
-    let css = css.as_str();
-    assert!(rt; css.starts_with(first.as_str()) && css.ends_with(last.as_str()));
+    assert_text(rt, css.as_str(), want.as_str());
     Ok(())
 }
 

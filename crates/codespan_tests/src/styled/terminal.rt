@@ -1,8 +1,8 @@
 //! What is left out of hostile texts, and which sequences a terminal receives.
 
-use crate::asserts::{assert_bytes, assert_text};
+use crate::asserts::{assert_bytes, assert_row};
 use crate::outputs::rendering::render_styled;
-use crate::styled::texts::assert_terminal;
+use crate::styled::texts::text_of;
 use codespan_base::diagnostic::{Diagnostic, Label, LabelStyle, Severity};
 use codespan_base::files::{Error, SimpleFiles};
 use codespan_base::term::{Ansi, Config, Styles};
@@ -10,38 +10,25 @@ use codespan_reporting::term::RichDiagnostic;
 use codespan_styled::render::styled_text;
 use codespan_styled::style::Style;
 use codespan_styled::terminal::{is_safe, safe_text, to_terminal};
-use std::alloc::{AllocError, Global};
-use std::process::Abort;
+use std::alloc::Global;
 use std::test::Fail;
 
-/// Asserts that a text is safe as this one.
-fn assert_safe(rt: &impl Abort, alloc: Global, source: &str, want: &str) -> Result<(), AllocError> {
-    let safe = safe_text(alloc, source)?;
-    assert_text(rt, safe.as_str(), want);
-    Ok(())
-}
+/// A text, and what is left of it.
+type Text<'text> = (&'text str, &'text str);
 
 /// Texts of which all is safe.
-static HARMLESS: [&str; 7] = [
-    "",
-    "fn main() {}\n",
-    "a\tb\n",
-    "┌─ straße.rs:1:1\n",
-    "世界 🦀 e\u{301}\n",
-    "👩\u{200d}🚀 \u{feff}\u{ad}",
-    "שלום",
+const HARMLESS: [Text<'static>; 7] = [
+    ("", ""),
+    ("fn main() {}\n", "fn main() {}\n"),
+    ("a\tb\n", "a\tb\n"),
+    ("┌─ straße.rs:1:1\n", "┌─ straße.rs:1:1\n"),
+    ("世界 🦀 e\u{301}\n", "世界 🦀 e\u{301}\n"),
+    ("👩\u{200d}🚀 \u{feff}\u{ad}", "👩\u{200d}🚀 \u{feff}\u{ad}"),
+    ("שלום", "שלום"),
 ];
 
-#[test]
-fn harmless_text_is_unchanged(rt: HostRuntime) -> Result<(), Fail> {
-    for text in &HARMLESS {
-        assert_safe(&rt, rt.alloc(), text, text)?;
-    }
-    Ok(())
-}
-
 /// Hostile sources, and what is left of them.
-static REORDERED: [(&str, &str); 4] = [
+const REORDERED: [Text<'static>; 4] = [
     // a return that looks like a comment
     (
         "''' Subtract funds then \u{2067}''' ;return\n",
@@ -63,16 +50,8 @@ static REORDERED: [(&str, &str); 4] = [
     ),
 ];
 
-#[test]
-fn reordered_source_is_in_order(rt: HostRuntime) -> Result<(), Fail> {
-    for (source, want) in &REORDERED {
-        assert_safe(&rt, rt.alloc(), source, want)?;
-    }
-    Ok(())
-}
-
 /// Texts with control characters, and what is left of them.
-static CONTROLS: [(&str, &str); 8] = [
+const CONTROLS: [Text<'static>; 8] = [
     // a title, ended by BEL, and by ST in seven bits and in eight
     ("\x1b]0;title\x07", "]0;title"),
     ("\x1b]0;title\x1b\\", "]0;title\\"),
@@ -86,10 +65,20 @@ static CONTROLS: [(&str, &str); 8] = [
     ("a\x00b\x0bc\x0cd\x0ee\x0ff\x7fg\u{85}h\n", "abcdefgh\n"),
 ];
 
+/// The texts, by what is tested.
+static TEXTS: [(&str, &[Text<'static>]); 3] = [
+    ("harmless_text_is_unchanged", &HARMLESS),
+    ("reordered_source_is_in_order", &REORDERED),
+    ("controls_are_left_out", &CONTROLS),
+];
+
 #[test]
-fn controls_are_left_out(rt: HostRuntime) -> Result<(), Fail> {
-    for (source, want) in &CONTROLS {
-        assert_safe(&rt, rt.alloc(), source, want)?;
+fn safe_texts(rt: HostRuntime) -> Result<(), Fail> {
+    for (name, texts) in &TEXTS {
+        for (source, want) in *texts {
+            let safe = safe_text(rt.alloc(), source)?;
+            assert_row(&rt, name, safe.as_bytes(), want);
+        }
     }
     Ok(())
 }
@@ -128,51 +117,70 @@ fn first_and_last_of_each_range(rt: HostRuntime) {
     }
 }
 
-/// The parts of a header with sequences of its own.
-static HOSTILE_HEADER: [(Style, &str); 6] = [
-    (Style::Plain, ""),
-    (Style::Header(Severity::Error), "error"),
-    (Style::HeaderMessage, ": \x1b[2Jbad \u{202e}name"),
-    (Style::Plain, "\n  "),
-    (Style::SourceBorder, "┌─"),
-    (Style::Plain, " \x1b]0;a.rs\x07\n"),
-];
+/// The parts of a styled text, by what is tested, and the output.
+type Output<'text> = (&'text str, &'text [(Style, &'text str)], &'text str);
 
-#[test]
-fn header_has_its_sequences_alone(rt: HostRuntime) -> Result<(), Fail> {
-    let want = "\x1b[0m\x1b[1m\x1b[38;5;9merror\x1b[0m\x1b[1m: [2Jbad name\x1b[0m\n  \
-                \x1b[0m\x1b[36m┌─\x1b[0m ]0;a.rs\n";
-    assert_terminal(&rt, rt.alloc(), &HOSTILE_HEADER, want)?;
-    Ok(())
-}
-
-/// A style of each kind, and the output of an `a` in it.
-static SEQUENCES: [(Style, &str); 8] = [
-    (Style::Plain, "a"),
+/// A header with sequences of its own, an `a` in a style of each kind, and no text.
+static OUTPUTS: [Output<'static>; 10] = [
     (
-        Style::Header(Severity::Warning),
+        "header_has_its_sequences_alone",
+        &[
+            (Style::Plain, ""),
+            (Style::Header(Severity::Error), "error"),
+            (Style::HeaderMessage, ": \x1b[2Jbad \u{202e}name"),
+            (Style::Plain, "\n  "),
+            (Style::SourceBorder, "┌─"),
+            (Style::Plain, " \x1b]0;a.rs\x07\n"),
+        ],
+        "\x1b[0m\x1b[1m\x1b[38;5;9merror\x1b[0m\x1b[1m: [2Jbad name\x1b[0m\n  \
+        \x1b[0m\x1b[36m┌─\x1b[0m ]0;a.rs\n",
+    ),
+    ("plain", &[(Style::Plain, "a")], "a"),
+    (
+        "header",
+        &[(Style::Header(Severity::Warning), "a")],
         "\x1b[0m\x1b[1m\x1b[38;5;11ma",
     ),
-    (Style::HeaderMessage, "\x1b[0m\x1b[1ma"),
-    (Style::LineNumber, "\x1b[0m\x1b[36ma"),
-    (Style::NoteBullet, "\x1b[0m\x1b[36ma"),
-    (Style::SourceBorder, "\x1b[0m\x1b[36ma"),
     (
-        Style::Label(Severity::Note, LabelStyle::Primary),
+        "header message",
+        &[(Style::HeaderMessage, "a")],
+        "\x1b[0m\x1b[1ma",
+    ),
+    (
+        "line number",
+        &[(Style::LineNumber, "a")],
+        "\x1b[0m\x1b[36ma",
+    ),
+    (
+        "note bullet",
+        &[(Style::NoteBullet, "a")],
+        "\x1b[0m\x1b[36ma",
+    ),
+    (
+        "source border",
+        &[(Style::SourceBorder, "a")],
+        "\x1b[0m\x1b[36ma",
+    ),
+    (
+        "primary label",
+        &[(Style::Label(Severity::Note, LabelStyle::Primary), "a")],
         "\x1b[0m\x1b[32ma",
     ),
     (
-        Style::Label(Severity::Note, LabelStyle::Secondary),
+        "secondary label",
+        &[(Style::Label(Severity::Note, LabelStyle::Secondary), "a")],
         "\x1b[0m\x1b[36ma",
     ),
+    ("no text", &[], ""),
 ];
 
 #[test]
-fn a_style_of_each_kind_has_its_sequence(rt: HostRuntime) -> Result<(), Fail> {
-    for (style, want) in &SEQUENCES {
-        assert_terminal(&rt, rt.alloc(), &[(*style, "a")], want)?;
+fn outputs(rt: HostRuntime) -> Result<(), Fail> {
+    for (name, parts, want) in &OUTPUTS {
+        let text = text_of(rt.alloc(), parts)?;
+        let terminal = to_terminal(rt.alloc(), &text, &Styles::default())?;
+        assert_row(&rt, name, terminal.as_bytes(), want);
     }
-    assert_terminal(&rt, rt.alloc(), &[], "")?;
     Ok(())
 }
 

@@ -1,10 +1,9 @@
 //! Scripts with an error, each with its diagnostic.
 
-use crate::report::scripts::{ScriptRun, check};
-use std::test::Fail;
+use crate::report::scripts::ScriptRun;
 
 /// The runs of `scripts_with_unknown_words`.
-static SCRIPTS_WITH_UNKNOWN_WORDS: [ScriptRun<'static>; 5] = [
+pub const SCRIPTS_WITH_UNKNOWN_WORDS: [ScriptRun<'static>; 5] = [
     (
         "rich",
         "---\r",
@@ -72,13 +71,8 @@ static SCRIPTS_WITH_UNKNOWN_WORDS: [ScriptRun<'static>; 5] = [
     ),
 ];
 
-#[test]
-fn scripts_with_unknown_words(rt: HostRuntime) -> Result<(), Fail> {
-    check(&rt, &SCRIPTS_WITH_UNKNOWN_WORDS)
-}
-
 /// The runs of `scripts_with_unknown_severities`.
-static SCRIPTS_WITH_UNKNOWN_SEVERITIES: [ScriptRun<'static>; 4] = [
+pub const SCRIPTS_WITH_UNKNOWN_SEVERITIES: [ScriptRun<'static>; 4] = [
     (
         "rich",
         "severity\n---\n",
@@ -133,13 +127,8 @@ static SCRIPTS_WITH_UNKNOWN_SEVERITIES: [ScriptRun<'static>; 4] = [
     ),
 ];
 
-#[test]
-fn scripts_with_unknown_severities(rt: HostRuntime) -> Result<(), Fail> {
-    check(&rt, &SCRIPTS_WITH_UNKNOWN_SEVERITIES)
-}
-
 /// The runs of `scripts_with_bad_numbers`.
-static SCRIPTS_WITH_BAD_NUMBERS: [ScriptRun<'static>; 5] = [
+pub const SCRIPTS_WITH_BAD_NUMBERS: [ScriptRun<'static>; 5] = [
     (
         "rich",
         "primary\n---\n",
@@ -207,13 +196,8 @@ static SCRIPTS_WITH_BAD_NUMBERS: [ScriptRun<'static>; 5] = [
     ),
 ];
 
-#[test]
-fn scripts_with_bad_numbers(rt: HostRuntime) -> Result<(), Fail> {
-    check(&rt, &SCRIPTS_WITH_BAD_NUMBERS)
-}
-
 /// The runs of `scripts_without_end`.
-static SCRIPTS_WITHOUT_END: [ScriptRun<'static>; 2] = [
+pub const SCRIPTS_WITHOUT_END: [ScriptRun<'static>; 2] = [
     (
         "rich",
         "message a\r",
@@ -237,8 +221,3 @@ static SCRIPTS_WITHOUT_END: [ScriptRun<'static>; 2] = [
         ),
     ),
 ];
-
-#[test]
-fn scripts_without_end(rt: HostRuntime) -> Result<(), Fail> {
-    check(&rt, &SCRIPTS_WITHOUT_END)
-}
