@@ -1,8 +1,8 @@
 -- For the clauses of `escape::unescape`, `read_escape` and `read_numbered`: what is parsed of
 -- escapes, and of escaped texts.
-use Rattle.std.proofs.Common.{◌≡◌, ◌<◌, ℕ, List, [], ◌∷◌, ◌++◌, Option, Some, None, refl, sym, ◌∙◌, ap, subst, append_assoc, arith}
+use Rattle.std.proofs.Common.{◌≡◌, ◌<◌, ◌≤◌, ℕ, List, length, [], ◌∷◌, ◌++◌, Option, Some, None, refl, sym, ◌∙◌, ap, subst, append_assoc, arith}
 use Rattle.std.specs.Borrow.{Bor}
-use Rattle.std.specs.Prelude.{encode_utf8, MatchOption}
+use Rattle.std.specs.Prelude.{encode_utf8, IfSome, MatchOption}
 use Rattle.std.specs.Option.{option_map}
 use Rattle.std.proofs.lemmas.Bool.Decides.{nat_tests}
 use Rattle.std.proofs.lemmas.Str.{char_from_byte}
@@ -21,6 +21,21 @@ pub letter_read : (text next left : List ℕ) (letter c : ℕ) → text ≡ lett
 letter_read text next left letter c is same other found =
     subst (λ t. ReadsEscape t (Some (c, left))) (sym (is ∙ ap (λ rest. letter ∷ rest) (sym same)))
     ((λ e. absurd (other e)), λ different. ap (option_map (λ d. (d, left))) (sym found))
+
+-- the text after the letter is shorter
+pub letter_shorter : (text next left : List ℕ) (letter : ℕ) → text ≡ letter ∷ next → left ≡ next → length left < length text
+letter_shorter text next left letter is same = omega (arith, ap length is, ap length same)
+
+-- what is parsed of a text that begins with `u`
+pub number_read : (text next left : List ℕ) (read : Option (ℕ × List ℕ)) → text ≡ 117 ∷ next → left ≡ next → ReadsNumbered left read → ReadsEscape text read
+number_read text next left read is same number =
+    subst (λ t. ReadsEscape t read) (sym (is ∙ ap (λ rest. 117 ∷ rest) (sym same))) ((λ _. number), λ other. absurd (other refl))
+
+-- the text after the number is shorter
+pub number_shorter : (text next left : List ℕ) (read : Option (ℕ × Bor (List ℕ))) → text ≡ 117 ∷ next → left ≡ next → IfSome read (λ r. length r.1.now ≤ length left)
+    → IfSome read (λ r. length r.1.now < length text)
+number_shorter text next left None is same within = tt
+number_shorter text next left (Some r) is same within = omega (arith, within, ap length is, ap length same)
 
 -- a text that begins with another character than those of escapes begins with no escape
 pub no_escape : (text left : List ℕ) (letter : ℕ) → text ≡ encode_utf8 letter ++ left

@@ -139,15 +139,15 @@ impl From<AllocError> for RunError {
 /// Writes a message of a few words.
 impl fmt::Display for LineError {
     fn fmt<W: fmt::Write>(&self, f: &mut fmt::Formatter<W>) -> fmt::Result {
-        match self {
-            LineError::UnknownWord => write!(f, "unknown word"),
-            LineError::UnknownName => write!(f, "unknown name"),
-            LineError::BadNumber => write!(f, "bad number"),
-            LineError::BadEscape => write!(f, "bad escape"),
-            LineError::NoCase => write!(f, "no case before it"),
-            LineError::NoFile => write!(f, "no file before it"),
-            LineError::OutOfMemory => write!(f, "out of memory"),
-        }
+        f.write_str(match self {
+            LineError::UnknownWord => "unknown word",
+            LineError::UnknownName => "unknown name",
+            LineError::BadNumber => "bad number",
+            LineError::BadEscape => "bad escape",
+            LineError::NoCase => "no case before it",
+            LineError::NoFile => "no file before it",
+            LineError::OutOfMemory => "out of memory",
+        })
     }
 }
 
@@ -155,17 +155,16 @@ impl fmt::Display for LineError {
 impl fmt::Display for RunError {
     fn fmt<W: fmt::Write>(&self, f: &mut fmt::Formatter<W>) -> fmt::Result {
         match self {
-            RunError::WrongArguments => write!(
-                f,
-                "usage: gallery [svg|html|terminal NAME | styles] < CASES"
-            ),
-            RunError::CannotReadInput => write!(f, "gallery: cannot read input"),
-            RunError::NotUtf8 => write!(f, "gallery: input is not UTF-8"),
+            RunError::WrongArguments => {
+                f.write_str("usage: gallery [svg|html|terminal NAME | styles] < CASES")
+            }
+            RunError::CannotReadInput => f.write_str("gallery: cannot read input"),
+            RunError::NotUtf8 => f.write_str("gallery: input is not UTF-8"),
             RunError::Line(number, line_error) => write!(f, "gallery: line {number}: {line_error}"),
             RunError::UnknownCase(name) => write!(f, "gallery: no case {name}"),
             RunError::CannotRender(error) => write!(f, "gallery: cannot render: {error}"),
-            RunError::OutOfMemory => write!(f, "gallery: out of memory"),
-            RunError::CannotWriteOutput => write!(f, "gallery: cannot write output"),
+            RunError::OutOfMemory => f.write_str("gallery: out of memory"),
+            RunError::CannotWriteOutput => f.write_str("gallery: cannot write output"),
         }
     }
 }
