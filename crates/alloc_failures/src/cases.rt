@@ -5,34 +5,24 @@ use codespan_base::diagnostic::LabelStyle::{Primary, Secondary};
 use codespan_base::term::{Config, DisplayStyle};
 use std::ops::Range;
 
-/// A worked diagnostic.
+/// The file database that a diagnostic is rendered over.
 #[derive(Clone, Copy)]
-pub enum CaseName {
-    /// Three labels of one line.
-    MutableBorrows,
-    /// A multi-line label, with a break and a filled line, and a note.
-    MismatchedTypes,
-    /// A header in short style, without a lookup, and in colors if the call has some.
-    ColouredHeader,
-    /// Labels of two files, and a note.
-    TwoFiles,
-    /// The same in medium style.
-    Medium,
-    /// The same in short style.
-    Short,
-    /// A file with custom line numbers.
-    MappedNumbers,
-    /// Lines before and after a label's, over a file each of whose lookups of a line's range
-    /// allocates.
-    SurroundingLines,
+pub enum Database {
+    /// A `SimpleFiles` of the files.
+    Simple,
+    /// A `MappedFile` of the first file, whose third line has the number 100.
+    Mapped,
+    /// The first file, where each lookup of a line's range allocates.
+    Copying,
 }
 
 /// A label: its style, the index of its file, its range in bytes and its message.
 type LabelFields<'text> = (LabelStyle, usize, Range<usize>, &'text str);
 
-/// A diagnostic, its files, and its expected output.
-#[derive(Clone, Copy)]
+/// A worked diagnostic, its files, and its expected output.
 pub struct Case<'text> {
+    /// The file database.
+    pub database: Database,
     /// The style of the configuration.
     pub display_style: DisplayStyle,
     /// The lines that are shown after the first line of a multi-line label.
@@ -59,6 +49,7 @@ pub struct Case<'text> {
 
 /// An empty error, by the default configuration.
 const EMPTY: Case<'static> = Case {
+    database: Database::Simple,
     display_style: DisplayStyle::Rich,
     start_context_lines: 3,
     before_label_lines: 0,
@@ -71,22 +62,6 @@ const EMPTY: Case<'static> = Case {
     output: "",
     colored: None,
 };
-
-impl CaseName {
-    /// Returns the diagnostic and its output.
-    pub fn case(self) -> &'static Case<'static> {
-        match self {
-            CaseName::MutableBorrows => &MUTABLE_BORROWS,
-            CaseName::MismatchedTypes => &MISMATCHED_TYPES,
-            CaseName::ColouredHeader => &COLOURED_HEADER,
-            CaseName::TwoFiles => &TWO_FILES,
-            CaseName::Medium => &MEDIUM,
-            CaseName::Short => &SHORT,
-            CaseName::MappedNumbers => &MAPPED_NUMBERS,
-            CaseName::SurroundingLines => &SURROUNDING_LINES,
-        }
-    }
-}
 
 impl Case<'_> {
     /// Returns the configuration.
@@ -102,7 +77,7 @@ impl Case<'_> {
 }
 
 /// Three labels of one line, two of whose messages hang.
-static MUTABLE_BORROWS: Case<'static> = Case {
+pub const MUTABLE_BORROWS: Case<'static> = Case {
     files: &[(
         "one_line.rs",
         "fn main() {\n\
@@ -128,8 +103,8 @@ static MUTABLE_BORROWS: Case<'static> = Case {
     ..EMPTY
 };
 
-/// A label over nine lines, of which some are left out, and one inside it.
-static MISMATCHED_TYPES: Case<'static> = Case {
+/// A label over nine lines, of which some are left out, and one inside it; and a note.
+pub const MISMATCHED_TYPES: Case<'static> = Case {
     start_context_lines: 2,
     files: &[(
         "src/lib.rs",
@@ -162,8 +137,8 @@ static MISMATCHED_TYPES: Case<'static> = Case {
     ..EMPTY
 };
 
-/// A header alone.
-static COLOURED_HEADER: Case<'static> = Case {
+/// A header in short style, without a lookup, and in colors if the call has some.
+pub const COLOURED_HEADER: Case<'static> = Case {
     display_style: DisplayStyle::Short,
     message: "m",
     output: "error: m\n",
@@ -199,8 +174,8 @@ const TYPE_ERROR: Case<'static> = Case {
     ..EMPTY
 };
 
-/// The type error in rich style.
-static TWO_FILES: Case<'static> = Case {
+/// The type error in rich style: labels of two files, and a note.
+pub const TWO_FILES: Case<'static> = Case {
     output: "error[E0001]: unexpected type in application of `_+_`\n\
               \x20  ┌─ Test.fun:4:11\n\
               \x20  │\n\
@@ -218,7 +193,7 @@ static TWO_FILES: Case<'static> = Case {
 };
 
 /// The type error in medium style.
-static MEDIUM: Case<'static> = Case {
+pub const MEDIUM: Case<'static> = Case {
     display_style: DisplayStyle::Medium,
     output: "Test.fun:4:11: error[E0001]: unexpected type in application of `_+_`\n \
              = expected type `Nat`\n      found type `String`\n",
@@ -226,14 +201,15 @@ static MEDIUM: Case<'static> = Case {
 };
 
 /// The type error in short style.
-static SHORT: Case<'static> = Case {
+pub const SHORT: Case<'static> = Case {
     display_style: DisplayStyle::Short,
     output: "Test.fun:4:11: error[E0001]: unexpected type in application of `_+_`\n",
     ..TYPE_ERROR
 };
 
 /// A label over three lines, of which the second has the number 100.
-static MAPPED_NUMBERS: Case<'static> = Case {
+pub const MAPPED_NUMBERS: Case<'static> = Case {
+    database: Database::Mapped,
     files: &[("m", "a\nb\nc\nd")],
     labels: &[(Primary, 0, 2..7, "x")],
     output: "error: \n\
@@ -246,8 +222,9 @@ static MAPPED_NUMBERS: Case<'static> = Case {
     ..EMPTY
 };
 
-/// The end of a file, with lines before it.
-static SURROUNDING_LINES: Case<'static> = Case {
+/// The end of a file, with lines before it, where each lookup of a line's range allocates.
+pub const SURROUNDING_LINES: Case<'static> = Case {
+    database: Database::Copying,
     before_label_lines: 2,
     after_label_lines: 1,
     files: &[(

@@ -28,14 +28,14 @@ fn is_start(start: &SnippetStart<'_>) -> bool {
     }
 }
 
-/// Returns whether they are the characters of the configuration.
-fn are_chars(chars: &Chars<'_>) -> bool {
-    is_start(&chars.snippet_start) && are_same_chars(chars, &Chars::ascii())
+/// Returns whether they are the characters with this `snippet_start`.
+fn are_chars(chars: &Chars<'_>, expected: &Chars<'_>) -> bool {
+    is_start(&chars.snippet_start) && are_same_chars(chars, expected)
 }
 
 /// Returns whether it is the configuration with this `snippet_start`.
-fn is_config(config: &Config<'_>) -> bool {
-    is_start(&config.chars.snippet_start) && is_same_config(config, &config_of(Chars::ascii()))
+fn is_config(config: &Config<'_>, expected: &Config<'_>) -> bool {
+    is_start(&config.chars.snippet_start) && is_same_config(config, expected)
 }
 
 /// Returns the configuration that is cloned, with these characters. No other field is the default.
@@ -72,7 +72,7 @@ pub fn judge_clone(alloc: Global, call: CloneCall) -> Result<Outcome, Error> {
 fn is_cloned(config: &Config<'_>, call: CloneCall) -> Result<bool, Error> {
     match call {
         CloneCall::SnippetStart => Ok(is_start(&config.chars.snippet_start.clone()?)),
-        CloneCall::Chars => Ok(are_chars(&config.chars.clone()?)),
-        CloneCall::Config => Ok(is_config(&config.clone()?)),
+        CloneCall::Chars => Ok(are_chars(&config.chars.clone()?, &config.chars)),
+        CloneCall::Config => Ok(is_config(&config.clone()?, config)),
     }
 }

@@ -44,8 +44,16 @@ pub fn judge_database(alloc: Global, call: DatabaseCall) -> Result<Outcome, Erro
 /// Returns whether a file has the text, and lines of these numbers.
 fn is_file<'files, F: Files<'files>>(files: &'files F, id: F::FileId, numbers: [usize; 4]) -> bool {
     has_text(files, id, TEXT)
-        && files.line_index(id, 6).ok() == Some(3)
+        && is_ok_with(files.line_index(id, 6), 3)
         && has_numbers(files, id, numbers)
+}
+
+/// Returns whether a call returned `Ok` with this value.
+pub fn is_ok_with<T: PartialEq + Drop>(returned: Result<T, Error>, expected: T) -> bool {
+    match returned {
+        Ok(value) => value == expected,
+        Err(_) => false,
+    }
 }
 
 /// Returns whether a file has this text.
@@ -63,7 +71,7 @@ fn has_numbers<'files, F: Files<'files>>(
     numbers: [usize; 4],
 ) -> bool {
     for (line, number) in numbers.iter().enumerate() {
-        if files.line_number(id, line).ok() != Some(*number) {
+        if !is_ok_with(files.line_number(id, line), *number) {
             return false;
         }
     }

@@ -17,22 +17,29 @@ use std::alloc::{AllocError, Global};
 pub enum DocumentCall {
     /// `styled_text`
     StyledText,
-    /// `to_html`
-    ToHtml,
+    /// One that writes a styled text in this format
+    Format(Format),
     /// `html_styles`
     HtmlStyles,
-    /// `to_svg`
-    ToSvg,
-    /// `to_terminal`
-    ToTerminal,
     /// `safe_text`
     SafeText,
     /// `to_lsp_diagnostics`
     ToLspDiagnostics,
 }
 
+/// A format that a styled text is written in.
+#[derive(Clone, Copy)]
+pub enum Format {
+    /// That of `to_html`.
+    Html,
+    /// That of `to_svg`.
+    Svg,
+    /// That of `to_terminal`.
+    Terminal,
+}
+
 /// The runs of the output of the diagnostic, in short style.
-const RUNS: [(Style, &str); 4] = [
+static RUNS: [(Style, &str); 4] = [
     (Style::Plain, "f&g:2:1: "),
     (Style::Header(Severity::Error), "error"),
     (Style::HeaderMessage, ": b\x07d"),
@@ -82,28 +89,40 @@ const CSS: &str = ".diagnostic .header-bug { }\n\
 ///
 /// `OutOfMemory` if an allocation of the preparation fails.
 pub fn judge_document(alloc: Global, call: DocumentCall) -> Result<Outcome, Error> {
-    let styles = Styles::default();
     match call {
         DocumentCall::StyledText => judge_styled(alloc),
-        DocumentCall::ToHtml => Ok(judge_string(&to_html(alloc, &document_text(alloc)?), HTML)),
+        DocumentCall::Format(format) => judge_format(alloc, format),
         DocumentCall::HtmlStyles => {
             let returned = html_styles(alloc, &Styles::no_color());
             Ok(judge_string(&returned, CSS))
-        }
-        DocumentCall::ToSvg => {
-            let text = document_text(alloc)?;
-            Ok(judge_string(&to_svg(alloc, &text, &styles), SVG))
-        }
-        DocumentCall::ToTerminal => {
-            let text = document_text(alloc)?;
-            let returned = with_error(to_terminal(alloc, &text, &styles));
-            Ok(judge_string(&returned, TERMINAL))
         }
         DocumentCall::SafeText => {
             let returned = with_error(safe_text(alloc, "a\u{202e}b\x1b[c"));
             Ok(judge_string(&returned, "ab[c"))
         }
         DocumentCall::ToLspDiagnostics => judge_lsp(alloc),
+    }
+}
+
+/// Makes the call that writes the text of the runs in a format and judges it.
+fn judge_format(alloc: Global, format: Format) -> Result<Outcome, Error> {
+    let text = document_text(alloc)?;
+    let returned = write_text(alloc, format, &text);
+    let expected = match format {
+        Format::Html => HTML,
+        Format::Svg => SVG,
+        Format::Terminal => TERMINAL,
+    };
+    Ok(judge_string(&returned, expected))
+}
+
+/// Writes a text in a format.
+fn write_text(alloc: Global, format: Format, text: &StyledText) -> Result<String, Error> {
+    let styles = Styles::default();
+    match format {
+        Format::Html => to_html(alloc, text),
+        Format::Svg => to_svg(alloc, text, &styles),
+        Format::Terminal => with_error(to_terminal(alloc, text, &styles)),
     }
 }
 

@@ -47,30 +47,28 @@ impl Outcome {
             Outcome::Unknown => 2,
         }
     }
+
+    /// Returns one word, or a few for a wrong outcome.
+    fn words(&self) -> &'static str {
+        match self {
+            Outcome::Unknown => "no subject has this name",
+            Outcome::Unprepared => "unprepared",
+            Outcome::Done => "done",
+            Outcome::Failed => "failed",
+            Outcome::Wrong(Wrong::Preparation) => {
+                "wrong: preparing it failed, not by a failed allocation"
+            }
+            Outcome::Wrong(Wrong::Value) => "wrong: not the expected value",
+            Outcome::Wrong(Wrong::Failure) => "wrong: an error that the call may not return",
+            Outcome::Wrong(Wrong::Changed) => "wrong: the call failed and has changed something",
+        }
+    }
 }
 
 /// Writes one word, or a few for a wrong outcome.
 impl fmt::Display for Outcome {
     fn fmt<W: Write>(&self, f: &mut fmt::Formatter<W>) -> fmt::Result {
-        match self {
-            Outcome::Unknown => write!(f, "no subject has this name"),
-            Outcome::Unprepared => write!(f, "unprepared"),
-            Outcome::Done => write!(f, "done"),
-            Outcome::Failed => write!(f, "failed"),
-            Outcome::Wrong(wrong) => write!(f, "wrong: {wrong}"),
-        }
-    }
-}
-
-/// Writes a few words.
-impl fmt::Display for Wrong {
-    fn fmt<W: Write>(&self, f: &mut fmt::Formatter<W>) -> fmt::Result {
-        match self {
-            Wrong::Preparation => write!(f, "preparing it failed, not by a failed allocation"),
-            Wrong::Value => write!(f, "not the expected value"),
-            Wrong::Failure => write!(f, "an error that the call may not return"),
-            Wrong::Changed => write!(f, "the call failed and has changed something"),
-        }
+        f.write_str(self.words())
     }
 }
 

@@ -1,6 +1,6 @@
 //! A writer that keeps what is written to it in a vector.
 
-use std::alloc::Global;
+use std::alloc::{AllocError, Global};
 use std::io;
 use std::io::Write;
 
@@ -20,6 +20,23 @@ impl Recording {
             bytes: Vec::new(alloc),
             has_failed: false,
         }
+    }
+
+    /// Returns an empty vector of this capacity.
+    ///
+    /// # Errors
+    ///
+    /// `AllocError`: an allocation fails.
+    pub fn with_capacity(alloc: Global, capacity: usize) -> Result<Recording, AllocError> {
+        Ok(Recording {
+            bytes: Vec::with_capacity(alloc, capacity)?,
+            has_failed: false,
+        })
+    }
+
+    /// Returns whether the vector holds this text.
+    pub fn holds(&self, text: &str) -> bool {
+        self.bytes.as_slice() == text.as_bytes()
     }
 }
 

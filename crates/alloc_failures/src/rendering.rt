@@ -3,7 +3,7 @@
 ghost use Rattle.std.specs.Prelude.{◌≡◌, ◌++◌, ℕ, List, IfOk, IsOk, IsErrAnd, IsErrOf, IsTrue, codes, string_bytes, false, true};
 ghost use Rattle.codespan_base.specs.Errors.{IsIo};
 
-use crate::cases::{Case, CaseName};
+use crate::cases::{Case, Database};
 use crate::copying::Copying;
 use crate::diagnostics::diagnostic_of;
 use crate::outcome::{Outcome, Wrong, judge_failure, judge_made};
@@ -49,135 +49,194 @@ impl RenderCall {
 /// The old text of a string that is appended to.
 const OLD_TEXT: &str = "kept";
 
+/// A call that renders, and what it renders, by this configuration.
+#[derive(Drop)]
+struct Rendering<'case> {
+    call: RenderCall,
+    case: &'case Case<'case>,
+    config: Config<'case>,
+}
+
 /// Makes a call over a worked diagnostic and judges it.
 ///
 /// # Errors
 ///
 /// An error of the preparation: `OutOfMemory` if an allocation fails.
-pub fn judge_rendering(
-    alloc: Global,
-    call: RenderCall,
-    case_name: CaseName,
-) -> Result<Outcome, Error> {
-    let case = case_name.case();
-    match case_name {
-        CaseName::MappedNumbers => judge_mapped(alloc, call, case),
-        CaseName::SurroundingLines => judge_copying(alloc, call, case),
-        _ => judge_simple(alloc, call, case),
+pub fn judge_rendering(alloc: Global, call: RenderCall, case: &Case<'_>) -> Result<Outcome, Error> {
+    let config = case.config();
+    let rendering = Rendering { call, case, config };
+    match case.database {
+        Database::Simple => judge_simple(alloc, &rendering),
+        Database::Mapped => judge_mapped(alloc, &rendering),
+        Database::Copying => judge_copying(alloc, &rendering),
     }
 }
 
-/// Makes a call over a file database and judges it.
-fn judge_simple(alloc: Global, call: RenderCall, case: &Case<'_>) -> Result<Outcome, Error> {
+/// Makes a call over a file database and judges it: in escape sequences, if it writes style marks
+/// and the case is rendered in these.
+fn judge_simple(alloc: Global, rendering: &Rendering<'_>) -> Result<Outcome, Error> {
     let mut files = SimpleFiles::new(alloc);
-    for (name, source) in case.files {
+    for (name, source) in rendering.case.files {
         files.add(*name, *source)?;
     }
-    let diagnostic = diagnostic_of(alloc, case, &[0, 1])?;
-    judge_call(alloc, call, case, &files, &diagnostic)
+    let diagnostic = diagnostic_of(alloc, rendering.case, &[0, 1])?;
+    match rendering.case.colored {
+        Some(output) if rendering.call.is_styled() => {
+            Ok(judge_colored(alloc, rendering, output, &files, &diagnostic))
+        }
+        _ => judge_call(alloc, rendering, &files, &diagnostic),
+    }
 }
 
 /// Makes a call over the first file, whose third line has the number 100, and judges it.
-fn judge_mapped(alloc: Global, call: RenderCall, case: &Case<'_>) -> Result<Outcome, Error> {
-    let (name, source) = case.files.first().ok_or(Error::FileMissing)?;
+fn judge_mapped(alloc: Global, rendering: &Rendering<'_>) -> Result<Outcome, Error> {
+    let (name, source) = rendering.case.files.first().ok_or(Error::FileMissing)?;
     let mut file = MappedFile::new(alloc, *name, *source)?;
     file.set_line(2, 100)?;
-    let diagnostic = diagnostic_of(alloc, case, &[()])?;
-    judge_call(alloc, call, case, &file, &diagnostic)
+    let diagnostic = diagnostic_of(alloc, rendering.case, &[()])?;
+    judge_call(alloc, rendering, &file, &diagnostic)
 }
 
 /// Makes a call over the first file, where each lookup of a line's range allocates, and judges it.
-fn judge_copying(alloc: Global, call: RenderCall, case: &Case<'_>) -> Result<Outcome, Error> {
-    let (name, source) = case.files.first().ok_or(Error::FileMissing)?;
+fn judge_copying(alloc: Global, rendering: &Rendering<'_>) -> Result<Outcome, Error> {
+    let (name, source) = rendering.case.files.first().ok_or(Error::FileMissing)?;
     let file = Copying::new(alloc, name, source)?;
-    let diagnostic = diagnostic_of(alloc, case, &[()])?;
-    judge_call(alloc, call, case, &file, &diagnostic)
+    let diagnostic = diagnostic_of(alloc, rendering.case, &[()])?;
+    judge_call(alloc, rendering, &file, &diagnostic)
 }
 
-/// Makes a call and judges it. Fails if making the string to append to fails.
+/// Makes a call, as plain text, and judges it. Fails if making the string to append to fails.
 fn judge_call<'files, F: Files<'files>>(
     alloc: Global,
-    call: RenderCall,
-    case: &Case<'_>,
+    rendering: &Rendering<'_>,
     files: &'files F,
     diagnostic: &Diagnostic<F::FileId>,
 ) -> Result<Outcome, Error> {
-    match call {
+    match rendering.call {
         RenderCall::EmitIntoString => {
-            let returned = emit_into_string(&case.config(), files, diagnostic);
-            Ok(judge_string(&returned, case.output))
+            let returned = emit_into_string(&rendering.config, files, diagnostic);
+            Ok(judge_string(&returned, rendering.case.output))
         }
         RenderCall::EmitToString => {
-            let mut string = String::from_str(alloc, OLD_TEXT)?;
-            let returned = emit_to_string(&mut string, &case.config(), files, diagnostic);
-            Ok(judge_appended(&returned, string.as_str(), case.output))
+            let string = String::from_str(alloc, OLD_TEXT)?;
+            Ok(judge_append(string, rendering, files, diagnostic))
         }
         RenderCall::Render
         | RenderCall::EmitToWriteStyle
         | RenderCall::EmitToIoWrite
-        | RenderCall::Emit => Ok(judge_written(alloc, call, case, files, diagnostic)),
+        | RenderCall::Emit => Ok(judge_written(alloc, rendering, files, diagnostic)),
     }
 }
 
-/// Makes a call that writes to a writer and judges it.
+/// Makes the call that appends to a string and judges it.
+fn judge_append<'files, F: Files<'files>>(
+    mut string: String,
+    rendering: &Rendering<'_>,
+    files: &'files F,
+    diagnostic: &Diagnostic<F::FileId>,
+) -> Outcome {
+    let returned = emit_to_string(&mut string, &rendering.config, files, diagnostic);
+    judge_appended(&returned, string.as_str(), rendering.case.output)
+}
+
+/// Makes a call that writes to a writer, as plain text, and judges it.
 fn judge_written<'files, F: Files<'files>>(
     alloc: Global,
-    call: RenderCall,
-    case: &Case<'_>,
+    rendering: &Rendering<'_>,
     files: &'files F,
     diagnostic: &Diagnostic<F::FileId>,
 ) -> Outcome {
     let mut recording = Recording::new(alloc);
-    let returned = render_to(&mut recording, call, case, files, diagnostic);
-    let output = match case.colored {
-        Some(colored) if call.is_styled() => colored,
-        _ => case.output,
-    };
+    let returned = render_to(&mut recording, rendering, files, diagnostic);
+    judge_recording(&returned, &recording, rendering.case.output)
+}
+
+/// Makes a call that writes style marks to a writer, in escape sequences, and judges it.
+fn judge_colored<'files, F: Files<'files>>(
+    alloc: Global,
+    rendering: &Rendering<'_>,
+    output: &str,
+    files: &'files F,
+    diagnostic: &Diagnostic<F::FileId>,
+) -> Outcome {
+    let mut recording = Recording::new(alloc);
+    let returned = render_colored(&mut recording, rendering, files, diagnostic);
     judge_recording(&returned, &recording, output)
 }
 
-/// Makes a call that writes to a writer: in escape sequences, if it writes style marks and the case
-/// is rendered in these.
+/// Makes a call that writes to a writer, as plain text.
 fn render_to<'files, F: Files<'files>, W: Write>(
     writer: &mut W,
-    call: RenderCall,
-    case: &Case<'_>,
+    rendering: &Rendering<'_>,
     files: &'files F,
     diagnostic: &Diagnostic<F::FileId>,
 ) -> Result<(), Error> {
-    let config = &case.config();
-    if !call.is_styled() {
-        return match call {
-            RenderCall::Emit => emit(writer, config, files, diagnostic),
-            _ => emit_to_io_write(writer, config, files, diagnostic),
-        };
+    match rendering.call {
+        RenderCall::Emit => emit(writer, &rendering.config, files, diagnostic),
+        RenderCall::EmitToIoWrite => {
+            emit_to_io_write(writer, &rendering.config, files, diagnostic)
+        }
+        _ => render_plain(writer, rendering, files, diagnostic),
     }
-    if case.colored.is_none() {
-        let mut plain = PlainWriter::new(writer);
-        return render_styled(&mut plain, call, config, files, diagnostic);
-    }
+}
+
+/// Makes a call that writes style marks, without these.
+fn render_plain<'files, F: Files<'files>, W: Write>(
+    writer: &mut W,
+    rendering: &Rendering<'_>,
+    files: &'files F,
+    diagnostic: &Diagnostic<F::FileId>,
+) -> Result<(), Error> {
+    let mut plain = PlainWriter::new(writer);
+    render_styled(&mut plain, rendering, files, diagnostic)
+}
+
+/// Makes a call that writes style marks, in escape sequences.
+fn render_colored<'files, F: Files<'files>, W: Write>(
+    writer: &mut W,
+    rendering: &Rendering<'_>,
+    files: &'files F,
+    diagnostic: &Diagnostic<F::FileId>,
+) -> Result<(), Error> {
     let styles = Styles::default();
     let mut colored = StylesWriter::new(Ansi::new(writer), &styles);
-    render_styled(&mut colored, call, config, files, diagnostic)
+    render_styled(&mut colored, rendering, files, diagnostic)
 }
 
 /// Renders to a writer of styles: by the view of the style, or by the emit call.
 fn render_styled<'files, F: Files<'files>, W: WriteStyle>(
     writer: &mut W,
-    call: RenderCall,
+    rendering: &Rendering<'_>,
+    files: &'files F,
+    diagnostic: &Diagnostic<F::FileId>,
+) -> Result<(), Error> {
+    let config = &rendering.config;
+    if matches!(rendering.call, RenderCall::EmitToWriteStyle) {
+        return emit_to_write_style(writer, config, files, diagnostic);
+    }
+    render_view(
+        &mut Renderer::new(writer, config),
+        config,
+        files,
+        diagnostic,
+    )
+}
+
+/// Renders by the view of the style.
+fn render_view<'files, F: Files<'files>, W: WriteStyle>(
+    renderer: &mut Renderer<'_, '_, W>,
     config: &Config<'_>,
     files: &'files F,
     diagnostic: &Diagnostic<F::FileId>,
 ) -> Result<(), Error> {
-    if matches!(call, RenderCall::EmitToWriteStyle) {
-        return emit_to_write_style(writer, config, files, diagnostic);
-    }
-    let mut renderer = Renderer::new(writer, config);
-    match config.display_style {
-        DisplayStyle::Rich => RichDiagnostic::new(diagnostic, config).render(files, &mut renderer),
-        DisplayStyle::Medium => ShortDiagnostic::new(diagnostic, true).render(files, &mut renderer),
-        DisplayStyle::Short => ShortDiagnostic::new(diagnostic, false).render(files, &mut renderer),
-    }
+    let shows_notes = match config.display_style {
+        DisplayStyle::Rich => {
+            return RichDiagnostic::new(diagnostic, config).render(files, renderer);
+        }
+        DisplayStyle::Medium => true,
+        DisplayStyle::Short => false,
+    };
+    ShortDiagnostic::new(diagnostic, shows_notes).render(files, renderer)
 }
 
 /// Judges a call that returns a string: it is the output, or an allocation failed.

@@ -45,8 +45,8 @@ fn judge_all<W: Write>(alloc: Global, output: &mut W) -> io::Result<bool> {
         are_done = are_done && outcome == Outcome::Done;
     }
     for (call_name, call) in &RENDER_CALLS {
-        for (name, case_name) in &CASES {
-            let outcome = Subject::Rendering(*call, *case_name).judge(alloc);
+        for (name, case) in &CASES {
+            let outcome = Subject::Rendering(*call, *case).judge(alloc);
             writeln!(output, "{call_name} {name}: {outcome}")?;
             are_done = are_done && outcome == Outcome::Done;
         }

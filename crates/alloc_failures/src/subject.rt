@@ -3,10 +3,13 @@
 use crate::builders::{
     DiagnosticCall, LabelCall, ListCall, TextCall, judge_diagnostic, judge_label,
 };
-use crate::cases::CaseName;
+use crate::cases::{
+    COLOURED_HEADER, Case, MAPPED_NUMBERS, MEDIUM, MISMATCHED_TYPES, MUTABLE_BORROWS, SHORT,
+    SURROUNDING_LINES, TWO_FILES,
+};
 use crate::clones::{CloneCall, judge_clone};
 use crate::databases::{DatabaseCall, judge_database};
-use crate::documents::{DocumentCall, judge_document};
+use crate::documents::{DocumentCall, Format, judge_document};
 use crate::native::judge_native;
 use crate::outcome::{Outcome, prepared};
 use crate::rendering::{RenderCall, judge_rendering};
@@ -25,7 +28,7 @@ pub enum Subject {
     /// A call of a file database.
     Database(DatabaseCall),
     /// A call that renders, and what it renders.
-    Rendering(RenderCall, CaseName),
+    Rendering(RenderCall, &'static Case<'static>),
     /// A call of `codespan_styled` or `codespan_lsp`.
     Document(DocumentCall),
     /// The call of `codespan_native`.
@@ -35,7 +38,7 @@ pub enum Subject {
 }
 
 /// The subjects named by one word.
-pub const CALLS: [(&str, Subject); 28] = [
+pub static CALLS: [(&str, Subject); 28] = [
     (
         "Label::with_message",
         Subject::Label(LabelCall::WithMessage),
@@ -97,10 +100,19 @@ pub const CALLS: [(&str, Subject); 28] = [
         Subject::Database(DatabaseCall::SetLine),
     ),
     ("styled_text", Subject::Document(DocumentCall::StyledText)),
-    ("to_html", Subject::Document(DocumentCall::ToHtml)),
+    (
+        "to_html",
+        Subject::Document(DocumentCall::Format(Format::Html)),
+    ),
     ("html_styles", Subject::Document(DocumentCall::HtmlStyles)),
-    ("to_svg", Subject::Document(DocumentCall::ToSvg)),
-    ("to_terminal", Subject::Document(DocumentCall::ToTerminal)),
+    (
+        "to_svg",
+        Subject::Document(DocumentCall::Format(Format::Svg)),
+    ),
+    (
+        "to_terminal",
+        Subject::Document(DocumentCall::Format(Format::Terminal)),
+    ),
     ("safe_text", Subject::Document(DocumentCall::SafeText)),
     (
         "to_lsp_diagnostics",
@@ -115,7 +127,7 @@ pub const CALLS: [(&str, Subject); 28] = [
 ];
 
 /// The first words of the subjects named by two words.
-pub const RENDER_CALLS: [(&str, RenderCall); 6] = [
+pub static RENDER_CALLS: [(&str, RenderCall); 6] = [
     ("render", RenderCall::Render),
     ("emit_to_write_style", RenderCall::EmitToWriteStyle),
     ("emit_to_io_write", RenderCall::EmitToIoWrite),
@@ -125,15 +137,15 @@ pub const RENDER_CALLS: [(&str, RenderCall); 6] = [
 ];
 
 /// The second words of the subjects named by two words.
-pub const CASES: [(&str, CaseName); 8] = [
-    ("mutable_borrows", CaseName::MutableBorrows),
-    ("mismatched_types", CaseName::MismatchedTypes),
-    ("coloured_header", CaseName::ColouredHeader),
-    ("two_files", CaseName::TwoFiles),
-    ("medium", CaseName::Medium),
-    ("short", CaseName::Short),
-    ("mapped_numbers", CaseName::MappedNumbers),
-    ("surrounding_lines", CaseName::SurroundingLines),
+pub static CASES: [(&str, &Case<'static>); 8] = [
+    ("mutable_borrows", &MUTABLE_BORROWS),
+    ("mismatched_types", &MISMATCHED_TYPES),
+    ("coloured_header", &COLOURED_HEADER),
+    ("two_files", &TWO_FILES),
+    ("medium", &MEDIUM),
+    ("short", &SHORT),
+    ("mapped_numbers", &MAPPED_NUMBERS),
+    ("surrounding_lines", &SURROUNDING_LINES),
 ];
 
 impl Subject {
@@ -156,7 +168,7 @@ impl Subject {
             Subject::Diagnostic(call) => judge_diagnostic(alloc, call),
             Subject::Clone(call) => judge_clone(alloc, call),
             Subject::Database(call) => judge_database(alloc, call),
-            Subject::Rendering(call, case_name) => judge_rendering(alloc, call, case_name),
+            Subject::Rendering(call, case) => judge_rendering(alloc, call, case),
             Subject::Document(call) => judge_document(alloc, call),
             Subject::Native => Ok(judge_native(alloc)),
             Subject::WithoutAlloc(extent) => judge_without_alloc(alloc, extent),

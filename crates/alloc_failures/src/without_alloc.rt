@@ -2,16 +2,17 @@
 
 mod rows;
 
-use crate::databases::has_text;
+use crate::databases::{has_text, is_ok_with};
 use crate::equality::{are_same_chars, is_same_config};
 use crate::outcome::{Outcome, Wrong, judge_made};
+use crate::recording::Recording;
 use codespan_base::diagnostic::LabelStyle::{Primary, Secondary};
 use codespan_base::diagnostic::{Diagnostic, Label, Severity};
 use codespan_base::files::{
     Error, Files, Location, MappedFile, SimpleFile, SimpleFiles, column_index,
     default_column_number, default_line_number, default_location, line_starts,
 };
-use codespan_base::term::{Chars, Color, Config, PlainWriter, SnippetStart, Styles};
+use codespan_base::term::{Chars, Color, Config, SnippetStart, Styles};
 use codespan_renderer::term::renderer::Locus;
 use codespan_views::emitting::emit;
 use rows::{COLORED, ROWS, render_colored, render_rows};
@@ -31,19 +32,33 @@ pub enum Extent {
 /// The text of each file.
 const TEXT: &str = "foo\nbär\nbaz";
 
-/// What the calls need. Each vector has capacity for all that is written to it.
+/// What the calls need.
 #[derive(Drop)]
 struct Prepared<'text> {
-    /// The rows, in plain text.
-    rows: Vec<u8>,
-    /// A source line with a label, in colors.
-    colored_output: Vec<u8>,
-    /// The diagnostic that is rendered without a lookup.
-    output: Vec<u8>,
+    /// What the calls write to.
+    outputs: Outputs,
     /// The locus of the snippet's start.
     start: Locus,
     /// The locus of the header.
     row_locus: Locus,
+    /// The file databases.
+    databases: Databases<'text>,
+}
+
+/// What the calls write to. Each vector has capacity for all that is written to it.
+#[derive(Drop)]
+struct Outputs {
+    /// The rows, in plain text.
+    rows: Recording,
+    /// A source line with a label, in colors.
+    colored: Recording,
+    /// The diagnostic that is rendered without a lookup.
+    bug: Recording,
+}
+
+/// The file databases.
+#[derive(Drop)]
+struct Databases<'text> {
     /// A database of one file.
     file: SimpleFile<&'text str, &'text str>,
     /// A database of the same file.
@@ -67,16 +82,30 @@ pub fn judge_without_alloc(alloc: Global, extent: Extent) -> Result<Outcome, Err
 
 /// Prepares what the calls need.
 fn prepare<'text>(alloc: Global) -> Result<Prepared<'text>, Error> {
+    Ok(Prepared {
+        outputs: prepare_outputs(alloc)?,
+        start: locus_of(alloc, "f", 1, 1)?,
+        row_locus: locus_of(alloc, "Test.fun", 4, 11)?,
+        databases: prepare_databases(alloc)?,
+    })
+}
+
+/// Prepares what the calls write to.
+fn prepare_outputs(alloc: Global) -> Result<Outputs, Error> {
+    Ok(Outputs {
+        rows: Recording::with_capacity(alloc, 1024)?,
+        colored: Recording::with_capacity(alloc, 1024)?,
+        bug: Recording::with_capacity(alloc, 1024)?,
+    })
+}
+
+/// Prepares the file databases.
+fn prepare_databases<'text>(alloc: Global) -> Result<Databases<'text>, Error> {
     let mut files = SimpleFiles::new(alloc);
     files.add("f", TEXT)?;
     let mut mapped = MappedFile::new(alloc, "f", TEXT)?;
     mapped.set_line(1, 40)?;
-    Ok(Prepared {
-        rows: Vec::with_capacity(alloc, 1024)?,
-        colored_output: Vec::with_capacity(alloc, 1024)?,
-        output: Vec::with_capacity(alloc, 1024)?,
-        start: locus_of(alloc, "f", 1, 1)?,
-        row_locus: locus_of(alloc, "Test.fun", 4, 11)?,
+    Ok(Databases {
         file: SimpleFile::new(alloc, "f", TEXT)?,
         files,
         mapped,
@@ -113,17 +142,17 @@ fn judge_calls(alloc: Global, needed: &mut Prepared<'_>) -> Outcome {
 ///
 /// The error of the first call that fails, and `FormatError` if lanes are not in order.
 fn render_all(alloc: Global, needed: &mut Prepared<'_>) -> Result<(), Error> {
-    let mut plain_rows = PlainWriter::new(&mut needed.rows);
-    render_rows(&mut plain_rows, &needed.start, &needed.row_locus)?;
-    render_colored(&mut needed.colored_output)?;
-    render_bug(alloc, &mut needed.output, &needed.files)
+    let outputs = &mut needed.outputs;
+    render_rows(&mut outputs.rows, &needed.start, &needed.row_locus)?;
+    render_colored(&mut outputs.colored)?;
+    render_bug(alloc, &mut outputs.bug, &needed.databases.files)
 }
 
 /// Judges what was written, makes the other calls, and judges what they return.
 fn judge_results(alloc: Global, needed: &Prepared<'_>) -> Outcome {
     judge_made(
-        are_written(needed)
-            && are_looked_up(needed)
+        are_written(&needed.outputs)
+            && are_looked_up(&needed.databases)
             && are_styles(&Styles::default())
             && are_starts()
             && column_index("\n\n🗻∈🌏\n\n", 2..13, 10) == 2
@@ -132,27 +161,25 @@ fn judge_results(alloc: Global, needed: &Prepared<'_>) -> Outcome {
 }
 
 /// Returns whether the vectors hold what is expected.
-fn are_written(needed: &Prepared<'_>) -> bool {
-    needed.rows.as_slice() == ROWS.as_bytes()
-        && needed.colored_output.as_slice() == COLORED.as_bytes()
-        && needed.output.as_slice() == b"bug: \n\n".as_slice()
+fn are_written(outputs: &Outputs) -> bool {
+    outputs.rows.holds(ROWS) && outputs.colored.holds(COLORED) && outputs.bug.holds("bug: \n\n")
 }
 
 /// Returns whether the lookups of the file databases return what is expected.
-fn are_looked_up(needed: &Prepared<'_>) -> bool {
-    looks_up(&needed.file, (), 2, 4..9)
-        && looks_up(&needed.files, 0, 2, 4..9)
-        && looks_up(&needed.mapped, (), 40, 4..8)
-        && are_named(needed)
-        && is_found(&needed.files)
-        && are_defaults(&needed.files)
+fn are_looked_up(databases: &Databases<'_>) -> bool {
+    looks_up(&databases.file, (), 2, 4..9)
+        && looks_up(&databases.files, 0, 2, 4..9)
+        && looks_up(&databases.mapped, (), 40, 4..8)
+        && are_named(databases)
+        && is_found(&databases.files)
+        && are_defaults(&databases.files)
 }
 
 /// Returns whether the file of each database has the name that is expected.
-fn are_named(needed: &Prepared<'_>) -> bool {
-    Files::name(&needed.file, ()).ok() == Some(&"f")
-        && needed.files.name(0).ok() == Some(&"f")
-        && needed.mapped.name(()).ok() == Some(&"f")
+fn are_named(databases: &Databases<'_>) -> bool {
+    is_ok_with(Files::name(&databases.file, ()), &"f")
+        && is_ok_with(databases.files.name(0), &"f")
+        && is_ok_with(databases.mapped.name(()), &"f")
 }
 
 /// Returns whether the lookups of byte 7 of a file return what is expected, where its line has this
@@ -169,11 +196,11 @@ fn looks_up<'files, F: Files<'files>>(
     };
     has_text(files, id, TEXT)
         && files.name(id).is_ok()
-        && files.line_index(id, 7).ok() == Some(1)
-        && files.line_number(id, 1).ok() == Some(number)
-        && files.line_range(id, 1).ok() == Some(range)
-        && files.column_number(id, 1, 7).ok() == Some(3)
-        && files.location(id, 7).ok() == Some(location)
+        && is_ok_with(files.line_index(id, 7), 1)
+        && is_ok_with(files.line_number(id, 1), number)
+        && is_ok_with(files.line_range(id, 1), range)
+        && is_ok_with(files.column_number(id, 1, 7), 3)
+        && is_ok_with(files.location(id, 7), location)
 }
 
 /// Returns whether the existing file is found, and no other.
@@ -192,13 +219,13 @@ fn are_defaults(files: &SimpleFiles<&str, &str>) -> bool {
         line_number: 2,
         column_number: 3,
     };
-    default_location(files, 0, 7).ok() == Some(location)
-        && default_line_number(1).ok() == Some(2)
+    is_ok_with(default_location(files, 0, 7), location)
+        && is_ok_with(default_line_number(1), 2)
         && matches!(
             default_line_number(usize::MAX),
             Err(Error::LineTooLarge { .. })
         )
-        && default_column_number(files, 0, 1, 7).ok() == Some(3)
+        && is_ok_with(default_column_number(files, 0, 1, 7), 3)
 }
 
 /// Returns whether each lookup of the default styles returns what is expected.
@@ -232,10 +259,10 @@ fn are_made(alloc: Global) -> bool {
 
 /// Returns whether the clone of the default configuration is equal.
 fn is_config_cloned() -> bool {
-    match Config::default().clone() {
-        Ok(config) => {
-            is_same_config(&config, &Config::default())
-                && matches!(config.chars.snippet_start, SnippetStart::Fixed("┌─"))
+    let config = Config::default();
+    match config.clone() {
+        Ok(cloned) => {
+            is_same_config(&cloned, &config) && is_start(&cloned.chars.snippet_start, "┌─")
         }
         Err(_) => false,
     }
@@ -243,12 +270,18 @@ fn is_config_cloned() -> bool {
 
 /// Returns whether the clone of the ASCII characters is equal.
 fn are_chars_cloned() -> bool {
-    match Chars::ascii().clone() {
-        Ok(chars) => {
-            are_same_chars(&chars, &Chars::ascii())
-                && matches!(chars.snippet_start, SnippetStart::Fixed("-->"))
-        }
+    let chars = Chars::ascii();
+    match chars.clone() {
+        Ok(cloned) => are_same_chars(&cloned, &chars) && is_start(&cloned.snippet_start, "-->"),
         Err(_) => false,
+    }
+}
+
+/// Returns whether it is this text, which is not owned.
+fn is_start(start: &SnippetStart<'_>, text: &str) -> bool {
+    match start {
+        SnippetStart::Fixed(fixed) => *fixed == text,
+        SnippetStart::Owned(_) => false,
     }
 }
 
@@ -259,7 +292,7 @@ fn are_chars_cloned() -> bool {
 /// Those of `emit`.
 fn render_bug(
     alloc: Global,
-    output: &mut Vec<u8>,
+    output: &mut Recording,
     files: &SimpleFiles<&str, &str>,
 ) -> Result<(), Error> {
     emit(output, &Config::default(), files, &Diagnostic::bug(alloc))

@@ -2,10 +2,9 @@
 
 use crate::error::RunError;
 use crate::fields::{Fields, Malformed};
-use codespan_base::diagnostic::{Diagnostic, Label, LabelStyle};
-use codespan_base::files::{Error, SimpleFiles};
+use codespan_base::diagnostic::{Diagnostic, Label, LabelStyle, Severity};
+use codespan_base::files::SimpleFiles;
 use std::alloc::Global;
-use std::ops::Range;
 
 /// Reads the files.
 ///
@@ -35,72 +34,59 @@ pub fn read_diagnostic(
     alloc: Global,
     fields: &mut Fields<'_>,
 ) -> Result<Diagnostic<usize>, RunError> {
-    let code = fields.text()?;
-    let message = fields.text()?;
-    let labels = read_labels(alloc, fields)?;
-    let diagnostic = error_of(alloc, code, message, labels)?;
-    with_notes(diagnostic, fields)
+    Ok(Diagnostic {
+        severity: Severity::Error,
+        code: read_code(alloc, fields)?,
+        message: read_string(alloc, fields)?,
+        labels: read_labels(alloc, fields)?,
+        notes: read_notes(alloc, fields)?,
+    })
 }
 
-/// Returns an error, with a code unless that is empty.
-fn error_of(
-    alloc: Global,
-    code: &str,
-    message: &str,
-    labels: Vec<Label<usize>>,
-) -> Result<Diagnostic<usize>, Error> {
-    let diagnostic = Diagnostic::error(alloc)
-        .with_message(message)?
-        .with_labels(labels)?;
-    if code.is_empty() {
-        Ok(diagnostic)
-    } else {
-        diagnostic.with_code(code)
-    }
-}
-
-/// Reads the notes of a diagnostic.
-fn with_notes(
-    mut diagnostic: Diagnostic<usize>,
-    fields: &mut Fields<'_>,
-) -> Result<Diagnostic<usize>, RunError> {
-    for _ in 0..fields.number()? {
-        diagnostic = diagnostic.with_note(fields.text()?)?;
-    }
-    Ok(diagnostic)
+/// Reads the code, if it is not empty.
+fn read_code(alloc: Global, fields: &mut Fields<'_>) -> Result<Option<String>, RunError> {
+    let code = read_string(alloc, fields)?;
+    Ok(if code.is_empty() { None } else { Some(code) })
 }
 
 /// Reads the labels.
 fn read_labels(alloc: Global, fields: &mut Fields<'_>) -> Result<Vec<Label<usize>>, RunError> {
     let mut labels = Vec::new(alloc);
     for _ in 0..fields.number()? {
-        let (style, file, range, message) = read_label(fields)?;
-        add_label(&mut labels, Label::new(alloc, style, file, range), message)?;
+        labels.push(read_label(alloc, fields)?)?;
     }
     Ok(labels)
 }
 
-/// Adds a label with this message.
-fn add_label(
-    labels: &mut Vec<Label<usize>>,
-    label: Label<usize>,
-    message: &str,
-) -> Result<(), Error> {
-    labels.push(label.with_message(message)?)?;
-    Ok(())
+/// Reads a label: its style, its file, its range and its message.
+fn read_label(alloc: Global, fields: &mut Fields<'_>) -> Result<Label<usize>, RunError> {
+    Ok(Label {
+        style: read_style(fields)?,
+        file_id: fields.number()?,
+        range: fields.number()?..fields.number()?,
+        message: read_string(alloc, fields)?,
+    })
 }
 
-/// Reads a label: its style, its file, its range and its message.
-fn read_label<'a>(
-    fields: &mut Fields<'a>,
-) -> Result<(LabelStyle, usize, Range<usize>, &'a str), Malformed> {
-    let style = match fields.line()? {
-        "primary" => LabelStyle::Primary,
-        "secondary" => LabelStyle::Secondary,
-        _ => return Err(Malformed),
-    };
-    let file = fields.number()?;
-    let start = fields.number()?;
-    let end = fields.number()?;
-    Ok((style, file, start..end, fields.text()?))
+/// Reads the style of a label.
+fn read_style(fields: &mut Fields<'_>) -> Result<LabelStyle, Malformed> {
+    match fields.line()? {
+        "primary" => Ok(LabelStyle::Primary),
+        "secondary" => Ok(LabelStyle::Secondary),
+        _ => Err(Malformed),
+    }
+}
+
+/// Reads the notes.
+fn read_notes(alloc: Global, fields: &mut Fields<'_>) -> Result<Vec<String>, RunError> {
+    let mut notes = Vec::new(alloc);
+    for _ in 0..fields.number()? {
+        notes.push(read_string(alloc, fields)?)?;
+    }
+    Ok(notes)
+}
+
+/// Reads a text as a string.
+fn read_string(alloc: Global, fields: &mut Fields<'_>) -> Result<String, RunError> {
+    Ok(String::from_str(alloc, fields.text()?)?)
 }

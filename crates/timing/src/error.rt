@@ -2,7 +2,7 @@
 
 use crate::fields::Malformed;
 use codespan_base::files::Error;
-use std::alloc::AllocError;
+use std::alloc::{AllocError, AllocFailed};
 use std::io;
 
 /// The errors of the program.
@@ -24,6 +24,12 @@ impl From<Malformed> for RunError {
 
 impl From<AllocError> for RunError {
     fn from(cause: AllocError) -> RunError {
+        RunError::CannotRender(Error::from(cause))
+    }
+}
+
+impl<T: Drop> From<AllocFailed<T>> for RunError {
+    fn from(cause: AllocFailed<T>) -> RunError {
         RunError::CannotRender(Error::from(cause))
     }
 }

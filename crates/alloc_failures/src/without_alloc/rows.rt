@@ -3,15 +3,25 @@
 use codespan_base::diagnostic::LabelStyle::{Primary, Secondary};
 use codespan_base::diagnostic::{LabelStyle, Severity};
 use codespan_base::files::Error;
-use codespan_base::term::{Ansi, Config, Styles, StylesWriter, WriteStyle};
+use codespan_base::term::{Ansi, Config, PlainWriter, Styles, StylesWriter, WriteStyle};
 use codespan_renderer::term::renderer::{Locus, MultiLabel, Renderer, lanes_in_order};
+use std::io::Write;
 
-/// Makes each `render_` call.
+/// Makes each `render_` call, as plain text.
 ///
 /// # Errors
 ///
 /// The error of the first call that fails, and `FormatError` if lanes are not in order.
-pub fn render_rows<W: WriteStyle>(
+pub fn render_rows<W: Write>(
+    output: &mut W,
+    start: &Locus,
+    row_locus: &Locus,
+) -> Result<(), Error> {
+    render_each(&mut PlainWriter::new(output), start, row_locus)
+}
+
+/// Makes each `render_` call.
+fn render_each<W: WriteStyle>(
     writer: &mut W,
     start: &Locus,
     row_locus: &Locus,
@@ -86,9 +96,9 @@ fn render_line<W: WriteStyle>(
 /// # Errors
 ///
 /// Those of `render_snippet_source`.
-pub fn render_colored(text: &mut Vec<u8>) -> Result<(), Error> {
+pub fn render_colored<W: Write>(output: &mut W) -> Result<(), Error> {
     let styles = Styles::default();
-    render_label(&mut StylesWriter::new(Ansi::new(text), &styles))
+    render_label(&mut StylesWriter::new(Ansi::new(output), &styles))
 }
 
 /// Writes a source line with a label and its message.
