@@ -15,7 +15,7 @@ use std::io::Write;
 /// The byte before the number of a style mark. UTF-8 never has it.
 const STYLE_MARK_BYTE: u8 = 255;
 
-/// The number of the style mark of a header's message. Those of headers are the ranks of severities.
+/// The number of the style mark of a header's message. A header's is the rank of its severity.
 const HEADER_MESSAGE: u8 = 5;
 
 /// The number of the style mark of a line's number.
