@@ -1,4 +1,4 @@
--- re-exports: diagnostics and files
+-- re-exports: diagnostics, files and the configuration
 pub use Rattle.codespan_diagnostics.specs.Diagnostics
 pub use Rattle.codespan_files.specs.Lines
 pub use Rattle.codespan_files.specs.LineStarts
@@ -11,6 +11,10 @@ pub use Rattle.codespan_files.specs.ErrorText
 pub use Rattle.codespan_files.specs.Errors
 pub use Rattle.codespan_files.specs.FileLaws
 pub use Rattle.codespan_files.specs.DatabaseViews
+pub use Rattle.codespan_config.specs.SnippetStarts
+pub use Rattle.codespan_config.specs.Characters
+pub use Rattle.codespan_config.specs.Defaults
+pub use Rattle.codespan_config.specs.ConfigEquality
 pub mod Lemmas
 -- labels
 pub mod Labels
@@ -19,9 +23,5 @@ pub mod Streams
 pub mod WriterLaw
 pub mod Writers
 -- tables
-pub mod SnippetStarts
-pub mod Characters
 pub mod StyleTables
 pub mod Ansi
-pub mod Defaults
-pub mod ConfigEquality

@@ -1,64 +1,10 @@
--- The styles of the parts of the output, and which style each style mark has.
-use Rattle.std.specs.Prelude.{ℕ, true, false, List, Option, Some, None}
-use Rattle.codespan_diagnostics.specs.declared.diagnostic.Severity.{Severity}
-use Rattle.codespan_diagnostics.specs.declared.diagnostic.Severity.TheVariants.{Bug, Error, Warning, Note, Help}
-use Rattle.codespan_diagnostics.specs.declared.diagnostic.LabelStyle.{LabelStyle}
-use Rattle.codespan_diagnostics.specs.declared.diagnostic.LabelStyle.TheVariants.{Primary, Secondary}
-use Rattle.codespan_base.specs.declared.term.config.color.Color.{Color}
-use Rattle.codespan_base.specs.declared.term.config.color.Color.TheVariants.{Red, Green, Yellow, Cyan}
-use Rattle.codespan_base.specs.declared.term.config.color.ColorSpec.{ColorSpec}
-use Rattle.codespan_base.specs.declared.term.config.styles.Styles.{Styles}
+-- The styles of the parts of the output, and how each style mark is spelled in them.
+pub use Rattle.codespan_config.specs.PartStyles.{bright, colored, default_styles, header_style, label_style, no_color_styles, unset}
+use Rattle.std.specs.Prelude.{ℕ, List}
+use Rattle.codespan_config.specs.declared.config.color.ColorSpec.{ColorSpec}
+use Rattle.codespan_config.specs.declared.config.styles.Styles.{Styles}
 use Rattle.codespan_base.specs.Streams.{StyleMark, Header, HeaderMessage, LineNumber, NoteBullet, SourceBorder, LabelMark, Reset, Spelling}
 use Rattle.codespan_base.specs.Ansi.{ansi_reset, ansi_style}
-
--- ---- the default styles
-
--- a color alone
-abbrev pub colored : Color → ColorSpec
-colored color = record { fg = Some color; bg = None; bold = false; intense = false }
-
--- bold and intense, with a color or without
-abbrev pub bright : Option Color → ColorSpec
-bright color = record { fg = color; bg = None; bold = true; intense = true }
-
--- the default styles
-abbrev pub default_styles : Styles
-default_styles = record {
-  header_bug = bright (Some Red);
-  header_error = bright (Some Red);
-  header_warning = bright (Some Yellow);
-  header_note = bright (Some Green);
-  header_help = bright (Some Cyan);
-  header_message = bright None;
-  primary_label_bug = colored Red;
-  primary_label_error = colored Red;
-  primary_label_warning = colored Yellow;
-  primary_label_note = colored Green;
-  primary_label_help = colored Cyan;
-  secondary_label = colored Cyan;
-  line_number = colored Cyan;
-  source_border = colored Cyan;
-  note_bullet = colored Cyan;
-}
-
--- ---- the style of each style mark
-
--- the style of a header
-abbrev pub header_style : Styles → Severity → ColorSpec
-header_style styles Bug = styles.header_bug
-header_style styles Error = styles.header_error
-header_style styles Warning = styles.header_warning
-header_style styles Note = styles.header_note
-header_style styles Help = styles.header_help
-
--- the style of a label
-abbrev pub label_style : Styles → Severity → LabelStyle → ColorSpec
-label_style styles severity Secondary = styles.secondary_label
-label_style styles Bug Primary = styles.primary_label_bug
-label_style styles Error Primary = styles.primary_label_error
-label_style styles Warning Primary = styles.primary_label_warning
-label_style styles Note Primary = styles.primary_label_note
-label_style styles Help Primary = styles.primary_label_help
 
 -- how a writer of colors spells a style mark, by its bytes for each style and for the reset
 abbrev pub spelling_by : Styles → (ColorSpec → List ℕ) → List ℕ → StyleMark → List ℕ
@@ -73,29 +19,3 @@ spelling_by styles set reset Reset = reset
 -- how `Ansi` spells style marks in these styles
 abbrev pub ansi_spelling : Styles → Spelling
 ansi_spelling styles = spelling_by styles ansi_style ansi_reset
-
--- ---- styles with nothing set
-
--- nothing is set
-abbrev pub unset : ColorSpec
-unset = record { fg = None; bg = None; bold = false; intense = false }
-
--- no part has a style
-abbrev pub no_color_styles : Styles
-no_color_styles = record {
-  header_bug = unset;
-  header_error = unset;
-  header_warning = unset;
-  header_note = unset;
-  header_help = unset;
-  header_message = unset;
-  primary_label_bug = unset;
-  primary_label_error = unset;
-  primary_label_warning = unset;
-  primary_label_note = unset;
-  primary_label_help = unset;
-  secondary_label = unset;
-  line_number = unset;
-  source_border = unset;
-  note_bullet = unset;
-}

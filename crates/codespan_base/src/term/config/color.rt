@@ -1,70 +1,10 @@
-//! Colors, styles, and the trait of writers that write them.
+//! The trait of writers that write styles, beside colors and styles.
 
-ghost use Rattle.std.specs.Prelude.{◌≡◌};
 ghost use Rattle.codespan_base.specs.WriterLaw.{AppendsBytes};
 
+pub use codespan_config::config::color::{Color, ColorSpec};
 use std::io;
 use std::io::Write;
-
-/// The eight colors of a terminal, by their numbers in escape sequences.
-#[derive(Clone, Copy, Debug, PartialEq, Eq)]
-pub enum Color {
-    /// Number 0.
-    Black,
-    /// Number 1.
-    Red,
-    /// Number 2.
-    Green,
-    /// Number 3.
-    Yellow,
-    /// Number 4.
-    Blue,
-    /// Number 5.
-    Magenta,
-    /// Number 6.
-    Cyan,
-    /// Number 7.
-    White,
-}
-
-/// A style of text: its colors and weight.
-#[derive(Clone, Copy, Debug, PartialEq, Eq)]
-pub struct ColorSpec {
-    /// The color of the text; `None` leaves it.
-    pub fg: Option<Color>,
-    /// The color of the background; `None` leaves it.
-    pub bg: Option<Color>,
-    /// Whether the text is bold.
-    pub bold: bool,
-    /// Whether both colors are the bright ones.
-    pub intense: bool,
-}
-
-impl ColorSpec {
-    ghost use Rattle.codespan_base.specs.StyleTables.{unset};
-
-    /// Returns a style that sets nothing.
-    pub fn new() -> ColorSpec
-        ensures { result ≡ unset }
-    {
-        ColorSpec {
-            fg: None,
-            bg: None,
-            bold: false,
-            intense: false,
-        }
-    }
-}
-
-impl Default for ColorSpec {
-    ghost use Rattle.codespan_base.specs.StyleTables.{unset};
-
-    ghost is_default = { λ spec. spec ≡ unset };
-
-    fn default() -> ColorSpec {
-        ColorSpec::new()
-    }
-}
 
 /// A writer with fixed bytes for each style and for the reset.
 /// [`StylesWriter`](codespan_reporting::term::StylesWriter) makes a
@@ -73,7 +13,7 @@ impl Default for ColorSpec {
 /// `docs/WRITERS.md` implements one.
 pub trait WriteColor: Write {
     ghost use Rattle.std.specs.Prelude.{ℕ, List};
-    ghost use Rattle.codespan_base.specs.declared.term.config.color.ColorSpec.{ColorSpec};
+    ghost use Rattle.codespan_config.specs.declared.config.color.ColorSpec.{ColorSpec};
 
     /// The bytes of a style.
     ghost color_bytes: { ColorSpec → List ℕ };

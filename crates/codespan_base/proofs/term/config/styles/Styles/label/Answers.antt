@@ -1,6 +1,0 @@
-use Rattle.std.proofs.Common.{refl}
-use Rattle.codespan_base.proofs.term.config.styles.Styles.label.Goals as goal
-
--- secondary labels have one style
-pub returns-in-Secondary-default : goal.returns-in-Secondary-default
-returns-in-Secondary-default c = rw c.in-Secondary-default.is-0 refl

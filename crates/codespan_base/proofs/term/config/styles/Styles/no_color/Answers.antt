@@ -1,6 +1,0 @@
-use Rattle.std.proofs.Common.{refl}
-use Rattle.codespan_base.proofs.term.config.styles.Styles.no_color.Goals as goal
-
--- each field sets nothing
-pub returns : goal.returns
-returns c = rw c.new-unset.ensures refl
