@@ -96,7 +96,7 @@ fn invalid_index(
         Argument::Message => index_unless(is_text(diagnostic.message)),
         Argument::LabelStyle => label_style_index(diagnostic.labels),
         Argument::LabelMessage => label_message_index(diagnostic.labels),
-        Argument::LabelFile => label_file_index(files.len(), diagnostic.labels),
+        Argument::LabelFile => label_file_index(files, diagnostic.labels),
         Argument::Note => note_index(diagnostic.notes),
     }
 }
