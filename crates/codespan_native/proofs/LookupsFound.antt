@@ -24,7 +24,7 @@ use Rattle.codespan_native.specs.Meaning.{NoLookupFails, label_in}
 use Rattle.codespan_structs.specs.Converted.{label_of, source_in}
 use Rattle.codespan_structs.specs.Validity.{AreValid}
 use Rattle.codespan_native.proofs.Rendered.{labels_equal}
-use Rattle.codespan_structs.specs.SourceTexts.{SourceView, database_of, failure_of, file_of}
+use Rattle.codespan_sources.specs.SourceTexts.{SourceView, database_of, failure_of, file_of}
 
 -- ---- facts of each element of a list
 

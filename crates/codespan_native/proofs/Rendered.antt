@@ -23,13 +23,13 @@ use Rattle.codespan_picture.specs.Picture.{header_text_of, label_of, labels_of, 
 use Rattle.codespan_picture.specs.Snippets.{InFile, labeled_file_models}
 use Rattle.codespan_picture.specs.StatedPicture.{stated_locus}
 use Rattle.codespan_views.specs.WriteCalls.{WritesStyled}
-use Rattle.codespan_structs.specs.declared.error.OutOfMemory.{OutOfMemory}
+use Rattle.codespan_sources.specs.declared.error.OutOfMemory.{OutOfMemory}
 use Rattle.codespan_structs.specs.declared.raw.RawConfig.{RawConfig}
 use Rattle.codespan_structs.specs.declared.raw.RawDiagnostic.{RawDiagnostic}
 use Rattle.codespan_structs.specs.declared.raw.RawFile.{RawFile}
 use Rattle.codespan_native.specs.Meaning.{Means, label_in, output_bytes, output_in}
 use Rattle.codespan_structs.specs.Converted.{config_of, display_style_of, source_in, spelling_of, view_of}
-use Rattle.codespan_structs.specs.SourceTexts.{SourceView, database_of, file_of}
+use Rattle.codespan_sources.specs.SourceTexts.{SourceView, database_of, file_of}
 use Rattle.codespan_native.specs.RenderedStreams.{stream_of_output}
 
 -- the names of the files are stated

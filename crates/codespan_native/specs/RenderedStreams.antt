@@ -4,7 +4,7 @@ use Rattle.codespan_base.specs.declared.diagnostic.Diagnostic.{Diagnostic}
 use Rattle.codespan_base.specs.declared.term.config.Config.{Config}
 use Rattle.codespan_base.specs.Streams.{Stream}
 use Rattle.codespan_picture.specs.StatedPicture.{picture}
-use Rattle.codespan_structs.specs.SourceTexts.{SourceView, database_of}
+use Rattle.codespan_sources.specs.SourceTexts.{SourceView, database_of}
 
 -- the output of a diagnostic over files, with the names that the files have
 abbrev pub stream_of_output : Config → List SourceView → Diagnostic ℕ → Stream

@@ -7,5 +7,6 @@
 
 pub mod emit;
 pub mod render;
+pub mod style_mark_writer;
 
-pub use codespan_structs::{error, raw, status, style_mark_writer};
+pub use codespan_structs::{error, raw, status};

@@ -7,17 +7,17 @@ ghost use Rattle.codespan_base.specs.declared.term.config.DisplayStyle.TheVarian
 ghost use Rattle.codespan_laws.specs.RichLaws.{MeansLabels};
 ghost use Rattle.codespan_structs.specs.StyleMarkBytes.{style_mark_spelling};
 ghost use Rattle.codespan_base.specs.StyleTables.{ansi_spelling};
-ghost use Rattle.codespan_structs.specs.SourceModel.{sources_of};
-ghost use Rattle.codespan_structs.specs.SourceTexts.{database_of};
+ghost use Rattle.codespan_sources.specs.SourceModel.{sources_of};
+ghost use Rattle.codespan_sources.specs.SourceTexts.{database_of};
 ghost use Rattle.codespan_structs.specs.Spellings.{spelling_by_kind};
 ghost use Rattle.codespan_native.specs.RenderedStreams.{stream_of_output};
 
+use crate::style_mark_writer::StyleMarkWriter;
 use codespan_base::diagnostic::Diagnostic;
 use codespan_base::term::{Ansi, Config, PlainWriter, Styles, StylesWriter, WriteStyle};
+use codespan_sources::source_files::SourceFiles;
 use codespan_structs::convert::{Settings, Spelling};
 use codespan_structs::error::OutOfMemory;
-use codespan_structs::source_files::SourceFiles;
-use codespan_structs::style_mark_writer::StyleMarkWriter;
 use codespan_views::emitting::emit_to_write_style;
 use std::alloc::Global;
 

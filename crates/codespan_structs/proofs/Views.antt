@@ -1,7 +1,7 @@
 -- Views of files by their parts, for the clause of `convert::files::file_of`.
 use Rattle.std.proofs.Common.{◌≡◌, ◌∙◌, ap, ℕ, Option}
 use Rattle.codespan_base.specs.declared.files.Location.{Location}
-use Rattle.codespan_structs.specs.SourceTexts.{CutText, SourceView}
+use Rattle.codespan_sources.specs.SourceTexts.{CutText, SourceView}
 
 -- a view of these parts
 abbrev view : CutText → (ℕ → Option Location) → SourceView

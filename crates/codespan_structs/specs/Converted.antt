@@ -27,12 +27,12 @@ use Rattle.codespan_structs.specs.declared.raw.RawConfig.{RawConfig}
 use Rattle.codespan_structs.specs.declared.raw.RawDiagnostic.{RawDiagnostic}
 use Rattle.codespan_structs.specs.declared.raw.RawFile.{RawFile}
 use Rattle.codespan_structs.specs.declared.raw.RawLabel.{RawLabel}
-use Rattle.codespan_structs.specs.declared.raw.RawLine.{RawLine}
+use Rattle.codespan_sources.specs.declared.raw.RawLine.{RawLine}
 use Rattle.codespan_structs.specs.declared.raw.RawStyles.{RawStyles}
 use Rattle.codespan_structs.specs.declared.raw.RawText.{RawText}
 use Rattle.codespan_structs.specs.StyleMarkBytes.{style_mark_spelling}
-use Rattle.codespan_structs.specs.StatedLines.{location_at}
-use Rattle.codespan_structs.specs.SourceTexts.{CutText, SourceView, database_of, stated_text, newline_text}
+use Rattle.codespan_sources.specs.StatedLines.{location_at}
+use Rattle.codespan_sources.specs.SourceTexts.{CutText, SourceView, database_of, stated_text, newline_text}
 
 -- ---- numbers of the header
 

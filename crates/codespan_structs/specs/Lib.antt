@@ -1,10 +1,6 @@
--- What the contracts of this crate cite, and lemmas.
+-- What the contracts of this crate cite.
 -- style marks in band
 pub mod StyleMarkBytes
--- files
-pub mod StatedLines
-pub mod SourceTexts
-pub mod SourceModel
 -- what the structs of C are converted to, which of their values are valid, and what a call leaves
 pub mod Converted
 pub mod Spellings
@@ -14,5 +10,3 @@ pub mod Results
 -- statuses, and their texts
 pub mod Statuses
 pub mod StatusTexts
--- lemmas, which a reader may skip
-pub mod Lemmas

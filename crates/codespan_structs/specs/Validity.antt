@@ -12,10 +12,10 @@ use Rattle.codespan_structs.specs.declared.raw.RawConfig.{RawConfig}
 use Rattle.codespan_structs.specs.declared.raw.RawDiagnostic.{RawDiagnostic}
 use Rattle.codespan_structs.specs.declared.raw.RawFile.{RawFile}
 use Rattle.codespan_structs.specs.declared.raw.RawLabel.{RawLabel}
-use Rattle.codespan_structs.specs.declared.raw.RawLine.{RawLine}
+use Rattle.codespan_sources.specs.declared.raw.RawLine.{RawLine}
 use Rattle.codespan_structs.specs.declared.raw.RawStyles.{RawStyles}
 use Rattle.codespan_structs.specs.declared.raw.RawText.{RawText}
-use Rattle.codespan_structs.specs.StatedLines.{are_lines, ascends}
+use Rattle.codespan_sources.specs.StatedLines.{are_lines, ascends}
 use Rattle.codespan_structs.specs.Statuses.{FILE_MISSING, INVALID}
 
 -- ---- values

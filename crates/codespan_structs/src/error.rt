@@ -1,6 +1,6 @@
 //! Arguments that are invalid, and failed allocations.
 
-use std::alloc::{AllocError, AllocFailed};
+pub use codespan_sources::error::OutOfMemory;
 
 /// An argument that can be invalid, by its number in the header.
 #[derive(Clone, Copy)]
@@ -56,21 +56,5 @@ impl Argument {
         ensures { result ≡ number_of self }
     {
         self as u32
-    }
-}
-
-/// An allocation failed.
-#[derive(Clone, Copy, Debug)]
-pub struct OutOfMemory;
-
-impl From<AllocError> for OutOfMemory {
-    fn from(_error: AllocError) -> OutOfMemory {
-        OutOfMemory
-    }
-}
-
-impl<T: Drop> From<AllocFailed<T>> for OutOfMemory {
-    fn from(_error: AllocFailed<T>) -> OutOfMemory {
-        OutOfMemory
     }
 }

@@ -9,8 +9,5 @@ pub mod buffer;
 pub mod convert;
 pub mod error;
 pub mod raw;
-pub mod source_file;
-pub mod source_files;
 pub mod status;
-pub mod style_mark_writer;
 pub mod validate;

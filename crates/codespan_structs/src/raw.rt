@@ -1,7 +1,9 @@
 //! The structs that cross from C, field by field those of `native/include/codespan.h`.
 //!
 //! Numbers stand for enumerations and bytes for texts, so any value can be passed.
-//! [`crate::validate`] checks them.
+//! [`crate::validate`] checks them. Those of stated lines and locations are of [`codespan_sources`].
+
+pub use codespan_sources::raw::{RawLine, RawLocation};
 
 /// The ABI version of the layouts of these structs.
 pub const ABI: u32 = 1;
@@ -15,30 +17,6 @@ pub const TAB_WIDTH_MAX: usize = 1024;
 pub struct RawText<'a> {
     /// Its bytes.
     pub bytes: &'a [u8],
-}
-
-/// A line of a file.
-#[derive(Drop)]
-#[repr(C)]
-pub struct RawLine {
-    /// Byte index in the file.
-    pub start: usize,
-    /// Byte index in the file, exclusive.
-    pub end: usize,
-    /// The line number that is shown.
-    pub number: usize,
-}
-
-/// The line and column number that are shown for a byte at which a label starts.
-#[derive(Drop)]
-#[repr(C)]
-pub struct RawLocation {
-    /// Byte index in the file.
-    pub byte: usize,
-    /// The line number.
-    pub line_number: usize,
-    /// The column number.
-    pub column_number: usize,
 }
 
 /// A file, or a window of one.

@@ -9,8 +9,8 @@ mod files;
 mod values;
 
 use crate::error::Argument;
-use crate::raw::{ABI, RawConfig, RawDiagnostic, RawFile};
-use crate::validate::config::{character_index, color_index, is_snippet_start_valid};
+use crate::raw::{RawConfig, RawDiagnostic, RawFile};
+use crate::validate::config::{character_index, color_index, is_abi_valid, is_snippet_start_valid};
 use crate::validate::diagnostic::{
     label_file_index, label_message_index, label_style_index, note_index,
 };
@@ -79,7 +79,7 @@ fn invalid_index(
     ensures { FindsInvalid (IsValidAt files.now diagnostic.now config.now argument) result }
 {
     match argument {
-        Argument::Abi => index_unless(config.abi == ABI),
+        Argument::Abi => index_unless(is_abi_valid(config)),
         Argument::DisplayStyle => index_unless(config.display_style <= 2),
         Argument::Layout => index_unless(config.layout <= 1),
         Argument::Spelling => index_unless(config.spelling <= 3),
@@ -96,7 +96,7 @@ fn invalid_index(
         Argument::Message => index_unless(is_text(diagnostic.message)),
         Argument::LabelStyle => label_style_index(diagnostic.labels),
         Argument::LabelMessage => label_message_index(diagnostic.labels),
-        Argument::LabelFile => label_file_index(files.len(), diagnostic.labels),
+        Argument::LabelFile => label_file_index(files, diagnostic.labels),
         Argument::Note => note_index(diagnostic.notes),
     }
 }

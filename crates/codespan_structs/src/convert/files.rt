@@ -2,14 +2,14 @@
 
 ghost use Rattle.std.specs.Prelude.{◌≡◌, All, IfOk, map};
 ghost use Rattle.codespan_structs.specs.Converted.{source_in};
-ghost use Rattle.codespan_structs.specs.SourceModel.{cut_of, source_of, sources_of};
+ghost use Rattle.codespan_sources.specs.SourceModel.{cut_of, source_of, sources_of};
 ghost use Rattle.codespan_structs.specs.ValidParts.{IsValidFile};
 
 use crate::convert::text::text_of;
 use crate::error::OutOfMemory;
 use crate::raw::RawFile;
-use crate::source_file::{NewlineText, SourceFile, SourceText, StatedText};
-use crate::source_files::SourceFiles;
+use codespan_sources::source_file::{NewlineText, SourceFile, SourceText, StatedText};
+use codespan_sources::source_files::SourceFiles;
 use std::alloc::Global;
 
 /// Returns the file database of these files.

@@ -5,7 +5,7 @@ ghost use Rattle.std.specs.Char.{InScalarRange};
 ghost use Rattle.std.specs.Str.{IsUtf8};
 ghost use Rattle.codespan_structs.specs.Validity.{codes_of, color_specs_of, FindsInvalid, FindsWithout, HoldsIfAt, IsColorSpec};
 
-use crate::raw::{RawChars, RawColorSpec, RawConfig, RawStyles};
+use crate::raw::{ABI, RawChars, RawColorSpec, RawConfig, RawStyles};
 use crate::validate::values::{is_character, is_color_spec, is_text};
 
 /// The choice of the caller's characters.
@@ -13,6 +13,13 @@ const CUSTOM_CHARACTERS: u32 = 2;
 
 /// The spelling in the caller's styles.
 const CUSTOM_STYLES: u32 = 2;
+
+/// Returns whether the layouts of the structs are those of this library.
+pub fn is_abi_valid(config: &RawConfig<'_>) -> bool
+    ensures { IsTrue result ↔ (config.now.abi ≡ 1) }
+{
+    config.abi == ABI
+}
 
 /// Returns whether the caller's text before a locus is UTF-8, or is not read, since `characters`
 /// does not choose it.

@@ -1,9 +1,9 @@
 //! The diagnostic.
 
-ghost use Rattle.std.specs.Prelude.{◌≤◌};
+ghost use Rattle.std.specs.Prelude.{◌≤◌, length};
 ghost use Rattle.codespan_structs.specs.Validity.{FindsWithout, HasLabelStyle, HasTextMessage, IsOfAFile, IsValidText};
 
-use crate::raw::{RawLabel, RawText};
+use crate::raw::{RawFile, RawLabel, RawText};
 use crate::validate::values::is_text;
 
 /// Returns the index of the first label whose style is invalid.
@@ -27,8 +27,15 @@ pub fn note_index(notes: &[RawText<'_>]) -> Option<usize>
     notes.iter().position(|note| !is_text(note.bytes))
 }
 
+/// Returns the index of the first label whose file is not one of these.
+pub fn label_file_index(files: &[RawFile<'_>], labels: &[RawLabel<'_>]) -> Option<usize>
+    ensures { FindsWithout (IsOfAFile (length files.now)) labels.now result }
+{
+    index_past(files.len(), labels)
+}
+
 /// Returns the index of the first label whose file is not one of so many files.
-pub fn label_file_index(count: usize, labels: &[RawLabel<'_>]) -> Option<usize>
+fn index_past(count: usize, labels: &[RawLabel<'_>]) -> Option<usize>
     ensures { FindsWithout (IsOfAFile count) labels.now result }
 {
     labels.iter().position(|label| label.file >= count)

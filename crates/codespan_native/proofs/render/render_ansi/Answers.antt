@@ -4,7 +4,7 @@ use Rattle.codespan_base.specs.Streams.{spelled}
 use Rattle.codespan_base.specs.Writers.{ansi_inner}
 use Rattle.codespan_native.proofs.Rendered.{fresh_known, text_after}
 use Rattle.codespan_base.specs.StyleTables.{ansi_spelling}
-use Rattle.codespan_structs.specs.SourceModel.{sources_of}
+use Rattle.codespan_sources.specs.SourceModel.{sources_of}
 use Rattle.codespan_native.specs.RenderedStreams.{stream_of_output}
 use Rattle.codespan_native.proofs.render.render_ansi.Goals as goal
 

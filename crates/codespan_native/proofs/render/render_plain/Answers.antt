@@ -1,7 +1,7 @@
 use Rattle.std.proofs.Common.{◌∙◌, ap, refl, ℕ, Vec, Global}
 use Rattle.codespan_base.specs.Streams.{no_style_marks}
 use Rattle.codespan_native.proofs.Rendered.{fresh_known, text_after}
-use Rattle.codespan_structs.specs.SourceModel.{sources_of}
+use Rattle.codespan_sources.specs.SourceModel.{sources_of}
 use Rattle.codespan_native.specs.RenderedStreams.{stream_of_output}
 use Rattle.codespan_native.proofs.render.render_plain.Goals as goal
 

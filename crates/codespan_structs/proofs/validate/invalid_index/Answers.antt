@@ -1,4 +1,3 @@
-use Rattle.std.proofs.Common.{◌≡◌, eq-eqb, eqb-true}
 use Rattle.codespan_structs.proofs.FirstInvalid.{by_index, by_test}
 use Rattle.codespan_structs.specs.Validity.{HasLabelStyle, HasTextMessage, HasTextName, HasTextSource, HasValidLines, HasValidLocations, IsOfAFile, IsValidText}
 use Rattle.codespan_structs.proofs.validate.invalid_index.Goals as goal
@@ -33,7 +32,6 @@ returns-in-LabelFile c = rw c.in-LabelFile.is (by_index (IsOfAFile _) _ _ c.labe
 pub returns-in-Note : goal.returns-in-Note
 returns-in-Note c = rw c.in-Note.is (by_index IsValidText _ _ c.note_index.ensures)
 
--- the layouts are those of the library, or not
 pub returns-in-Abi : goal.returns-in-Abi
 returns-in-Abi c =
-    rw c.in-Abi.is (by_test _ (c.args.config.now.abi ≡ 1) _ (eqb-true _ 1) (eq-eqb _ 1) c.index_unless.ensures)
+    rw c.in-Abi.is (by_test _ _ _ c.is_abi_valid.ensures.0 c.is_abi_valid.ensures.1 c.index_unless.ensures)

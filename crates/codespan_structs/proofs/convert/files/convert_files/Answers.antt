@@ -1,7 +1,7 @@
 use Rattle.std.proofs.Common.{◌∙◌, ◌++◌, ◌∷◌, [], ap, sym, map, take, arith}
 use Rattle.std.proofs.lemmas.List.{map_more}
 use Rattle.codespan_structs.specs.Converted.{source_in}
-use Rattle.codespan_structs.specs.SourceModel.{source_of}
+use Rattle.codespan_sources.specs.SourceModel.{source_of}
 use Rattle.codespan_structs.proofs.convert.files.convert_files.Goals as goal
 
 pub loop-file-preserved : goal.loop-file-preserved

@@ -1,6 +1,6 @@
 use Rattle.std.proofs.Common.{◌≡◌, map, take}
 use Rattle.codespan_structs.specs.Converted.{source_in}
-use Rattle.codespan_structs.specs.SourceModel.{sources_of}
+use Rattle.codespan_sources.specs.SourceModel.{sources_of}
 use Rattle.codespan_structs.proofs.convert.files.convert_files.Given as goal
 
 -- the files so far

@@ -1,8 +1,8 @@
 use Rattle.std.proofs.Common.{◌≡◌, ◌∙◌, ℕ, Bool, false, IsTrue, List, [], ◌∷◌, length, sym}
 use borrow.Author.Tests.{clash}
 use Rattle.std.specs.Prelude.{◌==◌, ◌↔◌}
-use Rattle.codespan_structs.specs.declared.raw.RawLine.{RawLine}
-use Rattle.codespan_structs.specs.StatedLines.{are_lines}
+use Rattle.codespan_sources.specs.declared.raw.RawLine.{RawLine}
+use Rattle.codespan_sources.specs.StatedLines.{are_lines}
 use Rattle.codespan_structs.specs.Validity.{AreValidLines}
 use Rattle.codespan_structs.proofs.validate.files.has_valid_lines.Goals as goal
 

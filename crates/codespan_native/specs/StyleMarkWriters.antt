@@ -1,0 +1,20 @@
+-- What is seen of a writer of style marks in band.
+use Rattle.std.specs.Prelude.{ℕ, Bool, List, [], Option}
+use Rattle.codespan_base.specs.WriterLaw.{Sink}
+use Rattle.codespan_structs.specs.StyleMarkBytes.{style_mark_spelling}
+use Rattle.codespan_native.specs.declared.style_mark_writer.StyleMarkWriter.{StyleMarkWriter}
+
+-- what the law of writers sees of a writer of style marks in band
+abbrev pub style_mark_sink : Bool → Option (List ℕ) → Sink
+style_mark_sink failed contents = record {
+  frame = record { spelling = style_mark_spelling; failed = failed; through = [] };
+  contents = contents;
+}
+
+-- what it writes to
+abbrev pub inner_writer : {W : Type 0} → StyleMarkWriter W → W
+inner_writer w = w.inner
+
+-- what the law sees of the Rust value
+abbrev pub style_mark_writer_sink : {W : Type 0} → (W → Option (List ℕ)) → StyleMarkWriter W → Sink
+style_mark_writer_sink contents w = style_mark_sink w.failed (contents w.inner)

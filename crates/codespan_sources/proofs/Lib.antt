@@ -1,0 +1,3 @@
+pub mod FileLines
+pub mod Lookups
+pub mod Searches

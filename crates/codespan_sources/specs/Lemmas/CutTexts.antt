@@ -1,0 +1,179 @@
+-- Texts cut at newlines, and into lines that the test of them passes, make lawful files.
+use Rattle.std.proofs.Common.{◌≡◌, ℕ, zero, suc, ◌+◌, ◌-◌, ◌^◌, ◌<◌, ◌≤◌, Bool, true, false, List, [], ◌∷◌, length, refl, arith, Option, eqb}
+use Rattle.std.specs.Prelude.{◌&&◌, nat_lt, nat_le, slice_index, Some}
+use Rattle.std.proofs.lemmas.Bool.Decides.{nat_tests}
+use Rattle.std.specs.Str.{IsUtf8, IsCharBoundary}
+use Rattle.std.proofs.lemmas.Str.{IsCharBoundary-start}
+use Rattle.std.proofs.lemmas.List.{length-map}
+use Rattle.codespan_base.specs.declared.files.Location.{Location}
+use Rattle.codespan_base.specs.FileModel.{FileModel}
+use Rattle.codespan_base.specs.LawfulFiles.{IsLawful}
+use Rattle.codespan_base.specs.Lines.{is_char_boundary}
+use Rattle.codespan_base.specs.SimpleModel.{simple_file}
+use Rattle.codespan_base.specs.Lemmas.Simple.{renumbered_lawful, simple_lawful}
+use Rattle.codespan_sources.specs.declared.raw.RawLine.{RawLine}
+use Rattle.codespan_sources.specs.StatedLines.{are_lines, ends_of, follow, starts_of}
+use Rattle.codespan_sources.specs.SourceTexts.{file_of, stated_text, newline_text}
+
+-- a text cut at newlines makes a lawful file
+pub newline_lawful : (name text : List ℕ) (first_line : ℕ) (stated : ℕ → Option Location)
+    → IsUtf8 text → length text < 2 ^ 64
+    → IsLawful (file_of
+    (record { cut = newline_text name text first_line; stated_location = stated }))
+newline_lawful name text first_line stated u fits =
+    let f : FileModel =
+    file_of (record { cut = newline_text name text first_line; stated_location = stated }) in
+    renumbered_lawful (simple_file (Some name) text) f.line_number f.column_number f.location
+    (simple_lawful (Some name) text u fits)
+
+-- the test finds only boundaries
+boundary : (text : List ℕ) (i : ℕ) → is_char_boundary text i ≡ true → IsCharBoundary text i
+boundary text i e = grind (arith, nat_tests, e)
+
+module _ (text : List ℕ) (first : ℕ) where
+  -- lines one after another
+  record Chain (ls : List RawLine) : Type 0 where
+    pub rising : (i : ℕ) → i + 1 < length (starts_of first ls)
+        → slice_index (starts_of first ls) i < slice_index (starts_of first ls) (i + 1)
+    pub starts_cut : (i : ℕ) → i < length (starts_of first ls)
+        → IsCharBoundary text (slice_index (starts_of first ls) i)
+    pub ends_cut : (i : ℕ) → i < length (starts_of first ls)
+        → IsCharBoundary text (slice_index (ends_of first ls) i)
+    pub ends_after : (i : ℕ) → i < length (starts_of first ls)
+        → slice_index (starts_of first ls) i ≤ slice_index (ends_of first ls) i
+    pub ends_before : (i : ℕ) → i + 1 < length (starts_of first ls)
+        → slice_index (ends_of first ls) i ≤ slice_index (starts_of first ls) (i + 1)
+
+  -- what the test says of the first of some lines, and of those after it
+  record Step (start end : ℕ) (l : RawLine) (ls : List RawLine) : Type 0 where
+    pub later : start < l.start - first
+    pub apart : end ≤ l.start - first
+    pub inside : l.start - first ≤ l.end - first
+    pub start_cut : IsCharBoundary text (l.start - first)
+    pub end_cut : IsCharBoundary text (l.end - first)
+    pub rest : follow text first (l.start - first) (l.end - first) ls ≡ true
+
+  both : (a b : Bool) → (a && b) ≡ true → (a ≡ true) × (b ≡ true)
+  both true b e = (refl, e)
+  both false b e = absurd (cc)
+
+  step : (start end : ℕ) (l : RawLine) (ls : List RawLine)
+      → follow text first start end (l ∷ ls) ≡ true → Step start end l ls
+  step start end l ls e =
+      let a = both (nat_lt start (l.start - first)) _ e in
+      let b = both (nat_le end (l.start - first)) _ a.1 in
+      let c = both (nat_le (l.start - first) (l.end - first)) _ b.1 in
+      let d = both (is_char_boundary text (l.start - first)) _ c.1 in
+      let f = both (is_char_boundary text (l.end - first)) _ d.1 in
+      record {
+        later = grind (arith, nat_tests, a.0);
+        apart = grind (arith, nat_tests, b.0);
+        inside = grind (arith, nat_tests, c.0);
+        start_cut = boundary text (l.start - first) d.0;
+        end_cut = boundary text (l.end - first) f.0;
+        rest = f.1;
+      }
+
+  -- one line is a chain
+  chain_one : (l : RawLine) → IsCharBoundary text (l.start - first)
+      → IsCharBoundary text (l.end - first) → l.start - first ≤ l.end - first → Chain (l ∷ [])
+  chain_one l s e h = record {
+    rising = λ i p. absurd (omega (arith, p));
+    starts_cut = one_start;
+    ends_cut = one_end;
+    ends_after = one_after;
+    ends_before = λ i p. absurd (omega (arith, p));
+  }
+    where
+      one_start : (i : ℕ) → i < 1 → IsCharBoundary text (slice_index ((l.start - first) ∷ []) i)
+      one_start zero p = s
+      one_start (suc i) p = absurd (omega (arith, p))
+
+      one_end : (i : ℕ) → i < 1 → IsCharBoundary text (slice_index ((l.end - first) ∷ []) i)
+      one_end zero p = e
+      one_end (suc i) p = absurd (omega (arith, p))
+
+      one_after : (i : ℕ) → i < 1
+          → slice_index ((l.start - first) ∷ []) i ≤ slice_index ((l.end - first) ∷ []) i
+      one_after zero p = h
+      one_after (suc i) p = absurd (omega (arith, p))
+
+  -- a line before a chain that follows it
+  chain_more : (l m : RawLine) (ms : List RawLine) → IsCharBoundary text (l.start - first)
+      → IsCharBoundary text (l.end - first) → l.start - first ≤ l.end - first
+      → l.start - first < m.start - first → l.end - first ≤ m.start - first
+      → Chain (m ∷ ms) → Chain (l ∷ m ∷ ms)
+  chain_more l m ms s e h later apart c = record {
+    rising = rising;
+    starts_cut = starts_cut;
+    ends_cut = ends_cut;
+    ends_after = ends_after;
+    ends_before = ends_before;
+  }
+    where
+      rising : (i : ℕ) → i + 1 < length (starts_of first (l ∷ m ∷ ms))
+          → slice_index (starts_of first (l ∷ m ∷ ms)) i
+          < slice_index (starts_of first (l ∷ m ∷ ms)) (i + 1)
+      rising zero p = later
+      rising (suc k) p =
+          let q : suc k + 1 ≡ suc (k + 1) = omega arith in rw q (c.rising k (omega (arith, p)))
+
+      starts_cut : (i : ℕ) → i < length (starts_of first (l ∷ m ∷ ms))
+          → IsCharBoundary text (slice_index (starts_of first (l ∷ m ∷ ms)) i)
+      starts_cut zero p = s
+      starts_cut (suc k) p = c.starts_cut k (omega (arith, p))
+
+      ends_cut : (i : ℕ) → i < length (starts_of first (l ∷ m ∷ ms))
+          → IsCharBoundary text (slice_index (ends_of first (l ∷ m ∷ ms)) i)
+      ends_cut zero p = e
+      ends_cut (suc k) p = c.ends_cut k (omega (arith, p))
+
+      ends_after : (i : ℕ) → i < length (starts_of first (l ∷ m ∷ ms))
+          → slice_index (starts_of first (l ∷ m ∷ ms)) i
+          ≤ slice_index (ends_of first (l ∷ m ∷ ms)) i
+      ends_after zero p = h
+      ends_after (suc k) p = c.ends_after k (omega (arith, p))
+
+      ends_before : (i : ℕ) → i + 1 < length (starts_of first (l ∷ m ∷ ms))
+          → slice_index (ends_of first (l ∷ m ∷ ms)) i
+          ≤ slice_index (starts_of first (l ∷ m ∷ ms)) (i + 1)
+      ends_before zero p = apart
+      ends_before (suc k) p =
+          let q : suc k + 1 ≡ suc (k + 1) = omega arith in rw q (c.ends_before k (omega (arith, p)))
+
+  -- lines that the test passes are a chain
+  chain : (l : RawLine) (ls : List RawLine) → IsCharBoundary text (l.start - first)
+      → IsCharBoundary text (l.end - first) → l.start - first ≤ l.end - first
+      → follow text first (l.start - first) (l.end - first) ls ≡ true → Chain (l ∷ ls)
+  chain l [] s e h t = chain_one l s e h
+  chain l (m ∷ ms) s e h t =
+      let x = step (l.start - first) (l.end - first) m ms t in
+      chain_more l m ms s e h x.later x.apart (chain m ms x.start_cut x.end_cut x.inside x.rest)
+
+-- a text of lines that the test passes makes a lawful file
+pub stated_lawful : (name text : List ℕ) (first : ℕ) (lines : List RawLine)
+    (stated : ℕ → Option Location) → IsUtf8 text → length text < 2 ^ 64
+    → are_lines text first lines ≡ true
+    → IsLawful (file_of
+    (record { cut = stated_text name text first lines; stated_location = stated }))
+stated_lawful name text first [] stated u fits t = absurd (cc)
+stated_lawful name text first (l ∷ ls) stated u fits t =
+    let a = both text first (eqb (l.start - first) 0) _ t in
+    let b = both text first (is_char_boundary text (l.end - first)) _ a.1 in
+    let zero_start : l.start - first ≡ 0 = grind (arith, nat_tests, a.0) in
+    let c = chain text first l ls (rw zero_start (IsCharBoundary-start text u))
+    (boundary text (l.end - first) b.0) (omega (arith, zero_start)) b.1 in
+    record {
+      is_text = u;
+      fits = fits;
+      some_line = omega arith;
+      first = zero_start;
+      ascending = c.rising;
+      starts_cut = c.starts_cut;
+      ends_cut = c.ends_cut;
+      ends_after = c.ends_after;
+      ends_before = c.ends_before;
+      one_end = simp length-map refl;
+      missing_name = λ e. absurd (cc);
+      missing_text = λ e. absurd (cc);
+    }

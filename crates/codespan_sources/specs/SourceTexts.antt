@@ -1,0 +1,102 @@
+-- Texts cut into lines: at newlines, or into the lines that a caller states. A text is a window of
+-- a file from a byte on; an index before the window counts as its start.
+use Rattle.std.specs.Prelude.{◌≡◌, ℕ, ◌+◌, ◌-◌, ◌^◌, ◌<◌, true, nat_lt, if◌then◌else◌, List, length, slice_get, slice_index, min, nat_eq, Option, Some, None, unwrap_or}
+use Rattle.std.specs.Option.{option_map_or}
+use Rattle.std.specs.declared.ops.Range.{Range}
+use Rattle.codespan_base.specs.declared.files.Error.{Error}
+use Rattle.codespan_base.specs.declared.files.Error.TheVariants.{FileMissing, LineTooLarge}
+use Rattle.codespan_base.specs.declared.files.Location.{Location}
+use Rattle.codespan_base.specs.FileModel.{FileDatabase, FileModel, Lookup, line_of}
+use Rattle.codespan_base.specs.FileModel.Lookup.{ColumnNumber, LineRange}
+use Rattle.codespan_base.specs.Lines.{column_index_of, line_starts_of}
+use Rattle.codespan_base.specs.SimpleModel.{line_ends, missing_file}
+use Rattle.codespan_sources.specs.declared.raw.RawLine.{RawLine}
+use Rattle.codespan_sources.specs.StatedLines.{ends_of, numbers_of, starts_of}
+
+-- ---- texts
+
+-- a text cut into lines, with their numbers
+pub record CutText : Type 0 where
+  pub name : List ℕ
+  pub text : List ℕ
+  pub starts : List ℕ
+  pub ends : List ℕ
+  pub number : ℕ → ℕ
+
+-- a text whose lines start after newlines, and whose numbers count on from the lines before it, up
+-- to the greatest usize
+abbrev pub newline_text : List ℕ → List ℕ → ℕ → CutText
+newline_text name text first_line = record {
+  name = name;
+  text = text;
+  starts = line_starts_of text;
+  ends = line_ends text;
+  number = λ i. min (first_line + i + 1) (2 ^ 64 - 1);
+}
+
+-- a text of stated lines
+abbrev pub stated_text : List ℕ → List ℕ → ℕ → List RawLine → CutText
+stated_text name text first lines = record {
+  name = name;
+  text = text;
+  starts = starts_of first lines;
+  ends = ends_of first lines;
+  number = λ i. slice_index (numbers_of lines) i;
+}
+
+-- ---- files
+
+-- the column number of a byte on a line, in characters from 1
+abbrev pub cut_column : CutText → ℕ → ℕ → ℕ
+cut_column t i byte =
+    column_index_of t.text (slice_index t.starts i) (slice_index t.ends i) byte + 1
+
+-- the location of a byte, as it is computed
+abbrev pub cut_location : CutText → ℕ → Location
+cut_location t byte =
+    let i = line_of t.starts byte in
+    record { line_number = t.number i; column_number = cut_column t i byte }
+
+-- a text with the locations that are stated for some of its bytes
+pub record SourceView : Type 0 where
+  pub cut : CutText
+  pub stated_location : ℕ → Option Location
+
+-- the file of it; a location that is stated comes before the computed one
+abbrev pub file_of : SourceView → FileModel
+file_of s = record {
+  exists = true;
+  name = Some s.cut.name;
+  text = s.cut.text;
+  starts = s.cut.starts;
+  ends = s.cut.ends;
+  line_number = s.cut.number;
+  column_number = cut_column s.cut;
+  location = λ byte. unwrap_or (s.stated_location byte) (cut_location s.cut byte);
+}
+
+-- the range of line i
+pub record IsRangeIn (t : CutText) (i : ℕ) (r : Range ℕ) : Type 0 where
+  pub inside : i < length t.starts
+  pub start_is : r.start ≡ slice_index t.starts i
+  pub end_is : r.end ≡ slice_index t.ends i
+
+-- a line past the last fails
+abbrev pub past_last : List ℕ → ℕ → Option Error
+past_last starts i =
+    if nat_lt i (length starts) then None else Some (LineTooLarge i (length starts - 1))
+
+-- what a lookup fails with: those of the range and of a column of a line past the last alone
+abbrev pub failure_of : SourceView → Lookup → Option Error
+failure_of s (LineRange i) = past_last s.cut.starts i
+failure_of s (ColumnNumber i byte) = past_last s.cut.starts i
+failure_of s _ = None
+
+-- the files, by their indices
+abbrev pub database_of : List SourceView → FileDatabase ℕ
+database_of ss = record {
+  same = nat_eq;
+  file = λ id. option_map_or file_of (slice_get ss id) missing_file;
+  failure = λ id lookup.
+      option_map_or (λ s. failure_of s lookup) (slice_get ss id) (Some FileMissing);
+}

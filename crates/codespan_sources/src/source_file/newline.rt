@@ -1,0 +1,88 @@
+//! Texts cut at newlines.
+
+ghost use Rattle.std.specs.Prelude.{◌≡◌, IfOk};
+ghost use Rattle.codespan_base.specs.FileModel.{line_of};
+ghost use Rattle.codespan_base.specs.LawfulFiles.{FailsBy};
+ghost use Rattle.codespan_sources.specs.SourceTexts.{IsRangeIn, newline_text, past_last};
+
+use crate::error::OutOfMemory;
+use codespan_base::files::{Error, Files, SimpleFile};
+use std::alloc::Global;
+use std::ops::Range;
+
+/// A text whose lines start after newlines, and whose line numbers count on from those of the lines
+/// before it.
+#[derive(Drop)]
+pub struct NewlineText<'a> {
+    /// The name, the text and its lines.
+    file: SimpleFile<&'a str, &'a str>,
+    /// The number of lines of the file before the text.
+    first_line: usize,
+}
+
+impl<'a> NewlineText<'a> {
+    ghost use Rattle.codespan_sources.specs.SourceModel.{newline_of};
+
+    /// Returns the text of a name and a source, which has so many lines before it.
+    ///
+    /// # Errors
+    ///
+    /// [`OutOfMemory`] where an allocation fails.
+    pub fn new(
+        alloc: Global,
+        name: &'a str,
+        source: &'a str,
+        first_line: usize,
+    ) -> Result<NewlineText<'a>, OutOfMemory>
+        ensures { IfOk result (λ text.
+            newline_of text ≡ newline_text name.now source.now first_line) }
+    {
+        match SimpleFile::new(alloc, name, source) {
+            Ok(file) => Ok(NewlineText { file, first_line }),
+            Err(_) => Err(OutOfMemory),
+        }
+    }
+
+    /// Returns the name.
+    pub fn name(&self) -> &'a str
+        ensures { result.now ≡ (newline_of self.now).name }
+    {
+        *self.file.name()
+    }
+
+    /// Returns the source.
+    pub fn source(&self) -> &'a str
+        ensures { result.now ≡ (newline_of self.now).text }
+    {
+        *self.file.source()
+    }
+
+    /// Returns the number of the line of this index, which need not exist.
+    pub fn line_number(&self, line_index: usize) -> usize
+        ensures { result ≡ (newline_of self.now).number line_index }
+    {
+        self.first_line.saturating_add(line_index).saturating_add(1)
+    }
+
+    /// Returns the index of the byte's line. The lookup of a file of one text does not fail.
+    pub fn line_index(&self, byte_index: usize) -> usize
+        ensures { result ≡ line_of (newline_of self.now).starts byte_index }
+    {
+        match self.file.line_index((), byte_index) {
+            Ok(line_index) => line_index,
+            Err(_) => 0,
+        }
+    }
+
+    /// Returns the bytes of the line of this index.
+    ///
+    /// # Errors
+    ///
+    /// [`Error::LineTooLarge`] where there is no such line.
+    pub fn line_range(&self, line_index: usize) -> Result<Range<usize>, Error>
+        ensures value { IfOk result (IsRangeIn (newline_of self.now) line_index) }
+        ensures failed { FailsBy (past_last (newline_of self.now).starts line_index) result }
+    {
+        self.file.line_range((), line_index)
+    }
+}

@@ -1,0 +1,32 @@
+use Rattle.std.proofs.Common.{◌≡◌, ◌+◌, refl}
+use denote.Enum.Declared.{tag_of}
+use Rattle.codespan_structs.specs.contracts.error.Argument.{the_type}
+use Rattle.codespan_structs.specs.Validity.{number_of}
+use Rattle.codespan_structs.specs.declared.error.Argument.{Argument}
+use Rattle.codespan_structs.specs.declared.error.Argument.TheVariants.{Abi, DisplayStyle, Layout, Spelling, Characters, SnippetStart, Character, Color, FileName, FileSource, FileLines, FileLocations, Severity, Code, Message, LabelStyle, LabelMessage, LabelFile, Note}
+use Rattle.codespan_structs.proofs.error.Argument.number.Goals as goal
+
+-- arguments count from 1, in their order
+numbered : (a : Argument) → tag_of the_type a + 1 ≡ number_of a
+numbered Abi = refl
+numbered DisplayStyle = refl
+numbered Layout = refl
+numbered Spelling = refl
+numbered Characters = refl
+numbered SnippetStart = refl
+numbered Character = refl
+numbered Color = refl
+numbered FileName = refl
+numbered FileSource = refl
+numbered FileLines = refl
+numbered FileLocations = refl
+numbered Severity = refl
+numbered Code = refl
+numbered Message = refl
+numbered LabelStyle = refl
+numbered LabelMessage = refl
+numbered LabelFile = refl
+numbered Note = refl
+
+pub returns : goal.returns
+returns c = numbered c.args.self

@@ -1,7 +1,0 @@
-use Rattle.codespan_structs.specs.StyleMarkBytes.{style_mark_sink}
-use Rattle.codespan_structs.proofs.style_mark_writer.StyleMarkWriter.write_style_mark.Goals as goal
-
-pub returns : goal.returns
-returns g c =
-    let sink = style_mark_sink c.args.self.now.failed (g.W.Write.contents c.args.self.now.inner) in
-    c.forward_all.ensures sink.frame

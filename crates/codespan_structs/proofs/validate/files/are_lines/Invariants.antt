@@ -1,9 +1,0 @@
-use Rattle.std.proofs.Common.{◌≡◌, drop}
-use Rattle.codespan_structs.specs.StatedLines.{are_lines, follow}
-use Rattle.codespan_structs.proofs.validate.files.are_lines.Given as goal
-
--- the lines that are left decide
-abbrev pub invariant-loop-line : goal.invariant-loop-line
-invariant-loop-line l =
-    follow l.text l.first_byte l.start l.end (drop l.line-index l.rest)
-    ≡ are_lines l.text l.first_byte l.lines

@@ -1,8 +1,0 @@
-use Rattle.std.proofs.Common.{◌≡◌, drop}
-use Rattle.codespan_structs.specs.StatedLines.{ascend_from, ascends}
-use Rattle.codespan_structs.proofs.validate.files.ascend.Given as goal
-
--- the locations that are left decide
-abbrev pub invariant-loop-location : goal.invariant-loop-location
-invariant-loop-location l =
-    ascend_from l.first_byte l.byte (drop l.location-index l.rest) ≡ ascends l.first_byte l.locations
