@@ -16,10 +16,10 @@ use Rattle.codespan_views.specs.WriteCalls.{WritesStyled}
 use Rattle.codespan_documents.specs.declared.style.Style.{Style}
 use Rattle.codespan_documents.specs.declared.style.Style.TheVariants.{Plain}
 use Rattle.codespan_documents.specs.declared.text.StyledText.{StyledText}
-use Rattle.codespan_documents.specs.Recorded.{recorded_runs, style_number, style_spelling}
+use Rattle.codespan_styled.specs.Private.Recorded.{recorded_runs, style_number, style_spelling}
 use Rattle.codespan_documents.specs.Runs.{AreTexts, joined, runs_from, style_after, styled_runs}
-use Rattle.codespan_documents.proofs.Bytes.{runs-bytes, utf8-bytes}
-use Rattle.codespan_documents.proofs.Decoding.{joined_runs, runs_of_recorded}
+use Rattle.codespan_styled.proofs.Bytes.{runs-bytes, utf8-bytes}
+use Rattle.codespan_styled.proofs.Decoding.{joined_runs, runs_of_recorded}
 use Rattle.codespan_styled.specs.Outputs.{AreRuns, EmitsRuns, RunsAreTexts, output_at}
 
 -- a fresh writer that received a stream holds its bytes last
