@@ -8,11 +8,11 @@ ghost use Rattle.codespan_documents.specs.declared.style.Style.TheVariants.{Plai
 ghost use Rattle.codespan_styled.specs.Private.Recorded.{recorded_runs, style_number, style_spelling};
 ghost use Rattle.codespan_documents.specs.Runs.{styled_runs};
 
-use codespan_documents::style::Style;
-use codespan_documents::text::{Run, StyledText};
 use codespan_base::diagnostic::{LabelStyle, Severity};
 use codespan_base::files::Error;
 use codespan_base::term::WriteStyle;
+use codespan_documents::style::Style;
+use codespan_documents::text::{Run, StyledText};
 use std::alloc::Global;
 use std::io::{ErrorKind, Write};
 use std::{io, str};
