@@ -10,5 +10,5 @@ pub use Rattle.codespan_documents.specs.SvgReading
 pub use Rattle.codespan_terminal.specs.Terminal
 -- the runs of a diagnostic
 pub mod Outputs
--- definitions that the writer of runs and proofs use
+-- definitions that private calls and proofs use
 pub mod Private

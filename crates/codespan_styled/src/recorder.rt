@@ -5,8 +5,8 @@ ghost use Rattle.codespan_base.specs.Streams.{bytes};
 ghost use Rattle.codespan_base.specs.WriterLaw.{Writes, AppendsBytes};
 ghost use Rattle.codespan_base.specs.Writers.{fresh_sink};
 ghost use Rattle.codespan_documents.specs.declared.style.Style.TheVariants.{Plain};
-ghost use Rattle.codespan_styled.specs.Private.Recorded.{recorded_runs, style_number, style_spelling};
 ghost use Rattle.codespan_documents.specs.Runs.{styled_runs};
+ghost use Rattle.codespan_styled.specs.Private.Recorded.{recorded_runs, style_number, style_spelling};
 
 use codespan_base::diagnostic::{LabelStyle, Severity};
 use codespan_base::files::Error;
