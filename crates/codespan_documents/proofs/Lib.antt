@@ -1,7 +1,4 @@
 pub mod Appending
-pub mod Bytes
-pub mod Decoding
-pub mod Recording
 pub mod HtmlWriting
 pub mod HtmlReading
 pub mod StyleSheets

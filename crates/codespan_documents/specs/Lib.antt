@@ -6,4 +6,3 @@ pub mod Inks
 pub mod Glyphs
 pub mod Svg
 pub mod SvgReading
-pub mod Recorded

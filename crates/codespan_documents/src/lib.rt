@@ -1,11 +1,10 @@
-//! Styled text as an HTML or an SVG document, and the writer that keeps an output as styled text.
+//! Text in runs, each in one style, as an HTML or an SVG document.
 //!
 //! Users name these by the paths of `codespan_styled`, which renders a diagnostic to a
 //! [`StyledText`]. [`to_html`] and [`to_svg`] make a document of it.
 #![tactic(auto)]
 
 pub mod html;
-pub mod recorder;
 pub mod style;
 pub mod style_sheet;
 pub mod svg;

@@ -1,1 +1,4 @@
+pub mod Bytes
+pub mod Decoding
+pub mod Recording
 pub mod Rendering

@@ -1,5 +1,6 @@
--- The runs that a writer received are those of the output: for `styled_text`.
-use Rattle.std.proofs.Common.{◌≡◌, ℕ, true, List, [], ◌∷◌, ◌++◌, Some, Result, Ok, Err, inl, sym, ap, ◌∙◌}
+-- The runs that a writer received are those of the output, and which errors are of lookups: for
+-- `styled_text`.
+use Rattle.std.proofs.Common.{◌≡◌, ℕ, true, false, List, [], ◌∷◌, ◌++◌, Some, Result, Ok, Err, inl, inr, ⊎_elim, sym, ap, ◌∙◌, true≢false}
 use Rattle.std.specs.Prelude.{MatchResult}
 use Rattle.codespan_base.specs.declared.diagnostic.Diagnostic.{Diagnostic}
 use Rattle.codespan_base.specs.declared.files.Error.{Error}
@@ -8,18 +9,19 @@ use Rattle.codespan_base.specs.declared.term.config.Config.{Config}
 use Rattle.codespan_base.specs.FileModel.{FileDatabase}
 use Rattle.codespan_base.specs.LawfulFiles.{IsLawful}
 use Rattle.codespan_base.specs.Streams.{Stream, Byte, Mark, Slot, Spelling, spelled}
-use Rattle.codespan_base.specs.WriterLaw.{Sink, are_known, extended, is_known, with_written}
+use Rattle.codespan_base.specs.WriterLaw.{Frame, Sink, are_known, extended, is_known, with_written}
 use Rattle.codespan_base.specs.Writers.{fresh_sink}
 use Rattle.codespan_laws.specs.TextLaws.{AreCharacters, AreTextsAfter}
 use Rattle.codespan_laws.proofs.PictureTexts.{text-output}
+use Rattle.codespan_views.specs.Output.{IsEmitError}
 use Rattle.codespan_views.specs.WriteCalls.{WritesStyled}
 use Rattle.codespan_documents.specs.declared.style.Style.{Style}
 use Rattle.codespan_documents.specs.declared.style.Style.TheVariants.{Plain}
 use Rattle.codespan_documents.specs.declared.text.StyledText.{StyledText}
-use Rattle.codespan_documents.specs.Recorded.{recorded_runs, style_number, style_spelling}
+use Rattle.codespan_styled.specs.Private.Recorded.{recorded_runs, style_number, style_spelling}
 use Rattle.codespan_documents.specs.Runs.{AreTexts, joined, runs_from, style_after, styled_runs}
-use Rattle.codespan_documents.proofs.Bytes.{runs-bytes, utf8-bytes}
-use Rattle.codespan_documents.proofs.Decoding.{joined_runs, runs_of_recorded}
+use Rattle.codespan_styled.proofs.Bytes.{runs-bytes, utf8-bytes}
+use Rattle.codespan_styled.proofs.Decoding.{joined_runs, runs_of_recorded}
 use Rattle.codespan_styled.specs.Outputs.{AreRuns, EmitsRuns, RunsAreTexts, output_at}
 
 -- a fresh writer that received a stream holds its bytes last
@@ -57,6 +59,11 @@ module _ {Id : Type 0} {config : Config} {files : FileDatabase Id} {d : Diagnost
       → MatchResult r (λ text. recorded_runs (styled_runs text) ≡ last) (λ e. e ≡ OutOfMemory) → EmitsRuns config files d styled_runs r
   runs_emitted (Ok text) drawn fresh contents characters lawful are = runs_rendered text drawn fresh contents characters lawful are
   runs_emitted (Err e) drawn fresh contents characters lawful is = inl is
+
+  -- an error of a writer that has not failed is one of lookups
+  pub error_emitted : {old new : Sink} (e : Error) → WritesStyled config.display_style config config files d old (Err e) new → new.frame.failed ≡ false → IsEmitError config files d e
+  error_emitted {old} {new} e drawn not_failed =
+      ⊎_elim (λ own. absurd (true≢false (sym (ap (λ (f : Frame). f.failed) own.1) ∙ not_failed))) (λ found. inr found.1) drawn.writes.on_end.error_is
 
 -- ---- texts
 

@@ -7,7 +7,8 @@ pub use Rattle.codespan_documents.specs.Inks
 pub use Rattle.codespan_documents.specs.Glyphs
 pub use Rattle.codespan_documents.specs.Svg
 pub use Rattle.codespan_documents.specs.SvgReading
-pub use Rattle.codespan_documents.specs.Recorded
 pub use Rattle.codespan_terminal.specs.Terminal
 -- the runs of a diagnostic
 pub mod Outputs
+-- definitions that private calls and proofs use
+pub mod Private

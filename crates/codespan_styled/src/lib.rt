@@ -5,6 +5,7 @@
 //! document of it, and [`to_terminal`] a text that is safe to print.
 #![tactic(auto)]
 
+mod recorder;
 pub mod render;
 
 pub use codespan_documents::{

@@ -5,10 +5,10 @@ ghost use Rattle.codespan_styled.specs.Outputs.{EmitsRuns};
 
 pub mod laws;
 
+use crate::recorder::Recorder;
 use codespan_base::diagnostic::Diagnostic;
 use codespan_base::files::{Error, Files};
 use codespan_base::term::Config;
-use codespan_documents::recorder::Recorder;
 use codespan_documents::text::StyledText;
 use codespan_laws::characters::are_characters;
 use codespan_views::emitting::emit_to_write_style;

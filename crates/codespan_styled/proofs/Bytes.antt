@@ -9,7 +9,7 @@ use Rattle.std.proofs.lemmas.Bool.{cond_both}
 use Rattle.std.proofs.lemmas.Bool.Decides.{nat_tests}
 use Rattle.std.proofs.lemmas.Str.{IsUtf8-string_bytes}
 use Rattle.codespan_documents.specs.declared.text.Run.{Run}
-use Rattle.codespan_documents.specs.Recorded.{AllBytes, AreBytes}
+use Rattle.codespan_styled.specs.Private.Recorded.{AllBytes, AreBytes}
 use Rattle.codespan_documents.specs.Runs.{run_view}
 
 -- bytes, one list after another

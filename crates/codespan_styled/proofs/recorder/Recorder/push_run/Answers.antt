@@ -1,10 +1,10 @@
 use Rattle.std.proofs.Common.{rules, ◌≡◌, ◌++◌, map, refl, ap, ◌∙◌, string_bytes}
-use Rattle.codespan_documents.specs.declared.recorder.Recorder.{Recorder}
+use Rattle.codespan_styled.specs.declared.recorder.Recorder.{Recorder}
 use Rattle.codespan_documents.specs.declared.text.Run.{Run}
-use Rattle.codespan_documents.specs.Recorded.{recorded_run, recorded_runs}
+use Rattle.codespan_styled.specs.Private.Recorded.{recorded_run, recorded_runs}
 use Rattle.codespan_documents.specs.Runs.{run_view}
-use Rattle.codespan_documents.proofs.Recording.{contents-ended, nothing_appended, recorded-failed, recorded-started}
-use Rattle.codespan_documents.proofs.recorder.Recorder.push_run.Goals as goal
+use Rattle.codespan_styled.proofs.Recording.{contents-ended, nothing_appended, recorded-failed, recorded-started}
+use Rattle.codespan_styled.proofs.recorder.Recorder.push_run.Goals as goal
 
 pub returns-in_default-clause-appends : goal.returns-in_default-clause-appends
 returns-in_default-clause-appends c = λ known. nothing_appended c.args.self.now c.args.self.now _ refl

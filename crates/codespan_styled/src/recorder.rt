@@ -5,14 +5,14 @@ ghost use Rattle.codespan_base.specs.Streams.{bytes};
 ghost use Rattle.codespan_base.specs.WriterLaw.{Writes, AppendsBytes};
 ghost use Rattle.codespan_base.specs.Writers.{fresh_sink};
 ghost use Rattle.codespan_documents.specs.declared.style.Style.TheVariants.{Plain};
-ghost use Rattle.codespan_documents.specs.Recorded.{recorded_runs, style_number, style_spelling};
 ghost use Rattle.codespan_documents.specs.Runs.{styled_runs};
+ghost use Rattle.codespan_styled.specs.Private.Recorded.{recorded_runs, style_number, style_spelling};
 
-use crate::style::Style;
-use crate::text::{Run, StyledText};
 use codespan_base::diagnostic::{LabelStyle, Severity};
 use codespan_base::files::Error;
 use codespan_base::term::WriteStyle;
+use codespan_documents::style::Style;
+use codespan_documents::text::{Run, StyledText};
 use std::alloc::Global;
 use std::io::{ErrorKind, Write};
 use std::{io, str};
@@ -33,7 +33,7 @@ pub struct Recorder {
 }
 
 impl Recorder {
-    ghost use Rattle.codespan_documents.specs.Recorded.{ended_runs, has_failed, recorded, recorder_sink};
+    ghost use Rattle.codespan_styled.specs.Private.Recorded.{ended_runs, has_failed, recorded, recorder_sink};
 
     /// Returns a writer that has received nothing. Its first run is plain.
     pub fn new(alloc: Global) -> Recorder
@@ -115,7 +115,7 @@ impl Recorder {
 
 /// Leaves [`has_failed`](Recorder::has_failed) unchanged where a `write` fails.
 impl Write for Recorder {
-    ghost use Rattle.codespan_documents.specs.Recorded.{recorded};
+    ghost use Rattle.codespan_styled.specs.Private.Recorded.{recorded};
 
     ghost contents = { λ recorder. Some (recorded recorder) };
 
@@ -134,7 +134,7 @@ impl Write for Recorder {
 #[tactic(auto, using(codespan_base::proofs::StyleMarks::marking))]
 impl WriteStyle for Recorder {
     ghost use Rattle.std.specs.Prelude.{refl};
-    ghost use Rattle.codespan_documents.specs.Recorded.{recorder_sink};
+    ghost use Rattle.codespan_styled.specs.Private.Recorded.{recorder_sink};
 
     ghost sink = { recorder_sink };
 

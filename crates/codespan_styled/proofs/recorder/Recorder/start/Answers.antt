@@ -1,8 +1,8 @@
 use Rattle.std.proofs.Common.{[], refl, ap}
 use Rattle.codespan_base.specs.WriterLaw.{Frame}
 use Rattle.codespan_base.proofs.StyleMarks.{is_known_contents, appended_written, prefix_written}
-use Rattle.codespan_documents.specs.Recorded.{style_spelling}
-use Rattle.codespan_documents.proofs.recorder.Recorder.start.Goals as goal
+use Rattle.codespan_styled.specs.Private.Recorded.{style_spelling}
+use Rattle.codespan_styled.proofs.recorder.Recorder.start.Goals as goal
 
 pub returns-in-Ok : goal.returns-in-Ok
 returns-in-Ok c =

@@ -8,7 +8,7 @@ use Rattle.codespan_base.specs.declared.diagnostic.Severity.{Severity}
 use Rattle.codespan_base.specs.declared.diagnostic.Severity.TheVariants.{Bug, Error, Warning, Note, Help}
 use Rattle.codespan_base.specs.Streams.{Spelling}
 use Rattle.codespan_base.specs.WriterLaw.{Sink}
-use Rattle.codespan_documents.specs.declared.recorder.Recorder.{Recorder}
+use Rattle.codespan_styled.specs.declared.recorder.Recorder.{Recorder}
 use Rattle.codespan_documents.specs.declared.style.Style.{Style}
 use Rattle.codespan_documents.specs.declared.style.Style.TheVariants.{Plain, Header, HeaderMessage, LineNumber, NoteBullet, SourceBorder, Label}
 use Rattle.codespan_documents.specs.Runs.{StyledRun, run_view, style_after}

@@ -3,10 +3,10 @@ use Rattle.std.proofs.Common.{◌≡◌, ℕ, List, [], ◌∷◌, ◌++◌, map
 use Rattle.std.proofs.lemmas.Grind.{flat_map-append}
 use Rattle.std.proofs.lemmas.List.{map-append}
 use Rattle.codespan_base.specs.WriterLaw.{PrefixAppended, extended, AppendsBytes}
-use Rattle.codespan_documents.specs.declared.recorder.Recorder.{Recorder}
+use Rattle.codespan_styled.specs.declared.recorder.Recorder.{Recorder}
 use Rattle.codespan_documents.specs.declared.style.Style.{Style}
 use Rattle.codespan_documents.specs.declared.text.Run.{Run}
-use Rattle.codespan_documents.specs.Recorded.{ended_runs, recorded_run, recorded_runs, recorded, style_number}
+use Rattle.codespan_styled.specs.Private.Recorded.{ended_runs, recorded_run, recorded_runs, recorded, style_number}
 use Rattle.codespan_documents.specs.Runs.{run_view}
 
 -- bytes that the last run takes are recorded last

@@ -1,7 +1,7 @@
 use Rattle.codespan_base.specs.Streams.{LabelMark}
 use Rattle.codespan_base.proofs.StyleMarks.{Writes-style_mark}
-use Rattle.codespan_documents.specs.Recorded.{recorder_sink}
-use Rattle.codespan_documents.proofs.recorder.RecorderWriteStyle.set_label.Goals as goal
+use Rattle.codespan_styled.specs.Private.Recorded.{recorder_sink}
+use Rattle.codespan_styled.proofs.recorder.RecorderWriteStyle.set_label.Goals as goal
 
 -- the number of the label's style is the spelling of its style mark
 pub returns : goal.returns

@@ -8,7 +8,7 @@ use Rattle.codespan_base.specs.declared.diagnostic.Severity.TheVariants.{Bug, Er
 use Rattle.codespan_base.specs.Streams.{Stream, Byte, Mark, Slot, spelled, text_of}
 use Rattle.codespan_documents.specs.declared.style.Style.{Style}
 use Rattle.codespan_documents.specs.declared.style.Style.TheVariants.{Plain, Header, HeaderMessage, LineNumber, NoteBullet, SourceBorder, Label}
-use Rattle.codespan_documents.specs.Recorded.{AllBytes, AreBytes, recorded_runs, style_number, style_spelling}
+use Rattle.codespan_styled.specs.Private.Recorded.{AllBytes, AreBytes, recorded_runs, style_number, style_spelling}
 use Rattle.codespan_documents.specs.Runs.{StyledRun, joined, runs_from, runs_of, style_after}
 
 -- a run
