@@ -1,12 +1,12 @@
-//! All runs of a row.
+//! All runs of a worked output, and of a row by a call of its own.
 
 use crate::direct::Direct;
 use crate::direct::rows::DirectRow;
 use crate::failure::{Failure, FailureAt};
 use crate::rendering::{CALLS, Input, Render, RenderCall, Rendering};
-use crate::row::{ExpectedColors, Row};
 use crate::stops::{judge_stops, judge_style_marks};
 use crate::style_writers::{STYLE_WRITERS, StyleWriterKind};
+use crate::worked_output::{ExpectedColors, WorkedOutput};
 use codespan_base::diagnostic::Diagnostic;
 use codespan_base::files::{Error, Files};
 use codespan_base::term::{Config, DisplayStyle};
@@ -14,28 +14,32 @@ use codespan_views::emitting::{emit_into_string, emit_to_string};
 use gallery_script::database::{Database, database_of};
 use std::alloc::Global;
 
-/// The styles in which each row is rendered.
+/// The styles in which each worked output is rendered.
 pub const STYLES: [DisplayStyle; 3] = [
     DisplayStyle::Rich,
     DisplayStyle::Medium,
     DisplayStyle::Short,
 ];
 
-/// Makes all runs of a row, and returns their number.
+/// Makes all runs of a worked output, and returns their number.
 ///
 /// # Errors
 ///
 /// The first error of a run, with its style and its call.
-pub fn judge_row(alloc: Global, row: &Row<'_>) -> Result<usize, FailureAt> {
-    let database = prepared(database_of(alloc, &row.case))?;
-    judge_styles(alloc, row, &database)
+pub fn judge_output(alloc: Global, worked: &WorkedOutput<'_>) -> Result<usize, FailureAt> {
+    let database = prepared(database_of(alloc, &worked.case))?;
+    judge_styles(alloc, worked, &database)
 }
 
-/// Makes all runs of a row over its file database.
-fn judge_styles(alloc: Global, row: &Row<'_>, database: &Database<'_>) -> Result<usize, FailureAt> {
+/// Makes all runs of a worked output over its file database.
+fn judge_styles(
+    alloc: Global,
+    worked: &WorkedOutput<'_>,
+    database: &Database<'_>,
+) -> Result<usize, FailureAt> {
     let mut runs = 0usize;
     for style in STYLES {
-        let more = judge_style(alloc, row, database, style)?;
+        let more = judge_style(alloc, worked, database, style)?;
         runs = runs.saturating_add(more);
     }
     Ok(runs)
@@ -49,27 +53,31 @@ fn prepared<T: Drop>(made: Result<T, Error>) -> Result<T, FailureAt> {
     }
 }
 
-/// Makes all runs of a row in a style, over its file database.
+/// Makes all runs of a worked output in a style, over its file database.
 fn judge_style(
     alloc: Global,
-    row: &Row<'_>,
+    worked: &WorkedOutput<'_>,
     database: &Database<'_>,
     style: DisplayStyle,
 ) -> Result<usize, FailureAt> {
-    let config = prepared(row.config(style))?;
+    let config = prepared(worked.config(style))?;
     let input = Input {
         config: &config,
         database,
-        diagnostic: &row.case.diagnostic,
+        diagnostic: &worked.case.diagnostic,
     };
-    judge_input(alloc, row, input)
+    judge_input(alloc, worked, input)
 }
 
-/// Makes all runs of a row in the style of a configuration.
-fn judge_input(alloc: Global, row: &Row<'_>, input: Input<'_, '_>) -> Result<usize, FailureAt> {
+/// Makes all runs of a worked output in the style of a configuration.
+fn judge_input(
+    alloc: Global,
+    worked: &WorkedOutput<'_>,
+    input: Input<'_, '_>,
+) -> Result<usize, FailureAt> {
     let style = input.config.display_style;
-    let text = at(Some(style), None, text_of(alloc, row, input))?;
-    judge_calls(alloc, input, text.as_str(), row.colors(style))
+    let text = at(Some(style), None, text_of(alloc, worked, input))?;
+    judge_calls(alloc, input, text.as_str(), worked.colors(style))
 }
 
 /// Makes all runs in a style, from the plain text and what is stated of the text in escape
@@ -122,12 +130,16 @@ fn at<T: Drop>(
 /// The old text of a string that is appended to.
 const OLD_TEXT: &str = "kept";
 
-/// Returns the plain text in the style of a configuration. It is compared with the one that the row
-/// states, if any, and with what is appended to a string.
-fn text_of(alloc: Global, row: &Row<'_>, input: Input<'_, '_>) -> Result<String, Failure> {
+/// Returns the plain text in the style of a configuration. It is compared with the one that is
+/// stated, if any, and with what is appended to a string.
+fn text_of(
+    alloc: Global,
+    worked: &WorkedOutput<'_>,
+    input: Input<'_, '_>,
+) -> Result<String, Failure> {
     let text = rendered_text(alloc, input)?;
-    match row.plain_text(input.config.display_style) {
-        Some(want) if text.as_str() != want => Err(Failure::OtherRowText),
+    match worked.plain_text(input.config.display_style) {
+        Some(want) if text.as_str() != want => Err(Failure::OtherStatedText),
         _ => Ok(text),
     }
 }
@@ -188,7 +200,7 @@ fn judge_call<D: Render>(
     Ok(runs)
 }
 
-/// Compares the text in escape sequences with what the row states, if the call writes style marks.
+/// Compares the text in escape sequences with what is stated, if the call writes style marks.
 /// This is no run of its own.
 fn judge_colors<D: Render>(
     output: &D,

@@ -1,4 +1,4 @@
-//! The calls that render a row.
+//! The calls that render a worked output.
 
 use codespan_base::diagnostic::Diagnostic;
 use codespan_base::files::{Error, Files};

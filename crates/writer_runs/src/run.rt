@@ -4,18 +4,18 @@ ghost use Rattle.std.specs.Prelude.{◌≤◌};
 
 use crate::direct::rows::ROWS;
 use crate::failure::{FailureAt, ProgramError};
-use crate::judging::{STYLES, judge_direct, judge_row};
+use crate::judging::{STYLES, judge_direct, judge_output};
 use crate::rendering::CALLS;
-use crate::row::Row;
-use crate::rows::parse_rows;
 use crate::stops::WRITERS;
+use crate::worked_output::WorkedOutput;
+use crate::worked_outputs::parse_outputs;
 use program_io::input::read_text;
 use std::alloc::Global;
 use std::fmt::Display;
 use std::io;
 use std::io::{Read, Write};
 
-/// Makes the runs of each row, writes a line for each, and returns the program's status. The number
+/// Makes the runs of each worked output and of each direct call, writes a line for each, and returns the program's status. The number
 /// of runs is written to `error_output`, after the error that ends the program, if there is one; an
 /// error of `error_output` is ignored.
 pub fn run<R: Read, W: Write, E: Write>(
@@ -44,43 +44,43 @@ fn write_counts<E: Write>(
     if let Err(error) = outcome {
         writeln!(error_output, "writer_runs: {error}")?;
     }
-    let (rows, runs) = (sum.rows, sum.runs);
-    writeln!(error_output, "writer_runs: {rows} rows, {runs} runs")
+    let (texts, runs) = (sum.texts, sum.runs);
+    writeln!(error_output, "writer_runs: {texts} texts, {runs} runs")
 }
 
-/// How many rows and runs there were so far, and whether one was wrong.
+/// How many stated texts and runs there were so far, and whether one was wrong.
 #[derive(Clone, Copy, Default)]
 struct Sum {
-    rows: usize,
+    texts: usize,
     runs: usize,
     is_wrong: bool,
 }
 
 impl Sum {
-    /// Counts a row and its runs, and writes its line: by which calls it was rendered, or the
+    /// Counts a text and its runs, and writes its line: by which calls it was rendered, or the
     /// error.
-    fn report<W: Write, D: Display + Drop>(
+    fn report<W: Write, T: Display + Drop, D: Display + Drop>(
         &mut self,
         output: &mut W,
-        name: &str,
+        title: T,
         judged: Result<usize, FailureAt>,
         calls: D,
     ) -> io::Result<()> {
-        self.rows = self.rows.saturating_add(1);
+        self.texts = self.texts.saturating_add(1);
         match judged {
             Ok(runs) => {
                 self.runs = self.runs.saturating_add(runs);
-                writeln!(output, "row {name}: {calls}, {WRITERS} writers")
+                writeln!(output, "{title}: {calls}, {WRITERS} writers")
             }
             Err(failure) => {
                 self.is_wrong = true;
-                writeln!(output, "row {name}: wrong: {failure}")
+                writeln!(output, "{title}: wrong: {failure}")
             }
         }
     }
 }
 
-/// Makes the runs of the rows of the input, and of the direct calls.
+/// Makes the runs of the worked outputs of the input, and of the direct calls.
 fn judge_all<R: Read, W: Write>(
     alloc: Global,
     input: &mut R,
@@ -92,29 +92,30 @@ fn judge_all<R: Read, W: Write>(
     judge_direct_rows(alloc, output, sum)
 }
 
-/// Makes the runs of the rows of an input.
+/// Makes the runs of the worked outputs of an input.
 fn judge_text<W: Write>(
     alloc: Global,
     text: &str,
     output: &mut W,
     sum: &mut Sum,
 ) -> Result<(), ProgramError> {
-    let rows = parse_rows(alloc, text)?;
-    judge_rows(alloc, rows.as_slice(), output, sum)
+    let worked_outputs = parse_outputs(alloc, text)?;
+    judge_outputs(alloc, worked_outputs.as_slice(), output, sum)
 }
 
-/// Makes the runs of rows, and writes a line for each.
-fn judge_rows<W: Write>(
+/// Makes the runs of worked outputs, and writes a line for each.
+fn judge_outputs<W: Write>(
     alloc: Global,
-    rows: &[Row<'_>],
+    worked_outputs: &[WorkedOutput<'_>],
     output: &mut W,
     sum: &mut Sum,
 ) -> Result<(), ProgramError> {
     let (styles, calls) = (STYLES.len(), CALLS.len());
-    for row in rows {
-        let judged = judge_row(alloc, row);
+    for worked in worked_outputs {
+        let judged = judge_output(alloc, worked);
         let calls = format_args!("{calls} calls in {styles} styles");
-        sum.report(output, row.case.name, judged, calls)?;
+        let name = worked.case.name;
+        sum.report(output, format_args!("output {name}"), judged, calls)?;
     }
     Ok(())
 }
@@ -126,7 +127,8 @@ fn judge_direct_rows<W: Write>(
     sum: &mut Sum,
 ) -> Result<(), ProgramError> {
     for row in &ROWS {
-        sum.report(output, row.name, judge_direct(alloc, row), row.call)?;
+        let (name, judged) = (row.name, judge_direct(alloc, row));
+        sum.report(output, format_args!("row {name}"), judged, row.call)?;
     }
     Ok(())
 }

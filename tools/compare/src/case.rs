@@ -74,7 +74,7 @@ impl Case {
             "tab" => self.config.tab_width = rest.parse().ok()?,
             "context" => set_context(&mut self.config, rest)?,
             "characters" => self.config.chars = chars_of(rest)?,
-            // A word more than the gallery's, for the rows of `compare-rows`.
+            // A word more than the gallery's, for `compare-outputs`.
             "character" => {
                 let (name, character) = rest.split_once(' ')?;
                 *character_of(&mut self.config.chars, name)? = character.parse().ok()?;

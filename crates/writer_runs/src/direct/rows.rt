@@ -1,7 +1,7 @@
 //! Rows by their own calls of `Renderer`. The file is `f.txt`, and the locus its first.
 
 use crate::direct::{Line, RowCall};
-use crate::row::ExpectedColors;
+use crate::worked_output::ExpectedColors;
 use codespan_base::diagnostic::LabelStyle::{Primary, Secondary};
 use codespan_base::diagnostic::Severity;
 use codespan_renderer::term::renderer::MultiLabel;

@@ -1,4 +1,4 @@
-//! A row: a case, and the texts that are expected of it.
+//! A worked output: a case, and the texts that are expected of it.
 
 use codespan_base::files::Error;
 use codespan_base::term::{Config, DisplayStyle};
@@ -44,7 +44,7 @@ impl TextKind {
     }
 }
 
-/// What a row states of its text in escape sequences.
+/// What is stated of a text in escape sequences.
 #[derive(Clone, Copy)]
 pub enum ExpectedColors<'text> {
     /// The end of the text.
@@ -72,16 +72,16 @@ struct Text {
 
 /// A case, and its expected texts.
 #[derive(Drop)]
-pub struct Row<'input> {
-    /// The case. Its style and how it writes colors are not used: a row is rendered in each.
+pub struct WorkedOutput<'input> {
+    /// The case. Its style and how it writes colors are not used: it is rendered in each.
     pub case: Case<'input>,
     texts: Vec<Text>,
 }
 
-impl<'input> Row<'input> {
-    /// Returns a row of this name, with an empty case and no text.
-    pub fn new(alloc: Global, name: &'input str) -> Row<'input> {
-        Row {
+impl<'input> WorkedOutput<'input> {
+    /// Returns a worked output of this name, with an empty case and no text.
+    pub fn new(alloc: Global, name: &'input str) -> WorkedOutput<'input> {
+        WorkedOutput {
             case: Case::new(alloc, name),
             texts: Vec::new(alloc),
         }

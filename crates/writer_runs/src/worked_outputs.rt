@@ -1,4 +1,4 @@
-//! The parser of the rows.
+//! The parser of the worked outputs.
 //!
 //! The input is that of [`gallery_script::cases`], with these lines more, of which each belongs to
 //! the last case; texts are escaped as there:
@@ -15,7 +15,7 @@
 //! C that is not one character, is the error `UnknownName`.
 
 use crate::failure::ProgramError;
-use crate::row::{Row, TextKind};
+use crate::worked_output::{TextKind, WorkedOutput};
 use codespan_base::term::Chars;
 use gallery_script::errors::LineError;
 use gallery_script::escape::unescape;
@@ -23,83 +23,86 @@ use gallery_script::fields::cut;
 use gallery_script::statement::{Line, Statement, parse_line};
 use std::alloc::Global;
 
-/// Returns the rows of an input.
+/// Returns the worked outputs of an input.
 ///
 /// # Errors
 ///
 /// `Line` with the error of the first line that has one.
-pub fn parse_rows(alloc: Global, input: &str) -> Result<Vec<Row<'_>>, ProgramError> {
-    let mut rows = Vec::new(alloc);
+pub fn parse_outputs(alloc: Global, input: &str) -> Result<Vec<WorkedOutput<'_>>, ProgramError> {
+    let mut outputs = Vec::new(alloc);
     let mut number = 0usize;
     for line in input.lines() {
         number = number.saturating_add(1);
-        if let Err(line_error) = apply_line(alloc, &mut rows, line) {
+        if let Err(line_error) = apply_line(alloc, &mut outputs, line) {
             return Err(ProgramError::Line(number, line_error));
         }
     }
-    Ok(rows)
+    Ok(outputs)
 }
 
-/// Applies a line: it begins a row, describes the last one, or is ignored.
+/// Applies a line: it begins a worked output, describes the last one, or is ignored.
 fn apply_line<'input>(
     alloc: Global,
-    rows: &mut Vec<Row<'input>>,
+    outputs: &mut Vec<WorkedOutput<'input>>,
     line: &'input str,
 ) -> Result<(), LineError> {
     let (word, rest) = cut(line);
     if let Some(kind) = TextKind::named(word) {
-        return add_text(alloc, rows, kind, rest);
+        return add_text(alloc, outputs, kind, rest);
     }
     if word == "character" {
-        return set_character(&mut last(rows)?.case.config.chars, rest);
+        return set_character(&mut last(outputs)?.case.config.chars, rest);
     }
-    apply_case_line(alloc, rows, line)
+    apply_case_line(alloc, outputs, line)
 }
 
 /// Applies a line of the gallery's input.
 fn apply_case_line<'input>(
     alloc: Global,
-    rows: &mut Vec<Row<'input>>,
+    outputs: &mut Vec<WorkedOutput<'input>>,
     line: &'input str,
 ) -> Result<(), LineError> {
     match parse_line(alloc, line)? {
         Line::Ignored => Ok(()),
-        Line::NewCase(name) => add_row(alloc, rows, name),
-        Line::Description(statement) => apply_to_last(rows, statement),
+        Line::NewCase(name) => add_output(alloc, outputs, name),
+        Line::Description(statement) => apply_to_last(outputs, statement),
     }
 }
 
-/// Applies a statement to the case of the last row.
-fn apply_to_last(rows: &mut Vec<Row<'_>>, statement: Statement) -> Result<(), LineError> {
-    last(rows)?.case.apply(statement)
+/// Applies a statement to the case of the last worked output.
+fn apply_to_last(
+    outputs: &mut Vec<WorkedOutput<'_>>,
+    statement: Statement,
+) -> Result<(), LineError> {
+    last(outputs)?.case.apply(statement)
 }
 
-/// Adds an escaped text to the last row.
+/// Adds an escaped text to the last worked output.
 fn add_text(
     alloc: Global,
-    rows: &mut Vec<Row<'_>>,
+    outputs: &mut Vec<WorkedOutput<'_>>,
     kind: TextKind,
     escaped: &str,
 ) -> Result<(), LineError> {
     let text = unescape(alloc, escaped)?;
-    last(rows)?.add_text(kind, text)
+    last(outputs)?.add_text(kind, text)
 }
 
-/// Adds a row of this name.
-fn add_row<'input>(
+/// Adds a worked output of this name.
+fn add_output<'input>(
     alloc: Global,
-    rows: &mut Vec<Row<'input>>,
+    outputs: &mut Vec<WorkedOutput<'input>>,
     name: &'input str,
 ) -> Result<(), LineError> {
-    rows.push(Row::new(alloc, name))?;
+    outputs.push(WorkedOutput::new(alloc, name))?;
     Ok(())
 }
 
-/// Returns the last row.
-fn last<'rows, 'input>(
-    rows: &'rows mut Vec<Row<'input>>,
-) -> Result<&'rows mut Row<'input>, LineError> {
-    rows.last_mut().ok_or(LineError::NoCase)
+/// Returns the last worked output.
+fn last<'outputs, 'input>(
+    outputs: &'outputs mut Vec<WorkedOutput<'input>>,
+) -> Result<&'outputs mut WorkedOutput<'input>, LineError> {
+    outputs.last_mut().ok_or(LineError::NoCase)
 }
 
 /// Sets a character by the rest of a `character` line.
