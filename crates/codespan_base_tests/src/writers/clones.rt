@@ -1,21 +1,23 @@
 //! Clones of configurations, of their characters and of the texts before a locus.
 
-use crate::asserts::assert_same;
+use crate::asserts::{assert_ok, assert_same};
 use codespan_base::files::Error;
 use codespan_base::term::config::chars::SnippetStart;
 use codespan_base::term::{Chars, Config, Layout};
 use std::alloc::{AllocError, Global};
-use std::test::Fail;
+use std::panic::Expect;
 
 #[test]
-fn clone_of_default_configuration(rt: HostRuntime) -> Result<(), Fail> {
-    let fixed = Config::default().clone()?;
-    assert_same(&rt, &fixed.tab_width, &4);
-    assert_same(&rt, &fixed.start_context_lines, &3);
-    assert_same(&rt, &fixed.layout, &Layout::Classic);
-    assert_same(&rt, &fixed.chars.multi_left, &'│');
+fn clone_of_default_configuration(rt: HostRuntime) {
+    let fixed = Config::default().clone().expect(&rt, "a copy");
+    let numbers = (fixed.tab_width, fixed.start_context_lines);
+    assert_same(&rt, &numbers, &(4, 3));
+    assert_same(
+        &rt,
+        &(fixed.layout, fixed.chars.multi_left),
+        &(Layout::Classic, '│'),
+    );
     assert!(rt; matches!(fixed.chars.snippet_start, SnippetStart::Fixed("┌─")));
-    Ok(())
 }
 
 /// Returns a configuration whose snippets start with `==>`, a text that it owns.
@@ -50,18 +52,17 @@ fn chars_clone_is_owned(chars: &Chars<'_>) -> Result<bool, Error> {
 }
 
 #[test]
-fn clones(rt: HostRuntime) -> Result<(), Fail> {
-    let config = with_owned_start(rt.alloc())?;
-    assert!(rt; start_clone_is_owned(&config.chars.snippet_start)?);
-    assert!(rt; chars_clone_is_owned(&config.chars)?);
-    Ok(())
+fn clones(rt: HostRuntime) {
+    let config = with_owned_start(rt.alloc()).expect(&rt, "a configuration");
+    assert_ok(&rt, start_clone_is_owned(&config.chars.snippet_start), true);
+    assert_ok(&rt, chars_clone_is_owned(&config.chars), true);
 }
 
 #[test]
-fn clone_of_configuration(rt: HostRuntime) -> Result<(), Fail> {
-    let copy = with_owned_start(rt.alloc())?.clone()?;
-    assert_same(&rt, &copy.tab_width, &8);
-    assert_same(&rt, &copy.chars.pointer_left, &'|');
-    assert!(rt; has_owned_start(&copy.chars.snippet_start));
-    Ok(())
+fn clone_of_configuration(rt: HostRuntime) {
+    let config = with_owned_start(rt.alloc()).expect(&rt, "a configuration");
+    let copy = config.clone().expect(&rt, "a copy");
+    let start_is_owned = has_owned_start(&copy.chars.snippet_start);
+    let parts = (copy.tab_width, copy.chars.pointer_left, start_is_owned);
+    assert_same(&rt, &parts, &(8, '|', true));
 }
