@@ -47,9 +47,11 @@ pub fn assert_line_too_large<T: Drop>(
     returned: Result<T, Error>,
     limits: (usize, usize),
 ) {
-    assert!(rt;
-        matches!(&returned, Err(Error::LineTooLarge { given, max }) if (*given, *max) == limits)
-    );
+    let found = match returned {
+        Err(Error::LineTooLarge { given, max }) => Some((given, max)),
+        _ => None,
+    };
+    assert_same(rt, &found, &Some(limits));
 }
 
 /// Asserts that a call failed with `ColumnTooLarge`, with these values of `given` and `max`.
@@ -58,9 +60,11 @@ pub fn assert_column_too_large<T: Drop>(
     returned: Result<T, Error>,
     limits: (usize, usize),
 ) {
-    assert!(rt;
-        matches!(&returned, Err(Error::ColumnTooLarge { given, max }) if (*given, *max) == limits)
-    );
+    let found = match returned {
+        Err(Error::ColumnTooLarge { given, max }) => Some((given, max)),
+        _ => None,
+    };
+    assert_same(rt, &found, &Some(limits));
 }
 
 /// Returns the byte index in `InvalidCharBoundary`, where a call failed with it.

@@ -32,6 +32,12 @@ static COLUMNS: [(usize, usize); 8] = [
 /// The starts of the lines of `FOUR_LINES`.
 static STARTS: [usize; 4] = [0, 4, 9, 10];
 
+/// Asserts that the lines of a text start at these bytes.
+fn assert_starts(rt: &impl Abort, alloc: Global, text: &str, expected: &[usize]) {
+    let starts: Vec<usize> = line_starts(text).collect(alloc).expect(rt, "the starts");
+    assert_same(rt, &starts.as_slice(), &expected);
+}
+
 #[test]
 fn columns_and_starts(rt: HostRuntime) {
     let text = "\n\n🗻∈🌏\n\n";
@@ -39,10 +45,7 @@ fn columns_and_starts(rt: HostRuntime) {
     for (byte, column) in &COLUMNS {
         assert_same_at(&rt, *byte, &column_index(text, 2..13, *byte), column);
     }
-    let starts: Vec<usize> = line_starts(FOUR_LINES)
-        .collect(rt.alloc())
-        .expect(&rt, "the starts");
-    assert_same(&rt, &starts.as_slice(), &STARTS.as_slice());
+    assert_starts(&rt, rt.alloc(), FOUR_LINES, STARTS.as_slice());
 }
 
 /// A text of four lines, the second of which ends with two characters, and the last with none.

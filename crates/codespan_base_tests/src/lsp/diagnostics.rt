@@ -51,9 +51,9 @@ fn first_program(rt: HostRuntime) {
     let position = byte_index_to_position(&file, (), 8).expect(&rt, "a position");
     assert!(rt; (position.line, position.character) == (1, 3));
     let byte_index = position_to_byte_index(&file, (), &position).expect(&rt, "a byte index");
-    assert!(rt; byte_index == 8);
     let utf8 = PositionEncoding::Utf8.byte_index_to_position(&file, (), 8);
-    assert!(rt; utf8.expect(&rt, "a position in UTF-8").character == 5);
+    let utf8 = utf8.expect(&rt, "a position in UTF-8");
+    assert!(rt; (byte_index, utf8.character) == (8, 5));
 }
 
 /// Severities, and their numbers.
@@ -92,14 +92,23 @@ static LABELS: [(u32, u32, u32, &str); 2] = [
     (3, 1, 4, "too few arguments\nnote: `f` takes one argument"),
 ];
 
+/// Asserts that a diagnostic has the range and the message of a row of that table.
+fn assert_is_of_label(
+    rt: &impl Abort,
+    one: &LspDiagnostic<usize>,
+    label: &(u32, u32, u32, &'static str),
+) {
+    let range = on_line(label.0, label.1, label.2);
+    assert_same(rt, &(one.range, one.message.as_str()), &(range, label.3));
+}
+
 /// One diagnostic for each primary label.
 #[test]
 fn two_primary_labels(rt: HostRuntime) {
     let diagnostics = lsp_diagnostics(&rt, rt.alloc());
     assert_same(&rt, &diagnostics.len(), &2);
-    for (one, (line, start, end, message)) in diagnostics.iter().zip(LABELS.iter()) {
-        let range = on_line(*line, *start, *end);
-        assert_same(&rt, &(one.range, one.message.as_str()), &(range, *message));
+    for (one, label) in diagnostics.iter().zip(LABELS.iter()) {
+        assert_is_of_label(&rt, one, label);
     }
 }
 
@@ -110,8 +119,7 @@ fn assert_shared(rt: &impl Abort, one: &LspDiagnostic<usize>) {
         &(one.file_id, one.severity),
         &(0, DiagnosticSeverity::Error),
     );
-    let code = one.code.as_ref().map(|code| code.as_str());
-    assert_same(rt, &code, &Some("E0061"));
+    assert!(rt; matches!(&one.code, Some(code) if code.as_str() == "E0061"));
 }
 
 /// Each has the file of its label, and what the diagnostic has.

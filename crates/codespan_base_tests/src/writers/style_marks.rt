@@ -2,9 +2,9 @@
 
 use crate::writers::written::{
     Rows, ansi, assert_written, color_sequences, no_color_style_marks, plain_ref_style_marks,
-    plain_style_marks, tag_color_style_marks, tag_style_marks,
+    plain_style_marks, tag_color_style_marks, tag_style_marks, write_style_marks,
 };
-use codespan_base::term::Color;
+use codespan_base::term::{Color, PlainWriter};
 use std::panic::Expect;
 
 /// The style marks of `write_style_marks` where each is spelled as nothing: a newline for each but
@@ -32,8 +32,7 @@ const TAG_STYLE_MARKS: &str = "[header]\n[primary]\n[secondary]\n[header]\n[prim
 #[test]
 fn every_style_mark_of_every_writer(rt: HostRuntime) {
     let alloc = rt.alloc();
-    let plain = plain_style_marks(alloc).map(|plain| plain.into_inner());
-    assert_written(&rt, plain, NO_STYLE_MARKS);
+    assert_written(&rt, plain_style_marks(alloc), NO_STYLE_MARKS);
     assert_written(&rt, plain_ref_style_marks(alloc), NO_STYLE_MARKS);
     assert_written(&rt, ansi(alloc, Rows::StyleMarks), ANSI_STYLE_MARKS);
     assert_written(&rt, no_color_style_marks(alloc), NO_STYLE_MARKS);
@@ -43,7 +42,8 @@ fn every_style_mark_of_every_writer(rt: HostRuntime) {
 
 #[test]
 fn plain_style_marks_set_no_flag(rt: HostRuntime) {
-    let plain = plain_style_marks(rt.alloc()).expect(&rt, "the style marks");
+    let mut plain = PlainWriter::new(Vec::new(rt.alloc()));
+    write_style_marks(&mut plain).expect(&rt, "the style marks");
     assert!(rt; !plain.has_failed());
 }
 

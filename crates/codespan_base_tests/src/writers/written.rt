@@ -1,5 +1,6 @@
 //! What tests write: style marks and parts of rows, over writers of each kind.
 
+use crate::asserts::assert_same;
 use codespan_base::diagnostic::{LabelStyle, Severity};
 use codespan_base::term::config::plain_ref::PlainWriterRef;
 use codespan_base::term::config::writing::{
@@ -145,8 +146,9 @@ pub fn write_rows<W: WriteStyle>(w: &mut W, rows: Rows) -> io::Result<()> {
 
 /// Asserts that a call wrote this text.
 pub fn assert_written(rt: &impl Abort, written: io::Result<Vec<u8>>, expected: &str) {
-    let text = written.expect(rt, "a text");
-    assert_eq!(rt; text.as_slice(), expected.as_bytes(), "{expected:?}");
+    let bytes = written.expect(rt, "a text");
+    let text = str::from_utf8(bytes.as_slice());
+    assert_same(rt, &text.ok(), &Some(expected));
 }
 
 /// Returns a part, plain.
@@ -161,11 +163,11 @@ pub fn assert_plain(rt: &impl Abort, alloc: Global, part: Part, expected: &str) 
     assert_written(rt, plain_part(alloc, part), expected);
 }
 
-/// Returns a writer of plain text that has written every style mark.
-pub fn plain_style_marks(alloc: Global) -> io::Result<PlainWriter<Vec<u8>>> {
+/// Returns every style mark of a writer of plain text.
+pub fn plain_style_marks(alloc: Global) -> io::Result<Vec<u8>> {
     let mut plain = PlainWriter::new(Vec::new(alloc));
     write_style_marks(&mut plain)?;
-    Ok(plain)
+    Ok(plain.into_inner())
 }
 
 /// Returns every style mark of a writer of plain text over a borrowed one.
