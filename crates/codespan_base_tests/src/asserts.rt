@@ -14,11 +14,6 @@ pub fn assert_same_at<T: PartialEq + Debug>(rt: &impl Abort, at: usize, left: &T
     assert_eq!(rt; left, right, "at {at}");
 }
 
-/// Asserts that these bytes are this text.
-pub fn assert_text(rt: &impl Abort, text: &[u8], expected: &str) {
-    assert_eq!(rt; text, expected.as_bytes(), "{expected:?}");
-}
-
 /// Asserts that a call returned this value.
 pub fn assert_ok<T: Copy + PartialEq + Debug>(
     rt: &impl Abort,
@@ -32,46 +27,50 @@ pub fn assert_ok<T: Copy + PartialEq + Debug>(
 }
 
 /// Returns whether a call failed with `FileMissing`.
-pub fn is_file_missing<T>(returned: &Result<T, Error>) -> bool {
-    matches!(returned, Err(Error::FileMissing))
+pub fn is_file_missing<T: Drop>(returned: Result<T, Error>) -> bool {
+    matches!(&returned, Err(Error::FileMissing))
 }
 
 /// Asserts that a call failed with `FileMissing`.
-pub fn assert_file_missing<T>(rt: &impl Abort, returned: &Result<T, Error>) {
+pub fn assert_file_missing<T: Drop>(rt: &impl Abort, returned: Result<T, Error>) {
     assert!(rt; is_file_missing(returned));
 }
 
 /// Asserts that a call failed with `FormatError`.
-pub fn assert_format_error<T>(rt: &impl Abort, returned: &Result<T, Error>) {
-    assert!(rt; matches!(returned, Err(Error::FormatError)));
+pub fn assert_format_error<T: Drop>(rt: &impl Abort, returned: Result<T, Error>) {
+    assert!(rt; matches!(&returned, Err(Error::FormatError)));
 }
 
 /// Asserts that a call failed with `LineTooLarge`, with these values of `given` and `max`.
-pub fn assert_line_too_large<T>(
+pub fn assert_line_too_large<T: Drop>(
     rt: &impl Abort,
-    returned: &Result<T, Error>,
+    returned: Result<T, Error>,
     limits: (usize, usize),
 ) {
-    assert!(rt;
-        matches!(returned, Err(Error::LineTooLarge { given, max }) if (*given, *max) == limits)
-    );
+    let found = match returned {
+        Err(Error::LineTooLarge { given, max }) => Some((given, max)),
+        _ => None,
+    };
+    assert_same(rt, &found, &Some(limits));
 }
 
 /// Asserts that a call failed with `ColumnTooLarge`, with these values of `given` and `max`.
-pub fn assert_column_too_large<T>(
+pub fn assert_column_too_large<T: Drop>(
     rt: &impl Abort,
-    returned: &Result<T, Error>,
+    returned: Result<T, Error>,
     limits: (usize, usize),
 ) {
-    assert!(rt;
-        matches!(returned, Err(Error::ColumnTooLarge { given, max }) if (*given, *max) == limits)
-    );
+    let found = match returned {
+        Err(Error::ColumnTooLarge { given, max }) => Some((given, max)),
+        _ => None,
+    };
+    assert_same(rt, &found, &Some(limits));
 }
 
 /// Returns the byte index in `InvalidCharBoundary`, where a call failed with it.
-pub fn invalid_boundary<T>(returned: &Result<T, Error>) -> Option<usize> {
+pub fn invalid_boundary<T: Drop>(returned: Result<T, Error>) -> Option<usize> {
     match returned {
-        Err(Error::InvalidCharBoundary { given }) => Some(*given),
+        Err(Error::InvalidCharBoundary { given }) => Some(given),
         _ => None,
     }
 }

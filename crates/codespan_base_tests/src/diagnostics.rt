@@ -5,11 +5,11 @@ ghost use Rattle.std.specs.Prelude.{◌≡◌, ◌∷◌, [], IfOk, string_bytes
 use crate::asserts::{assert_format_error, assert_same};
 use codespan_base::diagnostic::{Diagnostic, Label, LabelStyle, Severity};
 use codespan_base::files::Error;
-use std::alloc::{AllocError, Global};
+use std::alloc::Global;
 use std::fmt;
 use std::fmt::{Display, Write};
+use std::panic::Expect;
 use std::process::Abort;
-use std::test::Fail;
 
 /// A value whose `Display` writes two bytes and then fails.
 #[derive(Drop)]
@@ -66,31 +66,45 @@ fn orders_of_severities_and_label_styles(rt: HostRuntime) {
 
 /// Asserts that a diagnostic has this severity, and nothing else.
 fn assert_is_new(rt: &impl Abort, made: Diagnostic<usize>, severity: Severity) {
-    assert_same(rt, &made.severity, &severity);
-    assert!(rt; made.code.is_none());
-    assert_same(rt, &made.message.as_str(), &"");
-    assert!(rt; made.labels.is_empty());
-    assert!(rt; made.notes.is_empty());
+    let parts = (made.severity, made.code.is_none(), made.message.as_str());
+    assert_same(rt, &parts, &(severity, true, ""));
+    assert_same(rt, &(made.labels.len(), made.notes.len()), &(0, 0));
 }
+
+/// Returns what the constructor of a severity makes.
+fn constructed(alloc: Global, severity: Severity) -> Diagnostic<usize> {
+    match severity {
+        Severity::Bug => Diagnostic::bug(alloc),
+        Severity::Error => Diagnostic::error(alloc),
+        Severity::Warning => Diagnostic::warning(alloc),
+        Severity::Note => Diagnostic::note(alloc),
+        Severity::Help => Diagnostic::help(alloc),
+    }
+}
+
+/// The severities.
+static SEVERITIES: [Severity; 5] = [
+    Severity::Bug,
+    Severity::Error,
+    Severity::Warning,
+    Severity::Note,
+    Severity::Help,
+];
 
 #[test]
 fn constructors(rt: HostRuntime) {
-    let alloc = rt.alloc();
-    assert_is_new(&rt, Diagnostic::bug(alloc), Severity::Bug);
-    assert_is_new(&rt, Diagnostic::error(alloc), Severity::Error);
-    assert_is_new(&rt, Diagnostic::warning(alloc), Severity::Warning);
-    assert_is_new(&rt, Diagnostic::note(alloc), Severity::Note);
-    assert_is_new(&rt, Diagnostic::help(alloc), Severity::Help);
-    assert_is_new(&rt, Diagnostic::new(alloc, Severity::Note), Severity::Note);
+    for severity in &SEVERITIES {
+        assert_is_new(&rt, constructed(rt.alloc(), *severity), *severity);
+    }
+    let note = Diagnostic::new(rt.alloc(), Severity::Note);
+    assert_is_new(&rt, note, Severity::Note);
 }
 
 /// Asserts that a label has this style, the file 3, the range `5..2` and no message.
 fn assert_is_label(rt: &impl Abort, label: Label<usize>, style: LabelStyle) {
-    assert_same(rt, &label.style, &style);
-    assert_same(rt, &label.file_id, &3);
-    assert_same(rt, &label.range.start, &5);
-    assert_same(rt, &label.range.end, &2);
-    assert_same(rt, &label.message.as_str(), &"");
+    let parts = (label.style, label.file_id, label.message.as_str());
+    assert_same(rt, &parts, &(style, 3, ""));
+    assert_same(rt, &label.range, &(5..2));
 }
 
 #[test]
@@ -119,104 +133,124 @@ fn with_texts(alloc: Global) -> Result<Diagnostic<char>, Error> {
         .with_label(label(alloc)?)
 }
 
-/// Returns the texts of a diagnostic's notes, each ended by a newline.
-fn joined_notes<FileId>(
-    alloc: Global,
-    diagnostic: &Diagnostic<FileId>,
-) -> Result<String, AllocError> {
-    let mut joined = String::new(alloc);
-    for note in &diagnostic.notes {
-        joined.push_str(note.as_str())?;
-        joined.push('\n')?;
+/// Asserts that notes have these texts.
+fn assert_notes(rt: &impl Abort, notes: &[String], texts: &[&str]) {
+    assert_same(rt, &notes.len(), &texts.len());
+    for (note, text) in notes.iter().zip(texts.iter()) {
+        assert_same(rt, &note.as_str(), text);
     }
-    Ok(joined)
 }
 
+/// The texts of the two notes.
+static TWO_NOTES: [&str; 2] = ["one", "2"];
+
 #[test]
-fn texts(rt: HostRuntime) -> Result<(), Fail> {
-    let diagnostic = with_texts(rt.alloc())?;
+fn texts(rt: HostRuntime) {
+    let diagnostic = with_texts(rt.alloc()).expect(&rt, "a diagnostic");
     assert_same(&rt, &diagnostic.message.as_str(), &"mismatched types");
-    let code = diagnostic.code.as_ref().map(|code| code.as_str());
-    assert_same(&rt, &code, &Some("308"));
-    Ok(())
+    assert!(rt; matches!(&diagnostic.code, Some(code) if code.as_str() == "308"));
 }
 
-#[test]
-fn texts_of_notes_and_labels(rt: HostRuntime) -> Result<(), Fail> {
-    let diagnostic = with_texts(rt.alloc())?;
-    let notes = joined_notes(rt.alloc(), &diagnostic)?;
-    assert_same(&rt, &notes.as_str(), &"one\n2\n");
-    for label in &diagnostic.labels {
-        assert_same(&rt, &label.message.as_str(), &"here");
+/// Asserts that there is one label, with the message `here`.
+fn assert_one_label(rt: &impl Abort, labels: &[Label<char>]) {
+    assert_same(rt, &labels.len(), &1);
+    for label in labels {
+        assert_same(rt, &label.message.as_str(), &"here");
     }
-    assert_same(&rt, &diagnostic.labels.len(), &1);
-    Ok(())
 }
 
 #[test]
-fn clone_of_diagnostic(rt: HostRuntime) -> Result<(), Fail> {
-    let diagnostic = with_texts(rt.alloc())?;
-    let copy = diagnostic.clone()?;
-    assert!(rt; copy == diagnostic);
-    Ok(())
+fn texts_of_notes_and_labels(rt: HostRuntime) {
+    let diagnostic = with_texts(rt.alloc()).expect(&rt, "a diagnostic");
+    assert_notes(&rt, diagnostic.notes.as_slice(), TWO_NOTES.as_slice());
+    assert_one_label(&rt, diagnostic.labels.as_slice());
 }
 
 #[test]
-fn clone_of_label(rt: HostRuntime) -> Result<(), Fail> {
-    let label = label(rt.alloc())?;
-    let copy = label.clone()?;
-    assert!(rt; copy == label);
-    Ok(())
+fn clone_of_diagnostic(rt: HostRuntime) {
+    let diagnostic = with_texts(rt.alloc()).expect(&rt, "a diagnostic");
+    let copy = diagnostic.clone().expect(&rt, "a copy");
+    assert_same(&rt, &copy, &diagnostic);
+}
+
+#[test]
+fn clone_of_label(rt: HostRuntime) {
+    let label = label(rt.alloc()).expect(&rt, "a label");
+    let copy = label.clone().expect(&rt, "a copy");
+    assert_same(&rt, &copy, &label);
+}
+
+/// Returns the labels of the chain for this file.
+fn labels_of_chain(rt: &impl Abort, alloc: Global, file_id: usize) -> Vec<Label<usize>> {
+    chain(alloc, file_id).expect(rt, "a chain").labels
 }
 
 /// Returns a diagnostic with the labels of a chain, of a vector and of an iterator, in this order.
-fn with_labels_of_three(alloc: Global) -> Result<Diagnostic<usize>, Error> {
-    let second = with_vector(alloc, chain(alloc, 8)?.labels)?.labels;
-    let third = chain(alloc, 9)?.labels;
-    chain(alloc, 7)?
-        .with_labels(second)?
-        .with_labels_iter(third)
+fn with_labels_of_three(rt: &impl Abort, alloc: Global) -> Result<Diagnostic<usize>, Error> {
+    let second = with_vector(alloc, labels_of_chain(rt, alloc, 8)).expect(rt, "a vector");
+    let first = chain(alloc, 7).expect(rt, "a chain");
+    first
+        .with_labels(second.labels)?
+        .with_labels_iter(labels_of_chain(rt, alloc, 9))
+}
+
+/// Returns the notes of a chain, as those of an iterator.
+fn notes_of_iterator(rt: &impl Abort, alloc: Global) -> Vec<String> {
+    let notes = chain(alloc, 9).expect(rt, "a chain").notes;
+    with_iterator(alloc, notes).expect(rt, "an iterator").notes
+}
+
+/// Returns a vector of one note.
+fn last_note(rt: &impl Abort, alloc: Global) -> Vec<String> {
+    let mut notes = Vec::new(alloc);
+    let last = String::from_str(alloc, "last").expect(rt, "a note");
+    notes.push(last).expect(rt, "a vector");
+    notes
 }
 
 /// Returns a diagnostic with the notes of a chain, of a vector and of an iterator, in this order.
-fn with_notes_of_three(alloc: Global) -> Result<Diagnostic<usize>, Error> {
-    let second = with_iterator(alloc, chain(alloc, 9)?.notes)?.notes;
-    let third = vec![in alloc; String::from_str(alloc, "last")?]?;
-    chain(alloc, 7)?
-        .with_notes(second)?
-        .with_notes_iter(third.into_iter())
+fn with_notes_of_three(rt: &impl Abort, alloc: Global) -> Result<Diagnostic<usize>, Error> {
+    let first = chain(alloc, 7).expect(rt, "a chain");
+    first
+        .with_notes(notes_of_iterator(rt, alloc))?
+        .with_notes_iter(last_note(rt, alloc).into_iter())
 }
 
 /// The files of these labels.
 static IDS: [usize; 3] = [7, 8, 9];
 
-#[test]
-fn lists_of_labels(rt: HostRuntime) -> Result<(), Fail> {
-    let whole = with_labels_of_three(rt.alloc())?;
-    assert_same(&rt, &whole.labels.len(), &IDS.len());
-    for (label, id) in whole.labels.iter().zip(IDS.iter()) {
-        assert_same(&rt, &label.file_id, id);
+/// Asserts that labels have these files.
+fn assert_files(rt: &impl Abort, labels: &[Label<usize>], ids: &[usize]) {
+    assert_same(rt, &labels.len(), &ids.len());
+    for (label, id) in labels.iter().zip(ids.iter()) {
+        assert_same(rt, &label.file_id, id);
     }
-    Ok(())
 }
 
 #[test]
-fn lists_of_notes(rt: HostRuntime) -> Result<(), Fail> {
-    let whole = with_notes_of_three(rt.alloc())?;
-    let notes = joined_notes(rt.alloc(), &whole)?;
-    assert_same(&rt, &notes.as_str(), &"n\nn\nlast\n");
-    Ok(())
+fn lists_of_labels(rt: HostRuntime) {
+    let whole = with_labels_of_three(&rt, rt.alloc()).expect(&rt, "a diagnostic");
+    assert_files(&rt, whole.labels.as_slice(), IDS.as_slice());
+}
+
+/// The texts of those notes.
+static NOTES: [&str; 3] = ["n", "n", "last"];
+
+#[test]
+fn lists_of_notes(rt: HostRuntime) {
+    let whole = with_notes_of_three(&rt, rt.alloc()).expect(&rt, "a diagnostic");
+    assert_notes(&rt, whole.notes.as_slice(), NOTES.as_slice());
 }
 
 #[test]
 fn failing_display(rt: HostRuntime) {
     let alloc = rt.alloc();
     let label = Label::primary(alloc, 0usize, 0..1).with_message(StopsAfterTwoBytes);
-    assert_format_error(&rt, &label);
+    assert_format_error(&rt, label);
     let message = Diagnostic::<usize>::error(alloc).with_message(StopsAfterTwoBytes);
-    assert_format_error(&rt, &message);
+    assert_format_error(&rt, message);
     let code = Diagnostic::<usize>::error(alloc).with_code(StopsAfterTwoBytes);
-    assert_format_error(&rt, &code);
+    assert_format_error(&rt, code);
     let note = Diagnostic::<usize>::error(alloc).with_note(StopsAfterTwoBytes);
-    assert_format_error(&rt, &note);
+    assert_format_error(&rt, note);
 }

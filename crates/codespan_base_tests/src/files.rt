@@ -8,13 +8,13 @@ use crate::asserts::{
     assert_file_missing, assert_line_too_large, assert_ok, assert_same, assert_same_at,
     is_file_missing,
 };
+use crate::fixtures::{mapped_file, simple_file, two_files};
 use codespan_base::files::{
-    Error, Files, MappedFile, SimpleFile, SimpleFiles, column_index, default_line_number,
-    line_starts,
+    Error, Files, MappedFile, column_index, default_line_number, line_starts,
 };
 use std::alloc::{AllocError, Global};
+use std::panic::Expect;
 use std::process::Abort;
-use std::test::Fail;
 use std::{fmt, io};
 
 /// Bytes, and their columns in the line `2..13` of the text below.
@@ -29,16 +29,23 @@ static COLUMNS: [(usize, usize); 8] = [
     (14, 3),
 ];
 
+/// The starts of the lines of `FOUR_LINES`.
+static STARTS: [usize; 4] = [0, 4, 9, 10];
+
+/// Asserts that the lines of a text start at these bytes.
+fn assert_starts(rt: &impl Abort, alloc: Global, text: &str, expected: &[usize]) {
+    let starts: Vec<usize> = line_starts(text).collect(alloc).expect(rt, "the starts");
+    assert_same(rt, &starts.as_slice(), &expected);
+}
+
 #[test]
-fn columns_and_starts(rt: HostRuntime) -> Result<(), Fail> {
+fn columns_and_starts(rt: HostRuntime) {
     let text = "\n\n🗻∈🌏\n\n";
     assert_same(&rt, &column_index(text, 0..1, 0), &0);
     for (byte, column) in &COLUMNS {
         assert_same_at(&rt, *byte, &column_index(text, 2..13, *byte), column);
     }
-    let starts: Vec<usize> = line_starts(FOUR_LINES).collect(rt.alloc())?;
-    assert_same(&rt, &starts.as_slice(), &[0, 4, 9, 10].as_slice());
-    Ok(())
+    assert_starts(&rt, rt.alloc(), FOUR_LINES, STARTS.as_slice());
 }
 
 /// A text of four lines, the second of which ends with two characters, and the last with none.
@@ -48,72 +55,66 @@ const FOUR_LINES: &str = "foo\nbar\r\n\nbaz";
 static LINES: [&str; 4] = ["foo\n", "bar\r\n", "\n", "baz"];
 
 #[test]
-fn ranges_of_lines(rt: HostRuntime) -> Result<(), Fail> {
-    let file = SimpleFile::new(rt.alloc(), "f", FOUR_LINES)?;
+fn ranges_of_lines(rt: HostRuntime) {
+    let file = simple_file(&rt, rt.alloc(), FOUR_LINES);
     for (line, part) in LINES.iter().enumerate() {
-        let range = file.line_range((), line)?;
+        let range = file.line_range((), line).expect(&rt, "the range of a line");
         assert_same_at(&rt, line, &FOUR_LINES.get(range), &Some(*part));
     }
-    Ok(())
 }
 
 #[test]
-fn indices_of_lines(rt: HostRuntime) -> Result<(), Fail> {
-    let file = SimpleFile::new(rt.alloc(), "f", FOUR_LINES)?;
+fn indices_of_lines(rt: HostRuntime) {
+    let file = simple_file(&rt, rt.alloc(), FOUR_LINES);
     assert_ok(&rt, file.line_index((), 5), 1);
     assert_ok(&rt, file.line_index((), 99), 3);
-    Ok(())
 }
 
 #[test]
-fn line_past_the_last(rt: HostRuntime) -> Result<(), Fail> {
-    let file = SimpleFile::new(rt.alloc(), "f", "a\nb")?;
-    assert_line_too_large(&rt, &file.line_range((), 2), (2, 1));
-    Ok(())
+fn line_past_the_last(rt: HostRuntime) {
+    let file = simple_file(&rt, rt.alloc(), "a\nb");
+    assert_line_too_large(&rt, file.line_range((), 2), (2, 1));
 }
 
-/// Returns of each of the six lookups that need the file whether it fails with `FileMissing`.
-fn missing_lookups<'a, F: Files<'a>>(files: &'a F, id: F::FileId) -> [bool; 6] {
-    [
-        is_file_missing(&files.name(id)),
-        is_file_missing(&files.source(id)),
-        is_file_missing(&files.line_index(id, 0)),
-        is_file_missing(&files.column_number(id, 0, 0)),
-        is_file_missing(&files.location(id, 0)),
-        is_file_missing(&files.line_range(id, 0)),
-    ]
-}
+/// Whether each of three lookups fails with `FileMissing`.
+type Missing = (bool, bool, bool);
 
-/// Returns the files `f` of `"ab"` and `g` of `"c\nd"`.
-fn two_files(alloc: Global) -> Result<SimpleFiles<&'static str, &'static str>, Error> {
-    let mut files = SimpleFiles::new(alloc);
-    files.add("f", "ab")?;
-    files.add("g", "c\nd")?;
-    Ok(files)
+/// Returns so of the six lookups that need the file.
+fn missing_lookups<'a, F: Files<'a>>(files: &'a F, id: F::FileId) -> (Missing, Missing) {
+    (
+        (
+            is_file_missing(files.name(id)),
+            is_file_missing(files.source(id)),
+            is_file_missing(files.line_index(id, 0)),
+        ),
+        (
+            is_file_missing(files.column_number(id, 0, 0)),
+            is_file_missing(files.location(id, 0)),
+            is_file_missing(files.line_range(id, 0)),
+        ),
+    )
 }
 
 /// Ids, and whether their files are missing in a database of three files.
 static MISSING: [(usize, bool); 4] = [(0, false), (2, false), (3, true), (7, true)];
 
 #[test]
-fn file_database(rt: HostRuntime) -> Result<(), Fail> {
-    let mut files = two_files(rt.alloc())?;
+fn file_database(rt: HostRuntime) {
+    let mut files = two_files(&rt, rt.alloc(), "ab", "c\nd");
     assert_ok(&rt, files.add("h", ""), 2);
     for (id, is_missing) in &MISSING {
-        assert_same_at(&rt, *id, &missing_lookups(&files, *id), &[*is_missing; 6]);
+        let three = (*is_missing, *is_missing, *is_missing);
+        assert_same_at(&rt, *id, &missing_lookups(&files, *id), &(three, three));
     }
     assert_ok(&rt, files.line_number(7, 0), 1);
-    Ok(())
 }
 
 #[test]
-fn file_of_database(rt: HostRuntime) -> Result<(), Fail> {
-    let files = two_files(rt.alloc())?;
-    let file = files.get(1)?;
-    assert_same(&rt, file.name(), &"g");
-    assert_same(&rt, file.source(), &"c\nd");
-    assert_file_missing(&rt, &files.get(2));
-    Ok(())
+fn file_of_database(rt: HostRuntime) {
+    let files = two_files(&rt, rt.alloc(), "ab", "c\nd");
+    let file = files.get(1).expect(&rt, "the second file");
+    assert_same(&rt, &(*file.name(), *file.source()), &("g", "c\nd"));
+    assert_file_missing(&rt, files.get(2));
 }
 
 /// Returns the text of a line, without its newline.
@@ -129,46 +130,39 @@ fn line_text<'a>(
 static NUMBERS: [(usize, usize); 4] = [(0, 1), (1, 2), (2, 100), (3, 101)];
 
 #[test]
-fn mapped_numbers(rt: HostRuntime) -> Result<(), Fail> {
-    let mut file = MappedFile::new(rt.alloc(), "m", "a\nb\nc\nd")?;
-    file.set_line(2, 100)?;
+fn mapped_numbers(rt: HostRuntime) {
+    let file = mapped_file(&rt, rt.alloc(), "a\nb\nc\nd", 2, 100);
     for (line, number) in &NUMBERS {
         assert_ok(&rt, file.line_number((), *line), *number);
     }
     assert_ok(&rt, line_text(&file, 1), Some("b"));
-    Ok(())
 }
 
 #[test]
-fn mapped_overflow(rt: HostRuntime) -> Result<(), Fail> {
-    let mut file = MappedFile::new(rt.alloc(), "m", "a\nb\nc\nd")?;
-    file.set_line(1, usize::MAX)?;
+fn mapped_overflow(rt: HostRuntime) {
+    let mut file = mapped_file(&rt, rt.alloc(), "a\nb\nc\nd", 1, usize::MAX);
     assert_ok(&rt, file.line_number((), 1), usize::MAX);
-    assert_line_too_large(&rt, &file.line_number((), 2), (2, 1));
-    assert_line_too_large(&rt, &file.set_line(4, 1), (4, 3));
+    assert_line_too_large(&rt, file.line_number((), 2), (2, 1));
+    assert_line_too_large(&rt, file.set_line(4, 1), (4, 3));
     assert_ok(&rt, file.line_number((), 0), 1);
     assert_ok(&rt, file.line_number((), 1), usize::MAX);
-    Ok(())
 }
 
 #[test]
-fn greatest_indices(rt: HostRuntime) -> Result<(), Fail> {
+fn greatest_indices(rt: HostRuntime) {
     assert_same(&rt, &column_index("é", 0..9, usize::MAX), &1);
     assert_same(&rt, &column_index("ab", 5..1, 9), &0);
-    let file = SimpleFile::new(rt.alloc(), "f", "a\nb")?;
-    let past_end = file.line_range((), usize::MAX);
-    assert_line_too_large(&rt, &past_end, (usize::MAX, 1));
-    Ok(())
+    let file = simple_file(&rt, rt.alloc(), "a\nb");
+    assert_line_too_large(&rt, file.line_range((), usize::MAX), (usize::MAX, 1));
 }
 
 #[test]
-fn greatest_numbers(rt: HostRuntime) -> Result<(), Fail> {
-    let file = SimpleFile::new(rt.alloc(), "f", "a\nb")?;
+fn greatest_numbers(rt: HostRuntime) {
+    let file = simple_file(&rt, rt.alloc(), "a\nb");
     assert_ok(&rt, file.line_number((), usize::MAX - 1), usize::MAX);
     let limits = (usize::MAX, usize::MAX - 1);
-    assert_line_too_large(&rt, &file.line_number((), usize::MAX), limits);
-    assert_line_too_large(&rt, &default_line_number(usize::MAX), limits);
-    Ok(())
+    assert_line_too_large(&rt, file.line_number((), usize::MAX), limits);
+    assert_line_too_large(&rt, default_line_number(usize::MAX), limits);
 }
 
 /// Errors, and their texts.
@@ -193,34 +187,23 @@ static ERRORS: [(Error, &str); 5] = [
 ];
 
 /// Asserts that an error has this text.
-fn assert_error_text(
-    rt: &impl Abort,
-    alloc: Global,
-    error: &Error,
-    text: &str,
-) -> Result<(), AllocError> {
-    assert_same(rt, &error.to_string(alloc)?.as_str(), &text);
-    Ok(())
+fn assert_error_text(rt: &impl Abort, alloc: Global, error: &Error, text: &str) {
+    let printed = error.to_string(alloc).expect(rt, "the text of an error");
+    assert_same(rt, &printed.as_str(), &text);
 }
 
 #[test]
-fn error_texts(rt: HostRuntime) -> Result<(), Fail> {
+fn error_texts(rt: HostRuntime) {
     for (error, text) in &ERRORS {
-        assert_error_text(&rt, rt.alloc(), error, text)?;
+        assert_error_text(&rt, rt.alloc(), error, text);
     }
-    Ok(())
 }
 
 #[test]
-fn converted_error_texts(rt: HostRuntime) -> Result<(), Fail> {
-    let cause = Error::from(io::Error::from(io::ErrorKind::BrokenPipe));
-    assert_error_text(&rt, rt.alloc(), &cause, "broken pipe")?;
-    assert_error_text(
-        &rt,
-        rt.alloc(),
-        &Error::from(fmt::Error),
-        "formatting error",
-    )?;
-    assert_error_text(&rt, rt.alloc(), &Error::from(AllocError), "out of memory")?;
-    Ok(())
+fn converted_error_texts(rt: HostRuntime) {
+    let alloc = rt.alloc();
+    let cause = io::Error::from(io::ErrorKind::BrokenPipe);
+    assert_error_text(&rt, alloc, &Error::from(cause), "broken pipe");
+    assert_error_text(&rt, alloc, &Error::from(fmt::Error), "formatting error");
+    assert_error_text(&rt, alloc, &Error::from(AllocError), "out of memory");
 }

@@ -11,6 +11,8 @@ mod diagnostics;
 #[cfg(test)]
 mod files;
 #[cfg(test)]
+mod fixtures;
+#[cfg(test)]
 mod lsp;
 #[cfg(test)]
 mod writers;

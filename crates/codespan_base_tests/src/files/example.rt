@@ -4,11 +4,12 @@
 
 ghost use Rattle.std.specs.Prelude.{◌≡◌, refl, IfOk, OnErr, IsErrOf, None};
 
+use crate::asserts::{assert_line_too_large, assert_ok};
 use codespan_base::files::{Error, Files, Location, SimpleFile};
 use std::alloc::Global;
 use std::convert::AsStr;
 use std::ops::Range;
-use std::test::Fail;
+use std::panic::Expect;
 
 /// A text whose lines are numbered from 0, as a listing of memory is.
 #[derive(Drop)]
@@ -122,18 +123,15 @@ impl<'a, 'text: 'a> Files<'a> for Listing<'text> {
 }
 
 #[test]
-fn listing_lookups(rt: HostRuntime) -> Result<(), Fail> {
-    let listing = Listing::new(rt.alloc(), "l", "a\nbc\nd")?;
-    assert!(rt; listing.name(())? == "l");
-    assert!(rt; listing.source(())? == "a\nbc\nd");
-    assert!(rt; listing.line_number((), 0)? == 0);
-    let location = listing.location((), 3)?;
-    assert!(rt; (location.line_number, location.column_number) == (1, 2));
-    assert!(rt;
-        matches!(
-            listing.line_range((), 3),
-            Err(Error::LineTooLarge { given: 3, max: 2 })
-        )
-    );
-    Ok(())
+fn listing_lookups(rt: HostRuntime) {
+    let listing = Listing::new(rt.alloc(), "l", "a\nbc\nd").expect(&rt, "a listing");
+    assert_ok(&rt, listing.name(()), "l");
+    assert_ok(&rt, listing.source(()), "a\nbc\nd");
+    assert_ok(&rt, listing.line_number((), 0), 0);
+    let location = Location {
+        line_number: 1,
+        column_number: 2,
+    };
+    assert_ok(&rt, listing.location((), 3), location);
+    assert_line_too_large(&rt, listing.line_range((), 3), (3, 2));
 }

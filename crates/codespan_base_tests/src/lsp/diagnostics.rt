@@ -1,6 +1,7 @@
 //! Worked diagnostics, and the first program of `docs/LSP.md`.
 
 use crate::asserts::{assert_column_too_large, assert_file_missing, assert_same};
+use crate::fixtures::{simple_file, two_files};
 use codespan_base::diagnostic::{Diagnostic, Label, Severity};
 use codespan_base::files::{Error, Files, SimpleFile, SimpleFiles};
 use codespan_lsp::{
@@ -8,7 +9,8 @@ use codespan_lsp::{
     position_to_byte_index, to_lsp_diagnostics,
 };
 use std::alloc::Global;
-use std::test::Fail;
+use std::panic::Expect;
+use std::process::Abort;
 
 /// Returns a range on one line.
 fn on_line(line: u32, start: u32, end: u32) -> Range {
@@ -24,34 +26,34 @@ fn on_line(line: u32, start: u32, end: u32) -> Range {
     }
 }
 
-/// Returns the error of a call of `f` in one file, declared in another one, where `𐐀` is before it.
-fn missing_argument(
-    alloc: Global,
-    caller: usize,
-    callee: usize,
-) -> Result<Diagnostic<usize>, Error> {
-    let declared = Label::secondary(alloc, callee, 8..12).with_message("declared here")?;
-    let called = Label::primary(alloc, caller, 4..7).with_message("one argument is missing")?;
-    let again = Label::primary(alloc, caller, 9..12);
+/// Returns an error with its labels in file 0, the caller, and in file 1, the callee.
+fn with_labels(alloc: Global) -> Result<Diagnostic<usize>, Error> {
+    let declared = Label::secondary(alloc, 1, 8..12).with_message("declared here")?;
+    let called = Label::primary(alloc, 0, 4..7).with_message("one argument is missing")?;
     Diagnostic::error(alloc)
-        .with_code("E0061")?
-        .with_message("too few arguments")?
         .with_label(declared)?
         .with_label(called)?
-        .with_label(again)?
+        .with_label(Label::primary(alloc, 0, 9..12))
+}
+
+/// Returns the error of a call of `f` in one file, declared in another one, where `𐐀` is before it.
+fn missing_argument(alloc: Global) -> Result<Diagnostic<usize>, Error> {
+    with_labels(alloc)?
+        .with_code("E0061")?
+        .with_message("too few arguments")?
         .with_note("note: `f` takes one argument")
 }
 
 /// The first program of the guide.
 #[test]
-fn first_program(rt: HostRuntime) -> Result<(), Fail> {
-    let file = SimpleFile::new(rt.alloc(), "greeting.txt", "hi\na𐐀b")?;
-    let position = byte_index_to_position(&file, (), 8)?;
+fn first_program(rt: HostRuntime) {
+    let file = SimpleFile::new(rt.alloc(), "greeting.txt", "hi\na𐐀b").expect(&rt, "a file");
+    let position = byte_index_to_position(&file, (), 8).expect(&rt, "a position");
     assert!(rt; (position.line, position.character) == (1, 3));
-    assert!(rt; position_to_byte_index(&file, (), &position)? == 8);
-    let utf8 = PositionEncoding::Utf8.byte_index_to_position(&file, (), 8)?;
-    assert!(rt; utf8.character == 5);
-    Ok(())
+    let byte_index = position_to_byte_index(&file, (), &position).expect(&rt, "a byte index");
+    let utf8 = PositionEncoding::Utf8.byte_index_to_position(&file, (), 8);
+    let utf8 = utf8.expect(&rt, "a position in UTF-8");
+    assert!(rt; (byte_index, utf8.character) == (8, 5));
 }
 
 /// Severities, and their numbers.
@@ -72,13 +74,11 @@ fn severities(rt: HostRuntime) {
     }
 }
 
-/// Returns the LSP diagnostics of that error: the caller is file 0, and the callee is file 1.
-fn lsp_diagnostics(alloc: Global) -> Result<Vec<LspDiagnostic<usize>>, Error> {
-    let mut files = SimpleFiles::new(alloc);
-    let caller = files.add("main", "ab\n\nf()\n f()")?;
-    let callee = files.add("lib", "/*𐐀*/fn f(x)")?;
-    let diagnostic = missing_argument(alloc, caller, callee)?;
-    to_lsp_diagnostics(&files, &diagnostic)
+/// Returns the LSP diagnostics of that error.
+fn lsp_diagnostics(rt: &impl Abort, alloc: Global) -> Vec<LspDiagnostic<usize>> {
+    let files = two_files(rt, alloc, "ab\n\nf()\n f()", "/*𐐀*/fn f(x)");
+    let diagnostic = missing_argument(alloc).expect(rt, "the diagnostic");
+    to_lsp_diagnostics(&files, &diagnostic).expect(rt, "LSP diagnostics")
 }
 
 /// The line, the characters and the message of each primary label.
@@ -92,45 +92,63 @@ static LABELS: [(u32, u32, u32, &str); 2] = [
     (3, 1, 4, "too few arguments\nnote: `f` takes one argument"),
 ];
 
+/// Asserts that a diagnostic has the range and the message of a row of that table.
+fn assert_is_of_label(
+    rt: &impl Abort,
+    one: &LspDiagnostic<usize>,
+    label: &(u32, u32, u32, &'static str),
+) {
+    let range = on_line(label.0, label.1, label.2);
+    assert_same(rt, &(one.range, one.message.as_str()), &(range, label.3));
+}
+
 /// One diagnostic for each primary label.
 #[test]
-fn two_primary_labels(rt: HostRuntime) -> Result<(), Fail> {
-    let diagnostics = lsp_diagnostics(rt.alloc())?;
+fn two_primary_labels(rt: HostRuntime) {
+    let diagnostics = lsp_diagnostics(&rt, rt.alloc());
     assert_same(&rt, &diagnostics.len(), &2);
-    for (one, (line, start, end, message)) in diagnostics.iter().zip(LABELS.iter()) {
-        assert_same(&rt, &one.range, &on_line(*line, *start, *end));
-        assert_same(&rt, &one.message.as_str(), message);
+    for (one, label) in diagnostics.iter().zip(LABELS.iter()) {
+        assert_is_of_label(&rt, one, label);
     }
-    Ok(())
+}
+
+/// Asserts that a diagnostic has the file of its label, and what the error has.
+fn assert_shared(rt: &impl Abort, one: &LspDiagnostic<usize>) {
+    assert_same(
+        rt,
+        &(one.file_id, one.severity),
+        &(0, DiagnosticSeverity::Error),
+    );
+    assert!(rt; matches!(&one.code, Some(code) if code.as_str() == "E0061"));
 }
 
 /// Each has the file of its label, and what the diagnostic has.
 #[test]
-fn same_of_each_primary_label(rt: HostRuntime) -> Result<(), Fail> {
-    let diagnostics = lsp_diagnostics(rt.alloc())?;
+fn same_of_each_primary_label(rt: HostRuntime) {
+    let diagnostics = lsp_diagnostics(&rt, rt.alloc());
     assert_same(&rt, &diagnostics.len(), &2);
     for one in &diagnostics {
-        assert_same(&rt, &one.file_id, &0);
-        assert_same(&rt, &one.severity, &DiagnosticSeverity::Error);
-        assert!(rt; matches!(&one.code, Some(code) if code.as_str() == "E0061"));
+        assert_shared(&rt, one);
     }
-    Ok(())
+}
+
+/// Asserts that a diagnostic has the secondary label, and no other.
+fn assert_related(rt: &impl Abort, one: &LspDiagnostic<usize>) {
+    assert_same(rt, &one.related_information.len(), &1);
+    for related in &one.related_information {
+        let parts = (related.file_id, related.range, related.message.as_str());
+        assert_same(rt, &parts, &(1, on_line(0, 6, 10), "declared here"));
+    }
 }
 
 /// Each has the secondary label.
 #[test]
-fn related_information(rt: HostRuntime) -> Result<(), Fail> {
-    let diagnostics = lsp_diagnostics(rt.alloc())?;
+fn related_information(rt: HostRuntime) {
+    let diagnostics = lsp_diagnostics(&rt, rt.alloc());
     assert_same(&rt, &diagnostics.len(), &2);
     for one in &diagnostics {
-        assert_same(&rt, &one.related_information.len(), &1);
-        for related in &one.related_information {
-            assert_same(&rt, &related.file_id, &1);
-            assert_same(&rt, &related.range, &on_line(0, 6, 10));
-            assert_same(&rt, &related.message.as_str(), &"declared here");
-        }
+        assert_related(&rt, one);
     }
-    Ok(())
 }
 
 /// Returns the LSP diagnostics of a warning with this label.
@@ -144,20 +162,19 @@ fn of_warning<'a, F: Files<'a>>(
 
 /// There is none where no label is primary.
 #[test]
-fn no_primary_label(rt: HostRuntime) -> Result<(), Fail> {
-    let file = SimpleFile::new(rt.alloc(), "f", "abc")?;
+fn no_primary_label(rt: HostRuntime) {
+    let file = simple_file(&rt, rt.alloc(), "abc");
     let label = Label::secondary(rt.alloc(), (), 0..9);
-    assert!(rt; of_warning(rt.alloc(), &file, label)?.is_empty());
-    Ok(())
+    let diagnostics = of_warning(rt.alloc(), &file, label).expect(&rt, "LSP diagnostics");
+    assert!(rt; diagnostics.is_empty());
 }
 
 /// A primary label past the end fails.
 #[test]
-fn label_past_end(rt: HostRuntime) -> Result<(), Fail> {
-    let file = SimpleFile::new(rt.alloc(), "f", "abc")?;
+fn label_past_end(rt: HostRuntime) {
+    let file = simple_file(&rt, rt.alloc(), "abc");
     let label = Label::primary(rt.alloc(), (), 0..9);
-    assert_column_too_large(&rt, &of_warning(rt.alloc(), &file, label), (9, 3));
-    Ok(())
+    assert_column_too_large(&rt, of_warning(rt.alloc(), &file, label), (9, 3));
 }
 
 /// A missing file fails.
@@ -165,5 +182,5 @@ fn label_past_end(rt: HostRuntime) -> Result<(), Fail> {
 fn missing_file(rt: HostRuntime) {
     let files: SimpleFiles<&str, &str> = SimpleFiles::new(rt.alloc());
     let label = Label::primary(rt.alloc(), 0, 0..0);
-    assert_file_missing(&rt, &of_warning(rt.alloc(), &files, label));
+    assert_file_missing(&rt, of_warning(rt.alloc(), &files, label));
 }

@@ -1,14 +1,15 @@
 //! Positions and ranges of worked files.
 
 use crate::asserts::{assert_ok, assert_same, assert_same_at, invalid_boundary};
-use codespan_base::files::{Error, Files, Location, MappedFile, SimpleFile, SimpleFiles};
+use crate::fixtures::{mapped_file, simple_file, two_files};
+use codespan_base::files::{Files, Location, MappedFile, SimpleFile, SimpleFiles};
 use codespan_lsp::{
     Position, PositionEncoding, Range, byte_index_to_position, byte_span_to_range,
     position_to_byte_index, range_to_byte_span,
 };
 use std::alloc::Global;
+use std::panic::Expect;
 use std::process::Abort;
-use std::test::Fail;
 
 /// Returns a position from its numbers.
 pub fn at(line: u32, character: u32) -> Position {
@@ -25,12 +26,11 @@ fn assert_at<'a, F: Files<'a>>(
     id: F::FileId,
     byte_index: usize,
     position: Position,
-) -> Result<(), Error> {
-    let found = byte_index_to_position(files, id, byte_index)?;
+) {
+    let found = byte_index_to_position(files, id, byte_index).expect(rt, "a position");
     assert_same_at(rt, byte_index, &found, &position);
-    let back = position_to_byte_index(files, id, &position)?;
+    let back = position_to_byte_index(files, id, &position).expect(rt, "a byte index");
     assert_same_at(rt, byte_index, &back, &byte_index);
-    Ok(())
 }
 
 /// Asserts so of each counterpart of a table.
@@ -39,11 +39,19 @@ fn assert_counterparts<'a, F: Files<'a>>(
     files: &'a F,
     id: F::FileId,
     table: &[Counterpart],
-) -> Result<(), Error> {
+) {
     for (byte_index, line, character) in table {
-        assert_at(rt, files, id, *byte_index, at(*line, *character))?;
+        assert_at(rt, files, id, *byte_index, at(*line, *character));
     }
-    Ok(())
+}
+
+/// Asserts so of one file.
+fn assert_in_file(
+    rt: &impl Abort,
+    file: &SimpleFile<&'static str, &'static str>,
+    table: &[Counterpart],
+) {
+    assert_counterparts(rt, file, (), table);
 }
 
 /// The bytes and the positions of `a𐐀b`.
@@ -52,28 +60,32 @@ static PROTOCOL_EXAMPLE: [Counterpart; 4] = [(0, 0, 0), (1, 0, 1), (5, 0, 3), (6
 /// The protocol's own example: of `a𐐀b` the character of `a` is 0, that of `𐐀` is 1, and that of
 /// `b` is 3.
 #[test]
-fn protocol_example(rt: HostRuntime) -> Result<(), Fail> {
-    let file = SimpleFile::new(rt.alloc(), "f", "a𐐀b")?;
-    assert_counterparts(&rt, &file, (), &PROTOCOL_EXAMPLE)?;
-    Ok(())
+fn protocol_example(rt: HostRuntime) {
+    let file = simple_file(&rt, rt.alloc(), "a𐐀b");
+    assert_in_file(&rt, &file, &PROTOCOL_EXAMPLE);
 }
 
-/// Asserts that the bytes of `é∈🗻x` at which characters start have these positions by an
-/// encoding, and the positions these bytes.
+/// Asserts that the byte of `é∈🗻x` at which a character starts has this position by an encoding,
+/// and the position this byte.
 fn assert_encoded(
     rt: &impl Abort,
     file: &SimpleFile<&str, &str>,
     encoding: PositionEncoding,
-    characters: &[u32; 5],
-) -> Result<(), Error> {
-    for (byte_index, character) in [0, 2, 5, 9, 10].iter().zip(characters.iter()) {
-        let position = encoding.byte_index_to_position(file, (), *byte_index)?;
-        assert_same_at(rt, *byte_index, &position, &at(0, *character));
-        let back = encoding.position_to_byte_index(file, (), &position)?;
-        assert_same_at(rt, *byte_index, &back, byte_index);
-    }
-    Ok(())
+    byte_index: usize,
+    character: u32,
+) {
+    let position = encoding
+        .byte_index_to_position(file, (), byte_index)
+        .expect(rt, "a position");
+    assert_same_at(rt, byte_index, &position, &at(0, character));
+    let back = encoding
+        .position_to_byte_index(file, (), &position)
+        .expect(rt, "a byte index");
+    assert_same_at(rt, byte_index, &back, &byte_index);
 }
+
+/// The bytes at which the characters of `é∈🗻x` start.
+static STARTS: [usize; 5] = [0, 2, 5, 9, 10];
 
 /// Encodings, and the code units before the characters of `é∈🗻x`.
 static ENCODED: [(PositionEncoding, [u32; 5]); 3] = [
@@ -84,12 +96,13 @@ static ENCODED: [(PositionEncoding, [u32; 5]); 3] = [
 
 /// The code units of each encoding before the characters of a text, as Python's codecs count them.
 #[test]
-fn encodings(rt: HostRuntime) -> Result<(), Fail> {
-    let file = SimpleFile::new(rt.alloc(), "f", "é∈🗻x")?;
+fn encodings(rt: HostRuntime) {
+    let file = simple_file(&rt, rt.alloc(), "é∈🗻x");
     for (encoding, characters) in &ENCODED {
-        assert_encoded(&rt, &file, *encoding, characters)?;
+        for (byte_index, character) in STARTS.iter().zip(characters.iter()) {
+            assert_encoded(&rt, &file, *encoding, *byte_index, *character);
+        }
     }
-    Ok(())
 }
 
 /// The bytes and the positions of lines with each end.
@@ -106,43 +119,40 @@ static LINE_ENDS: [Counterpart; 8] = [
 
 /// A newline is part of its line, and so is the carriage return before it.
 #[test]
-fn line_ends(rt: HostRuntime) -> Result<(), Fail> {
-    let file = SimpleFile::new(rt.alloc(), "f", "foo\nbar\r\n\nbaz")?;
-    assert_counterparts(&rt, &file, (), &LINE_ENDS)?;
+fn line_ends(rt: HostRuntime) {
+    let file = simple_file(&rt, rt.alloc(), "foo\nbar\r\n\nbaz");
+    assert_in_file(&rt, &file, &LINE_ENDS);
     // after the newline of a line the next one starts
     assert_ok(&rt, position_to_byte_index(&file, (), &at(0, 4)), 4);
     assert_ok(&rt, position_to_byte_index(&file, (), &at(1, 5)), 9);
-    Ok(())
 }
+
+/// The byte and the position of an empty file.
+static EMPTY: [Counterpart; 1] = [(0, 0, 0)];
 
 /// An empty file has one line and one position.
 #[test]
-fn empty_file(rt: HostRuntime) -> Result<(), Fail> {
-    let file = SimpleFile::new(rt.alloc(), "f", "")?;
-    assert_at(&rt, &file, (), 0, at(0, 0))?;
-    Ok(())
+fn empty_file(rt: HostRuntime) {
+    let file = simple_file(&rt, rt.alloc(), "");
+    assert_in_file(&rt, &file, &EMPTY);
 }
 
 /// The values of a test of Rust's `codespan-lsp`: the byte at a position is where users see it.
 #[test]
-fn original_values(rt: HostRuntime) -> Result<(), Fail> {
+fn original_values(rt: HostRuntime) {
     let text = "\nlet test = 2\nlet test1 = \"\"\nte\n";
-    let file = SimpleFile::new(rt.alloc(), "test", text)?;
-    let byte_index = position_to_byte_index(&file, (), &at(3, 2))?;
+    let file = simple_file(&rt, rt.alloc(), text);
+    let byte_index = position_to_byte_index(&file, (), &at(3, 2)).expect(&rt, "a byte index");
     let location = Location {
         line_number: 4,
         column_number: 3,
     };
     assert_ok(&rt, file.location((), byte_index), location);
-    Ok(())
 }
 
 /// Returns the files `åä t𐐀b`, and the same after a newline.
-pub fn unicode_files(alloc: Global) -> Result<SimpleFiles<&'static str, &'static str>, Error> {
-    let mut files = SimpleFiles::new(alloc);
-    files.add("unicode", "åä t𐐀b")?;
-    files.add("unicode newline", "\nåä t𐐀b")?;
-    Ok(files)
+pub fn unicode_files(rt: &impl Abort, alloc: Global) -> SimpleFiles<&'static str, &'static str> {
+    two_files(rt, alloc, "åä t𐐀b", "\nåä t𐐀b")
 }
 
 /// Bytes and positions of the first of these files, and those of the second.
@@ -150,22 +160,14 @@ static UNICODE: [[Counterpart; 2]; 2] = [[(5, 0, 3), (10, 0, 6)], [(6, 1, 3), (1
 
 /// Of these, in Rust's `codespan-lsp` too, the characters 3 and 6 are the bytes 5 and 10.
 #[test]
-fn original_values_in_files(rt: HostRuntime) -> Result<(), Fail> {
-    let files = unicode_files(rt.alloc())?;
+fn original_values_in_files(rt: HostRuntime) {
+    let files = unicode_files(&rt, rt.alloc());
     for (id, table) in UNICODE.iter().enumerate() {
-        assert_counterparts(&rt, &files, id, table)?;
+        assert_counterparts(&rt, &files, id, table);
     }
-    Ok(())
 }
 
-/// Returns a file whose second line has the number 90.
-fn numbered(alloc: Global) -> Result<MappedFile<&'static str, &'static str>, Error> {
-    let mut file = MappedFile::new(alloc, "f", "a𐐀b\ncd")?;
-    file.set_line(1, 90)?;
-    Ok(file)
-}
-
-/// Spans of bytes of that file, and their ranges.
+/// Spans of bytes of `a𐐀b\ncd`, and their ranges.
 static SPANS: [(std::ops::Range<usize>, Range); 4] = [
     (
         1..5,
@@ -221,19 +223,29 @@ static SPANS: [(std::ops::Range<usize>, Range); 4] = [
     ),
 ];
 
+/// Asserts that a span of bytes has this range, and the range this span.
+fn assert_span(
+    rt: &impl Abort,
+    file: &MappedFile<&str, &str>,
+    span: &std::ops::Range<usize>,
+    expected: &Range,
+) {
+    let range = byte_span_to_range(file, (), span.start..span.end).expect(rt, "a range");
+    assert_same(rt, &range, expected);
+    let back = range_to_byte_span(file, (), &range).expect(rt, "a span");
+    assert_same(rt, &back, span);
+}
+
 /// A span of bytes and its range, also where it is empty or reversed. Line numbers that are set
 /// change no position.
 #[test]
-fn spans(rt: HostRuntime) -> Result<(), Fail> {
-    let file = numbered(rt.alloc())?;
+fn spans(rt: HostRuntime) {
+    let file = mapped_file(&rt, rt.alloc(), "a𐐀b\ncd", 1, 90);
     for (span, expected) in &SPANS {
-        let range = byte_span_to_range(&file, (), span.start..span.end)?;
-        assert_same(&rt, &range, expected);
-        assert_same(&rt, &range_to_byte_span(&file, (), &range)?, span);
+        assert_span(&rt, &file, span, expected);
     }
-    let late = byte_span_to_range(&file, (), 0..2);
-    assert_same(&rt, &invalid_boundary(&late), &Some(2));
-    Ok(())
+    let late = invalid_boundary(byte_span_to_range(&file, (), 0..2));
+    assert_same(&rt, &late, &Some(2));
 }
 
 /// Encodings, and the code units of `a𐐀b`.
@@ -248,13 +260,12 @@ static DOCUMENTED: [Counterpart; 5] = [(0, 0, 0), (1, 1, 0), (2, 1, 1), (6, 1, 3
 
 /// The examples of the doc comments.
 #[test]
-fn documented(rt: HostRuntime) -> Result<(), Fail> {
+fn documented(rt: HostRuntime) {
     for (encoding, units) in &CODE_UNITS {
         assert_same(&rt, &encoding.code_units("a𐐀b"), units);
     }
-    let file = SimpleFile::new(rt.alloc(), "f", "\na𐐀b")?;
-    assert_counterparts(&rt, &file, (), &DOCUMENTED)?;
-    let returned = position_to_byte_index(&file, (), &at(1, 2));
-    assert_same(&rt, &invalid_boundary(&returned), &Some(2));
-    Ok(())
+    let file = simple_file(&rt, rt.alloc(), "\na𐐀b");
+    assert_in_file(&rt, &file, &DOCUMENTED);
+    let given = invalid_boundary(position_to_byte_index(&file, (), &at(1, 2)));
+    assert_same(&rt, &given, &Some(2));
 }

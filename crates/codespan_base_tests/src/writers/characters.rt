@@ -1,43 +1,46 @@
 //! Characters, repeated characters, spaces and numbers, in plain text.
 
 use crate::writers::written::{Part, assert_plain};
-use std::test::Fail;
+use std::alloc::Global;
+use std::panic::Expect;
+use std::process::Abort;
 
 /// Characters of one to four bytes, with their texts.
 static CHARACTERS: [(char, &str); 4] = [('a', "a"), ('é', "é"), ('─', "─"), ('🗻', "🗻")];
 
 #[test]
-fn characters(rt: HostRuntime) -> Result<(), Fail> {
+fn characters(rt: HostRuntime) {
     for (c, expected) in &CHARACTERS {
-        assert_plain(&rt, rt.alloc(), Part::Char(*c), expected)?;
+        assert_plain(&rt, rt.alloc(), Part::Char(*c), expected);
     }
-    Ok(())
+}
+
+/// Asserts that a part is this text so many times, plain.
+fn assert_repeats(rt: &impl Abort, alloc: Global, part: Part, text: &str, count: usize) {
+    let whole = text.repeat(alloc, count).expect(rt, "the whole text");
+    assert_plain(rt, alloc, part, whole.as_str());
 }
 
 /// How often a character is repeated.
 static REPETITIONS: [usize; 9] = [0, 1, 2, 3, 16, 21, 64, 65, 200];
 
 #[test]
-fn repeated_characters(rt: HostRuntime) -> Result<(), Fail> {
-    for (c, expected) in &CHARACTERS {
+fn repeated_characters(rt: HostRuntime) {
+    for (c, text) in &CHARACTERS {
         for count in &REPETITIONS {
-            let whole = expected.repeat(rt.alloc(), *count)?;
-            assert_plain(&rt, rt.alloc(), Part::Repeated(*c, *count), whole.as_str())?;
+            assert_repeats(&rt, rt.alloc(), Part::Repeated(*c, *count), text, *count);
         }
     }
-    Ok(())
 }
 
 /// Numbers of spaces.
 static SPACES: [usize; 7] = [0, 1, 63, 64, 65, 128, 1000];
 
 #[test]
-fn spaces(rt: HostRuntime) -> Result<(), Fail> {
+fn spaces(rt: HostRuntime) {
     for count in &SPACES {
-        let whole = " ".repeat(rt.alloc(), *count)?;
-        assert_plain(&rt, rt.alloc(), Part::Spaces(*count), whole.as_str())?;
+        assert_repeats(&rt, rt.alloc(), Part::Spaces(*count), " ", *count);
     }
-    Ok(())
 }
 
 /// Numbers, with their texts.
@@ -50,9 +53,8 @@ static NUMBERS: [(usize, &str); 5] = [
 ];
 
 #[test]
-fn numbers(rt: HostRuntime) -> Result<(), Fail> {
+fn numbers(rt: HostRuntime) {
     for (number, expected) in &NUMBERS {
-        assert_plain(&rt, rt.alloc(), Part::Number(*number), expected)?;
+        assert_plain(&rt, rt.alloc(), Part::Number(*number), expected);
     }
-    Ok(())
 }

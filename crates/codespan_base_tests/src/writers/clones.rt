@@ -1,21 +1,22 @@
 //! Clones of configurations, of their characters and of the texts before a locus.
 
 use crate::asserts::assert_same;
-use codespan_base::files::Error;
 use codespan_base::term::config::chars::SnippetStart;
 use codespan_base::term::{Chars, Config, Layout};
 use std::alloc::{AllocError, Global};
-use std::test::Fail;
+use std::panic::Expect;
 
 #[test]
-fn clone_of_default_configuration(rt: HostRuntime) -> Result<(), Fail> {
-    let fixed = Config::default().clone()?;
-    assert_same(&rt, &fixed.tab_width, &4);
-    assert_same(&rt, &fixed.start_context_lines, &3);
-    assert_same(&rt, &fixed.layout, &Layout::Classic);
-    assert_same(&rt, &fixed.chars.multi_left, &'│');
+fn clone_of_default_configuration(rt: HostRuntime) {
+    let fixed = Config::default().clone().expect(&rt, "a copy");
+    let parts = (
+        fixed.tab_width,
+        fixed.start_context_lines,
+        fixed.layout,
+        fixed.chars.multi_left,
+    );
+    assert_same(&rt, &parts, &(4, 3, Layout::Classic, '│'));
     assert!(rt; matches!(fixed.chars.snippet_start, SnippetStart::Fixed("┌─")));
-    Ok(())
 }
 
 /// Returns a configuration whose snippets start with `==>`, a text that it owns.
@@ -39,29 +40,24 @@ fn has_owned_start(start: &SnippetStart<'_>) -> bool {
     }
 }
 
-/// Returns whether the clone of a start is owned, and is `==>`.
-fn start_clone_is_owned(start: &SnippetStart<'_>) -> Result<bool, Error> {
-    Ok(has_owned_start(&start.clone()?))
-}
-
-/// Returns whether the clone of these characters has such a start.
-fn chars_clone_is_owned(chars: &Chars<'_>) -> Result<bool, Error> {
-    Ok(has_owned_start(&chars.clone()?.snippet_start))
+#[test]
+fn clones(rt: HostRuntime) {
+    let chars = with_owned_start(rt.alloc())
+        .expect(&rt, "a configuration")
+        .chars;
+    let start = chars
+        .snippet_start
+        .clone()
+        .expect(&rt, "a copy of the start");
+    let copy = chars.clone().expect(&rt, "a copy of the characters");
+    assert!(rt; has_owned_start(&start) && has_owned_start(&copy.snippet_start));
 }
 
 #[test]
-fn clones(rt: HostRuntime) -> Result<(), Fail> {
-    let config = with_owned_start(rt.alloc())?;
-    assert!(rt; start_clone_is_owned(&config.chars.snippet_start)?);
-    assert!(rt; chars_clone_is_owned(&config.chars)?);
-    Ok(())
-}
-
-#[test]
-fn clone_of_configuration(rt: HostRuntime) -> Result<(), Fail> {
-    let copy = with_owned_start(rt.alloc())?.clone()?;
-    assert_same(&rt, &copy.tab_width, &8);
-    assert_same(&rt, &copy.chars.pointer_left, &'|');
-    assert!(rt; has_owned_start(&copy.chars.snippet_start));
-    Ok(())
+fn clone_of_configuration(rt: HostRuntime) {
+    let config = with_owned_start(rt.alloc()).expect(&rt, "a configuration");
+    let copy = config.clone().expect(&rt, "a copy");
+    let start_is_owned = has_owned_start(&copy.chars.snippet_start);
+    let parts = (copy.tab_width, copy.chars.pointer_left, start_is_owned);
+    assert_same(&rt, &parts, &(8, '|', true));
 }

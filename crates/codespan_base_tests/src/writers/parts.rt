@@ -1,51 +1,39 @@
 //! Parts of rows, written to writers that take little at a time, or stop.
 
 use crate::asserts::assert_same;
-use codespan_base::diagnostic::{LabelStyle, Severity};
-use codespan_base::term::config::writing::{
-    put_all, put_char, put_number, put_repeated, put_spaces,
-};
-use codespan_base::term::{PlainWriter, WriteStyle};
+use crate::writers::written::{Part, write_parts};
+use codespan_base::diagnostic::Severity;
+use codespan_base::term::PlainWriter;
 use std::alloc::Global;
-use std::io;
 use std::process::Abort;
 use test_writers::example::TagWriter;
 use test_writers::stopping::{Stop, Stopping};
 
-/// Writes a part of a row of each kind, and a style mark of each kind.
-fn write_parts<W: WriteStyle>(w: &mut W) -> io::Result<()> {
-    put_number(w, 1024)?;
-    put_all(w, "┌─".as_bytes())?;
-    put_char(w, '·')?;
-    put_spaces(w, 3)?;
-    put_repeated(w, '─', 2)?;
-    put_all(w, b"")?;
-    put_spaces(w, 0)?;
-    w.set_header(Severity::Bug)?;
-    w.set_header_message()?;
-    w.set_line_number()?;
-    w.set_note_bullet()?;
-    w.set_source_border()?;
-    w.set_label(Severity::Help, LabelStyle::Primary)?;
-    w.set_label(Severity::Help, LabelStyle::Secondary)?;
-    w.reset()
-}
+/// A part of a row of each kind, and a style mark of each kind.
+static PARTS: [Part; 15] = [
+    Part::Number(1024),
+    Part::Text("┌─"),
+    Part::Char('·'),
+    Part::Spaces(3),
+    Part::Repeated('─', 2),
+    Part::Text(""),
+    Part::Spaces(0),
+    Part::Header(Severity::Bug),
+    Part::Message,
+    Part::LineNumber,
+    Part::Bullet,
+    Part::Border,
+    Part::Primary(Severity::Help),
+    Part::Secondary(Severity::Help),
+    Part::Reset,
+];
 
-/// What `write_parts` writes in plain text.
+/// These parts in plain text.
 const PLAIN_PARTS: &str = "1024┌─·   ──";
 
-/// What `write_parts` writes in tags.
+/// These parts in tags.
 const TAG_PARTS: &str =
     "1024┌─·   ──[header][message][number][bullet][border][primary][secondary][/]";
-
-/// Asserts that a writer holds `whole` where the parts were written, and else a prefix of it.
-fn assert_is_right(rt: &impl Abort, inner: &Stopping, is_ok: bool, whole: &str, case: &Case) {
-    let Case { stop, most, writes } = case;
-    assert!(rt;
-        inner.is_right(is_ok, whole.as_bytes()),
-        "{stop:?} {most} {writes}"
-    );
-}
 
 /// A writer that stops.
 #[derive(Drop)]
@@ -58,16 +46,35 @@ struct Case {
     writes: usize,
 }
 
-/// Asserts that the parts are right over a writer that stops so, in tags and plain.
-fn assert_stops(rt: &impl Abort, alloc: Global, case: &Case) {
-    let mut inner = Stopping::new(alloc, case.most, case.writes, case.stop);
-    let result = write_parts(&mut TagWriter::new(&mut inner));
-    assert_is_right(rt, &inner, result.is_ok(), TAG_PARTS, case);
+impl Case {
+    /// Returns such a writer.
+    fn writer(&self, alloc: Global) -> Stopping {
+        Stopping::new(alloc, self.most, self.writes, self.stop)
+    }
+}
 
-    let mut plain = PlainWriter::new(Stopping::new(alloc, case.most, case.writes, case.stop));
-    let result = write_parts(&mut plain);
-    assert_same(rt, &plain.has_failed(), &result.is_err());
-    assert_is_right(rt, &plain.into_inner(), result.is_ok(), PLAIN_PARTS, case);
+/// Asserts that a writer holds `whole` where the parts were written, and else a prefix of it.
+fn assert_is_right(rt: &impl Abort, inner: &Stopping, is_ok: bool, whole: &str, case: &Case) {
+    let Case { stop, most, writes } = case;
+    assert!(rt;
+        inner.is_right(is_ok, whole.as_bytes()),
+        "{stop:?} {most} {writes}"
+    );
+}
+
+/// Asserts that the parts in tags are right over a writer that stops so.
+fn assert_tags_stop(rt: &impl Abort, alloc: Global, case: &Case) {
+    let mut inner = case.writer(alloc);
+    let is_ok = write_parts(&mut TagWriter::new(&mut inner), &PARTS, "").is_ok();
+    assert_is_right(rt, &inner, is_ok, TAG_PARTS, case);
+}
+
+/// Asserts so of the parts in plain text, and that the flag tells whether they failed.
+fn assert_plain_stops(rt: &impl Abort, alloc: Global, case: &Case) {
+    let mut plain = PlainWriter::new(case.writer(alloc));
+    let is_ok = write_parts(&mut plain, &PARTS, "").is_ok();
+    assert_same(rt, &plain.has_failed(), &!is_ok);
+    assert_is_right(rt, &plain.into_inner(), is_ok, PLAIN_PARTS, case);
 }
 
 /// How writers stop.
@@ -91,7 +98,8 @@ fn rows_over_writers_that_stop(rt: HostRuntime) {
                     most: *most,
                     writes,
                 };
-                assert_stops(&rt, rt.alloc(), &case);
+                assert_tags_stop(&rt, rt.alloc(), &case);
+                assert_plain_stops(&rt, rt.alloc(), &case);
             }
         }
     }

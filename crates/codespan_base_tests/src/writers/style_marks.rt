@@ -1,12 +1,11 @@
 //! Every style mark of every writer, and the bytes of colors.
 
-use crate::asserts::{assert_same, assert_text};
 use crate::writers::written::{
-    Part, ansi, assert_plain, color_sequences, no_color_style_marks, plain, plain_ref_style_marks,
-    tag_color_style_marks, tag_style_marks,
+    Rows, ansi, assert_written, color_sequences, no_color_style_marks, plain_ref_style_marks,
+    plain_style_marks, tag_color_style_marks, tag_style_marks, write_style_marks,
 };
-use codespan_base::term::Color;
-use std::test::Fail;
+use codespan_base::term::{Color, PlainWriter};
+use std::panic::Expect;
 
 /// The style marks of `write_style_marks` where each is spelled as nothing: a newline for each but
 /// the reset.
@@ -31,40 +30,29 @@ const TAG_STYLE_MARKS: &str = "[header]\n[primary]\n[secondary]\n[header]\n[prim
     [header]\n[primary]\n[secondary]\n[message]\n[number]\n[bullet]\n[border]\n[/]";
 
 #[test]
-fn every_style_mark_of_every_writer(rt: HostRuntime) -> Result<(), Fail> {
+fn every_style_mark_of_every_writer(rt: HostRuntime) {
     let alloc = rt.alloc();
-    assert_plain(&rt, alloc, Part::EveryStyleMark, NO_STYLE_MARKS)?;
-    let plain_ref = plain_ref_style_marks(alloc)?;
-    assert_text(&rt, plain_ref.as_slice(), NO_STYLE_MARKS);
-    assert_text(
-        &rt,
-        ansi(alloc, Part::EveryStyleMark)?.as_slice(),
-        ANSI_STYLE_MARKS,
-    );
-    assert_text(&rt, no_color_style_marks(alloc)?.as_slice(), NO_STYLE_MARKS);
-    assert_text(
-        &rt,
-        tag_color_style_marks(alloc)?.as_slice(),
-        BOLD_STYLE_MARKS,
-    );
-    assert_text(&rt, tag_style_marks(alloc)?.as_slice(), TAG_STYLE_MARKS);
-    Ok(())
+    assert_written(&rt, plain_style_marks(alloc), NO_STYLE_MARKS);
+    assert_written(&rt, plain_ref_style_marks(alloc), NO_STYLE_MARKS);
+    assert_written(&rt, ansi(alloc, Rows::StyleMarks), ANSI_STYLE_MARKS);
+    assert_written(&rt, no_color_style_marks(alloc), NO_STYLE_MARKS);
+    assert_written(&rt, tag_color_style_marks(alloc), BOLD_STYLE_MARKS);
+    assert_written(&rt, tag_style_marks(alloc), TAG_STYLE_MARKS);
 }
 
 #[test]
-fn plain_style_marks_set_no_flag(rt: HostRuntime) -> Result<(), Fail> {
-    assert!(rt; !plain(rt.alloc(), Part::EveryStyleMark)?.has_failed());
-    Ok(())
+fn plain_style_marks_set_no_flag(rt: HostRuntime) {
+    let mut plain = PlainWriter::new(Vec::new(rt.alloc()));
+    write_style_marks(&mut plain).expect(&rt, "the style marks");
+    assert!(rt; !plain.has_failed());
 }
 
 #[test]
-fn coloured_header(rt: HostRuntime) -> Result<(), Fail> {
-    let text = ansi(rt.alloc(), Part::Header)?;
+fn coloured_header(rt: HostRuntime) {
     let expected =
-        b"\x1b\x5b\x30\x6d\x1b\x5b\x31\x6d\x1b\x5b\x33\x38\x3b\x35\x3b\x39\x6d\x65\x72\x72\x6f\x72\
+        "\x1b\x5b\x30\x6d\x1b\x5b\x31\x6d\x1b\x5b\x33\x38\x3b\x35\x3b\x39\x6d\x65\x72\x72\x6f\x72\
         \x1b\x5b\x30\x6d\x1b\x5b\x31\x6d\x3a\x20\x6d\x1b\x5b\x30\x6d\x0a";
-    assert_same(&rt, &text.as_slice(), &expected.as_slice());
-    Ok(())
+    assert_written(&rt, ansi(rt.alloc(), Rows::Header), expected);
 }
 
 /// A foreground and a background color, whether they are intense, and their escape sequences.
@@ -92,10 +80,9 @@ static COLORS: [(Option<Color>, Option<Color>, bool, &str); 5] = [
 ];
 
 #[test]
-fn foreground_and_background_colors(rt: HostRuntime) -> Result<(), Fail> {
+fn foreground_and_background_colors(rt: HostRuntime) {
     for (fg, bg, intense, expected) in &COLORS {
-        let text = color_sequences(rt.alloc(), *fg, *bg, *intense)?;
-        assert_text(&rt, text.as_slice(), expected);
+        let text = color_sequences(rt.alloc(), *fg, *bg, *intense);
+        assert_written(&rt, text, expected);
     }
-    Ok(())
 }

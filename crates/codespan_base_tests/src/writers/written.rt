@@ -1,6 +1,6 @@
 //! What tests write: style marks and parts of rows, over writers of each kind.
 
-use crate::asserts::assert_text;
+use crate::asserts::assert_same;
 use codespan_base::diagnostic::{LabelStyle, Severity};
 use codespan_base::term::config::plain_ref::PlainWriterRef;
 use codespan_base::term::config::writing::{
@@ -11,53 +11,107 @@ use codespan_base::term::{
 };
 use std::alloc::Global;
 use std::io;
+use std::panic::Expect;
 use std::process::Abort;
 use test_writers::example::{TagColor, TagWriter};
 
-/// The severities.
-static SEVERITIES: [Severity; 5] = [
-    Severity::Bug,
-    Severity::Error,
-    Severity::Warning,
-    Severity::Note,
-    Severity::Help,
-];
-
-/// Writes the style marks of a severity, each before a newline.
-fn write_severity<W: WriteStyle>(w: &mut W, severity: Severity) -> io::Result<()> {
-    w.set_header(severity)?;
-    put_all(w, b"\n")?;
-    w.set_label(severity, LabelStyle::Primary)?;
-    put_all(w, b"\n")?;
-    w.set_label(severity, LabelStyle::Secondary)?;
-    put_all(w, b"\n")
+/// What one call writes.
+#[derive(Clone, Copy)]
+pub enum Part {
+    /// The style mark of a severity's header.
+    Header(Severity),
+    /// That of its primary label.
+    Primary(Severity),
+    /// That of its secondary label.
+    Secondary(Severity),
+    /// That of a header's message.
+    Message,
+    /// That of a line number.
+    LineNumber,
+    /// That of a note's bullet.
+    Bullet,
+    /// That of a border.
+    Border,
+    /// That of plain text after the others.
+    Reset,
+    /// A text.
+    Text(&'static str),
+    /// A character.
+    Char(char),
+    /// A character, repeated.
+    Repeated(char, usize),
+    /// Spaces.
+    Spaces(usize),
+    /// A number.
+    Number(usize),
 }
 
-/// Writes every style mark, each but the reset before a newline.
-fn write_style_marks<W: WriteStyle>(w: &mut W) -> io::Result<()> {
-    for severity in &SEVERITIES {
-        write_severity(w, *severity)?;
+/// Writes a part.
+pub fn write_part<W: WriteStyle>(w: &mut W, part: Part) -> io::Result<()> {
+    match part {
+        Part::Header(severity) => w.set_header(severity),
+        Part::Primary(severity) => w.set_label(severity, LabelStyle::Primary),
+        Part::Secondary(severity) => w.set_label(severity, LabelStyle::Secondary),
+        Part::Message => w.set_header_message(),
+        Part::LineNumber => w.set_line_number(),
+        Part::Bullet => w.set_note_bullet(),
+        Part::Border => w.set_source_border(),
+        Part::Reset => w.reset(),
+        Part::Text(text) => put_all(w, text.as_bytes()),
+        Part::Char(c) => put_char(w, c),
+        Part::Repeated(c, count) => put_repeated(w, c, count),
+        Part::Spaces(count) => put_spaces(w, count),
+        Part::Number(number) => put_number(w, number),
     }
-    w.set_header_message()?;
-    put_all(w, b"\n")?;
-    w.set_line_number()?;
-    put_all(w, b"\n")?;
-    w.set_note_bullet()?;
-    put_all(w, b"\n")?;
-    w.set_source_border()?;
-    put_all(w, b"\n")?;
+}
+
+/// Writes parts, each before a text.
+pub fn write_parts<W: WriteStyle>(w: &mut W, parts: &[Part], ending: &str) -> io::Result<()> {
+    for part in parts {
+        write_part(w, *part)?;
+        put_all(w, ending.as_bytes())?;
+    }
+    Ok(())
+}
+
+/// Every style mark but the reset.
+static STYLE_MARKS: [Part; 19] = [
+    Part::Header(Severity::Bug),
+    Part::Primary(Severity::Bug),
+    Part::Secondary(Severity::Bug),
+    Part::Header(Severity::Error),
+    Part::Primary(Severity::Error),
+    Part::Secondary(Severity::Error),
+    Part::Header(Severity::Warning),
+    Part::Primary(Severity::Warning),
+    Part::Secondary(Severity::Warning),
+    Part::Header(Severity::Note),
+    Part::Primary(Severity::Note),
+    Part::Secondary(Severity::Note),
+    Part::Header(Severity::Help),
+    Part::Primary(Severity::Help),
+    Part::Secondary(Severity::Help),
+    Part::Message,
+    Part::LineNumber,
+    Part::Bullet,
+    Part::Border,
+];
+
+/// Writes every style mark, each but the reset before a newline.
+pub fn write_style_marks<W: WriteStyle>(w: &mut W) -> io::Result<()> {
+    write_parts(w, &STYLE_MARKS, "\n")?;
     w.reset()
 }
 
-/// Writes the header of an error with the message `m`.
-fn write_header<W: WriteStyle>(w: &mut W) -> io::Result<()> {
-    w.set_header(Severity::Error)?;
-    put_all(w, b"error")?;
-    w.set_header_message()?;
-    put_all(w, b": m")?;
-    w.reset()?;
-    put_all(w, b"\n")
-}
+/// The header of an error with the message `m`.
+static HEADER: [Part; 6] = [
+    Part::Header(Severity::Error),
+    Part::Text("error"),
+    Part::Message,
+    Part::Text(": m"),
+    Part::Reset,
+    Part::Text("\n"),
+];
 
 /// Writes some text by `put` and by `write_all`, and then flushes once.
 fn write_and_flush<W: WriteStyle>(w: &mut W) -> io::Result<()> {
@@ -68,83 +122,83 @@ fn write_and_flush<W: WriteStyle>(w: &mut W) -> io::Result<()> {
 }
 
 /// What a test writes.
-#[derive(Drop)]
-pub enum Part {
+#[derive(Clone, Copy)]
+pub enum Rows {
     /// Every style mark.
-    EveryStyleMark,
+    StyleMarks,
     /// The header of an error.
     Header,
-    /// A character.
-    Char(char),
-    /// A character, repeated.
-    Repeated(char, usize),
-    /// Spaces.
-    Spaces(usize),
-    /// A number.
-    Number(usize),
     /// Every style mark, some text by `put` and by `write_all`, and then one flush.
     Flushed,
 }
 
-/// Writes a part.
-pub fn write_part<W: WriteStyle>(w: &mut W, part: Part) -> io::Result<()> {
-    match part {
-        Part::EveryStyleMark => write_style_marks(w),
-        Part::Header => write_header(w),
-        Part::Char(c) => put_char(w, c),
-        Part::Repeated(c, count) => put_repeated(w, c, count),
-        Part::Spaces(count) => put_spaces(w, count),
-        Part::Number(number) => put_number(w, number),
-        Part::Flushed => {
+/// Writes such rows.
+pub fn write_rows<W: WriteStyle>(w: &mut W, rows: Rows) -> io::Result<()> {
+    match rows {
+        Rows::StyleMarks => write_style_marks(w),
+        Rows::Header => write_parts(w, &HEADER, ""),
+        Rows::Flushed => {
             write_style_marks(w)?;
             write_and_flush(w)
         }
     }
 }
 
-/// Returns a writer of plain text that has written a part.
-pub fn plain(alloc: Global, part: Part) -> io::Result<PlainWriter<Vec<u8>>> {
+/// Asserts that a call wrote this text.
+pub fn assert_written(rt: &impl Abort, written: io::Result<Vec<u8>>, expected: &str) {
+    let bytes = written.expect(rt, "a text");
+    let text = str::from_utf8(bytes.as_slice());
+    assert_same(rt, &text.ok(), &Some(expected));
+}
+
+/// Returns a part, plain.
+fn plain_part(alloc: Global, part: Part) -> io::Result<Vec<u8>> {
     let mut plain = PlainWriter::new(Vec::new(alloc));
     write_part(&mut plain, part)?;
-    Ok(plain)
+    Ok(plain.into_inner())
 }
 
 /// Asserts that a part is this text, plain.
-pub fn assert_plain(rt: &impl Abort, alloc: Global, part: Part, expected: &str) -> io::Result<()> {
-    let text = plain(alloc, part)?.into_inner();
-    assert_text(rt, text.as_slice(), expected);
-    Ok(())
+pub fn assert_plain(rt: &impl Abort, alloc: Global, part: Part, expected: &str) {
+    assert_written(rt, plain_part(alloc, part), expected);
 }
 
-/// Writes a part in the default styles over a writer of colors, and returns that writer.
-pub fn styled<C: WriteColor + Drop>(inner: C, part: Part) -> io::Result<C> {
-    let styles = Styles::default();
-    let mut styled = StylesWriter::new(inner, &styles);
-    write_part(&mut styled, part)?;
-    Ok(styled.into_inner())
-}
-
-/// Returns a part, in color.
-pub fn ansi(alloc: Global, part: Part) -> io::Result<Vec<u8>> {
-    Ok(styled(Ansi::new(Vec::new(alloc)), part)?.into_inner())
+/// Returns every style mark of a writer of plain text.
+pub fn plain_style_marks(alloc: Global) -> io::Result<Vec<u8>> {
+    let mut plain = PlainWriter::new(Vec::new(alloc));
+    write_style_marks(&mut plain)?;
+    Ok(plain.into_inner())
 }
 
 /// Returns every style mark of a writer of plain text over a borrowed one.
 pub fn plain_ref_style_marks(alloc: Global) -> io::Result<Vec<u8>> {
     let mut text = Vec::new(alloc);
-    write_part(&mut PlainWriterRef::new(&mut text), Part::EveryStyleMark)?;
+    write_style_marks(&mut PlainWriterRef::new(&mut text))?;
     Ok(text)
+}
+
+/// Writes rows in the default styles over a writer of colors, and returns that writer.
+pub fn styled<C: WriteColor + Drop>(inner: C, rows: Rows) -> io::Result<C> {
+    let styles = Styles::default();
+    let mut styled = StylesWriter::new(inner, &styles);
+    write_rows(&mut styled, rows)?;
+    Ok(styled.into_inner())
+}
+
+/// Returns rows in color.
+pub fn ansi(alloc: Global, rows: Rows) -> io::Result<Vec<u8>> {
+    Ok(styled(Ansi::new(Vec::new(alloc)), rows)?.into_inner())
 }
 
 /// Returns every style mark of a writer without color.
 pub fn no_color_style_marks(alloc: Global) -> io::Result<Vec<u8>> {
-    Ok(styled(NoColor::new(Vec::new(alloc)), Part::EveryStyleMark)?.into_inner())
+    Ok(styled(NoColor::new(Vec::new(alloc)), Rows::StyleMarks)?.into_inner())
 }
 
 /// Returns every style mark of a custom `WriteColor`.
 pub fn tag_color_style_marks(alloc: Global) -> io::Result<Vec<u8>> {
     let mut text = Vec::new(alloc);
-    styled(TagColor::new(&mut text), Part::EveryStyleMark)?;
+    styled(TagColor::new(&mut text), Rows::StyleMarks)?;
     Ok(text)
 }
 
