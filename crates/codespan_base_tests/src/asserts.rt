@@ -11,7 +11,7 @@ pub fn assert_same<T: PartialEq + Debug>(rt: &impl Abort, left: &T, right: &T) {
 
 /// Asserts that two values are equal, and prints `at` where they are not.
 pub fn assert_same_at<T: PartialEq + Debug>(rt: &impl Abort, at: usize, left: &T, right: &T) {
-    assert_eq!(rt; left, right, "at {at}");
+    assert_same(rt, &(at, left), &(at, right));
 }
 
 /// Asserts that a call returned this value.

@@ -147,8 +147,8 @@ static TWO_NOTES: [&str; 2] = ["one", "2"];
 #[test]
 fn texts(rt: HostRuntime) {
     let diagnostic = with_texts(rt.alloc()).expect(&rt, "a diagnostic");
-    assert_same(&rt, &diagnostic.message.as_str(), &"mismatched types");
-    assert!(rt; matches!(&diagnostic.code, Some(code) if code.as_str() == "308"));
+    let texts = (diagnostic.code.as_deref(), diagnostic.message.as_str());
+    assert_same(&rt, &texts, &(Some("308"), "mismatched types"));
 }
 
 /// Asserts that there is one label, with the message `here`.
@@ -186,12 +186,12 @@ fn labels_of_chain(rt: &impl Abort, alloc: Global, file_id: usize) -> Vec<Label<
 }
 
 /// Returns a diagnostic with the labels of a chain, of a vector and of an iterator, in this order.
-fn with_labels_of_three(rt: &impl Abort, alloc: Global) -> Result<Diagnostic<usize>, Error> {
+fn with_labels_of_three(rt: &impl Abort, alloc: Global) -> Diagnostic<usize> {
     let second = with_vector(alloc, labels_of_chain(rt, alloc, 8)).expect(rt, "a vector");
     let first = chain(alloc, 7).expect(rt, "a chain");
-    first
-        .with_labels(second.labels)?
-        .with_labels_iter(labels_of_chain(rt, alloc, 9))
+    let both = first.with_labels(second.labels).expect(rt, "the labels");
+    both.with_labels_iter(labels_of_chain(rt, alloc, 9))
+        .expect(rt, "the last label")
 }
 
 /// Returns the notes of a chain, as those of an iterator.
@@ -229,7 +229,7 @@ fn assert_files(rt: &impl Abort, labels: &[Label<usize>], ids: &[usize]) {
 
 #[test]
 fn lists_of_labels(rt: HostRuntime) {
-    let whole = with_labels_of_three(&rt, rt.alloc()).expect(&rt, "a diagnostic");
+    let whole = with_labels_of_three(&rt, rt.alloc());
     assert_files(&rt, whole.labels.as_slice(), IDS.as_slice());
 }
 

@@ -10,7 +10,7 @@ use crate::asserts::{
 };
 use crate::fixtures::{mapped_file, simple_file, two_files};
 use codespan_base::files::{
-    Error, Files, MappedFile, column_index, default_line_number, line_starts,
+    Error, Files, MappedFile, SimpleFiles, column_index, default_line_number, line_starts,
 };
 use std::alloc::{AllocError, Global};
 use std::panic::Expect;
@@ -95,17 +95,20 @@ fn missing_lookups<'a, F: Files<'a>>(files: &'a F, id: F::FileId) -> (Missing, M
     )
 }
 
-/// Ids, and whether their files are missing in a database of three files.
-static MISSING: [(usize, bool); 4] = [(0, false), (2, false), (3, true), (7, true)];
+/// Asserts that all of these lookups fail for an id, or that none does.
+fn assert_missing(rt: &impl Abort, files: &SimpleFiles<&str, &str>, id: usize, is_missing: bool) {
+    let three = (is_missing, is_missing, is_missing);
+    assert_same_at(rt, id, &missing_lookups(files, id), &(three, three));
+}
 
 #[test]
 fn file_database(rt: HostRuntime) {
     let mut files = two_files(&rt, rt.alloc(), "ab", "c\nd");
     assert_ok(&rt, files.add("h", ""), 2);
-    for (id, is_missing) in &MISSING {
-        let three = (*is_missing, *is_missing, *is_missing);
-        assert_same_at(&rt, *id, &missing_lookups(&files, *id), &(three, three));
-    }
+    assert_missing(&rt, &files, 0, false);
+    assert_missing(&rt, &files, 2, false);
+    assert_missing(&rt, &files, 3, true);
+    assert_missing(&rt, &files, 7, true);
     assert_ok(&rt, files.line_number(7, 0), 1);
 }
 

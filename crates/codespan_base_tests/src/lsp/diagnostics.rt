@@ -27,18 +27,19 @@ fn on_line(line: u32, start: u32, end: u32) -> Range {
 }
 
 /// Returns an error with its labels in file 0, the caller, and in file 1, the callee.
-fn with_labels(alloc: Global) -> Result<Diagnostic<usize>, Error> {
-    let declared = Label::secondary(alloc, 1, 8..12).with_message("declared here")?;
-    let called = Label::primary(alloc, 0, 4..7).with_message("one argument is missing")?;
+fn with_labels(rt: &impl Abort, alloc: Global) -> Result<Diagnostic<usize>, Error> {
+    let declared = Label::secondary(alloc, 1, 8..12).with_message("declared here");
+    let called = Label::primary(alloc, 0, 4..7).with_message("one argument is missing");
     Diagnostic::error(alloc)
-        .with_label(declared)?
-        .with_label(called)?
+        .with_label(declared.expect(rt, "a label"))
+        .expect(rt, "a diagnostic")
+        .with_label(called.expect(rt, "a label"))?
         .with_label(Label::primary(alloc, 0, 9..12))
 }
 
 /// Returns the error of a call of `f` in one file, declared in another one, where `𐐀` is before it.
-fn missing_argument(alloc: Global) -> Result<Diagnostic<usize>, Error> {
-    with_labels(alloc)?
+fn missing_argument(rt: &impl Abort, alloc: Global) -> Result<Diagnostic<usize>, Error> {
+    with_labels(rt, alloc)?
         .with_code("E0061")?
         .with_message("too few arguments")?
         .with_note("note: `f` takes one argument")
@@ -77,39 +78,34 @@ fn severities(rt: HostRuntime) {
 /// Returns the LSP diagnostics of that error.
 fn lsp_diagnostics(rt: &impl Abort, alloc: Global) -> Vec<LspDiagnostic<usize>> {
     let files = two_files(rt, alloc, "ab\n\nf()\n f()", "/*𐐀*/fn f(x)");
-    let diagnostic = missing_argument(alloc).expect(rt, "the diagnostic");
+    let diagnostic = missing_argument(rt, alloc).expect(rt, "the diagnostic");
     to_lsp_diagnostics(&files, &diagnostic).expect(rt, "LSP diagnostics")
 }
 
-/// The line, the characters and the message of each primary label.
-static LABELS: [(u32, u32, u32, &str); 2] = [
-    (
-        2,
-        0,
-        3,
-        "too few arguments\none argument is missing\nnote: `f` takes one argument",
-    ),
-    (3, 1, 4, "too few arguments\nnote: `f` takes one argument"),
-];
-
-/// Asserts that a diagnostic has the range and the message of a row of that table.
-fn assert_is_of_label(
+/// Asserts that the LSP diagnostic at an index has this range and message.
+fn assert_is_at(
     rt: &impl Abort,
-    one: &LspDiagnostic<usize>,
-    label: &(u32, u32, u32, &'static str),
+    diagnostics: &[LspDiagnostic<usize>],
+    index: usize,
+    range: Range,
+    message: &str,
 ) {
-    let range = on_line(label.0, label.1, label.2);
-    assert_same(rt, &(one.range, one.message.as_str()), &(range, label.3));
+    let one = diagnostics.get(index).expect(rt, "a diagnostic");
+    assert_same(rt, &(one.range, one.message.as_str()), &(range, message));
 }
+
+/// The messages of the primary labels.
+const CALLED: &str = "too few arguments\none argument is missing\nnote: `f` takes one argument";
+
+const AGAIN: &str = "too few arguments\nnote: `f` takes one argument";
 
 /// One diagnostic for each primary label.
 #[test]
 fn two_primary_labels(rt: HostRuntime) {
     let diagnostics = lsp_diagnostics(&rt, rt.alloc());
     assert_same(&rt, &diagnostics.len(), &2);
-    for (one, label) in diagnostics.iter().zip(LABELS.iter()) {
-        assert_is_of_label(&rt, one, label);
-    }
+    assert_is_at(&rt, diagnostics.as_slice(), 0, on_line(2, 0, 3), CALLED);
+    assert_is_at(&rt, diagnostics.as_slice(), 1, on_line(3, 1, 4), AGAIN);
 }
 
 /// Asserts that a diagnostic has the file of its label, and what the error has.
@@ -119,7 +115,7 @@ fn assert_shared(rt: &impl Abort, one: &LspDiagnostic<usize>) {
         &(one.file_id, one.severity),
         &(0, DiagnosticSeverity::Error),
     );
-    assert!(rt; matches!(&one.code, Some(code) if code.as_str() == "E0061"));
+    assert_same(rt, &one.code.as_deref(), &Some("E0061"));
 }
 
 /// Each has the file of its label, and what the diagnostic has.

@@ -10,30 +10,33 @@ use codespan_base::files::SimpleFile;
 use codespan_lsp::{Position, PositionEncoding, byte_index_to_position, position_to_byte_index};
 use std::process::Abort;
 
-/// Encodings, and values of `character` between the code units of the character at byte 1.
-static INSIDE: [(PositionEncoding, u32); 3] = [
-    (PositionEncoding::Utf8, 2),
-    (PositionEncoding::Utf8, 4),
-    (PositionEncoding::Utf16, 2),
-];
-
 /// Asserts that a byte is inside a character.
 fn assert_inside(rt: &impl Abort, file: &SimpleFile<&str, &str>, byte_index: usize) {
     let given = invalid_boundary(byte_index_to_position(file, (), byte_index));
     assert_same(rt, &given, &Some(byte_index));
 }
 
+/// Asserts that a position is between the code units of the character at byte 1, by an encoding.
+fn assert_between(
+    rt: &impl Abort,
+    file: &SimpleFile<&str, &str>,
+    encoding: PositionEncoding,
+    character: u32,
+) {
+    let returned = encoding.position_to_byte_index(file, (), &at(0, character));
+    assert_same(rt, &invalid_boundary(returned), &Some(1));
+}
+
 /// A byte inside a character and a position between its code units have no counterpart.
 #[test]
 fn inside_characters(rt: HostRuntime) {
     let file = simple_file(&rt, rt.alloc(), "a𐐀b");
-    for byte_index in 2..5 {
-        assert_inside(&rt, &file, byte_index);
-    }
-    for (encoding, character) in &INSIDE {
-        let result = encoding.position_to_byte_index(&file, (), &at(0, *character));
-        assert!(rt; invalid_boundary(result) == Some(1), "{character}");
-    }
+    assert_inside(&rt, &file, 2);
+    assert_inside(&rt, &file, 3);
+    assert_inside(&rt, &file, 4);
+    assert_between(&rt, &file, PositionEncoding::Utf8, 2);
+    assert_between(&rt, &file, PositionEncoding::Utf8, 4);
+    assert_between(&rt, &file, PositionEncoding::Utf16, 2);
 }
 
 /// Asserts that a position is past the end of its line, with these limits.

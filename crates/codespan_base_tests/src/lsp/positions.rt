@@ -84,24 +84,31 @@ fn assert_encoded(
     assert_same_at(rt, byte_index, &back, &byte_index);
 }
 
-/// The bytes at which the characters of `é∈🗻x` start.
-static STARTS: [usize; 5] = [0, 2, 5, 9, 10];
-
-/// Encodings, and the code units before the characters of `é∈🗻x`.
-static ENCODED: [(PositionEncoding, [u32; 5]); 3] = [
-    (PositionEncoding::Utf8, [0, 2, 5, 9, 10]),
-    (PositionEncoding::Utf16, [0, 1, 2, 4, 5]),
-    (PositionEncoding::Utf32, [0, 1, 2, 3, 4]),
+/// Encodings, the bytes at which the characters of `é∈🗻x` start, and the code units before them.
+static ENCODED: [(PositionEncoding, usize, u32); 15] = [
+    (PositionEncoding::Utf8, 0, 0),
+    (PositionEncoding::Utf8, 2, 2),
+    (PositionEncoding::Utf8, 5, 5),
+    (PositionEncoding::Utf8, 9, 9),
+    (PositionEncoding::Utf8, 10, 10),
+    (PositionEncoding::Utf16, 0, 0),
+    (PositionEncoding::Utf16, 2, 1),
+    (PositionEncoding::Utf16, 5, 2),
+    (PositionEncoding::Utf16, 9, 4),
+    (PositionEncoding::Utf16, 10, 5),
+    (PositionEncoding::Utf32, 0, 0),
+    (PositionEncoding::Utf32, 2, 1),
+    (PositionEncoding::Utf32, 5, 2),
+    (PositionEncoding::Utf32, 9, 3),
+    (PositionEncoding::Utf32, 10, 4),
 ];
 
 /// The code units of each encoding before the characters of a text, as Python's codecs count them.
 #[test]
 fn encodings(rt: HostRuntime) {
     let file = simple_file(&rt, rt.alloc(), "é∈🗻x");
-    for (encoding, characters) in &ENCODED {
-        for (byte_index, character) in STARTS.iter().zip(characters.iter()) {
-            assert_encoded(&rt, &file, *encoding, *byte_index, *character);
-        }
+    for (encoding, byte_index, character) in &ENCODED {
+        assert_encoded(&rt, &file, *encoding, *byte_index, *character);
     }
 }
 
@@ -248,22 +255,18 @@ fn spans(rt: HostRuntime) {
     assert_same(&rt, &late, &Some(2));
 }
 
-/// Encodings, and the code units of `a𐐀b`.
-static CODE_UNITS: [(PositionEncoding, usize); 3] = [
-    (PositionEncoding::Utf8, 6),
-    (PositionEncoding::Utf16, 4),
-    (PositionEncoding::Utf32, 3),
-];
-
 /// Bytes and positions of `a𐐀b` after a newline.
 static DOCUMENTED: [Counterpart; 5] = [(0, 0, 0), (1, 1, 0), (2, 1, 1), (6, 1, 3), (7, 1, 4)];
 
 /// The examples of the doc comments.
 #[test]
 fn documented(rt: HostRuntime) {
-    for (encoding, units) in &CODE_UNITS {
-        assert_same(&rt, &encoding.code_units("a𐐀b"), units);
-    }
+    let units = (
+        PositionEncoding::Utf8.code_units("a𐐀b"),
+        PositionEncoding::Utf16.code_units("a𐐀b"),
+        PositionEncoding::Utf32.code_units("a𐐀b"),
+    );
+    assert_same(&rt, &units, &(6, 4, 3));
     let file = simple_file(&rt, rt.alloc(), "\na𐐀b");
     assert_in_file(&rt, &file, &DOCUMENTED);
     let given = invalid_boundary(position_to_byte_index(&file, (), &at(1, 2)));

@@ -5,6 +5,7 @@ use codespan_base::term::config::chars::SnippetStart;
 use codespan_base::term::{Chars, Config, Layout};
 use std::alloc::{AllocError, Global};
 use std::panic::Expect;
+use std::process::Abort;
 
 #[test]
 fn clone_of_default_configuration(rt: HostRuntime) {
@@ -16,7 +17,7 @@ fn clone_of_default_configuration(rt: HostRuntime) {
         fixed.chars.multi_left,
     );
     assert_same(&rt, &parts, &(4, 3, Layout::Classic, '│'));
-    assert!(rt; matches!(fixed.chars.snippet_start, SnippetStart::Fixed("┌─")));
+    assert_same(&rt, &start_of(&fixed.chars.snippet_start), &("┌─", false));
 }
 
 /// Returns a configuration whose snippets start with `==>`, a text that it owns.
@@ -32,32 +33,40 @@ fn with_owned_start(alloc: Global) -> Result<Config<'static>, AllocError> {
     })
 }
 
-/// Returns whether snippets start with a text that is owned, and is `==>`.
-fn has_owned_start(start: &SnippetStart<'_>) -> bool {
+/// Returns the text that snippets start with, and whether it is owned.
+fn start_of<'a>(start: &'a SnippetStart<'_>) -> (&'a str, bool) {
     match start {
-        SnippetStart::Owned(text) => text.as_str() == "==>",
-        SnippetStart::Fixed(_) => false,
+        SnippetStart::Owned(text) => (text.as_str(), true),
+        SnippetStart::Fixed(text) => (text, false),
     }
+}
+
+/// What `start_of` returns for that configuration.
+static OWNED_START: (&str, bool) = ("==>", true);
+
+/// Asserts that the clone of such a start is such a start.
+fn assert_start_clone(rt: &impl Abort, start: &SnippetStart<'_>) {
+    let copy = start.clone().expect(rt, "a copy");
+    assert_same(rt, &start_of(&copy), &OWNED_START);
+}
+
+/// Asserts that the clone of these characters has such a start.
+fn assert_chars_clone(rt: &impl Abort, chars: &Chars<'_>) {
+    let copy = chars.clone().expect(rt, "a copy");
+    assert_same(rt, &start_of(&copy.snippet_start), &OWNED_START);
 }
 
 #[test]
 fn clones(rt: HostRuntime) {
-    let chars = with_owned_start(rt.alloc())
-        .expect(&rt, "a configuration")
-        .chars;
-    let start = chars
-        .snippet_start
-        .clone()
-        .expect(&rt, "a copy of the start");
-    let copy = chars.clone().expect(&rt, "a copy of the characters");
-    assert!(rt; has_owned_start(&start) && has_owned_start(&copy.snippet_start));
+    let config = with_owned_start(rt.alloc()).expect(&rt, "a configuration");
+    assert_start_clone(&rt, &config.chars.snippet_start);
+    assert_chars_clone(&rt, &config.chars);
 }
 
 #[test]
 fn clone_of_configuration(rt: HostRuntime) {
     let config = with_owned_start(rt.alloc()).expect(&rt, "a configuration");
     let copy = config.clone().expect(&rt, "a copy");
-    let start_is_owned = has_owned_start(&copy.chars.snippet_start);
-    let parts = (copy.tab_width, copy.chars.pointer_left, start_is_owned);
-    assert_same(&rt, &parts, &(8, '|', true));
+    assert_same(&rt, &(copy.tab_width, copy.chars.pointer_left), &(8, '|'));
+    assert_same(&rt, &start_of(&copy.chars.snippet_start), &OWNED_START);
 }

@@ -44,6 +44,10 @@ pub enum Part {
     Spaces(usize),
     /// A number.
     Number(usize),
+    /// A text, by `write_all`.
+    Written(&'static str),
+    /// A flush.
+    Flush,
 }
 
 /// Writes a part.
@@ -62,10 +66,12 @@ pub fn write_part<W: WriteStyle>(w: &mut W, part: Part) -> io::Result<()> {
         Part::Repeated(c, count) => put_repeated(w, c, count),
         Part::Spaces(count) => put_spaces(w, count),
         Part::Number(number) => put_number(w, number),
+        Part::Written(text) => w.write_all(text.as_bytes()),
+        Part::Flush => w.flush(),
     }
 }
 
-/// Writes parts, each before a text.
+/// Writes parts, and a text after each.
 pub fn write_parts<W: WriteStyle>(w: &mut W, parts: &[Part], ending: &str) -> io::Result<()> {
     for part in parts {
         write_part(w, *part)?;
@@ -113,13 +119,13 @@ static HEADER: [Part; 6] = [
     Part::Text("\n"),
 ];
 
-/// Writes some text by `put` and by `write_all`, and then flushes once.
-fn write_and_flush<W: WriteStyle>(w: &mut W) -> io::Result<()> {
-    put_all(w, b"text")?;
-    put_spaces(w, 70)?;
-    w.write_all(b"text")?;
-    w.flush()
-}
+/// Some text by `put` and by `write_all`, and then one flush.
+static FLUSHED: [Part; 4] = [
+    Part::Text("text"),
+    Part::Spaces(70),
+    Part::Written("text"),
+    Part::Flush,
+];
 
 /// What a test writes.
 #[derive(Clone, Copy)]
@@ -139,7 +145,7 @@ pub fn write_rows<W: WriteStyle>(w: &mut W, rows: Rows) -> io::Result<()> {
         Rows::Header => write_parts(w, &HEADER, ""),
         Rows::Flushed => {
             write_style_marks(w)?;
-            write_and_flush(w)
+            write_parts(w, &FLUSHED, "")
         }
     }
 }
