@@ -8,4 +8,4 @@ mod listing;
 mod longest_file;
 mod other_files;
 pub mod rendering;
-mod styles;
+pub mod styles;

@@ -5,7 +5,7 @@ use codespan_reporting::diagnostic::{Diagnostic, Label, LabelStyle, Severity};
 use codespan_reporting::files::{Error, SimpleFiles};
 use codespan_reporting::term::{Config, PlainWriter, Renderer, emit_into_string};
 use std::alloc::Global;
-use std::test::Fail;
+use std::panic::Expect;
 
 /// Renders the diagnostic of an error in a settings file.
 fn render(alloc: Global) -> Result<String, Error> {
@@ -48,8 +48,8 @@ fn rows(alloc: Global) -> Result<Vec<u8>, Error> {
 }
 
 #[test]
-fn quick_start(rt: HostRuntime) -> Result<(), Fail> {
-    let text = render(rt.alloc())?;
+fn quick_start(rt: HostRuntime) {
+    let text = render(rt.alloc()).expect(&rt, "the output");
     let expected = "error[E0001]: invalid value for `retries`\n  \
                 ┌─ settings.conf:1:11\n  \
                 │\n\
@@ -57,12 +57,11 @@ fn quick_start(rt: HostRuntime) -> Result<(), Fail> {
                 │           ^^^^ expected a number\n\n";
     assert_text(&rt, text.as_str(), expected);
 
-    let rows = rows(rt.alloc())?;
+    let rows = rows(rt.alloc()).expect(&rt, "the rows");
     let expected = "3 │     v.push(v.pop().unwrap());\n\
                 \x20 │     - ---- ^ second mutable borrow occurs here\n\
                 \x20 │     │ │     \n\
                 \x20 │     │ first borrow later used by call\n\
                 \x20 │     first mutable borrow occurs here\n";
     assert_bytes(&rt, rows.as_slice(), expected);
-    Ok(())
 }

@@ -4,11 +4,11 @@ mod failures;
 mod scripts;
 
 use report_runs::run::run;
-use std::alloc::{AllocError, Global};
+use std::alloc::Global;
 use std::io;
 use std::io::{ErrorKind, Read, Write};
+use std::panic::Expect;
 use std::process::Abort;
-use std::test::Fail;
 
 /// The arguments of most runs.
 const REQUEST: [&str; 5] = ["rich", "f.txt", "0", "3", "bad"];
@@ -129,21 +129,24 @@ impl Outcome {
 }
 
 /// Returns the words as the program has them.
-fn arguments(alloc: Global, words: &[&str]) -> Result<Vec<String>, AllocError> {
-    words
-        .iter()
-        .map(|word| String::from_str(alloc, word))
-        .try_collect(alloc)
+fn arguments(rt: &impl Abort, alloc: Global, words: &[&str]) -> Vec<String> {
+    let mut args = Vec::new(alloc);
+    for word in words {
+        let arg = String::from_str(alloc, word).expect(rt, "the word");
+        args.push(arg).expect(rt, "the words");
+    }
+    args
 }
 
 /// Runs over an input and outputs in which this fails.
 pub fn run_over(
+    rt: &impl Abort,
     alloc: Global,
     words: &[&str],
     text: &[u8],
     failing: Failing,
-) -> Result<Outcome, AllocError> {
-    let args = arguments(alloc, words)?;
+) -> Outcome {
+    let args = arguments(rt, alloc, words);
     let mut input = Input {
         left: text,
         reads: 0,
@@ -152,12 +155,12 @@ pub fn run_over(
     let mut output = Output::new(alloc, failing.write, failing.flush);
     let mut error_output = Output::new(alloc, failing.error_write, false);
     let status = run(alloc, &args, &mut input, &mut output, &mut error_output);
-    Ok(Outcome {
+    Outcome {
         status,
         output,
         error_output,
         reads: input.reads,
-    })
+    }
 }
 
 /// The arguments of a run, its input, and what is seen of it: the output, what is written to
@@ -166,20 +169,15 @@ pub type Run<'run> = (&'run [&'run str], &'run [u8], (&'run str, &'run str, u8))
 
 /// Asserts what is seen of a run of this name in which this fails. It reads nothing exactly where
 /// its arguments are wrong.
-pub fn check_run<R: Abort + AllocGlobal>(
-    rt: &R,
-    name: &str,
-    failing: Failing,
-    run: &Run<'_>,
-) -> Result<(), Fail> {
+pub fn check_run(rt: &impl Abort, alloc: Global, name: &str, failing: Failing, run: &Run<'_>) {
     let (words, text, expected) = run;
-    let outcome = run_over(rt.alloc(), words, text, failing)?;
-    assert_eq!(rt; outcome.seen(), *expected, "{name}: {words:?} {text:?}");
+    let outcome = run_over(rt, alloc, words, text, failing);
+    let (output, error_output, status) = outcome.seen();
+    let is_read = outcome.reads > 0;
     assert!(rt;
-        (outcome.reads == 0) == (outcome.status == 2),
-        "{name}: {words:?}"
+        (output, error_output, status) == *expected && is_read == (status != 2),
+        "{name}: {words:?}: {output}{error_output}"
     );
-    Ok(())
 }
 
 /// What is seen of a run with wrong arguments.
@@ -273,12 +271,16 @@ static RUNS: [(&str, &[Run<'static>]); 6] = [
     ("input_not_utf8", &INPUT_NOT_UTF8),
 ];
 
-#[test]
-fn runs(rt: HostRuntime) -> Result<(), Fail> {
-    for (name, runs) in &RUNS {
-        for run in *runs {
-            check_run(&rt, name, Failing::default(), run)?;
-        }
+/// Asserts what is seen of these runs, of this name.
+fn check_runs(rt: &impl Abort, alloc: Global, name: &str, runs: &[Run<'_>]) {
+    for run in runs {
+        check_run(rt, alloc, name, Failing::default(), run);
     }
-    Ok(())
+}
+
+#[test]
+fn runs(rt: HostRuntime) {
+    for (name, runs) in &RUNS {
+        check_runs(&rt, rt.alloc(), name, runs);
+    }
 }

@@ -8,10 +8,9 @@ use codespan_base::term::{
 };
 use codespan_renderer::term::renderer::{Locus, MultiLabel, Renderer, lanes_in_order};
 use std::alloc::Global;
-use std::io;
 use std::io::Write;
+use std::panic::Expect;
 use std::process::Abort;
-use std::test::Fail;
 use test_writers::counting::Counting;
 use test_writers::marks::set_styles;
 use test_writers::stopping::{Stop, Stopping};
@@ -60,108 +59,111 @@ static ENDLESS: [(usize, usize, &str); 2] = [
 
 /// A padding and lanes of the greatest `usize` are written until the writer fails.
 #[test]
-fn endless_padding(rt: HostRuntime) -> Result<(), Fail> {
+fn endless_padding(rt: HostRuntime) {
     for (padding, lanes, expected) in &ENDLESS {
         let mut plain = PlainWriter::new(Stopping::new(rt.alloc(), 1, 10, Stop::Fails));
         let failed = render_empty_row(&mut plain, *padding, *lanes);
         assert_stopped(&rt, &failed, plain.into_inner().text.as_slice(), expected);
     }
-    Ok(())
 }
 
 /// Writes a style mark of each kind and some text, and then flushes once.
-pub fn write_marks<W: WriteStyle>(w: &mut W) -> io::Result<()> {
-    set_styles(w)?;
-    w.write_all(b"text")?;
-    w.put(b"\n")?;
-    w.flush()
+pub fn write_marks<W: WriteStyle>(rt: &impl Abort, w: &mut W) {
+    set_styles(w).expect(rt, "the style marks");
+    w.write_all(b"text").expect(rt, "the text");
+    w.put(b"\n").expect(rt, "the newline");
+    w.flush().expect(rt, "the flush");
 }
 
 /// Renders a header, and writes the style marks and the text through the renderer as a writer.
-fn render_header_and_marks<W: WriteStyle>(w: &mut W) -> Result<(), Error> {
+fn render_header_and_marks<W: WriteStyle>(rt: &impl Abort, w: &mut W) {
     let config = Config::default();
     let mut renderer = Renderer::new(w, &config);
-    renderer.render_header(None, Severity::Error, None, "m")?;
-    write_marks(&mut renderer)?;
-    Ok(())
+    renderer
+        .render_header(None, Severity::Error, None, "m")
+        .expect(rt, "the header");
+    write_marks(rt, &mut renderer);
 }
 
 /// Renders a header and the style marks over a writer of colors, and returns that writer.
-fn render_colored<C: WriteColor + Drop>(colors: C) -> Result<C, Error> {
+fn render_colored<C: WriteColor + Drop>(rt: &impl Abort, colors: C) -> C {
     let styles = Styles::default();
     let mut colored = StylesWriter::new(colors, &styles);
-    render_header_and_marks(&mut colored)?;
-    Ok(colored.into_inner())
+    render_header_and_marks(rt, &mut colored);
+    colored.into_inner()
 }
 
 /// A renderer passes on the style marks and the text that are written to it.
 #[test]
-fn coloured_header(rt: HostRuntime) -> Result<(), Fail> {
-    let colored = render_colored(Ansi::new(Vec::new(rt.alloc())))?;
+fn coloured_header(rt: HostRuntime) {
+    let colored = render_colored(&rt, Ansi::new(Vec::new(rt.alloc())));
     let expected = "\x1b[0m\x1b[1m\x1b[38;5;9merror\x1b[0m\x1b[1m: m\x1b[0m\n\
                 \x1b[0m\x1b[1m\x1b[38;5;9m\x1b[0m\x1b[1m\x1b[0m\x1b[36m\x1b[0m\x1b[36m\
                 \x1b[0m\x1b[36m\x1b[0m\x1b[31m\x1b[0m\x1b[36m\x1b[0mtext\n";
     assert_bytes(&rt, colored.into_inner().as_slice(), expected);
-    Ok(())
 }
 
 /// Returns the first locus of a file.
-fn first_locus(alloc: Global) -> Result<Locus, Error> {
-    Ok(Locus {
-        name: String::from_str(alloc, "f")?,
+fn first_locus(rt: &impl Abort, alloc: Global) -> Locus {
+    Locus {
+        name: String::from_str(alloc, "f").expect(rt, "the name"),
         location: Location {
             line_number: 1,
             column_number: 1,
         },
-    })
+    }
 }
 
 /// The mark of a line with a lane.
 static MARKS: [LaneMark; 1] = [FIRST];
 
 /// Renders a line with a lane. Its lanes are in order, as the call requires.
-fn render_line<W: WriteStyle>(
-    rt: &impl Abort,
-    renderer: &mut Renderer<'_, '_, W>,
-) -> Result<(), Error> {
+fn render_line<W: WriteStyle>(rt: &impl Abort, renderer: &mut Renderer<'_, '_, W>) {
     assert!(rt; lanes_in_order(1, &MARKS));
-    renderer.render_snippet_source(1, 1, "ab", Severity::Error, &[], 1, &MARKS)
+    renderer
+        .render_snippet_source(1, 1, "ab", Severity::Error, &[], 1, &MARKS)
+        .expect(rt, "the line");
 }
 
 /// Renders the rows above a line.
-fn render_above<W: WriteStyle>(
-    renderer: &mut Renderer<'_, '_, W>,
-    locus: &Locus,
-) -> Result<(), Error> {
-    renderer.render_header(Some(locus), Severity::Error, Some("E0001"), "m")?;
-    renderer.render_snippet_start(1, locus)?;
-    renderer.render_snippet_empty(1, Severity::Error, 1, &[])
+fn render_above<W: WriteStyle>(rt: &impl Abort, renderer: &mut Renderer<'_, '_, W>, locus: &Locus) {
+    renderer
+        .render_header(Some(locus), Severity::Error, Some("E0001"), "m")
+        .expect(rt, "the header");
+    renderer
+        .render_snippet_start(1, locus)
+        .expect(rt, "the start");
+    renderer
+        .render_snippet_empty(1, Severity::Error, 1, &[])
+        .expect(rt, "the row above");
 }
 
 /// Renders the rows below a line.
-fn render_below<W: WriteStyle>(renderer: &mut Renderer<'_, '_, W>) -> Result<(), Error> {
-    renderer.render_snippet_break(1, Severity::Error, 1, &[])?;
-    renderer.render_snippet_note(1, "a\nb")?;
-    renderer.render_empty()
+fn render_below<W: WriteStyle>(rt: &impl Abort, renderer: &mut Renderer<'_, '_, W>) {
+    renderer
+        .render_snippet_break(1, Severity::Error, 1, &[])
+        .expect(rt, "the break");
+    renderer
+        .render_snippet_note(1, "a\nb")
+        .expect(rt, "the note");
+    renderer.render_empty().expect(rt, "the empty line");
 }
 
 /// Renders rows by each call, writes a style mark of each kind and some text, and flushes once.
-fn render_rows<W: WriteStyle>(rt: &impl Abort, w: &mut W, locus: &Locus) -> Result<(), Error> {
+fn render_rows<W: WriteStyle>(rt: &impl Abort, w: &mut W, locus: &Locus) {
     let config = Config::default();
     let mut renderer = Renderer::new(w, &config);
-    render_above(&mut renderer, locus)?;
-    render_line(rt, &mut renderer)?;
-    render_below(&mut renderer)?;
-    write_marks(&mut renderer)?;
-    Ok(())
+    render_above(rt, &mut renderer, locus);
+    render_line(rt, &mut renderer);
+    render_below(rt, &mut renderer);
+    write_marks(rt, &mut renderer);
 }
 
 /// A renderer passes on a flush, and no other call flushes.
 #[test]
-fn only_flush_flushes(rt: HostRuntime) -> Result<(), Fail> {
-    let locus = first_locus(rt.alloc())?;
+fn only_flush_flushes(rt: HostRuntime) {
+    let locus = first_locus(&rt, rt.alloc());
     let mut inner = Counting::default();
-    render_rows(&rt, &mut PlainWriter::new(&mut inner), &locus)?;
+    render_rows(&rt, &mut PlainWriter::new(&mut inner), &locus);
     assert!(rt; inner.flushes == 1);
-    Ok(())
 }

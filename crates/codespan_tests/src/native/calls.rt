@@ -1,6 +1,6 @@
 //! Calls as C makes them.
 
-use crate::asserts::{assert_bytes, assert_row};
+use crate::asserts::{assert_bytes, assert_row, text_of_bytes};
 use codespan_native::emit::emit;
 use codespan_native::raw::{
     RawChars, RawColorSpec, RawConfig, RawDiagnostic, RawFile, RawLabel, RawLine, RawLocation,
@@ -185,7 +185,7 @@ fn assert_emits(rt: &impl Abort, alloc: Global, call: &Call<'_>) {
     let mut out = [0u8; 1024];
     let outcome = emit(alloc, files, diagnostic, &CONFIG, &mut out);
     assert!(rt; outcome.status == 0, "{name}");
-    assert_row(rt, name, &out[..outcome.written], output);
+    assert_row(rt, name, text_of_bytes(rt, &out[..outcome.written]), output);
 }
 
 #[test]
@@ -233,12 +233,13 @@ fn assert_fails(rt: &impl Abort, alloc: Global, call: &FailedCall<'_>) {
     let (name, diagnostic, expected) = call;
     let mut out = [7u8; 4];
     let outcome = emit(alloc, &[], diagnostic, &CONFIG, &mut out);
-    let detail = outcome.detail;
-    assert!(rt;
-        (outcome.status, detail.argument, detail.index) == *expected,
-        "{name}"
+    let failed = (
+        outcome.status,
+        outcome.detail.argument,
+        outcome.detail.index,
     );
-    assert!(rt; outcome.written == 0 && out == [7, 7, 7, 7], "{name}");
+    let is_unwritten = outcome.written == 0 && out == [7, 7, 7, 7];
+    assert!(rt; failed == *expected && is_unwritten, "{name}");
 }
 
 #[test]

@@ -4,23 +4,21 @@ use crate::asserts::assert_bytes;
 use crate::rows::write_marks;
 use codespan_native::style_mark_writer::StyleMarkWriter;
 use std::io::Write;
-use std::test::Fail;
+use std::panic::Expect;
 use test_writers::counting::Counting;
 
 /// The writer passes on a flush, and no other call flushes.
 #[test]
-fn only_flush_flushes(rt: HostRuntime) -> Result<(), Fail> {
+fn only_flush_flushes(rt: HostRuntime) {
     let mut inner = Counting::default();
-    write_marks(&mut StyleMarkWriter::new(&mut inner))?;
+    write_marks(&rt, &mut StyleMarkWriter::new(&mut inner));
     assert!(rt; inner.flushes == 1);
-    Ok(())
 }
 
 /// A `write` is passed on, and returns how many bytes were taken.
 #[test]
-fn write_is_passed_on(rt: HostRuntime) -> Result<(), Fail> {
+fn write_is_passed_on(rt: HostRuntime) {
     let mut writer = StyleMarkWriter::new(Vec::new(rt.alloc()));
-    assert!(rt; writer.write(b"text")? == 4);
+    assert!(rt; writer.write(b"text").expect(&rt, "the count") == 4);
     assert_bytes(&rt, writer.into_inner().as_slice(), "text");
-    Ok(())
 }

@@ -3,16 +3,16 @@
 mod order;
 
 use crate::outputs::listing::{Failed, Listing};
-use crate::outputs::rendering::assert_view_writes;
+use crate::outputs::rendering::{Parts, assert_renders};
 use codespan_reporting::diagnostic::{Diagnostic, Label};
-use codespan_reporting::files::{Error, Files, SimpleFile};
-use codespan_reporting::term::{Config, Layout, emit_into_string};
+use codespan_reporting::files::{Error, SimpleFile};
+use codespan_reporting::term::{Config, Layout};
 use std::alloc::Global;
 use std::fmt;
 use std::fmt::Display;
 use std::ops::Range;
+use std::panic::Expect;
 use std::process::Abort;
-use std::test::Fail;
 
 /// A lookup of a [`Listing`], with its byte or its line, if it has one. Both are 0-based indices.
 #[derive(Clone, Copy)]
@@ -40,9 +40,9 @@ impl LookupCall {
         failed
     }
 
-    /// Returns whether the error that was returned is that of this lookup.
-    pub fn failed_in<T>(&self, returned: &Result<T, Error>) -> bool {
-        let numbers = match *self {
+    /// Returns the parts of the error of this lookup.
+    fn error_parts(&self) -> Parts<'static> {
+        let (given, max) = match *self {
             LookupCall::Name => (1, 0),
             LookupCall::Source => (2, 0),
             LookupCall::Location(byte) => (3, byte),
@@ -50,10 +50,7 @@ impl LookupCall {
             LookupCall::LineNumber(line) => (5, line),
             LookupCall::LineRange(line) => (6, line),
         };
-        match returned {
-            Err(Error::ColumnTooLarge { given, max }) => (*given, *max) == numbers,
-            _ => false,
-        }
+        ("ColumnTooLarge", given, max)
     }
 }
 
@@ -71,91 +68,88 @@ static LOOKUPS: [Lookup; 7] = [
     (LookupCall::Source, "error: \n"),
 ];
 
+/// Asserts that a failed lookup's error is returned, after its text, by the view and by a call that
+/// emits.
+pub fn assert_fails(
+    rt: &impl Abort,
+    config: &Config<'_>,
+    files: &Listing<'_>,
+    diagnostic: &Diagnostic<()>,
+    (lookup, prefix): &Lookup,
+) {
+    let expected = (*prefix, lookup.error_parts());
+    assert_renders(rt, config, files, diagnostic, expected);
+}
+
+/// Asserts so of a lookup that fails alone.
+fn assert_fails_alone(rt: &impl Abort, diagnostic: &Diagnostic<()>, lookup: &Lookup) {
+    let failed = lookup.0.failed_beside(Failed::default());
+    let files = Listing::new(*diagnostic.labels.allocator(), "f", "ab", failed).expect(
+        rt,
+        "the files",
+    );
+    assert_fails(rt, &Config::default(), &files, diagnostic, lookup);
+}
+
 /// The error of a failed lookup is returned before anything is written; that of the source, after
 /// the header.
 #[test]
-fn failed_lookups(rt: HostRuntime) -> Result<(), Fail> {
-    let diagnostic = with_label(rt.alloc())?;
-    for (lookup, prefix) in &LOOKUPS {
-        let failed = lookup.failed_beside(Failed::default());
-        let files = Listing::new(rt.alloc(), "f", "ab", failed)?;
-        let returned = returned_after(&rt, &files, &diagnostic, prefix)?;
-        assert!(rt; lookup.failed_in(&returned.rendered) && lookup.failed_in(&returned.emitted));
+fn failed_lookups(rt: HostRuntime) {
+    let diagnostic = with_label(rt.alloc()).expect(&rt, "the diagnostic");
+    for lookup in &LOOKUPS {
+        assert_fails_alone(&rt, &diagnostic, lookup);
     }
-    Ok(())
 }
 
 /// Returns a diagnostic with a label of the first byte.
-fn with_label(alloc: Global) -> Result<Diagnostic<()>, Error> {
+pub fn with_label(alloc: Global) -> Result<Diagnostic<()>, Error> {
     Diagnostic::error(alloc).with_label(Label::primary(alloc, (), 0..1))
-}
-
-/// What the view and a call that emits return.
-#[derive(Drop)]
-pub struct Returned {
-    pub rendered: Result<(), Error>,
-    pub emitted: Result<String, Error>,
-}
-
-/// Returns what is returned of a diagnostic, and asserts that the view writes this text before.
-pub fn returned_after<'files, F: Files<'files>>(
-    rt: &impl Abort,
-    files: &'files F,
-    diagnostic: &Diagnostic<F::FileId>,
-    prefix: &str,
-) -> Result<Returned, Error> {
-    let config = Config::default();
-    Ok(Returned {
-        rendered: assert_view_writes(rt, &config, files, diagnostic, prefix)?,
-        emitted: emit_into_string(&config, files, diagnostic),
-    })
 }
 
 /// Returns a diagnostic with labels of these two ranges, without messages.
 pub fn with_two_labels(
+    rt: &impl Abort,
     alloc: Global,
     first: Range<usize>,
     second: Range<usize>,
-) -> Result<Diagnostic<()>, Error> {
+) -> Diagnostic<()> {
     Diagnostic::error(alloc)
-        .with_label(Label::primary(alloc, (), first))?
+        .with_label(Label::primary(alloc, (), first))
+        .expect(rt, "the first label")
         .with_label(Label::primary(alloc, (), second))
+        .expect(rt, "the second label")
 }
 
-/// Asserts that the failed number of a filled line is returned after this text.
-fn assert_failed_number(
-    rt: &impl Abort,
-    alloc: Global,
-    layout: Layout,
-    prefix: &str,
-) -> Result<(), Error> {
-    let config = Config {
+/// Returns the default configuration in a layout.
+fn in_layout<'chars>(layout: Layout) -> Config<'chars> {
+    Config {
         layout,
         ..Config::default()
-    };
-    let lookup = LookupCall::LineNumber(1);
-    let failed = lookup.failed_beside(Failed::default());
-    let files = Listing::new(alloc, "f", "a\nb\nc", failed)?;
-    let diagnostic = with_two_labels(alloc, 0..1, 4..5)?;
-    let returned = assert_view_writes(rt, &config, &files, &diagnostic, prefix)?;
-    assert!(rt; lookup.failed_in(&returned));
-    Ok(())
+    }
 }
 
-/// What is written before the number of a filled line is looked up, by layout.
-static NUMBER_OF_FILLED_LINE: [(Layout, &str); 2] = [
-    (Layout::Classic, "error: \n  ┌─ f:0:1\n  │\n0 │ a\n  │ ^\n"),
-    (Layout::Unbroken, ""),
+/// The number of a filled line, and what is written before it is looked up, by layout.
+static NUMBER_OF_FILLED_LINE: [(Layout, Lookup); 2] = [
+    (
+        Layout::Classic,
+        (
+            LookupCall::LineNumber(1),
+            "error: \n  ┌─ f:0:1\n  │\n0 │ a\n  │ ^\n",
+        ),
+    ),
+    (Layout::Unbroken, (LookupCall::LineNumber(1), "")),
 ];
 
 /// The number of a filled line is looked up with the line in the classic layout, and before the
 /// header in the unbroken one.
 #[test]
-fn failed_number_of_filled_line(rt: HostRuntime) -> Result<(), Fail> {
-    for (layout, prefix) in &NUMBER_OF_FILLED_LINE {
-        assert_failed_number(&rt, rt.alloc(), *layout, prefix)?;
+fn failed_number_of_filled_line(rt: HostRuntime) {
+    let failed = LookupCall::LineNumber(1).failed_beside(Failed::default());
+    let files = Listing::new(rt.alloc(), "f", "a\nb\nc", failed).expect(&rt, "the files");
+    let diagnostic = with_two_labels(&rt, rt.alloc(), 0..1, 4..5);
+    for (layout, lookup) in &NUMBER_OF_FILLED_LINE {
+        assert_fails(&rt, &in_layout(*layout), &files, &diagnostic, lookup);
     }
-    Ok(())
 }
 
 /// A name whose `Display` fails.
@@ -169,17 +163,11 @@ impl Display for Unprintable {
     }
 }
 
-/// Returns whether `FormatError` was returned.
-fn is_format_error<T>(returned: &Result<T, Error>) -> bool {
-    matches!(returned, Err(Error::FormatError))
-}
-
 /// A name whose `Display` fails leads to `FormatError`, and nothing is written.
 #[test]
-fn unprintable_name(rt: HostRuntime) -> Result<(), Fail> {
-    let files = SimpleFile::new(rt.alloc(), Unprintable, "ab")?;
-    let diagnostic = with_label(rt.alloc())?;
-    let returned = returned_after(&rt, &files, &diagnostic, "")?;
-    assert!(rt; is_format_error(&returned.rendered) && is_format_error(&returned.emitted));
-    Ok(())
+fn unprintable_name(rt: HostRuntime) {
+    let files = SimpleFile::new(rt.alloc(), Unprintable, "ab").expect(&rt, "the file");
+    let diagnostic = with_label(rt.alloc()).expect(&rt, "the diagnostic");
+    let expected = ("", ("FormatError", 0, 0));
+    assert_renders(&rt, &Config::default(), &files, &diagnostic, expected);
 }

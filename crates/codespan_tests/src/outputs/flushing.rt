@@ -1,40 +1,14 @@
 //! Which calls flush.
 
+use crate::asserts::assert_text;
+use crate::outputs::rendering::one_file;
+use crate::outputs::styles::{emit_by_each, in_style};
 use codespan_reporting::diagnostic::{Diagnostic, Label};
-use codespan_reporting::files::{Error, SimpleFile};
-use codespan_reporting::term::{
-    Config, DisplayStyle, PlainWriter, emit, emit_to_io_write, emit_to_write_style,
-};
-use std::alloc::Global;
-use std::io::Write;
-use std::test::Fail;
+use codespan_reporting::files::SimpleFiles;
+use codespan_reporting::term::DisplayStyle;
+use std::panic::Expect;
+use std::process::Abort;
 use test_writers::counting::Counting;
-
-/// Emits a diagnostic by each call that writes.
-fn emit_by_each<W: Write>(
-    inner: &mut W,
-    config: &Config<'_>,
-    file: &SimpleFile<&str, &str>,
-    diagnostic: &Diagnostic<()>,
-) -> Result<(), Error> {
-    emit_to_io_write(inner, config, file, diagnostic)?;
-    emit(inner, config, file, diagnostic)?;
-    let mut plain = PlainWriter::new(inner);
-    emit_to_write_style(&mut plain, config, file, diagnostic)
-}
-
-/// Returns how often these calls flush in a style.
-fn flushes_in(alloc: Global, display_style: DisplayStyle) -> Result<usize, Error> {
-    let config = Config {
-        display_style,
-        ..Config::default()
-    };
-    let file = SimpleFile::new(alloc, "f", "ab")?;
-    let diagnostic = Diagnostic::error(alloc).with_label(Label::primary(alloc, (), 0..1))?;
-    let mut inner = Counting::default();
-    emit_by_each(&mut inner, &config, &file, &diagnostic)?;
-    Ok(inner.flushes)
-}
 
 /// Each style.
 static STYLES: [DisplayStyle; 3] = [
@@ -43,12 +17,27 @@ static STYLES: [DisplayStyle; 3] = [
     DisplayStyle::Short,
 ];
 
+/// Asserts that no call that writes flushes in a style.
+fn assert_no_flush(
+    rt: &impl Abort,
+    files: &SimpleFiles<&str, &str>,
+    diagnostic: &Diagnostic<usize>,
+    style: DisplayStyle,
+) {
+    let mut inner = Counting::default();
+    let returned = emit_by_each(&mut inner, &in_style(style), files, diagnostic);
+    assert_text(rt, returned, "Ok");
+    assert!(rt; inner.flushes == 0);
+}
+
 /// No call that emits flushes, in any style.
 #[test]
-fn no_emit_flushes(rt: HostRuntime) -> Result<(), Fail> {
+fn no_emit_flushes(rt: HostRuntime) {
+    let files = one_file(&rt, rt.alloc());
+    let diagnostic = Diagnostic::error(rt.alloc())
+        .with_label(Label::primary(rt.alloc(), 0, 0..1))
+        .expect(&rt, "the diagnostic");
     for style in &STYLES {
-        let flushes = flushes_in(rt.alloc(), *style)?;
-        assert!(rt; flushes == 0);
+        assert_no_flush(&rt, &files, &diagnostic, *style);
     }
-    Ok(())
 }

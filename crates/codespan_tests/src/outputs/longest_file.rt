@@ -2,14 +2,14 @@
 
 ghost use Rattle.std.specs.Prelude.{refl};
 
-use crate::outputs::rendering::assert_view_writes;
+use crate::outputs::rendering::assert_renders;
 use codespan_reporting::diagnostic::{Diagnostic, Label};
 use codespan_reporting::files::{Error, Files, Location};
 use codespan_reporting::term::{Config, Layout};
 use std::alloc::Global;
 use std::ops::Range;
+use std::panic::Expect;
 use std::process::Abort;
-use std::test::Fail;
 
 /// A text of newlines that is as long as a text can be. Its lines are empty and numbered by their
 /// indices, and its source fails.
@@ -88,13 +88,22 @@ fn with_last_labels(alloc: Global) -> Result<Diagnostic<()>, Error> {
         .with_label(Label::secondary(alloc, (), last..last))
 }
 
-/// Asserts that the header of that diagnostic is written, and that the source is looked up then.
-fn assert_header(rt: &impl Abort, alloc: Global, config: &Config<'_>) -> Result<(), Error> {
+/// Asserts that the header of this diagnostic is written, in a layout and with so many lines after
+/// a label, and that the source is looked up then.
+fn assert_header(
+    rt: &impl Abort,
+    diagnostic: &Diagnostic<()>,
+    layout: Layout,
+    after_label_lines: usize,
+) {
     let files = LongestFile { name: "f" };
-    let diagnostic = with_last_labels(alloc)?;
-    let returned = assert_view_writes(rt, config, &files, &diagnostic, "error: \n")?;
-    assert!(rt; matches!(returned, Err(Error::FileMissing)));
-    Ok(())
+    let config = Config {
+        after_label_lines,
+        layout,
+        ..Config::default()
+    };
+    let expected = ("error: \n", ("FileMissing", 0, 0));
+    assert_renders(rt, &config, &files, diagnostic, expected);
 }
 
 /// The layouts.
@@ -106,16 +115,11 @@ static AFTER_LABEL: [usize; 5] = [0, 3, 4, 5, usize::MAX];
 /// A context ends with the greatest index, and rendering goes on: the header is written, and then
 /// the source is looked up.
 #[test]
-fn context_past_all_indices(rt: HostRuntime) -> Result<(), Fail> {
+fn context_past_all_indices(rt: HostRuntime) {
+    let diagnostic = with_last_labels(rt.alloc()).expect(&rt, "the diagnostic");
     for layout in &LAYOUTS {
         for after_label_lines in &AFTER_LABEL {
-            let config = Config {
-                after_label_lines: *after_label_lines,
-                layout: *layout,
-                ..Config::default()
-            };
-            assert_header(&rt, rt.alloc(), &config)?;
+            assert_header(&rt, &diagnostic, *layout, *after_label_lines);
         }
     }
-    Ok(())
 }

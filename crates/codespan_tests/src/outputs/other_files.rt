@@ -1,55 +1,60 @@
 //! A failed line number, a missing file, and a view and a renderer of two configurations.
 
-use crate::outputs::failures::returned_after;
-use crate::outputs::rendering::{files_of, in_first_and_eighth, render_alike};
+use crate::asserts::assert_bytes;
+use crate::outputs::failures::with_label;
+use crate::outputs::rendering::{
+    OK, assert_renders, in_first_and_eighth, one_file, parts_of, render_alike,
+};
 use codespan_reporting::diagnostic::{Diagnostic, Label};
-use codespan_reporting::files::{Error, MappedFile, SimpleFile};
+use codespan_reporting::files::{MappedFile, SimpleFile};
 use codespan_reporting::term::{Chars, Config, Layout, RichDiagnostic, emit_into_string};
 use std::alloc::Global;
+use std::panic::Expect;
 use std::process::Abort;
-use std::test::Fail;
 
 /// Returns a file whose second line has the greatest number.
-fn numbered_to_the_end(alloc: Global) -> Result<MappedFile<&'static str, &'static str>, Error> {
-    let mut file = MappedFile::new(alloc, "m", "a\nb\nc\nd")?;
-    file.set_line(1, usize::MAX)?;
-    Ok(file)
+fn numbered_to_the_end(rt: &impl Abort, alloc: Global) -> MappedFile<&'static str, &'static str> {
+    let mut file = MappedFile::new(alloc, "m", "a\nb\nc\nd").expect(rt, "the file");
+    file.set_line(1, usize::MAX).expect(rt, "the number");
+    file
+}
+
+/// Returns a configuration with two lines after each label.
+fn two_lines_after<'chars>() -> Config<'chars> {
+    Config {
+        after_label_lines: 2,
+        ..Config::default()
+    }
 }
 
 /// A context line whose number fails fails the call; it does not end the context.
 #[test]
-fn mapped_overflow(rt: HostRuntime) -> Result<(), Fail> {
-    let file = numbered_to_the_end(rt.alloc())?;
-    let label = Label::primary(rt.alloc(), (), 0..1);
-    let diagnostic = Diagnostic::error(rt.alloc()).with_label(label)?;
-    let config = Config {
-        after_label_lines: 2,
-        ..Config::default()
-    };
-    let failed = emit_into_string(&config, &file, &diagnostic);
-    assert!(rt; matches!(failed, Err(Error::LineTooLarge { given: 2, max: 1 })));
-    Ok(())
+fn mapped_overflow(rt: HostRuntime) {
+    let file = numbered_to_the_end(&rt, rt.alloc());
+    let diagnostic = with_label(rt.alloc()).expect(&rt, "the diagnostic");
+    let failed = emit_into_string(&two_lines_after(), &file, &diagnostic);
+    assert!(rt; parts_of(&failed) == ("LineTooLarge", 2, 1));
 }
 
 /// A view and a call that emits fail with `FileMissing` where a label is in a missing file. The
 /// view writes nothing.
 #[test]
-fn missing_file(rt: HostRuntime) -> Result<(), Fail> {
-    let files = files_of(rt.alloc(), &[("f", "ab")])?;
-    let diagnostic = in_first_and_eighth(rt.alloc())?;
-    let returned = returned_after(&rt, &files, &diagnostic, "")?;
-    assert!(rt; matches!(returned.rendered, Err(Error::FileMissing)));
-    assert!(rt; matches!(returned.emitted, Err(Error::FileMissing)));
-    Ok(())
+fn missing_file(rt: HostRuntime) {
+    let files = one_file(&rt, rt.alloc());
+    let diagnostic = in_first_and_eighth(&rt, rt.alloc());
+    let expected = ("", ("FileMissing", 0, 0));
+    assert_renders(&rt, &Config::default(), &files, &diagnostic, expected);
 }
 
 /// Returns a diagnostic with a label over five lines, and one on the first of these.
-fn with_multi_line_label(alloc: Global) -> Result<Diagnostic<()>, Error> {
-    let multi = Label::primary(alloc, (), 9..20).with_message("p")?;
-    let single = Label::secondary(alloc, (), 10..11).with_message("q")?;
+fn with_multi_line_label(rt: &impl Abort, alloc: Global) -> Diagnostic<()> {
+    let multi = Label::primary(alloc, (), 9..20).with_message("p");
+    let single = Label::secondary(alloc, (), 10..11).with_message("q");
     Diagnostic::error(alloc)
-        .with_label(multi)?
-        .with_label(single)
+        .with_label(multi.expect(rt, "the label over lines"))
+        .expect(rt, "a label")
+        .with_label(single.expect(rt, "the label on a line"))
+        .expect(rt, "both labels")
 }
 
 /// Returns the configuration of the renderer.
@@ -78,17 +83,16 @@ fn view_config<'chars>(layout: Layout) -> Config<'chars> {
 /// renderer differ in all that the output shows.
 fn assert_rendered_by_two(
     rt: &impl Abort,
-    alloc: Global,
-    view_layout: Layout,
-    renderer_layout: Layout,
-    output: &str,
-) -> Result<(), Error> {
-    let view_config = view_config(view_layout);
-    let file = SimpleFile::new(alloc, "f", "a\nb\nc\nd\n\tgh\ni\nj\nk\n\tl\nm")?;
-    let diagnostic = with_multi_line_label(alloc)?;
-    let view = RichDiagnostic::new(&diagnostic, &view_config);
-    let rendered = render_alike(rt, alloc, &renderer_config(renderer_layout), view, &file)?;
-    rendered.returned_after(rt, output)
+    file: &SimpleFile<&str, &str>,
+    diagnostic: &Diagnostic<()>,
+    (of_view, of_renderer, output): &(Layout, Layout, &str),
+) {
+    let alloc = *diagnostic.labels.allocator();
+    let view_config = view_config(*of_view);
+    let view = RichDiagnostic::new(diagnostic, &view_config);
+    let rendered = render_alike(rt, alloc, &renderer_config(*of_renderer), view, file);
+    assert_bytes(rt, rendered.text.as_slice(), output);
+    rendered.assert_returned(rt, OK);
 }
 
 /// The layouts of the view and of the renderer, and the output.
@@ -128,9 +132,11 @@ static TWO_CONFIGURATIONS: [(Layout, Layout, &str); 2] = [
 /// The view's configuration chooses the lines and the padding width; the renderer's chooses the
 /// characters, the tab stops and whether a lane goes on below its corner.
 #[test]
-fn two_configurations(rt: HostRuntime) -> Result<(), Fail> {
-    for (of_view, of_renderer, output) in &TWO_CONFIGURATIONS {
-        assert_rendered_by_two(&rt, rt.alloc(), *of_view, *of_renderer, output)?;
+fn two_configurations(rt: HostRuntime) {
+    let source = "a\nb\nc\nd\n\tgh\ni\nj\nk\n\tl\nm";
+    let file = SimpleFile::new(rt.alloc(), "f", source).expect(&rt, "the file");
+    let diagnostic = with_multi_line_label(&rt, rt.alloc());
+    for row in &TWO_CONFIGURATIONS {
+        assert_rendered_by_two(&rt, &file, &diagnostic, row);
     }
-    Ok(())
 }

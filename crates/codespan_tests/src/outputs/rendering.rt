@@ -9,66 +9,82 @@ use codespan_reporting::term::{
     WriteStyle, emit_into_string,
 };
 use std::alloc::Global;
+use std::panic::Expect;
 use std::process::Abort;
 use test_writers::sequences::without_sequences;
 
-/// Returns the files of these names and texts.
-pub fn files_of<'text>(
-    alloc: Global,
-    texts: &[(&'text str, &'text str)],
-) -> Result<SimpleFiles<&'text str, &'text str>, Error> {
+/// Returns a file database with one file, `f`, of the text `ab`.
+pub fn one_file(rt: &impl Abort, alloc: Global) -> SimpleFiles<&'static str, &'static str> {
     let mut files = SimpleFiles::new(alloc);
-    for (name, source) in texts {
-        files.add(*name, *source)?;
-    }
-    Ok(files)
+    files.add("f", "ab").expect(rt, "the file");
+    files
 }
 
 /// Returns a diagnostic with a label in the first file, and one in the eighth.
-pub fn in_first_and_eighth(alloc: Global) -> Result<Diagnostic<usize>, Error> {
+pub fn in_first_and_eighth(rt: &impl Abort, alloc: Global) -> Diagnostic<usize> {
     Diagnostic::error(alloc)
-        .with_message("m")?
-        .with_label(Label::primary(alloc, 0, 0..1))?
+        .with_message("m")
+        .expect(rt, "the message")
+        .with_label(Label::primary(alloc, 0, 0..1))
+        .expect(rt, "the first label")
         .with_label(Label::primary(alloc, 7, 0..1))
+        .expect(rt, "the second label")
 }
 
 /// What a rendering returned, and what it wrote.
 #[derive(Drop)]
 pub struct Rendered {
     returned: Result<(), Error>,
-    text: Vec<u8>,
+    pub text: Vec<u8>,
 }
 
 impl Rendered {
-    /// Asserts that the rendering wrote this text, and returns what it returned.
-    pub fn returned_after(self, rt: &impl Abort, text: &str) -> Result<(), Error> {
-        assert_bytes(rt, self.text.as_slice(), text);
-        self.returned
+    /// Asserts that the rendering returned `Ok` or an error, by its parts.
+    pub fn assert_returned(&self, rt: &impl Abort, (name, given, max): Parts<'_>) {
+        let returned = parts_of(&self.returned);
+        assert_text(rt, returned.0, name);
+        assert!(rt; returned.1 == given && returned.2 == max);
     }
 
     /// Returns whether a rendering returned what this one did, and wrote the same.
     fn is_same(&self, returned: &Result<(), Error>, text: &[u8]) -> bool {
-        let is_same_return = match &self.returned {
-            Ok(_) => returned.is_ok(),
-            Err(error) => matches!(returned, Err(other) if parts_of(error) == parts_of(other)),
-        };
-        is_same_return && text == self.text.as_slice()
+        is_same_return(&self.returned, returned) && text == self.text.as_slice()
+    }
+
+    /// Returns whether a call that emits to a string returned the same text, or the same error.
+    fn is_same_string(&self, emitted: &Result<String, Error>) -> bool {
+        match emitted {
+            Ok(text) => self.is_same(&Ok(()), text.as_bytes()),
+            Err(_) => is_same_return(&self.returned, emitted),
+        }
     }
 }
 
-/// Returns which error it is, and its numbers, `given` and `max`; 0 for one that it does not have.
-/// Of an `Io` the cause is left out.
-fn parts_of(error: &Error) -> (&'static str, usize, usize) {
-    match error {
-        Error::FileMissing => ("FileMissing", 0, 0),
-        Error::IndexTooLarge { given, max } => ("IndexTooLarge", *given, *max),
-        Error::LineTooLarge { given, max } => ("LineTooLarge", *given, *max),
-        Error::ColumnTooLarge { given, max } => ("ColumnTooLarge", *given, *max),
-        Error::InvalidCharBoundary { given } => ("InvalidCharBoundary", *given, 0),
-        Error::Io(_) => ("Io", 0, 0),
-        Error::FormatError => ("FormatError", 0, 0),
-        Error::OutOfMemory => ("OutOfMemory", 0, 0),
-        _ => ("", 0, 0),
+/// Returns whether both are `Ok`, or the same error with the same numbers.
+fn is_same_return<T>(one: &Result<(), Error>, other: &Result<T, Error>) -> bool {
+    parts_of(one) == parts_of(other)
+}
+
+/// `Ok`, or which error was returned, and its numbers, `given` and `max`; 0 for one that it does
+/// not have. Of an `Io` the cause is left out.
+pub type Parts<'name> = (&'name str, usize, usize);
+
+/// The parts of `Ok`.
+pub const OK: Parts<'static> = ("Ok", 0, 0);
+
+/// Returns the parts of what was returned.
+pub fn parts_of<T>(returned: &Result<T, Error>) -> Parts<'static> {
+    match returned {
+        Ok(_) => OK,
+        Err(Error::FileMissing) => ("FileMissing", 0, 0),
+        Err(Error::IndexTooLarge { given, max }) => ("IndexTooLarge", *given, *max),
+        Err(Error::LineTooLarge { given, max }) => ("LineTooLarge", *given, *max),
+        Err(Error::ColumnTooLarge { given, max }) => ("ColumnTooLarge", *given, *max),
+        Err(Error::InvalidCharBoundary { given }) => ("InvalidCharBoundary", *given, 0),
+        Err(Error::Io(_)) => ("Io", 0, 0),
+        Err(Error::FormatError) => ("FormatError", 0, 0),
+        Err(Error::OutOfMemory) => ("OutOfMemory", 0, 0),
+        Err(_) => ("", 0, 0),
     }
 }
 
@@ -115,15 +131,16 @@ fn is_same_without_color<'files, F: Files<'files>>(
 /// Returns whether a view is rendered the same over [`Ansi`], once the escape sequences are taken
 /// out.
 fn is_same_in_color<'files, F: Files<'files>>(
+    rt: &impl Abort,
     alloc: Global,
     config: &Config<'_>,
     view: RichDiagnostic<'_, '_, F::FileId>,
     files: &'files F,
     plain: &Rendered,
-) -> Result<bool, Error> {
+) -> bool {
     let (colored, returned) = render_styled(Ansi::new(Vec::new(alloc)), config, view, files);
-    let text = without_sequences(alloc, colored.into_inner().as_slice())?;
-    Ok(plain.is_same(&returned, text.as_slice()))
+    let text = without_sequences(alloc, colored.into_inner().as_slice()).expect(rt, "the text");
+    plain.is_same(&returned, text.as_slice())
 }
 
 /// Renders a view plain, over [`NoColor`], and over [`Ansi`]. Asserts that all three return the
@@ -135,39 +152,28 @@ pub fn render_alike<'files, F: Files<'files>>(
     config: &Config<'_>,
     view: RichDiagnostic<'_, '_, F::FileId>,
     files: &'files F,
-) -> Result<Rendered, Error> {
+) -> Rendered {
     let plain = rendered_plain(alloc, config, view, files);
     assert!(rt; is_same_without_color(alloc, config, view, files, &plain));
-    assert!(rt; is_same_in_color(alloc, config, view, files, &plain)?);
-    Ok(plain)
+    assert!(rt; is_same_in_color(rt, alloc, config, view, files, &plain));
+    plain
 }
 
-/// Asserts that the view of a diagnostic writes this text, plain and in colors. Returns the result,
-/// which is the same in all of them.
-pub fn assert_view_writes<'files, F: Files<'files>>(
+/// Asserts that the view of a diagnostic writes this text, plain and in colors, and that a call
+/// that emits returns the same text or error: the one with these parts, or `Ok`.
+pub fn assert_renders<'files, F: Files<'files>>(
     rt: &impl Abort,
     config: &Config<'_>,
     files: &'files F,
     diagnostic: &Diagnostic<F::FileId>,
-    text: &str,
-) -> Result<Result<(), Error>, Error> {
+    (text, returned): (&str, Parts<'_>),
+) {
     let alloc = *diagnostic.labels.allocator();
     let view = RichDiagnostic::new(diagnostic, config);
-    let rendered = render_alike(rt, alloc, config, view, files)?;
-    Ok(rendered.returned_after(rt, text))
-}
-
-/// Asserts that a diagnostic has this output, by a call that emits and by the view.
-pub fn assert_output<'files, F: Files<'files>>(
-    rt: &impl Abort,
-    config: &Config<'_>,
-    files: &'files F,
-    diagnostic: &Diagnostic<F::FileId>,
-    output: &str,
-) -> Result<(), Error> {
-    let text = emit_into_string(config, files, diagnostic)?;
-    assert_text(rt, text.as_str(), output);
-    assert_view_writes(rt, config, files, diagnostic, output)?
+    let rendered = render_alike(rt, alloc, config, view, files);
+    assert_bytes(rt, rendered.text.as_slice(), text);
+    assert!(rt; rendered.is_same_string(&emit_into_string(config, files, diagnostic)));
+    rendered.assert_returned(rt, returned);
 }
 
 /// Renders a view to a writer, by a renderer with this configuration.

@@ -7,7 +7,8 @@ use crate::report::scripts::errors::{
     SCRIPTS_WITHOUT_END,
 };
 use crate::report::{Failing, Run, check_run, run_over};
-use std::test::Fail;
+use std::alloc::Global;
+use std::process::Abort;
 
 /// The style of a run over the file `f.txt`, its script, and what is to be seen of it: the output,
 /// what is written to `error_output`, and the status.
@@ -214,15 +215,19 @@ static SCRIPTS: [(&str, &[ScriptRun<'static>]); 11] = [
     ("scripts_without_end", &SCRIPTS_WITHOUT_END),
 ];
 
-#[test]
-fn scripts(rt: HostRuntime) -> Result<(), Fail> {
-    for (name, runs) in &SCRIPTS {
-        for (style, input, expected) in *runs {
-            let run: Run<'_> = (&[*style, "f.txt"], input.as_bytes(), *expected);
-            check_run(&rt, name, Failing::default(), &run)?;
-        }
+/// Asserts what is seen of these runs, of this name.
+fn check_scripts(rt: &impl Abort, alloc: Global, name: &str, runs: &[ScriptRun<'_>]) {
+    for (style, input, expected) in runs {
+        let run: Run<'_> = (&[*style, "f.txt"], input.as_bytes(), *expected);
+        check_run(rt, alloc, name, Failing::default(), &run);
     }
-    Ok(())
+}
+
+#[test]
+fn scripts(rt: HostRuntime) {
+    for (name, runs) in &SCRIPTS {
+        check_scripts(&rt, rt.alloc(), name, runs);
+    }
 }
 
 /// What a run over an empty script writes to `error_output`, in short style.
@@ -231,14 +236,13 @@ const MISSING_END: &str = "script:1:1: error[S5]: missing end of script\n";
 /// If writing the diagnostic of a script's error fails, the status is 1 and nothing more is
 /// written.
 #[test]
-fn failed_script_error(rt: HostRuntime) -> Result<(), Fail> {
+fn failed_script_error(rt: HostRuntime) {
     for write in 0..MISSING_END.len().div_ceil(4) {
         let failing = Failing {
             error_write: Some(write),
             ..Failing::default()
         };
-        let outcome = run_over(rt.alloc(), &["short", "f.txt"], b"", failing)?;
+        let outcome = run_over(&rt, rt.alloc(), &["short", "f.txt"], b"", failing);
         assert!(rt; outcome.ended_after(write * 4, 1), "write {write}");
     }
-    Ok(())
 }

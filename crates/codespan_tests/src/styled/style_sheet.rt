@@ -2,15 +2,14 @@
 //! `red` for bright red, and the like; `blue2` for blue and `rgb:5c/5c/ff` for bright blue.
 
 use crate::asserts::assert_text;
-use codespan_base::files::Error;
 use codespan_base::term::{Color, ColorSpec, Styles};
 use codespan_styled::html_styles;
 use std::alloc::Global;
+use std::panic::Expect;
 use std::process::Abort;
-use std::test::Fail;
 
 #[test]
-fn default_styles(rt: HostRuntime) -> Result<(), Fail> {
+fn default_styles(rt: HostRuntime) {
     let want = ".diagnostic .header-bug { color: #ff0000; font-weight: bold; }\n\
                 .diagnostic .header-error { color: #ff0000; font-weight: bold; }\n\
                 .diagnostic .header-warning { color: #ffff00; font-weight: bold; }\n\
@@ -26,9 +25,8 @@ fn default_styles(rt: HostRuntime) -> Result<(), Fail> {
                 .diagnostic .line-number { color: #00cdcd; }\n\
                 .diagnostic .source-border { color: #00cdcd; }\n\
                 .diagnostic .note-bullet { color: #00cdcd; }\n";
-    let css = html_styles(rt.alloc(), &Styles::default())?;
+    let css = html_styles(rt.alloc(), &Styles::default()).expect(&rt, "the style sheet");
     assert_text(&rt, css.as_str(), want);
-    Ok(())
 }
 
 /// Returns styles with this color behind the first one and, bold and bright, in the last one.
@@ -50,13 +48,7 @@ fn with_color(color: Color) -> Styles {
 }
 
 /// Asserts that a style sheet has these colors alone, a color and the bright one of it.
-fn assert_colors(
-    rt: &impl Abort,
-    alloc: Global,
-    color: Color,
-    normal: &str,
-    bright: &str,
-) -> Result<(), Error> {
+fn assert_colors(rt: &impl Abort, alloc: Global, color: Color, normal: &str, bright: &str) {
     let want = format!(in alloc;
         ".diagnostic .header-bug {{ background-color: {normal}; }}\n\
          .diagnostic .header-error {{ }}\n\
@@ -73,10 +65,10 @@ fn assert_colors(
          .diagnostic .line-number {{ }}\n\
          .diagnostic .source-border {{ }}\n\
          .diagnostic .note-bullet {{ color: {bright}; font-weight: bold; }}\n"
-    )?;
-    let css = html_styles(alloc, &with_color(color))?;
+    )
+    .expect(rt, "the expected style sheet");
+    let css = html_styles(alloc, &with_color(color)).expect(rt, "the style sheet");
     assert_text(rt, css.as_str(), want.as_str());
-    Ok(())
 }
 
 /// Each color, and how it and the bright one of it are named.
@@ -92,9 +84,8 @@ static COLORS: [(Color, &str, &str); 8] = [
 ];
 
 #[test]
-fn each_color(rt: HostRuntime) -> Result<(), Fail> {
+fn each_color(rt: HostRuntime) {
     for (color, normal, bright) in &COLORS {
-        assert_colors(&rt, rt.alloc(), *color, normal, bright)?;
+        assert_colors(&rt, rt.alloc(), *color, normal, bright);
     }
-    Ok(())
 }

@@ -6,7 +6,7 @@ use crate::styled::texts::text_of;
 use codespan_base::diagnostic::{LabelStyle, Severity};
 use codespan_base::term::Styles;
 use codespan_styled::{Style, to_svg};
-use std::test::Fail;
+use std::panic::Expect;
 
 /// Parts of a text.
 static PARTS: [(Style, &str); 7] = [
@@ -20,8 +20,8 @@ static PARTS: [(Style, &str); 7] = [
 ];
 
 #[test]
-fn inks_and_cells(rt: HostRuntime) -> Result<(), Fail> {
-    let text = text_of(rt.alloc(), &PARTS)?;
+fn inks_and_cells(rt: HostRuntime) {
+    let text = text_of(&rt, rt.alloc(), &PARTS);
     let want = "<svg xmlns=\"http://www.w3.org/2000/svg\" width=\"105\" height=\"42\" \
                 viewBox=\"0 0 105 42\" \
                 font-family=\"DejaVu Sans Mono, Menlo, Consolas, monospace\" font-size=\"15\" \
@@ -34,7 +34,6 @@ fn inks_and_cells(rt: HostRuntime) -> Result<(), Fail> {
                 e\u{301}</text>\
                 <text x=\"39\" y=\"43\" textLength=\"45\"> &amp; \"\\e[\u{fffd}</text>\
                 <text x=\"84\" y=\"43\" textLength=\"9\" fill=\"#56d4dd\">│</text></svg>\n";
-    let svg = to_svg(rt.alloc(), &text, &Styles::default())?;
+    let svg = to_svg(rt.alloc(), &text, &Styles::default()).expect(&rt, "the document");
     assert_text(&rt, svg.as_str(), want);
-    Ok(())
 }

@@ -4,14 +4,15 @@ use crate::asserts::{assert_bytes, assert_row};
 use crate::outputs::rendering::render_styled;
 use crate::styled::texts::text_of;
 use codespan_base::diagnostic::{Diagnostic, Label, LabelStyle, Severity};
-use codespan_base::files::{Error, SimpleFiles};
+use codespan_base::files::SimpleFiles;
 use codespan_base::term::{Ansi, Config, Styles};
 use codespan_reporting::term::RichDiagnostic;
 use codespan_styled::render::styled_text;
 use codespan_styled::style::Style;
 use codespan_styled::terminal::{is_safe, safe_text, to_terminal};
 use std::alloc::Global;
-use std::test::Fail;
+use std::panic::Expect;
+use std::process::Abort;
 
 /// A text, and what is left of it.
 type Text<'text> = (&'text str, &'text str);
@@ -72,15 +73,19 @@ static TEXTS: [(&str, &[Text<'static>]); 3] = [
     ("controls_are_left_out", &CONTROLS),
 ];
 
-#[test]
-fn safe_texts(rt: HostRuntime) -> Result<(), Fail> {
-    for (name, texts) in &TEXTS {
-        for (source, want) in *texts {
-            let safe = safe_text(rt.alloc(), source)?;
-            assert_row(&rt, name, safe.as_bytes(), want);
-        }
+/// Asserts what is left of these texts.
+fn assert_safe_texts(rt: &impl Abort, alloc: Global, name: &str, texts: &[Text<'_>]) {
+    for (source, want) in texts {
+        let safe = safe_text(alloc, source).expect(rt, "the text");
+        assert_row(rt, name, safe.as_str(), want);
     }
-    Ok(())
+}
+
+#[test]
+fn safe_texts(rt: HostRuntime) {
+    for (name, texts) in &TEXTS {
+        assert_safe_texts(&rt, rt.alloc(), name, texts);
+    }
 }
 
 /// The first and the last of each range of characters that are left out.
@@ -175,36 +180,47 @@ static OUTPUTS: [Output<'static>; 10] = [
 ];
 
 #[test]
-fn outputs(rt: HostRuntime) -> Result<(), Fail> {
+fn outputs(rt: HostRuntime) {
+    let styles = Styles::default();
     for (name, parts, want) in &OUTPUTS {
-        let text = text_of(rt.alloc(), parts)?;
-        let terminal = to_terminal(rt.alloc(), &text, &Styles::default())?;
-        assert_row(&rt, name, terminal.as_bytes(), want);
+        let text = text_of(&rt, rt.alloc(), parts);
+        let terminal = to_terminal(rt.alloc(), &text, &styles).expect(&rt, "the output");
+        assert_row(&rt, name, terminal.as_str(), want);
     }
-    Ok(())
 }
 
 /// Returns a diagnostic with a label in this file.
-fn unused_variable(alloc: Global, id: usize) -> Result<Diagnostic<usize>, Error> {
-    let label = Label::primary(alloc, id, 4..5).with_message("not used")?;
+fn unused_variable(rt: &impl Abort, alloc: Global, id: usize) -> Diagnostic<usize> {
+    let label = Label::primary(alloc, id, 4..5).with_message("not used");
     Diagnostic::warning(alloc)
-        .with_message("a variable")?
-        .with_label(label)
+        .with_message("a variable")
+        .expect(rt, "the message")
+        .with_label(label.expect(rt, "the label"))
+        .expect(rt, "the diagnostic")
+}
+
+/// Returns what the view writes to [`Ansi`].
+fn written_to_ansi(
+    rt: &impl Abort,
+    config: &Config<'_>,
+    files: &SimpleFiles<&str, &str>,
+    diagnostic: &Diagnostic<usize>,
+) -> Vec<u8> {
+    let view = RichDiagnostic::new(diagnostic, config);
+    let colors = Ansi::new(Vec::new(*diagnostic.labels.allocator()));
+    let (colored, returned) = render_styled(colors, config, view, files);
+    assert!(rt; returned.is_ok());
+    colored.into_inner()
 }
 
 #[test]
-fn output_is_as_written_to_ansi(rt: HostRuntime) -> Result<(), Fail> {
-    let alloc = rt.alloc();
-    let mut files = SimpleFiles::new(alloc);
-    let id = files.add("a.rs", "let x = 1;\n")?;
-    let diagnostic = unused_variable(alloc, id)?;
+fn output_is_as_written_to_ansi(rt: HostRuntime) {
+    let mut files = SimpleFiles::new(rt.alloc());
+    let id = files.add("a.rs", "let x = 1;\n").expect(&rt, "the file");
+    let diagnostic = unused_variable(&rt, rt.alloc(), id);
     let config = Config::default();
-
-    let view = RichDiagnostic::new(&diagnostic, &config);
-    let (colored, returned) = render_styled(Ansi::new(Vec::new(alloc)), &config, view, &files);
-    returned?;
-    let text = styled_text(alloc, &config, &files, &diagnostic)?;
-    let terminal = to_terminal(alloc, &text, &Styles::default())?;
-    assert_bytes(&rt, colored.into_inner().as_slice(), terminal.as_str());
-    Ok(())
+    let colored = written_to_ansi(&rt, &config, &files, &diagnostic);
+    let text = styled_text(rt.alloc(), &config, &files, &diagnostic).expect(&rt, "the text");
+    let terminal = to_terminal(rt.alloc(), &text, &Styles::default()).expect(&rt, "the output");
+    assert_bytes(&rt, colored.as_slice(), terminal.as_str());
 }

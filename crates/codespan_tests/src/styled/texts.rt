@@ -1,16 +1,20 @@
 //! Styled texts.
 
 use codespan_styled::{Run, Style, StyledText};
-use std::alloc::{AllocError, Global};
+use std::alloc::Global;
+use std::panic::Expect;
+use std::process::Abort;
 
 /// Makes a styled text.
-pub fn text_of(alloc: Global, parts: &[(Style, &str)]) -> Result<StyledText, AllocError> {
+pub fn text_of(rt: &impl Abort, alloc: Global, parts: &[(Style, &str)]) -> StyledText {
     let mut runs = Vec::new(alloc);
-    for (style, text) in parts {
+    for (style, part) in parts {
+        let text = part.to_string(alloc).expect(rt, "the part");
         runs.push(Run {
             style: *style,
-            text: text.to_string(alloc)?,
-        })?;
+            text,
+        })
+        .expect(rt, "the parts");
     }
-    Ok(StyledText { runs })
+    StyledText { runs }
 }
