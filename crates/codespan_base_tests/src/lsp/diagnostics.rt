@@ -63,13 +63,8 @@ fn first_program(rt: HostRuntime) {
     let utf8 = PositionEncoding::Utf8
         .byte_index_to_position(&file, (), 8)
         .expect(&rt, "a position in UTF-8");
-    let found = (
-        position.line,
-        position.character,
-        byte_index,
-        utf8.character,
-    );
-    assert!(rt; found == (1, 3, 8, 5));
+    assert!(rt; (position.line, position.character) == (1, 3));
+    assert!(rt; (byte_index, utf8.character) == (8, 5));
 }
 
 /// Severities, and their numbers.
