@@ -124,29 +124,30 @@ fn label(alloc: Global) -> Result<Label<char>, Error> {
 }
 
 /// Returns a diagnostic with a text of each kind: two notes, a label, and a code of digits.
-fn with_texts(alloc: Global) -> Result<Diagnostic<char>, Error> {
+fn with_texts(rt: &impl Abort, alloc: Global) -> Diagnostic<char> {
+    let label = label(alloc).expect(rt, "a label");
     Diagnostic::error(alloc)
-        .with_code(308)?
-        .with_message("mismatched types")?
-        .with_note("one")?
-        .with_note('2')?
-        .with_label(label(alloc)?)
+        .with_code(308)
+        .expect(rt, "the code")
+        .with_message("mismatched types")
+        .expect(rt, "the message")
+        .with_note("one")
+        .expect(rt, "a note")
+        .with_note('2')
+        .expect(rt, "two notes")
+        .with_label(label)
+        .expect(rt, "the label")
 }
 
-/// Asserts that notes have these texts.
-fn assert_notes(rt: &impl Abort, notes: &[String], texts: &[&str]) {
-    assert_same(rt, &notes.len(), &texts.len());
-    for (note, text) in notes.iter().zip(texts.iter()) {
-        assert_same(rt, &note.as_str(), text);
-    }
+/// Asserts that the note at an index has this text.
+fn assert_note(rt: &impl Abort, notes: &[String], index: usize, text: &str) {
+    let note = notes.get(index).expect(rt, "a note");
+    assert_same(rt, &note.as_str(), &text);
 }
-
-/// The texts of the two notes.
-static TWO_NOTES: [&str; 2] = ["one", "2"];
 
 #[test]
 fn texts(rt: HostRuntime) {
-    let diagnostic = with_texts(rt.alloc()).expect(&rt, "a diagnostic");
+    let diagnostic = with_texts(&rt, rt.alloc());
     let texts = (diagnostic.code.as_deref(), diagnostic.message.as_str());
     assert_same(&rt, &texts, &(Some("308"), "mismatched types"));
 }
@@ -161,14 +162,17 @@ fn assert_one_label(rt: &impl Abort, labels: &[Label<char>]) {
 
 #[test]
 fn texts_of_notes_and_labels(rt: HostRuntime) {
-    let diagnostic = with_texts(rt.alloc()).expect(&rt, "a diagnostic");
-    assert_notes(&rt, diagnostic.notes.as_slice(), TWO_NOTES.as_slice());
+    let diagnostic = with_texts(&rt, rt.alloc());
+    let notes = diagnostic.notes.as_slice();
+    assert_same(&rt, &notes.len(), &2);
+    assert_note(&rt, notes, 0, "one");
+    assert_note(&rt, notes, 1, "2");
     assert_one_label(&rt, diagnostic.labels.as_slice());
 }
 
 #[test]
 fn clone_of_diagnostic(rt: HostRuntime) {
-    let diagnostic = with_texts(rt.alloc()).expect(&rt, "a diagnostic");
+    let diagnostic = with_texts(&rt, rt.alloc());
     let copy = diagnostic.clone().expect(&rt, "a copy");
     assert_same(&rt, &copy, &diagnostic);
 }
@@ -216,30 +220,30 @@ fn with_notes_of_three(rt: &impl Abort, alloc: Global) -> Result<Diagnostic<usiz
         .with_notes_iter(last_note(rt, alloc).into_iter())
 }
 
-/// The files of these labels.
-static IDS: [usize; 3] = [7, 8, 9];
-
-/// Asserts that labels have these files.
-fn assert_files(rt: &impl Abort, labels: &[Label<usize>], ids: &[usize]) {
-    assert_same(rt, &labels.len(), &ids.len());
-    for (label, id) in labels.iter().zip(ids.iter()) {
-        assert_same(rt, &label.file_id, id);
-    }
+/// Asserts that the label at an index is in this file.
+fn assert_file_id(rt: &impl Abort, labels: &[Label<usize>], index: usize, file_id: usize) {
+    let label = labels.get(index).expect(rt, "a label");
+    assert_same(rt, &label.file_id, &file_id);
 }
 
 #[test]
 fn lists_of_labels(rt: HostRuntime) {
     let whole = with_labels_of_three(&rt, rt.alloc());
-    assert_files(&rt, whole.labels.as_slice(), IDS.as_slice());
+    let labels = whole.labels.as_slice();
+    assert_same(&rt, &labels.len(), &3);
+    assert_file_id(&rt, labels, 0, 7);
+    assert_file_id(&rt, labels, 1, 8);
+    assert_file_id(&rt, labels, 2, 9);
 }
-
-/// The texts of those notes.
-static NOTES: [&str; 3] = ["n", "n", "last"];
 
 #[test]
 fn lists_of_notes(rt: HostRuntime) {
     let whole = with_notes_of_three(&rt, rt.alloc()).expect(&rt, "a diagnostic");
-    assert_notes(&rt, whole.notes.as_slice(), NOTES.as_slice());
+    let notes = whole.notes.as_slice();
+    assert_same(&rt, &notes.len(), &3);
+    assert_note(&rt, notes, 0, "n");
+    assert_note(&rt, notes, 1, "n");
+    assert_note(&rt, notes, 2, "last");
 }
 
 #[test]

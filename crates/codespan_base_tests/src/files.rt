@@ -10,7 +10,8 @@ use crate::asserts::{
 };
 use crate::fixtures::{mapped_file, simple_file, two_files};
 use codespan_base::files::{
-    Error, Files, MappedFile, SimpleFiles, column_index, default_line_number, line_starts,
+    Error, Files, MappedFile, SimpleFile, SimpleFiles, column_index, default_line_number,
+    line_starts,
 };
 use std::alloc::{AllocError, Global};
 use std::panic::Expect;
@@ -79,7 +80,7 @@ fn line_past_the_last(rt: HostRuntime) {
 /// Whether each of three lookups fails with `FileMissing`.
 type Missing = (bool, bool, bool);
 
-/// Returns so of the six lookups that need the file.
+/// Returns of the six lookups that need the file whether each fails so.
 fn missing_lookups<'a, F: Files<'a>>(files: &'a F, id: F::FileId) -> (Missing, Missing) {
     (
         (
@@ -112,11 +113,20 @@ fn file_database(rt: HostRuntime) {
     assert_ok(&rt, files.line_number(7, 0), 1);
 }
 
+/// Asserts that a call returned the file of this name and text.
+fn assert_file(
+    rt: &impl Abort,
+    returned: Result<&SimpleFile<&'static str, &'static str>, Error>,
+    expected: (&str, &str),
+) {
+    let file = returned.expect(rt, "a file");
+    assert_same(rt, &(*file.name(), *file.source()), &expected);
+}
+
 #[test]
 fn file_of_database(rt: HostRuntime) {
     let files = two_files(&rt, rt.alloc(), "ab", "c\nd");
-    let file = files.get(1).expect(&rt, "the second file");
-    assert_same(&rt, &(*file.name(), *file.source()), &("g", "c\nd"));
+    assert_file(&rt, files.get(1), ("g", "c\nd"));
     assert_file_missing(&rt, files.get(2));
 }
 

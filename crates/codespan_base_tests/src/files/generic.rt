@@ -43,7 +43,7 @@ fn assert_name<'a, F: Files<'a>>(rt: &impl Abort, alloc: Global, files: &'a F, i
     assert_same(rt, &printed.as_str(), &"f");
 }
 
-/// Asserts so, where the second line is this one and has this number.
+/// Asserts all of this of a file whose second line has this text and this number.
 fn assert_lookups<'a, F: Files<'a>>(
     rt: &impl Abort,
     alloc: Global,

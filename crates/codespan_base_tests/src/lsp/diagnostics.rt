@@ -27,22 +27,31 @@ fn on_line(line: u32, start: u32, end: u32) -> Range {
 }
 
 /// Returns an error with its labels in file 0, the caller, and in file 1, the callee.
-fn with_labels(rt: &impl Abort, alloc: Global) -> Result<Diagnostic<usize>, Error> {
-    let declared = Label::secondary(alloc, 1, 8..12).with_message("declared here");
-    let called = Label::primary(alloc, 0, 4..7).with_message("one argument is missing");
+fn with_labels(rt: &impl Abort, alloc: Global) -> Diagnostic<usize> {
+    let declared = Label::secondary(alloc, 1, 8..12)
+        .with_message("declared here")
+        .expect(rt, "a label");
+    let called = Label::primary(alloc, 0, 4..7)
+        .with_message("one argument is missing")
+        .expect(rt, "a label");
     Diagnostic::error(alloc)
-        .with_label(declared.expect(rt, "a label"))
-        .expect(rt, "a diagnostic")
-        .with_label(called.expect(rt, "a label"))?
+        .with_label(declared)
+        .expect(rt, "one label")
+        .with_label(called)
+        .expect(rt, "two labels")
         .with_label(Label::primary(alloc, 0, 9..12))
+        .expect(rt, "three labels")
 }
 
 /// Returns the error of a call of `f` in one file, declared in another one, where `𐐀` is before it.
-fn missing_argument(rt: &impl Abort, alloc: Global) -> Result<Diagnostic<usize>, Error> {
-    with_labels(rt, alloc)?
-        .with_code("E0061")?
-        .with_message("too few arguments")?
+fn missing_argument(rt: &impl Abort, alloc: Global) -> Diagnostic<usize> {
+    with_labels(rt, alloc)
+        .with_code("E0061")
+        .expect(rt, "the code")
+        .with_message("too few arguments")
+        .expect(rt, "the message")
         .with_note("note: `f` takes one argument")
+        .expect(rt, "the note")
 }
 
 /// The first program of the guide.
@@ -50,10 +59,11 @@ fn missing_argument(rt: &impl Abort, alloc: Global) -> Result<Diagnostic<usize>,
 fn first_program(rt: HostRuntime) {
     let file = SimpleFile::new(rt.alloc(), "greeting.txt", "hi\na𐐀b").expect(&rt, "a file");
     let position = byte_index_to_position(&file, (), 8).expect(&rt, "a position");
-    assert!(rt; (position.line, position.character) == (1, 3));
     let byte_index = position_to_byte_index(&file, (), &position).expect(&rt, "a byte index");
-    let utf8 = PositionEncoding::Utf8.byte_index_to_position(&file, (), 8);
-    let utf8 = utf8.expect(&rt, "a position in UTF-8");
+    let utf8 = PositionEncoding::Utf8
+        .byte_index_to_position(&file, (), 8)
+        .expect(&rt, "a position in UTF-8");
+    assert!(rt; (position.line, position.character) == (1, 3));
     assert!(rt; (byte_index, utf8.character) == (8, 5));
 }
 
@@ -78,7 +88,7 @@ fn severities(rt: HostRuntime) {
 /// Returns the LSP diagnostics of that error.
 fn lsp_diagnostics(rt: &impl Abort, alloc: Global) -> Vec<LspDiagnostic<usize>> {
     let files = two_files(rt, alloc, "ab\n\nf()\n f()", "/*𐐀*/fn f(x)");
-    let diagnostic = missing_argument(rt, alloc).expect(rt, "the diagnostic");
+    let diagnostic = missing_argument(rt, alloc);
     to_lsp_diagnostics(&files, &diagnostic).expect(rt, "LSP diagnostics")
 }
 
@@ -94,9 +104,10 @@ fn assert_is_at(
     assert_same(rt, &(one.range, one.message.as_str()), &(range, message));
 }
 
-/// The messages of the primary labels.
+/// The message of the primary label that has one of its own.
 const CALLED: &str = "too few arguments\none argument is missing\nnote: `f` takes one argument";
 
+/// The message of the other one.
 const AGAIN: &str = "too few arguments\nnote: `f` takes one argument";
 
 /// One diagnostic for each primary label.
