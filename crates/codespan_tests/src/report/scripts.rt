@@ -2,10 +2,7 @@
 
 mod errors;
 
-use crate::report::scripts::errors::{
-    SCRIPTS_WITH_BAD_NUMBERS, SCRIPTS_WITH_UNKNOWN_SEVERITIES, SCRIPTS_WITH_UNKNOWN_WORDS,
-    SCRIPTS_WITHOUT_END,
-};
+use crate::report::scripts::errors::check_scripts_with_errors;
 use crate::report::{Failing, Run, check_run, run_over};
 use std::alloc::Global;
 use std::process::Abort;
@@ -194,40 +191,51 @@ const SCRIPTS_WITH_LABELS_AND_NOTES: [ScriptRun<'static>; 6] = [
     ),
 ];
 
-/// The runs over scripts, by name.
-static SCRIPTS: [(&str, &[ScriptRun<'static>]); 11] = [
+/// The runs of the worked scripts, by name.
+static WORKED_SCRIPTS: [(&str, &[ScriptRun<'static>]); 4] = [
     ("script_run", &SCRIPT_RUN),
     ("script_unknown_word", &SCRIPT_UNKNOWN_WORD),
     ("script_repeated_word", &SCRIPT_REPEATED_WORD),
     ("script_bad_number_and_end", &SCRIPT_BAD_NUMBER_AND_END),
+];
+
+/// Other runs, by name.
+static OTHER_SCRIPTS: [(&str, &[ScriptRun<'static>]); 3] = [
     ("script_medium_and_short", &SCRIPT_MEDIUM_AND_SHORT),
     ("scripts_that_are_read", &SCRIPTS_THAT_ARE_READ),
     (
         "scripts_with_labels_and_notes",
         &SCRIPTS_WITH_LABELS_AND_NOTES,
     ),
-    ("scripts_with_unknown_words", &SCRIPTS_WITH_UNKNOWN_WORDS),
-    (
-        "scripts_with_unknown_severities",
-        &SCRIPTS_WITH_UNKNOWN_SEVERITIES,
-    ),
-    ("scripts_with_bad_numbers", &SCRIPTS_WITH_BAD_NUMBERS),
-    ("scripts_without_end", &SCRIPTS_WITHOUT_END),
 ];
 
 /// Asserts what is seen of these runs, of this name.
-fn check_scripts(rt: &impl Abort, alloc: Global, name: &str, runs: &[ScriptRun<'_>]) {
+pub fn check_scripts(rt: &impl Abort, alloc: Global, name: &str, runs: &[ScriptRun<'_>]) {
     for (style, input, expected) in runs {
         let run: Run<'_> = (&[*style, "f.txt"], input.as_bytes(), *expected);
         check_run(rt, alloc, name, Failing::default(), &run);
     }
 }
 
+/// Asserts so of the worked scripts. Each table has a function, since its size is a cost there.
+fn check_worked_scripts(rt: &impl Abort, alloc: Global) {
+    for (name, runs) in &WORKED_SCRIPTS {
+        check_scripts(rt, alloc, name, runs);
+    }
+}
+
+/// Asserts so of the other scripts.
+fn check_other_scripts(rt: &impl Abort, alloc: Global) {
+    for (name, runs) in &OTHER_SCRIPTS {
+        check_scripts(rt, alloc, name, runs);
+    }
+}
+
 #[test]
 fn scripts(rt: HostRuntime) {
-    for (name, runs) in &SCRIPTS {
-        check_scripts(&rt, rt.alloc(), name, runs);
-    }
+    check_worked_scripts(&rt, rt.alloc());
+    check_other_scripts(&rt, rt.alloc());
+    check_scripts_with_errors(&rt, rt.alloc());
 }
 
 /// What a run over an empty script writes to `error_output`, in short style.

@@ -1,9 +1,11 @@
 //! Scripts with an error, each with its diagnostic.
 
-use crate::report::scripts::ScriptRun;
+use crate::report::scripts::{ScriptRun, check_scripts};
+use std::alloc::Global;
+use std::process::Abort;
 
 /// The runs of `scripts_with_unknown_words`.
-pub const SCRIPTS_WITH_UNKNOWN_WORDS: [ScriptRun<'static>; 5] = [
+const SCRIPTS_WITH_UNKNOWN_WORDS: [ScriptRun<'static>; 5] = [
     (
         "rich",
         "---\r",
@@ -72,7 +74,7 @@ pub const SCRIPTS_WITH_UNKNOWN_WORDS: [ScriptRun<'static>; 5] = [
 ];
 
 /// The runs of `scripts_with_unknown_severities`.
-pub const SCRIPTS_WITH_UNKNOWN_SEVERITIES: [ScriptRun<'static>; 4] = [
+const SCRIPTS_WITH_UNKNOWN_SEVERITIES: [ScriptRun<'static>; 4] = [
     (
         "rich",
         "severity\n---\n",
@@ -128,7 +130,7 @@ pub const SCRIPTS_WITH_UNKNOWN_SEVERITIES: [ScriptRun<'static>; 4] = [
 ];
 
 /// The runs of `scripts_with_bad_numbers`.
-pub const SCRIPTS_WITH_BAD_NUMBERS: [ScriptRun<'static>; 5] = [
+const SCRIPTS_WITH_BAD_NUMBERS: [ScriptRun<'static>; 5] = [
     (
         "rich",
         "primary\n---\n",
@@ -197,7 +199,7 @@ pub const SCRIPTS_WITH_BAD_NUMBERS: [ScriptRun<'static>; 5] = [
 ];
 
 /// The runs of `scripts_without_end`.
-pub const SCRIPTS_WITHOUT_END: [ScriptRun<'static>; 2] = [
+const SCRIPTS_WITHOUT_END: [ScriptRun<'static>; 2] = [
     (
         "rich",
         "message a\r",
@@ -221,3 +223,21 @@ pub const SCRIPTS_WITHOUT_END: [ScriptRun<'static>; 2] = [
         ),
     ),
 ];
+
+/// The runs over scripts with an error, by name.
+static SCRIPTS_WITH_ERRORS: [(&str, &[ScriptRun<'static>]); 4] = [
+    ("scripts_with_unknown_words", &SCRIPTS_WITH_UNKNOWN_WORDS),
+    (
+        "scripts_with_unknown_severities",
+        &SCRIPTS_WITH_UNKNOWN_SEVERITIES,
+    ),
+    ("scripts_with_bad_numbers", &SCRIPTS_WITH_BAD_NUMBERS),
+    ("scripts_without_end", &SCRIPTS_WITHOUT_END),
+];
+
+/// Asserts what is seen of these runs.
+pub fn check_scripts_with_errors(rt: &impl Abort, alloc: Global) {
+    for (name, runs) in &SCRIPTS_WITH_ERRORS {
+        check_scripts(rt, alloc, name, runs);
+    }
+}
