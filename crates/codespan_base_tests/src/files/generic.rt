@@ -49,8 +49,7 @@ fn assert_lookups<'a, F: Files<'a>>(
     alloc: Global,
     files: &'a F,
     id: F::FileId,
-    line: &str,
-    number: usize,
+    (line, number): (&str, usize),
 ) {
     assert_numbers(rt, files, id, number);
     assert_line(rt, files, id, line);
@@ -60,26 +59,26 @@ fn assert_lookups<'a, F: Files<'a>>(
 #[test]
 fn generic_calls(rt: HostRuntime) {
     let file = simple_file(&rt, rt.alloc(), THREE_LINES);
-    assert_lookups(&rt, rt.alloc(), &file, (), "bär\n", 2);
+    assert_lookups(&rt, rt.alloc(), &file, (), ("bär\n", 2));
 }
 
 #[test]
 fn generic_calls_of_listing(rt: HostRuntime) {
     let listing = Listing::new(rt.alloc(), "f", THREE_LINES).expect(&rt, "a listing");
-    assert_lookups(&rt, rt.alloc(), &listing, (), "bär\n", 1);
+    assert_lookups(&rt, rt.alloc(), &listing, (), ("bär\n", 1));
 }
 
 #[test]
 fn generic_calls_of_mapped_file(rt: HostRuntime) {
     let mapped = mapped_file(&rt, rt.alloc(), THREE_LINES, 1, 40);
-    assert_lookups(&rt, rt.alloc(), &mapped, (), "bär", 40);
+    assert_lookups(&rt, rt.alloc(), &mapped, (), ("bär", 40));
     assert_ok(&rt, default_location(&mapped, (), 7), location(40));
 }
 
 #[test]
 fn generic_calls_of_simple_files(rt: HostRuntime) {
     let database = two_files(&rt, rt.alloc(), THREE_LINES, "");
-    assert_lookups(&rt, rt.alloc(), &database, 0, "bär\n", 2);
+    assert_lookups(&rt, rt.alloc(), &database, 0, ("bär\n", 2));
     assert_ok(&rt, default_column_number(&database, 0, 1, 7), 3);
     assert_file_missing(&rt, database.line_index(7, 0));
 }
