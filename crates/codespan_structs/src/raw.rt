@@ -1,7 +1,7 @@
 //! The structs that cross from C, field by field those of `native/include/codespan.h`.
 //!
-//! Numbers stand for enumerations and bytes for texts, so any value can be passed.
-//! [`crate::validate`] checks them. Those of stated lines and locations are of [`codespan_sources`].
+//! Numbers stand for enumerations and bytes for texts, so any value can be passed, which
+//! [`crate::validate`] checks. Those of stated lines and locations are of [`codespan_sources`].
 
 pub use codespan_sources::raw::{RawLine, RawLocation};
 

@@ -1,17 +1,18 @@
-//! `writer_runs < OUTPUTS` renders each worked output by each call that writes to a writer, plain and
-//! in colors, into writers that stop.
+//! `writer_runs < OUTPUTS` renders each worked output by each call that writes to a writer, plain
+//! and in colors, into writers that stop.
 //!
 //! It makes the product of tables, so that no run needs a proof of its own: the worked outputs
-//! of the input ([`worked_outputs`]) in each style ([`judging`]); the calls ([`rendering`]), and those of `Renderer`
-//! ([`direct`]); the writers of styles between ([`style_writers`]); and the writers of bytes below,
-//! each stopped at each write that rendering makes, or at each style mark ([`stops`]). Of each run
-//! it checks the result, and that the writer holds exactly the prefix of the output that it
-//! accepted. The output is known: its text is what `emit_into_string` returns, which is compared
-//! with the text that is stated, and in colors it is the same text once the escape sequences
-//! are removed.
+//! of the input ([`worked_outputs`]) in each style ([`judging`]); the calls ([`rendering`]), and
+//! those of `Renderer` ([`direct`]); the writers of styles between ([`style_writers`]); and the
+//! writers of bytes below, each stopped at each write that rendering makes, or at each style mark
+//! ([`stops`]). Of each run it checks the result, and that the writer holds exactly the prefix of
+//! the output that it accepted. The output is known: its text is what `emit_into_string` returns,
+//! which is compared with the text that is stated, and in colors it is the same text once the
+//! escape sequences are removed.
 //!
-//! A line for each states by how many calls and into how many writers it was rendered, or the error.
-//! The number of runs is written to standard error, after an error of the input.
+//! A line for each worked output and each direct call states by how many calls and into how many
+//! writers it was rendered, or the error. The number of runs is written to standard error, after
+//! an error of the input.
 //!
 //! | status | meaning |
 //! |---|---|

@@ -69,7 +69,7 @@ fn assert_tags_stop(rt: &impl Abort, alloc: Global, case: &Case) {
     assert_is_right(rt, &inner, is_ok, TAG_PARTS, case);
 }
 
-/// Asserts so of the parts in plain text, and that the flag tells whether they failed.
+/// Asserts so of the parts in plain text, and that the flag is set exactly where they failed.
 fn assert_plain_stops(rt: &impl Abort, alloc: Global, case: &Case) {
     let mut plain = PlainWriter::new(case.writer(alloc));
     let is_ok = write_parts(&mut plain, &PARTS, "").is_ok();
