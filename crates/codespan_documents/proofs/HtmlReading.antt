@@ -1,4 +1,4 @@
--- A document reads back as its tags and its text: for the clauses `parts` and `text` of `to_html`.
+-- A document reads back as its tags and its text: for the clauses `tokens` and `text` of `to_html`.
 use Rattle.std.proofs.Common.{◌≡◌, ℕ, ◌+◌, ◌≤◌, ◌/◌, ◌%◌, true, false, List, [], ◌∷◌, ◌++◌, map, codes, encode_utf8_all, refl, sym, subst, ap, ◌∙◌, append_assoc, append-nil, arith, string_bytes}
 use Rattle.std.specs.Prelude.{Bool, ◌==◌, ◌&&◌, ◌||◌, nat_lt, if◌then◌else◌}
 use Rattle.std.specs.Char.{encode_utf8}
@@ -16,7 +16,7 @@ use Rattle.codespan_documents.specs.declared.style.Style.{Style}
 use Rattle.codespan_documents.specs.declared.style.Style.TheVariants.{Plain, Header, HeaderMessage, LineNumber, NoteBullet, SourceBorder, Label}
 use Rattle.codespan_documents.specs.declared.text.Run.{Run}
 use Rattle.codespan_documents.specs.Html.{html_character, html_document, html_run, html_text, is_forbidden_control, is_noncharacter, shown, shown_text, span_tag_content}
-use Rattle.codespan_documents.specs.HtmlReading.{InEntity, InTag, InText, Part, Tag, TextByte, document_parts, html_parts, parts_from, run_parts, text_of_html, text_of_parts, text_parts, without_newline}
+use Rattle.codespan_documents.specs.HtmlReading.{InEntity, InTag, InText, Token, Tag, TextByte, document_tokens, html_tokens, tokens_from, run_tokens, text_of_html, text_of_tokens, text_tokens, without_newline}
 use Rattle.codespan_documents.specs.Runs.{StyledRun, is_plain, joined, run_view}
 
 -- ---- bytes of text
@@ -25,15 +25,15 @@ use Rattle.codespan_documents.specs.Runs.{StyledRun, is_plain, joined, run_view}
 abbrev pub IsTextByte : ℕ → Type 0
 IsTextByte b = ((b == 60) ≡ false) × ((b == 38) ≡ false)
 
-pub bytes-read : (bs rest : List ℕ) → AllByRecursion IsTextByte bs → parts_from InText (bs ++ rest) ≡ map TextByte bs ++ parts_from InText rest
+pub bytes-read : (bs rest : List ℕ) → AllByRecursion IsTextByte bs → tokens_from InText (bs ++ rest) ≡ map TextByte bs ++ tokens_from InText rest
 bytes-read [] rest h = refl
 bytes-read (b ∷ bs) rest h =
-    let tag = parts_from (InTag []) (bs ++ rest) in
-    let entity = parts_from (InEntity []) (bs ++ rest) in
-    let text = TextByte b ∷ parts_from InText (bs ++ rest) in
+    let tag = tokens_from (InTag []) (bs ++ rest) in
+    let entity = tokens_from (InEntity []) (bs ++ rest) in
+    let text = TextByte b ∷ tokens_from InText (bs ++ rest) in
     ap (λ (t : Bool). if t then tag else if b == 38 then entity else text) h.0.0
     ∙ ap (λ (t : Bool). if t then entity else text) h.0.1
-    ∙ ap (λ (parts : List Part). TextByte b ∷ parts) (bytes-read bs rest h.1)
+    ∙ ap (λ (tokens : List Token). TextByte b ∷ tokens) (bytes-read bs rest h.1)
 
 -- a byte outside ASCII
 outside-ascii : (b : ℕ) → 128 ≤ b → IsTextByte b
@@ -66,11 +66,11 @@ is_code c n t = grind (arith, nat_tests)
 module _ (c : ℕ) (rest : List ℕ) where
   -- bytes read as the character
   abbrev ReadsAs : List ℕ → Type 0
-  ReadsAs bs = parts_from InText (bs ++ rest) ≡ map TextByte (encode_utf8 (shown c)) ++ parts_from InText rest
+  ReadsAs bs = tokens_from InText (bs ++ rest) ≡ map TextByte (encode_utf8 (shown c)) ++ tokens_from InText rest
 
   -- bytes read as the character of this code
-  by_code : (n : ℕ) (bs : List ℕ) → parts_from InText (bs ++ rest) ≡ map TextByte (encode_utf8 (shown n)) ++ parts_from InText rest → (c == n) ≡ true → ReadsAs bs
-  by_code n bs is t = subst (λ k. parts_from InText (bs ++ rest) ≡ map TextByte (encode_utf8 (shown k)) ++ parts_from InText rest) (sym (is_code c n t)) is
+  by_code : (n : ℕ) (bs : List ℕ) → tokens_from InText (bs ++ rest) ≡ map TextByte (encode_utf8 (shown n)) ++ tokens_from InText rest → (c == n) ≡ true → ReadsAs bs
+  by_code n bs is t = subst (λ k. tokens_from InText (bs ++ rest) ≡ map TextByte (encode_utf8 (shown k)) ++ tokens_from InText rest) (sym (is_code c n t)) is
 
   character-read : ReadsAs (html_character c)
   unfolding encode_utf8
@@ -83,78 +83,78 @@ module _ (c : ℕ) (rest : List ℕ) where
       (λ apos. bytes-read (encode_utf8 (shown c)) rest (character-bytes (shown c) (shown-text c (lt, amp))))))))
 
 -- characters
-characters-read : (cs rest : List ℕ) → parts_from InText (flat_map html_character cs ++ rest) ≡ map TextByte (flat_map (λ c. encode_utf8 (shown c)) cs) ++ parts_from InText rest
+characters-read : (cs rest : List ℕ) → tokens_from InText (flat_map html_character cs ++ rest) ≡ map TextByte (flat_map (λ c. encode_utf8 (shown c)) cs) ++ tokens_from InText rest
 characters-read [] rest = refl
 characters-read (c ∷ cs) rest =
     let first = encode_utf8 (shown c) in
     let others = flat_map (λ c. encode_utf8 (shown c)) cs in
-    ap (parts_from InText) (append_assoc (html_character c) (flat_map html_character cs) rest)
+    ap (tokens_from InText) (append_assoc (html_character c) (flat_map html_character cs) rest)
     ∙ character-read c (flat_map html_character cs ++ rest)
-    ∙ ap (λ (parts : List Part). map TextByte first ++ parts) (characters-read cs rest)
-    ∙ sym (append_assoc (map TextByte first) (map TextByte others) (parts_from InText rest))
-    ∙ ap (λ (parts : List Part). parts ++ parts_from InText rest) (sym (map-append TextByte first others))
+    ∙ ap (λ (tokens : List Token). map TextByte first ++ tokens) (characters-read cs rest)
+    ∙ sym (append_assoc (map TextByte first) (map TextByte others) (tokens_from InText rest))
+    ∙ ap (λ (tokens : List Token). tokens ++ tokens_from InText rest) (sym (map-append TextByte first others))
 
 -- a text
-text-read : (text rest : List ℕ) → parts_from InText (html_text text ++ rest) ≡ text_parts text ++ parts_from InText rest
+text-read : (text rest : List ℕ) → tokens_from InText (html_text text ++ rest) ≡ text_tokens text ++ tokens_from InText rest
 text-read text rest = characters-read (chars text) rest
 
 -- ---- runs
 
 -- a text and the tag that ends its run
-ended-read : (text rest : List ℕ) → parts_from InText ((html_text text ++ codes "</span>") ++ rest) ≡ (text_parts text ++ Tag (codes "/span") ∷ []) ++ parts_from InText rest
+ended-read : (text rest : List ℕ) → tokens_from InText ((html_text text ++ codes "</span>") ++ rest) ≡ (text_tokens text ++ Tag (codes "/span") ∷ []) ++ tokens_from InText rest
 ended-read text rest =
-    ap (parts_from InText) (append_assoc (html_text text) (codes "</span>") rest) ∙ text-read text (codes "</span>" ++ rest)
-    ∙ sym (append_assoc (text_parts text) (Tag (codes "/span") ∷ []) (parts_from InText rest))
+    ap (tokens_from InText) (append_assoc (html_text text) (codes "</span>") rest) ∙ text-read text (codes "</span>" ++ rest)
+    ∙ sym (append_assoc (text_tokens text) (Tag (codes "/span") ∷ []) (tokens_from InText rest))
 
-run-read-at : (style : Style) (text rest : List ℕ) → parts_from InText (html_run (record { style = style; text = text }) ++ rest) ≡ run_parts (record { style = style; text = text }) ++ parts_from InText rest
+run-read-at : (style : Style) (text rest : List ℕ) → tokens_from InText (html_run (record { style = style; text = text }) ++ rest) ≡ run_tokens (record { style = style; text = text }) ++ tokens_from InText rest
 run-read-at Plain text rest = text-read text rest
-run-read-at (Header Bug) text rest = ap (λ (parts : List Part). Tag (span_tag_content (Header Bug)) ∷ parts) (ended-read text rest)
-run-read-at (Header Error) text rest = ap (λ (parts : List Part). Tag (span_tag_content (Header Error)) ∷ parts) (ended-read text rest)
-run-read-at (Header Warning) text rest = ap (λ (parts : List Part). Tag (span_tag_content (Header Warning)) ∷ parts) (ended-read text rest)
-run-read-at (Header Note) text rest = ap (λ (parts : List Part). Tag (span_tag_content (Header Note)) ∷ parts) (ended-read text rest)
-run-read-at (Header Help) text rest = ap (λ (parts : List Part). Tag (span_tag_content (Header Help)) ∷ parts) (ended-read text rest)
-run-read-at HeaderMessage text rest = ap (λ (parts : List Part). Tag (span_tag_content HeaderMessage) ∷ parts) (ended-read text rest)
-run-read-at LineNumber text rest = ap (λ (parts : List Part). Tag (span_tag_content LineNumber) ∷ parts) (ended-read text rest)
-run-read-at NoteBullet text rest = ap (λ (parts : List Part). Tag (span_tag_content NoteBullet) ∷ parts) (ended-read text rest)
-run-read-at SourceBorder text rest = ap (λ (parts : List Part). Tag (span_tag_content SourceBorder) ∷ parts) (ended-read text rest)
-run-read-at (Label Bug Primary) text rest = ap (λ (parts : List Part). Tag (span_tag_content (Label Bug Primary)) ∷ parts) (ended-read text rest)
-run-read-at (Label Error Primary) text rest = ap (λ (parts : List Part). Tag (span_tag_content (Label Error Primary)) ∷ parts) (ended-read text rest)
-run-read-at (Label Warning Primary) text rest = ap (λ (parts : List Part). Tag (span_tag_content (Label Warning Primary)) ∷ parts) (ended-read text rest)
-run-read-at (Label Note Primary) text rest = ap (λ (parts : List Part). Tag (span_tag_content (Label Note Primary)) ∷ parts) (ended-read text rest)
-run-read-at (Label Help Primary) text rest = ap (λ (parts : List Part). Tag (span_tag_content (Label Help Primary)) ∷ parts) (ended-read text rest)
-run-read-at (Label severity Secondary) text rest = ap (λ (parts : List Part). Tag (span_tag_content (Label severity Secondary)) ∷ parts) (ended-read text rest)
+run-read-at (Header Bug) text rest = ap (λ (tokens : List Token). Tag (span_tag_content (Header Bug)) ∷ tokens) (ended-read text rest)
+run-read-at (Header Error) text rest = ap (λ (tokens : List Token). Tag (span_tag_content (Header Error)) ∷ tokens) (ended-read text rest)
+run-read-at (Header Warning) text rest = ap (λ (tokens : List Token). Tag (span_tag_content (Header Warning)) ∷ tokens) (ended-read text rest)
+run-read-at (Header Note) text rest = ap (λ (tokens : List Token). Tag (span_tag_content (Header Note)) ∷ tokens) (ended-read text rest)
+run-read-at (Header Help) text rest = ap (λ (tokens : List Token). Tag (span_tag_content (Header Help)) ∷ tokens) (ended-read text rest)
+run-read-at HeaderMessage text rest = ap (λ (tokens : List Token). Tag (span_tag_content HeaderMessage) ∷ tokens) (ended-read text rest)
+run-read-at LineNumber text rest = ap (λ (tokens : List Token). Tag (span_tag_content LineNumber) ∷ tokens) (ended-read text rest)
+run-read-at NoteBullet text rest = ap (λ (tokens : List Token). Tag (span_tag_content NoteBullet) ∷ tokens) (ended-read text rest)
+run-read-at SourceBorder text rest = ap (λ (tokens : List Token). Tag (span_tag_content SourceBorder) ∷ tokens) (ended-read text rest)
+run-read-at (Label Bug Primary) text rest = ap (λ (tokens : List Token). Tag (span_tag_content (Label Bug Primary)) ∷ tokens) (ended-read text rest)
+run-read-at (Label Error Primary) text rest = ap (λ (tokens : List Token). Tag (span_tag_content (Label Error Primary)) ∷ tokens) (ended-read text rest)
+run-read-at (Label Warning Primary) text rest = ap (λ (tokens : List Token). Tag (span_tag_content (Label Warning Primary)) ∷ tokens) (ended-read text rest)
+run-read-at (Label Note Primary) text rest = ap (λ (tokens : List Token). Tag (span_tag_content (Label Note Primary)) ∷ tokens) (ended-read text rest)
+run-read-at (Label Help Primary) text rest = ap (λ (tokens : List Token). Tag (span_tag_content (Label Help Primary)) ∷ tokens) (ended-read text rest)
+run-read-at (Label severity Secondary) text rest = ap (λ (tokens : List Token). Tag (span_tag_content (Label severity Secondary)) ∷ tokens) (ended-read text rest)
 
-runs-read : (runs : List StyledRun) (rest : List ℕ) → parts_from InText (flat_map html_run runs ++ rest) ≡ flat_map run_parts runs ++ parts_from InText rest
+runs-read : (runs : List StyledRun) (rest : List ℕ) → tokens_from InText (flat_map html_run runs ++ rest) ≡ flat_map run_tokens runs ++ tokens_from InText rest
 runs-read [] rest = refl
 runs-read (run ∷ runs) rest =
-    ap (parts_from InText) (append_assoc (html_run run) (flat_map html_run runs) rest)
+    ap (tokens_from InText) (append_assoc (html_run run) (flat_map html_run runs) rest)
     ∙ run-read-at run.style run.text (flat_map html_run runs ++ rest)
-    ∙ ap (λ (parts : List Part). run_parts run ++ parts) (runs-read runs rest)
-    ∙ sym (append_assoc (run_parts run) (flat_map run_parts runs) (parts_from InText rest))
+    ∙ ap (λ (tokens : List Token). run_tokens run ++ tokens) (runs-read runs rest)
+    ∙ sym (append_assoc (run_tokens run) (flat_map run_tokens runs) (tokens_from InText rest))
 
 -- the document of runs reads back
-pub document-read : (runs : List StyledRun) → html_parts (html_document runs) ≡ document_parts runs
+pub document-read : (runs : List StyledRun) → html_tokens (html_document runs) ≡ document_tokens runs
 document-read runs =
-    ap (λ (parts : List Part). Tag (codes "pre class=\"diagnostic\"") ∷ TextByte 10 ∷ parts) (runs-read runs (codes "</pre>"))
+    ap (λ (tokens : List Token). Tag (codes "pre class=\"diagnostic\"") ∷ TextByte 10 ∷ tokens) (runs-read runs (codes "</pre>"))
 
--- ---- the text of parts
+-- ---- the text of tokens
 
-pub text_of-append : (parts others : List Part) → text_of_parts (parts ++ others) ≡ text_of_parts parts ++ text_of_parts others
+pub text_of-append : (tokens others : List Token) → text_of_tokens (tokens ++ others) ≡ text_of_tokens tokens ++ text_of_tokens others
 text_of-append [] others = refl
-text_of-append (TextByte b ∷ parts) others = ap (λ bs. b ∷ bs) (text_of-append parts others)
-text_of-append (Tag tag ∷ parts) others = text_of-append parts others
+text_of-append (TextByte b ∷ tokens) others = ap (λ bs. b ∷ bs) (text_of-append tokens others)
+text_of-append (Tag tag ∷ tokens) others = text_of-append tokens others
 
-pub text_of-bytes : (bs : List ℕ) → text_of_parts (map TextByte bs) ≡ bs
+pub text_of-bytes : (bs : List ℕ) → text_of_tokens (map TextByte bs) ≡ bs
 text_of-bytes [] = refl
 text_of-bytes (b ∷ bs) = ap (λ xs. b ∷ xs) (text_of-bytes bs)
 
 -- the text of a run
-run-text : (run : StyledRun) → text_of_parts (run_parts run) ≡ shown_text run.text
+run-text : (run : StyledRun) → text_of_tokens (run_tokens run) ≡ shown_text run.text
 run-text run =
-    cond_both (is_plain run.style) _ _ (λ (parts : List Part). text_of_parts parts ≡ shown_text run.text)
+    cond_both (is_plain run.style) _ _ (λ (tokens : List Token). text_of_tokens tokens ≡ shown_text run.text)
     (λ _. text_of-bytes (shown_text run.text))
-    (λ _. text_of-append (text_parts run.text) (Tag (codes "/span") ∷ [])
-    ∙ append-nil (text_of_parts (text_parts run.text)) ∙ text_of-bytes (shown_text run.text))
+    (λ _. text_of-append (text_tokens run.text) (Tag (codes "/span") ∷ [])
+    ∙ append-nil (text_of_tokens (text_tokens run.text)) ∙ text_of-bytes (shown_text run.text))
 
 -- ---- texts, one after another
 
@@ -185,18 +185,18 @@ joined-utf8 [] = IsUtf8-nil
 joined-utf8 (run ∷ runs) =
     IsUtf8-append (string_bytes run.text) (joined (map run_view runs)) (IsUtf8-string_bytes run.text) (joined-utf8 runs)
 
-runs-text : (runs : List Run) → text_of_parts (flat_map run_parts (map run_view runs)) ≡ shown_text (joined (map run_view runs))
+runs-text : (runs : List Run) → text_of_tokens (flat_map run_tokens (map run_view runs)) ≡ shown_text (joined (map run_view runs))
 runs-text [] = ap (λ cs. flat_map (λ c. encode_utf8 (shown c)) cs) (sym chars-nil)
 runs-text (run ∷ runs) =
     let rest = joined (map run_view runs) in
-    text_of-append (run_parts (run_view run)) (flat_map run_parts (map run_view runs))
-    ∙ ap (λ bs. bs ++ text_of_parts (flat_map run_parts (map run_view runs))) (run-text (run_view run))
+    text_of-append (run_tokens (run_view run)) (flat_map run_tokens (map run_view runs))
+    ∙ ap (λ bs. bs ++ text_of_tokens (flat_map run_tokens (map run_view runs))) (run-text (run_view run))
     ∙ ap (λ bs. shown_text (string_bytes run.text) ++ bs) (runs-text runs)
     ∙ sym (shown-append (string_bytes run.text) rest (IsUtf8-string_bytes run.text) (joined-utf8 runs))
 
 -- the text of a document is that of its runs
 pub document-text : (runs : List Run) → text_of_html (html_document (map run_view runs)) ≡ shown_text (joined (map run_view runs))
 document-text runs =
-    let inner = flat_map run_parts (map run_view runs) in
-    ap (λ (parts : List Part). without_newline (text_of_parts parts)) (document-read (map run_view runs))
-    ∙ text_of-append inner (Tag (codes "/pre") ∷ []) ∙ append-nil (text_of_parts inner) ∙ runs-text runs
+    let inner = flat_map run_tokens (map run_view runs) in
+    ap (λ (tokens : List Token). without_newline (text_of_tokens tokens)) (document-read (map run_view runs))
+    ∙ text_of-append inner (Tag (codes "/pre") ∷ []) ∙ append-nil (text_of_tokens inner) ∙ runs-text runs

@@ -1,5 +1,5 @@
--- The parts of glyphs are those of their pieces, and each character has its cell: for the clause
--- `parts` of `to_svg`, and for `svg::laws`.
+-- The tokens of glyphs are those of their pieces, and each character has its cell: for the clause
+-- `tokens` of `to_svg`, and for `svg::laws`.
 use Rattle.std.proofs.Common.{◌≡◌, ℕ, ◌+◌, true, false, List, [], ◌∷◌, ◌++◌, map, codes, refl, sym, ap, ◌∙◌, append_assoc, None, Some, Option}
 use Rattle.std.specs.Prelude.{Bool, ◌==◌, ◌&&◌, not, nat_le, if◌then◌else◌}
 use Rattle.std.specs.List.{flat_map}
@@ -11,29 +11,29 @@ use Rattle.codespan_documents.specs.declared.svg.ink.Ink.{Ink}
 use Rattle.codespan_documents.specs.declared.svg.position.CellPosition.{CellPosition}
 use Rattle.codespan_documents.specs.declared.svg.Pen.{Pen}
 use Rattle.codespan_documents.specs.Glyphs.{cells_of, follows, goes_on, is_narrow, is_newline, joined_cells, joins, start}
-use Rattle.codespan_documents.specs.HtmlReading.{Part, Tag, TextByte}
+use Rattle.codespan_documents.specs.HtmlReading.{Token, Tag, TextByte}
 use Rattle.codespan_documents.specs.Inks.{optional_color_number, same_ink}
 use Rattle.codespan_documents.specs.Svg.{first_pen, next_pen, text_tag_content}
-use Rattle.codespan_documents.specs.SvgReading.{InCell, Piece, RowEnd, Text, cells_in, cells_of_piece, joined_glyphs, piece_parts, pieces_from, shown_cells, shown_glyphs, svg_shown, width_of}
+use Rattle.codespan_documents.specs.SvgReading.{InCell, Piece, RowEnd, Text, cells_in, cells_of_piece, joined_glyphs, piece_tokens, pieces_from, shown_cells, shown_glyphs, svg_shown, width_of}
 use Rattle.codespan_documents.proofs.HtmlReading.{and_true, is_code}
 
 -- ---- glyph by glyph
 
 -- the tag that ends a text
-abbrev pub end_tag : List Part
+abbrev pub end_tag : List Token
 end_tag = Tag (codes "/text") ∷ []
 
--- the parts of a glyph before others
-abbrev pub glyph_parts : Pen → Glyph → List Glyph → List Part
-glyph_parts pen glyph others =
+-- the tokens of a glyph before others
+abbrev pub glyph_tokens : Pen → Glyph → List Glyph → List Token
+glyph_tokens pen glyph others =
     if is_newline glyph then TextByte 10 ∷ []
     else (if follows pen.before glyph then [] else Tag (text_tag_content pen.position (cells_of glyph + joined_cells glyph others) glyph.ink) ∷ [])
     ++ map TextByte (svg_shown glyph.character) ++ (if goes_on glyph others then [] else end_tag)
 
--- the parts of glyphs
-abbrev pub parts_of_glyphs : Pen → List Glyph → List Part
-parts_of_glyphs pen [] = []
-parts_of_glyphs pen (glyph ∷ glyphs) = glyph_parts pen glyph glyphs ++ parts_of_glyphs (next_pen pen glyph) glyphs
+-- the tokens of glyphs
+abbrev pub tokens_of_glyphs : Pen → List Glyph → List Token
+tokens_of_glyphs pen [] = []
+tokens_of_glyphs pen (glyph ∷ glyphs) = glyph_tokens pen glyph glyphs ++ tokens_of_glyphs (next_pen pen glyph) glyphs
 
 -- ---- cases
 
@@ -71,35 +71,35 @@ joined_width glyph (next ∷ others) =
     two_ifs (joins glyph next) (cells_of next + joined_cells next others) 0 (next ∷ joined_glyphs next others) [] (λ cells glyphs. cells ≡ width_of glyphs)
     (λ _. ap (λ n. cells_of next + n) (joined_width next others)) (λ _. refl)
 
--- ---- parts
+-- ---- tokens
 
--- the parts of a text from a glyph on
-abbrev text_parts : Glyph → List Glyph → List Part
-text_parts glyph others = map TextByte (shown_glyphs (glyph ∷ others)) ++ end_tag
+-- the tokens of a text from a glyph on
+abbrev text_tokens : Glyph → List Glyph → List Token
+text_tokens glyph others = map TextByte (shown_glyphs (glyph ∷ others)) ++ end_tag
 
--- the parts of the text that goes on, if one does
-abbrev parts_left : Option Glyph → List Glyph → List Part
-parts_left before [] = []
-parts_left before (glyph ∷ glyphs) = if follows before glyph then text_parts glyph (joined_glyphs glyph glyphs) else []
+-- the tokens of the text that goes on, if one does
+abbrev tokens_left : Option Glyph → List Glyph → List Token
+tokens_left before [] = []
+tokens_left before (glyph ∷ glyphs) = if follows before glyph then text_tokens glyph (joined_glyphs glyph glyphs) else []
 
 -- a text ends, or goes on
-ended_parts : (glyph : Glyph) (others : List Glyph) → (if goes_on glyph others then [] else end_tag) ++ parts_left (Some glyph) others ≡ map TextByte (shown_glyphs (joined_glyphs glyph others)) ++ end_tag
-ended_parts glyph [] = refl
-ended_parts glyph (next ∷ others) =
-    three_ifs (joins glyph next) [] end_tag (text_parts next (joined_glyphs next others)) [] (next ∷ joined_glyphs next others) []
-    (λ (end text : List Part) (glyphs : List Glyph). end ++ text ≡ map TextByte (shown_glyphs glyphs) ++ end_tag)
+ended_tokens : (glyph : Glyph) (others : List Glyph) → (if goes_on glyph others then [] else end_tag) ++ tokens_left (Some glyph) others ≡ map TextByte (shown_glyphs (joined_glyphs glyph others)) ++ end_tag
+ended_tokens glyph [] = refl
+ended_tokens glyph (next ∷ others) =
+    three_ifs (joins glyph next) [] end_tag (text_tokens next (joined_glyphs next others)) [] (next ∷ joined_glyphs next others) []
+    (λ (end text : List Token) (glyphs : List Glyph). end ++ text ≡ map TextByte (shown_glyphs glyphs) ++ end_tag)
     (λ _. refl) (λ _. refl)
 
-regrouped : (shown ended left joined rest : List Part) → ended ++ left ≡ joined ++ end_tag → (shown ++ ended) ++ (left ++ rest) ≡ ((shown ++ joined) ++ end_tag) ++ rest
+regrouped : (shown ended left joined rest : List Token) → ended ++ left ≡ joined ++ end_tag → (shown ++ ended) ++ (left ++ rest) ≡ ((shown ++ joined) ++ end_tag) ++ rest
 regrouped shown ended left joined rest e =
     append_assoc shown ended (left ++ rest)
-    ∙ ap (λ (parts : List Part). shown ++ parts) (sym (append_assoc ended left rest) ∙ ap (λ (parts : List Part). parts ++ rest) e)
-    ∙ sym (append_assoc shown (joined ++ end_tag) rest) ∙ ap (λ (parts : List Part). parts ++ rest) (sym (append_assoc shown joined end_tag))
+    ∙ ap (λ (tokens : List Token). shown ++ tokens) (sym (append_assoc ended left rest) ∙ ap (λ (tokens : List Token). tokens ++ rest) e)
+    ∙ sym (append_assoc shown (joined ++ end_tag) rest) ∙ ap (λ (tokens : List Token). tokens ++ rest) (sym (append_assoc shown joined end_tag))
 
 -- glyphs are read as the rest of a text, and then as their pieces
-parts_by_pieces : (pen : Pen) (glyphs : List Glyph) → parts_of_glyphs pen glyphs ≡ parts_left pen.before glyphs ++ flat_map piece_parts (pieces_from pen glyphs)
-parts_by_pieces pen [] = refl
-parts_by_pieces pen (glyph ∷ glyphs) = all (parts_by_pieces (next_pen pen glyph) glyphs)
+tokens_by_pieces : (pen : Pen) (glyphs : List Glyph) → tokens_of_glyphs pen glyphs ≡ tokens_left pen.before glyphs ++ flat_map piece_tokens (pieces_from pen glyphs)
+tokens_by_pieces pen [] = refl
+tokens_by_pieces pen (glyph ∷ glyphs) = all (tokens_by_pieces (next_pen pen glyph) glyphs)
   where
     next : Pen
     next = next_pen pen glyph
@@ -107,71 +107,71 @@ parts_by_pieces pen (glyph ∷ glyphs) = all (parts_by_pieces (next_pen pen glyp
     rest : List Piece
     rest = pieces_from next glyphs
 
-    parts : List Part
-    parts = flat_map piece_parts rest
+    tokens : List Token
+    tokens = flat_map piece_tokens rest
 
-    tag : ℕ → List Part
+    tag : ℕ → List Token
     tag cells = Tag (text_tag_content pen.position cells glyph.ink) ∷ []
 
-    shown : List Part
+    shown : List Token
     shown = map TextByte (svg_shown glyph.character)
 
-    joined : List Part
+    joined : List Token
     joined = map TextByte (shown_glyphs (joined_glyphs glyph glyphs))
 
-    ended : List Part
+    ended : List Token
     ended = if goes_on glyph glyphs then [] else end_tag
 
     piece : Piece
     piece = Text pen.position glyph (joined_glyphs glyph glyphs)
 
-    left : List Part
-    left = parts_left (Some glyph) glyphs
+    left : List Token
+    left = tokens_left (Some glyph) glyphs
 
-    Goal : List Part → List Part → List Piece → Type 0
-    Goal first prefix pieces = first ++ parts_of_glyphs next glyphs ≡ prefix ++ flat_map piece_parts pieces
+    Goal : List Token → List Token → List Piece → Type 0
+    Goal first prefix pieces = first ++ tokens_of_glyphs next glyphs ≡ prefix ++ flat_map piece_tokens pieces
 
     Rest : Type 0
-    Rest = parts_of_glyphs next glyphs ≡ left ++ parts
+    Rest = tokens_of_glyphs next glyphs ≡ left ++ tokens
 
-    whole : Rest → (shown ++ ended) ++ parts_of_glyphs next glyphs ≡ text_parts glyph (joined_glyphs glyph glyphs) ++ parts
-    whole is = ap (λ (ps : List Part). (shown ++ ended) ++ ps) is ∙ regrouped shown ended left joined parts (ended_parts glyph glyphs)
-        ∙ ap (λ (ps : List Part). (ps ++ end_tag) ++ parts) (sym (map-append TextByte (svg_shown glyph.character) (shown_glyphs (joined_glyphs glyph glyphs))))
+    whole : Rest → (shown ++ ended) ++ tokens_of_glyphs next glyphs ≡ text_tokens glyph (joined_glyphs glyph glyphs) ++ tokens
+    whole is = ap (λ (ps : List Token). (shown ++ ended) ++ ps) is ∙ regrouped shown ended left joined tokens (ended_tokens glyph glyphs)
+        ∙ ap (λ (ps : List Token). (ps ++ end_tag) ++ tokens) (sym (map-append TextByte (svg_shown glyph.character) (shown_glyphs (joined_glyphs glyph glyphs))))
 
     character : Rest → Goal ((if follows pen.before glyph then [] else tag (cells_of glyph + joined_cells glyph glyphs)) ++ shown ++ ended)
-        (if follows pen.before glyph then text_parts glyph (joined_glyphs glyph glyphs) else []) (if follows pen.before glyph then rest else piece ∷ rest)
+        (if follows pen.before glyph then text_tokens glyph (joined_glyphs glyph glyphs) else []) (if follows pen.before glyph then rest else piece ∷ rest)
     character is =
-        three_ifs (follows pen.before glyph) [] (tag (cells_of glyph + joined_cells glyph glyphs)) (text_parts glyph (joined_glyphs glyph glyphs)) [] rest (piece ∷ rest)
-        (λ (prefix left : List Part) (pieces : List Piece). Goal (prefix ++ shown ++ ended) left pieces)
+        three_ifs (follows pen.before glyph) [] (tag (cells_of glyph + joined_cells glyph glyphs)) (text_tokens glyph (joined_glyphs glyph glyphs)) [] rest (piece ∷ rest)
+        (λ (prefix left : List Token) (pieces : List Piece). Goal (prefix ++ shown ++ ended) left pieces)
         (λ _. whole is)
-        (λ _. ap (λ (ps : List Part). tag (cells_of glyph + joined_cells glyph glyphs) ++ ps) (whole is)
-        ∙ ap (λ cells. tag (cells_of glyph + cells) ++ (text_parts glyph (joined_glyphs glyph glyphs) ++ parts)) (joined_width glyph glyphs))
+        (λ _. ap (λ (ps : List Token). tag (cells_of glyph + joined_cells glyph glyphs) ++ ps) (whole is)
+        ∙ ap (λ cells. tag (cells_of glyph + cells) ++ (text_tokens glyph (joined_glyphs glyph glyphs) ++ tokens)) (joined_width glyph glyphs))
 
-    none_left : (others : List Glyph) → is_newline glyph ≡ true → parts_left (Some glyph) others ≡ []
+    none_left : (others : List Glyph) → is_newline glyph ≡ true → tokens_left (Some glyph) others ≡ []
     none_left [] e = refl
-    none_left (other ∷ others) e = ap (λ t. if t then text_parts other (joined_glyphs other others) else []) (newline_joins glyph other e)
+    none_left (other ∷ others) e = ap (λ t. if t then text_tokens other (joined_glyphs other others) else []) (newline_joins glyph other e)
 
-    newline : Rest → is_newline glyph ≡ true → Goal (TextByte 10 ∷ []) (if follows pen.before glyph then text_parts glyph (joined_glyphs glyph glyphs) else []) (RowEnd ∷ rest)
+    newline : Rest → is_newline glyph ≡ true → Goal (TextByte 10 ∷ []) (if follows pen.before glyph then text_tokens glyph (joined_glyphs glyph glyphs) else []) (RowEnd ∷ rest)
     newline is e =
-        ap (λ (ps : List Part). TextByte 10 ∷ ps) (is ∙ ap (λ (ps : List Part). ps ++ parts) (none_left glyphs e))
-        ∙ ap (λ t. (if t then text_parts glyph (joined_glyphs glyph glyphs) else []) ++ (TextByte 10 ∷ parts)) (sym (follows_newline pen.before glyph e))
+        ap (λ (ps : List Token). TextByte 10 ∷ ps) (is ∙ ap (λ (ps : List Token). ps ++ tokens) (none_left glyphs e))
+        ∙ ap (λ t. (if t then text_tokens glyph (joined_glyphs glyph glyphs) else []) ++ (TextByte 10 ∷ tokens)) (sym (follows_newline pen.before glyph e))
 
-    all : Rest → parts_of_glyphs pen (glyph ∷ glyphs) ≡ parts_left pen.before (glyph ∷ glyphs) ++ flat_map piece_parts (pieces_from pen (glyph ∷ glyphs))
+    all : Rest → tokens_of_glyphs pen (glyph ∷ glyphs) ≡ tokens_left pen.before (glyph ∷ glyphs) ++ flat_map piece_tokens (pieces_from pen (glyph ∷ glyphs))
     all is =
         two_ifs (is_newline glyph) (TextByte 10 ∷ [])
         ((if follows pen.before glyph then [] else tag (cells_of glyph + joined_cells glyph glyphs)) ++ shown ++ ended)
         (RowEnd ∷ rest) (if follows pen.before glyph then rest else piece ∷ rest)
-        (λ (first : List Part) (pieces : List Piece). Goal first (if follows pen.before glyph then text_parts glyph (joined_glyphs glyph glyphs) else []) pieces)
+        (λ (first : List Token) (pieces : List Piece). Goal first (if follows pen.before glyph then text_tokens glyph (joined_glyphs glyph glyphs) else []) pieces)
         (newline is) (λ _. character is)
 
-none_before : (glyphs : List Glyph) → parts_left None glyphs ≡ []
+none_before : (glyphs : List Glyph) → tokens_left None glyphs ≡ []
 none_before [] = refl
 none_before (glyph ∷ glyphs) = refl
 
 -- all glyphs
-pub parts_of_pieces : (glyphs : List Glyph) → parts_of_glyphs first_pen glyphs ≡ flat_map piece_parts (pieces_from first_pen glyphs)
-parts_of_pieces glyphs =
-    parts_by_pieces first_pen glyphs ∙ ap (λ (ps : List Part). ps ++ flat_map piece_parts (pieces_from first_pen glyphs)) (none_before glyphs)
+pub tokens_of_pieces : (glyphs : List Glyph) → tokens_of_glyphs first_pen glyphs ≡ flat_map piece_tokens (pieces_from first_pen glyphs)
+tokens_of_pieces glyphs =
+    tokens_by_pieces first_pen glyphs ∙ ap (λ (ps : List Token). ps ++ flat_map piece_tokens (pieces_from first_pen glyphs)) (none_before glyphs)
 
 -- ---- inks by their numbers
 

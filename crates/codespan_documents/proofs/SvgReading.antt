@@ -1,4 +1,4 @@
--- An SVG document reads back as its tags and its text: for the clauses `parts` and `text` of
+-- An SVG document reads back as its tags and its text: for the clauses `tokens` and `text` of
 -- `to_svg`.
 use Rattle.std.proofs.Common.{◌≡◌, ℕ, ◌+◌, ◌/◌, ◌%◌, true, false, List, [], ◌∷◌, ◌++◌, map, codes, decimal, refl, sym, subst, ap, ◌∙◌, append_assoc, append-nil, ◌*◌, arith, zero, suc, None, Some, Option}
 use Rattle.std.specs.Prelude.{Bool, ◌==◌, ◌&&◌, not, nat_lt, if◌then◌else◌}
@@ -17,12 +17,12 @@ use Rattle.codespan_documents.specs.declared.svg.ink.Ink.{Ink}
 use Rattle.codespan_documents.specs.declared.svg.position.CellPosition.{CellPosition}
 use Rattle.codespan_documents.specs.declared.svg.Pen.{Pen}
 use Rattle.codespan_documents.specs.Glyphs.{cells_of, extent_from, follows, glyphs_of, glyphs_of_run, goes_on, is_newline, joined_cells, start}
-use Rattle.codespan_documents.specs.HtmlReading.{InTag, InText, Part, Tag, TextByte, html_parts, parts_from, text_of_parts}
+use Rattle.codespan_documents.specs.HtmlReading.{InTag, InText, Token, Tag, TextByte, html_tokens, tokens_from, text_of_tokens}
 use Rattle.codespan_documents.specs.Runs.{StyledRun, characters_of}
 use Rattle.codespan_documents.specs.Svg.{y_of, color_attribute, first_pen, font_attributes, glyph_text, background_tag_content, height, is_forbidden_in_xml, x_of, next_pen, svg_tag_start, svg_document, svg_tag_content, text_tag_content, text_tag, texts_from, weight_attribute, width, xml_character}
-use Rattle.codespan_documents.specs.SvgReading.{piece_parts, pieces_from, svg_parts, svg_shown, svg_text}
+use Rattle.codespan_documents.specs.SvgReading.{piece_tokens, pieces_from, svg_tokens, svg_shown, svg_text}
 use Rattle.codespan_documents.proofs.HtmlReading.{IsTextByte, and_true, bytes-read, character-bytes, is_code, text_of-append, text_of-bytes}
-use Rattle.codespan_documents.proofs.SvgPieces.{glyph_parts, parts_of_glyphs, parts_of_pieces, two_ifs}
+use Rattle.codespan_documents.proofs.SvgPieces.{glyph_tokens, tokens_of_glyphs, tokens_of_pieces, two_ifs}
 
 -- ---- tags
 
@@ -42,15 +42,15 @@ inside-append (c ∷ cs) b x y =
     ap (λ t. t && is_inside (cs ++ b)) both.0 ∙ inside-append cs b both.1 y
 
 -- the content of a tag is read as it is
-tag-read : (tag bs rest : List ℕ) → is_inside bs ≡ true → parts_from (InTag tag) (bs ++ 62 ∷ rest) ≡ Tag (tag ++ bs) ∷ parts_from InText rest
-tag-read tag [] rest h = ap (λ (t : List ℕ). Tag t ∷ parts_from InText rest) (sym (append-nil tag))
+tag-read : (tag bs rest : List ℕ) → is_inside bs ≡ true → tokens_from (InTag tag) (bs ++ 62 ∷ rest) ≡ Tag (tag ++ bs) ∷ tokens_from InText rest
+tag-read tag [] rest h = ap (λ (t : List ℕ). Tag t ∷ tokens_from InText rest) (sym (append-nil tag))
 tag-read tag (b ∷ bs) rest h =
     let both = and_true (not (b == 62)) (is_inside bs) h in
-    let ended = Tag tag ∷ parts_from InText (bs ++ 62 ∷ rest) in
-    let more = parts_from (InTag (tag ++ b ∷ [])) (bs ++ 62 ∷ rest) in
+    let ended = Tag tag ∷ tokens_from InText (bs ++ 62 ∷ rest) in
+    let more = tokens_from (InTag (tag ++ b ∷ [])) (bs ++ 62 ∷ rest) in
     ap (λ (t : Bool). if t then ended else more) (not_true (b == 62) both.0)
     ∙ tag-read (tag ++ b ∷ []) bs rest both.1
-    ∙ ap (λ (t : List ℕ). Tag t ∷ parts_from InText rest) (append_assoc tag (b ∷ []) bs)
+    ∙ ap (λ (t : List ℕ). Tag t ∷ tokens_from InText rest) (append_assoc tag (b ∷ []) bs)
 
 -- ---- numbers
 
@@ -136,20 +136,20 @@ unfolding font_attributes
 svg-inside extent = inside-append (svg_tag_start extent) font_attributes (size-inside extent) refl
 
 -- a tag
-element-read : (element rest : List ℕ) → is_inside element ≡ true → parts_from InText ((codes "<" ++ element ++ codes ">") ++ rest) ≡ Tag element ∷ parts_from InText rest
+element-read : (element rest : List ℕ) → is_inside element ≡ true → tokens_from InText ((codes "<" ++ element ++ codes ">") ++ rest) ≡ Tag element ∷ tokens_from InText rest
 element-read element rest h =
-    ap (parts_from (InTag [])) (append_assoc element (codes ">") rest) ∙ tag-read [] element rest h
+    ap (tokens_from (InTag [])) (append_assoc element (codes ">") rest) ∙ tag-read [] element rest h
 
 -- ---- characters
 
 module _ (c : ℕ) (rest : List ℕ) (ends : (c == 10) ≡ false) where
   -- bytes read as the character
   abbrev ReadsAs : List ℕ → Type 0
-  ReadsAs bs = parts_from InText (bs ++ rest) ≡ map TextByte (svg_shown c) ++ parts_from InText rest
+  ReadsAs bs = tokens_from InText (bs ++ rest) ≡ map TextByte (svg_shown c) ++ tokens_from InText rest
 
   -- bytes read as the character of this code
-  by_code : (n : ℕ) (bs : List ℕ) → parts_from InText (bs ++ rest) ≡ map TextByte (svg_shown n) ++ parts_from InText rest → (c == n) ≡ true → ReadsAs bs
-  by_code n bs is t = subst (λ k. parts_from InText (bs ++ rest) ≡ map TextByte (svg_shown k) ++ parts_from InText rest) (sym (is_code c n t)) is
+  by_code : (n : ℕ) (bs : List ℕ) → tokens_from InText (bs ++ rest) ≡ map TextByte (svg_shown n) ++ tokens_from InText rest → (c == n) ≡ true → ReadsAs bs
+  by_code n bs is t = subst (λ k. tokens_from InText (bs ++ rest) ≡ map TextByte (svg_shown k) ++ tokens_from InText rest) (sym (is_code c n t)) is
 
   -- a character that is neither spelled by an entity nor by a backslash
   other : (c == 38) ≡ false → (c == 60) ≡ false → (c == 27) ≡ false → (c == 0) ≡ false → (c == 13) ≡ false → (c == 9) ≡ false
@@ -164,7 +164,7 @@ module _ (c : ℕ) (rest : List ℕ) (ends : (c == 10) ≡ false) where
       ∙ ap (λ t. if t then codes "\\t" else contents) tab in
       bytes-read contents rest
       (cond_both (is_forbidden_in_xml c) _ _ (λ bs. AllByRecursion IsTextByte bs) (λ _. character-bytes 65533 (refl, refl)) (λ _. character-bytes c (lt, amp)))
-      ∙ ap (λ bs. map TextByte bs ++ parts_from InText rest) (sym shown)
+      ∙ ap (λ bs. map TextByte bs ++ tokens_from InText rest) (sym shown)
 
   pub character-read : ReadsAs (xml_character c)
   unfolding encode_utf8
@@ -180,49 +180,49 @@ module _ (c : ℕ) (rest : List ℕ) (ends : (c == 10) ≡ false) where
 
 -- ---- glyphs
 
--- what ends with a part reads as that part and what is after it
-ended-read : (t : Bool) (rest : List ℕ) → parts_from InText ((if t then [] else codes "</text>") ++ rest) ≡ (if t then [] else Tag (codes "/text") ∷ []) ++ parts_from InText rest
+-- what ends with a token reads as that token and what is after it
+ended-read : (t : Bool) (rest : List ℕ) → tokens_from InText ((if t then [] else codes "</text>") ++ rest) ≡ (if t then [] else Tag (codes "/text") ∷ []) ++ tokens_from InText rest
 ended-read true rest = refl
 ended-read false rest = refl
 
 prefix-read : (t : Bool) (element rest : List ℕ) → is_inside element ≡ true
-    → parts_from InText ((if t then [] else codes "<" ++ element ++ codes ">") ++ rest) ≡ (if t then [] else Tag element ∷ []) ++ parts_from InText rest
+    → tokens_from InText ((if t then [] else codes "<" ++ element ++ codes ">") ++ rest) ≡ (if t then [] else Tag element ∷ []) ++ tokens_from InText rest
 prefix-read true element rest h = refl
 prefix-read false element rest h = element-read element rest h
 
 -- a glyph that is no newline
 character-glyph : (pen : Pen) (glyph : Glyph) (others : List Glyph) (rest : List ℕ) → is_newline glyph ≡ false
-    → parts_from InText (((if follows pen.before glyph then [] else text_tag pen.position (cells_of glyph + joined_cells glyph others) glyph.ink) ++ xml_character glyph.character ++ (if goes_on glyph others then [] else codes "</text>")) ++ rest)
+    → tokens_from InText (((if follows pen.before glyph then [] else text_tag pen.position (cells_of glyph + joined_cells glyph others) glyph.ink) ++ xml_character glyph.character ++ (if goes_on glyph others then [] else codes "</text>")) ++ rest)
     ≡ ((if follows pen.before glyph then [] else Tag (text_tag_content pen.position (cells_of glyph + joined_cells glyph others) glyph.ink) ∷ []) ++ map TextByte (svg_shown glyph.character) ++ (if goes_on glyph others then [] else Tag (codes "/text") ∷ []))
-    ++ parts_from InText rest
+    ++ tokens_from InText rest
 character-glyph pen glyph others rest ends =
     let element = text_tag_content pen.position (cells_of glyph + joined_cells glyph others) glyph.ink in
     let prefix = if follows pen.before glyph then [] else codes "<" ++ element ++ codes ">" in
     let character = xml_character glyph.character in
     let ended = if goes_on glyph others then [] else codes "</text>" in
-    let opening_parts : List Part = if follows pen.before glyph then [] else Tag element ∷ [] in
-    let shown : List Part = map TextByte (svg_shown glyph.character) in
-    let ended_parts : List Part = if goes_on glyph others then [] else Tag (codes "/text") ∷ [] in
-    ap (parts_from InText) (append_assoc (prefix ++ character) ended rest ∙ append_assoc prefix character (ended ++ rest))
+    let opening_tokens : List Token = if follows pen.before glyph then [] else Tag element ∷ [] in
+    let shown : List Token = map TextByte (svg_shown glyph.character) in
+    let ended_tokens : List Token = if goes_on glyph others then [] else Tag (codes "/text") ∷ [] in
+    ap (tokens_from InText) (append_assoc (prefix ++ character) ended rest ∙ append_assoc prefix character (ended ++ rest))
     ∙ prefix-read (follows pen.before glyph) element (character ++ (ended ++ rest)) (text-inside pen.position (cells_of glyph + joined_cells glyph others) glyph.ink)
-    ∙ ap (λ (parts : List Part). opening_parts ++ parts) (character-read glyph.character (ended ++ rest) ends ∙ ap (λ (parts : List Part). shown ++ parts) (ended-read (goes_on glyph others) rest))
-    ∙ sym (append_assoc opening_parts shown (ended_parts ++ parts_from InText rest)) ∙ sym (append_assoc (opening_parts ++ shown) ended_parts (parts_from InText rest))
+    ∙ ap (λ (tokens : List Token). opening_tokens ++ tokens) (character-read glyph.character (ended ++ rest) ends ∙ ap (λ (tokens : List Token). shown ++ tokens) (ended-read (goes_on glyph others) rest))
+    ∙ sym (append_assoc opening_tokens shown (ended_tokens ++ tokens_from InText rest)) ∙ sym (append_assoc (opening_tokens ++ shown) ended_tokens (tokens_from InText rest))
 
-glyph-read : (pen : Pen) (glyph : Glyph) (others : List Glyph) (rest : List ℕ) → parts_from InText (glyph_text pen glyph others ++ rest) ≡ glyph_parts pen glyph others ++ parts_from InText rest
+glyph-read : (pen : Pen) (glyph : Glyph) (others : List Glyph) (rest : List ℕ) → tokens_from InText (glyph_text pen glyph others ++ rest) ≡ glyph_tokens pen glyph others ++ tokens_from InText rest
 glyph-read pen glyph others rest =
     two_ifs (is_newline glyph) (codes "\n")
     ((if follows pen.before glyph then [] else text_tag pen.position (cells_of glyph + joined_cells glyph others) glyph.ink) ++ xml_character glyph.character ++ (if goes_on glyph others then [] else codes "</text>"))
     (TextByte 10 ∷ [])
     ((if follows pen.before glyph then [] else Tag (text_tag_content pen.position (cells_of glyph + joined_cells glyph others) glyph.ink) ∷ []) ++ map TextByte (svg_shown glyph.character) ++ (if goes_on glyph others then [] else Tag (codes "/text") ∷ []))
-    (λ bytes parts. parts_from InText (bytes ++ rest) ≡ parts ++ parts_from InText rest) (λ _. refl) (character-glyph pen glyph others rest)
+    (λ bytes tokens. tokens_from InText (bytes ++ rest) ≡ tokens ++ tokens_from InText rest) (λ _. refl) (character-glyph pen glyph others rest)
 
-glyphs-read : (pen : Pen) (glyphs : List Glyph) (rest : List ℕ) → parts_from InText (texts_from pen glyphs ++ rest) ≡ parts_of_glyphs pen glyphs ++ parts_from InText rest
+glyphs-read : (pen : Pen) (glyphs : List Glyph) (rest : List ℕ) → tokens_from InText (texts_from pen glyphs ++ rest) ≡ tokens_of_glyphs pen glyphs ++ tokens_from InText rest
 glyphs-read pen [] rest = refl
 glyphs-read pen (glyph ∷ glyphs) rest =
-    ap (parts_from InText) (append_assoc (glyph_text pen glyph glyphs) (texts_from (next_pen pen glyph) glyphs) rest)
+    ap (tokens_from InText) (append_assoc (glyph_text pen glyph glyphs) (texts_from (next_pen pen glyph) glyphs) rest)
     ∙ glyph-read pen glyph glyphs (texts_from (next_pen pen glyph) glyphs ++ rest)
-    ∙ ap (λ (parts : List Part). glyph_parts pen glyph glyphs ++ parts) (glyphs-read (next_pen pen glyph) glyphs rest)
-    ∙ sym (append_assoc (glyph_parts pen glyph glyphs) (parts_of_glyphs (next_pen pen glyph) glyphs) (parts_from InText rest))
+    ∙ ap (λ (tokens : List Token). glyph_tokens pen glyph glyphs ++ tokens) (glyphs-read (next_pen pen glyph) glyphs rest)
+    ∙ sym (append_assoc (glyph_tokens pen glyph glyphs) (tokens_of_glyphs (next_pen pen glyph) glyphs) (tokens_from InText rest))
 
 -- ---- documents
 
@@ -230,50 +230,50 @@ regrouped : (lt head gt line background end texts last : List ℕ) → (((((lt +
 regrouped lt head gt line background end texts last = simp append_assoc
 
 -- the document of glyphs reads back
-pub svg-read : (glyphs : List Glyph) → html_parts (svg_document glyphs) ≡ svg_parts glyphs
+pub svg-read : (glyphs : List Glyph) → html_tokens (svg_document glyphs) ≡ svg_tokens glyphs
 unfolding background_tag_content
 svg-read glyphs =
     let head = svg_tag_content (extent_from start glyphs) in
     let texts = texts_from first_pen glyphs in
     let last = codes "</svg>\n" in
-    let pieces : List Part = flat_map piece_parts (pieces_from first_pen glyphs) in
+    let pieces : List Token = flat_map piece_tokens (pieces_from first_pen glyphs) in
     let whole : svg_document glyphs ≡ (codes "<" ++ head ++ codes ">") ++ (codes "\n<" ++ background_tag_content ++ codes ">\n" ++ (texts ++ last)) =
     regrouped (codes "<") head (codes ">") (codes "\n<") background_tag_content (codes ">\n") texts last in
-    let inner : parts_from InText (texts ++ last) ≡ pieces ++ Tag (codes "/svg") ∷ TextByte 10 ∷ [] =
-    glyphs-read first_pen glyphs last ∙ ap (λ (parts : List Part). parts ++ parts_from InText last) (parts_of_pieces glyphs) in
-    ap html_parts whole
+    let inner : tokens_from InText (texts ++ last) ≡ pieces ++ Tag (codes "/svg") ∷ TextByte 10 ∷ [] =
+    glyphs-read first_pen glyphs last ∙ ap (λ (tokens : List Token). tokens ++ tokens_from InText last) (tokens_of_pieces glyphs) in
+    ap html_tokens whole
     ∙ element-read head (codes "\n<" ++ background_tag_content ++ codes ">\n" ++ (texts ++ last)) (svg-inside (extent_from start glyphs))
-    ∙ ap (λ (parts : List Part). Tag head ∷ TextByte 10 ∷ Tag background_tag_content ∷ TextByte 10 ∷ parts) inner
+    ∙ ap (λ (tokens : List Token). Tag head ∷ TextByte 10 ∷ Tag background_tag_content ∷ TextByte 10 ∷ tokens) inner
 
 -- ---- text
 
--- the text of the parts of a glyph
-glyph-text : (pen : Pen) (glyph : Glyph) (others : List Glyph) → text_of_parts (glyph_parts pen glyph others) ≡ svg_shown glyph.character
+-- the text of the tokens of a glyph
+glyph-text : (pen : Pen) (glyph : Glyph) (others : List Glyph) → text_of_tokens (glyph_tokens pen glyph others) ≡ svg_shown glyph.character
 glyph-text pen glyph others = at (is_newline glyph) refl
   where
-    prefix : Bool → List Part
+    prefix : Bool → List Token
     prefix t = if t then [] else Tag (text_tag_content pen.position (cells_of glyph + joined_cells glyph others) glyph.ink) ∷ []
 
-    ended : Bool → List Part
+    ended : Bool → List Token
     ended t = if t then [] else Tag (codes "/text") ∷ []
 
-    between : (f o : Bool) → text_of_parts (prefix f ++ map TextByte (svg_shown glyph.character) ++ ended o) ≡ svg_shown glyph.character
-    between true true = ap text_of_parts (append-nil (map TextByte (svg_shown glyph.character))) ∙ text_of-bytes (svg_shown glyph.character)
+    between : (f o : Bool) → text_of_tokens (prefix f ++ map TextByte (svg_shown glyph.character) ++ ended o) ≡ svg_shown glyph.character
+    between true true = ap text_of_tokens (append-nil (map TextByte (svg_shown glyph.character))) ∙ text_of-bytes (svg_shown glyph.character)
     between true false = text_of-append (map TextByte (svg_shown glyph.character)) (Tag (codes "/text") ∷ []) ∙ append-nil _ ∙ text_of-bytes (svg_shown glyph.character)
-    between false true = ap text_of_parts (append-nil (map TextByte (svg_shown glyph.character))) ∙ text_of-bytes (svg_shown glyph.character)
+    between false true = ap text_of_tokens (append-nil (map TextByte (svg_shown glyph.character))) ∙ text_of-bytes (svg_shown glyph.character)
     between false false = text_of-append (map TextByte (svg_shown glyph.character)) (Tag (codes "/text") ∷ []) ∙ append-nil _ ∙ text_of-bytes (svg_shown glyph.character)
 
-    at : (n : Bool) → is_newline glyph ≡ n → text_of_parts (glyph_parts pen glyph others) ≡ svg_shown glyph.character
+    at : (n : Bool) → is_newline glyph ≡ n → text_of_tokens (glyph_tokens pen glyph others) ≡ svg_shown glyph.character
     at true e = rw e refl
     at false e =
-        ap (λ t. text_of_parts (if t then TextByte 10 ∷ [] else prefix (follows pen.before glyph) ++ map TextByte (svg_shown glyph.character) ++ ended (goes_on glyph others))) e
+        ap (λ t. text_of_tokens (if t then TextByte 10 ∷ [] else prefix (follows pen.before glyph) ++ map TextByte (svg_shown glyph.character) ++ ended (goes_on glyph others))) e
         ∙ between (follows pen.before glyph) (goes_on glyph others)
 
-glyphs-text : (pen : Pen) (glyphs : List Glyph) → text_of_parts (parts_of_glyphs pen glyphs) ≡ flat_map svg_shown (map (λ (glyph : Glyph). glyph.character) glyphs)
+glyphs-text : (pen : Pen) (glyphs : List Glyph) → text_of_tokens (tokens_of_glyphs pen glyphs) ≡ flat_map svg_shown (map (λ (glyph : Glyph). glyph.character) glyphs)
 glyphs-text pen [] = refl
 glyphs-text pen (glyph ∷ glyphs) =
-    text_of-append (glyph_parts pen glyph glyphs) (parts_of_glyphs (next_pen pen glyph) glyphs)
-    ∙ ap (λ bs. bs ++ text_of_parts (parts_of_glyphs (next_pen pen glyph) glyphs)) (glyph-text pen glyph glyphs)
+    text_of-append (glyph_tokens pen glyph glyphs) (tokens_of_glyphs (next_pen pen glyph) glyphs)
+    ∙ ap (λ bs. bs ++ text_of_tokens (tokens_of_glyphs (next_pen pen glyph) glyphs)) (glyph-text pen glyph glyphs)
     ∙ ap (λ bs. svg_shown glyph.character ++ bs) (glyphs-text (next_pen pen glyph) glyphs)
 
 -- the characters of the glyphs of runs
@@ -289,11 +289,11 @@ characters-are styles (run ∷ runs) =
     ∙ ap (λ cs. chars run.text ++ cs) (characters-are styles runs)
 
 -- the text of a document is that of its runs
-pub svg-text : (styles : Styles) (runs : List StyledRun) → text_of_parts (html_parts (svg_document (glyphs_of styles runs))) ≡ svg_text runs
+pub svg-text : (styles : Styles) (runs : List StyledRun) → text_of_tokens (html_tokens (svg_document (glyphs_of styles runs))) ≡ svg_text runs
 svg-text styles runs =
     let glyphs = glyphs_of styles runs in
     let last = Tag (codes "/svg") ∷ TextByte 10 ∷ [] in
-    ap text_of_parts (svg-read glyphs)
-    ∙ ap (λ bs. 10 ∷ 10 ∷ bs) (ap (λ (parts : List Part). text_of_parts (parts ++ last)) (sym (parts_of_pieces glyphs))
-    ∙ text_of-append (parts_of_glyphs first_pen glyphs) last
+    ap text_of_tokens (svg-read glyphs)
+    ∙ ap (λ bs. 10 ∷ 10 ∷ bs) (ap (λ (tokens : List Token). text_of_tokens (tokens ++ last)) (sym (tokens_of_pieces glyphs))
+    ∙ text_of-append (tokens_of_glyphs first_pen glyphs) last
     ∙ ap (λ bs. bs ++ 10 ∷ []) (glyphs-text first_pen glyphs ∙ ap (flat_map svg_shown) (characters-are styles runs)))

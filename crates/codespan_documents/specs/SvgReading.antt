@@ -7,7 +7,7 @@ use Rattle.codespan_documents.specs.declared.svg.ink.Ink.{Ink}
 use Rattle.codespan_documents.specs.declared.svg.position.CellPosition.{CellPosition}
 use Rattle.codespan_documents.specs.declared.svg.Pen.{Pen}
 use Rattle.codespan_documents.specs.Glyphs.{after_glyph, cells_of, extent_from, follows, is_newline, joins, start}
-use Rattle.codespan_documents.specs.HtmlReading.{Part, Tag, TextByte}
+use Rattle.codespan_documents.specs.HtmlReading.{Token, Tag, TextByte}
 use Rattle.codespan_documents.specs.Runs.{StyledRun, characters_of}
 use Rattle.codespan_documents.specs.Svg.{first_pen, background_tag_content, is_forbidden_in_xml, next_pen, svg_tag_content, text_tag_content}
 
@@ -62,20 +62,20 @@ pieces_from pen (glyph ∷ glyphs) =
     else if follows pen.before glyph then rest
     else Text pen.position glyph (joined_glyphs glyph glyphs) ∷ rest
 
--- ---- the parts of a document
+-- ---- the tokens of a document
 
 -- a text is between two tags, and as long as its cells
-abbrev pub piece_parts : Piece → List Part
-piece_parts RowEnd = TextByte 10 ∷ []
-piece_parts (Text position first others) =
+abbrev pub piece_tokens : Piece → List Token
+piece_tokens RowEnd = TextByte 10 ∷ []
+piece_tokens (Text position first others) =
     Tag (text_tag_content position (width_of (first ∷ others)) first.ink)
     ∷ map TextByte (shown_glyphs (first ∷ others)) ++ Tag (codes "/text") ∷ []
 
 -- all of a document: no other tag, and no other text
-abbrev pub svg_parts : List Glyph → List Part
-svg_parts glyphs =
+abbrev pub svg_tokens : List Glyph → List Token
+svg_tokens glyphs =
     Tag (svg_tag_content (extent_from start glyphs)) ∷ TextByte 10 ∷ Tag background_tag_content
-    ∷ TextByte 10 ∷ flat_map piece_parts (pieces_from first_pen glyphs)
+    ∷ TextByte 10 ∷ flat_map piece_tokens (pieces_from first_pen glyphs)
     ++ Tag (codes "/svg") ∷ TextByte 10 ∷ []
 
 -- ---- cells

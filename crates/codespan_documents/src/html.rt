@@ -2,7 +2,7 @@
 
 ghost use Rattle.std.specs.Prelude.{◌≡◌, ◌++◌, IfErr, IfOk, OnOk, flat_map, map, string_bytes};
 ghost use Rattle.codespan_documents.specs.Html.{html_character, html_document, html_run, html_text, is_forbidden_control, is_noncharacter, shown, shown_text, style_class};
-ghost use Rattle.codespan_documents.specs.HtmlReading.{document_parts, html_parts, text_of_html};
+ghost use Rattle.codespan_documents.specs.HtmlReading.{document_tokens, html_tokens, text_of_html};
 ghost use Rattle.codespan_documents.specs.Runs.{joined, run_view, styled_runs};
 
 use crate::style::Style;
@@ -36,8 +36,8 @@ use std::alloc::{AllocError, Global};
 pub fn to_html(alloc: Global, text: &StyledText) -> Result<String, Error>
     ensures document { IfOk result (λ html.
         string_bytes html ≡ html_document (styled_runs text.now)) }
-    ensures parts { IfOk result (λ html.
-        html_parts (string_bytes html) ≡ document_parts (styled_runs text.now)) }
+    ensures tokens { IfOk result (λ html.
+        html_tokens (string_bytes html) ≡ document_tokens (styled_runs text.now)) }
     ensures text { IfOk result (λ html.
         text_of_html (string_bytes html) ≡ shown_text (joined (styled_runs text.now))) }
     ensures failed { IfErr result (λ error. error ≡ Error.OutOfMemory) }

@@ -2,10 +2,10 @@
 
 ghost use Rattle.std.specs.Prelude.{◌≡◌, ◌≤◌, ◌++◌, ◌*◌, ◌^◌, ◌<◌, IfErr, IfOk, OnOk, codes, string_bytes};
 ghost use Rattle.codespan_documents.specs.Glyphs.{glyphs_of};
-ghost use Rattle.codespan_documents.specs.HtmlReading.{html_parts, text_of_parts};
+ghost use Rattle.codespan_documents.specs.HtmlReading.{html_tokens, text_of_tokens};
 ghost use Rattle.codespan_documents.specs.Runs.{styled_runs};
 ghost use Rattle.codespan_documents.specs.Svg.{color_attribute, first_pen, glyph_text, shade, svg_tag_start, svg_document, text_tag, texts_from, weight_attribute, xml_character};
-ghost use Rattle.codespan_documents.specs.SvgReading.{svg_parts, svg_text};
+ghost use Rattle.codespan_documents.specs.SvgReading.{svg_tokens, svg_text};
 
 mod glyph;
 mod ink;
@@ -67,10 +67,10 @@ const FONT_AND_BACKGROUND: &str =
 pub fn to_svg(alloc: Global, text: &StyledText, styles: &Styles) -> Result<String, Error>
     ensures document { IfOk result (λ svg.
         string_bytes svg ≡ svg_document (glyphs_of styles.now (styled_runs text.now))) }
-    ensures parts { IfOk result (λ svg.
-        html_parts (string_bytes svg) ≡ svg_parts (glyphs_of styles.now (styled_runs text.now))) }
+    ensures tokens { IfOk result (λ svg.
+        html_tokens (string_bytes svg) ≡ svg_tokens (glyphs_of styles.now (styled_runs text.now))) }
     ensures text { IfOk result (λ svg.
-        text_of_parts (html_parts (string_bytes svg)) ≡ svg_text (styled_runs text.now)) }
+        text_of_tokens (html_tokens (string_bytes svg)) ≡ svg_text (styled_runs text.now)) }
     ensures failed { IfErr result (λ error. error ≡ Error.OutOfMemory) }
 {
     let glyphs = glyphs(alloc, styles, text.runs.as_slice())?;
@@ -106,7 +106,7 @@ fn push_size(alloc: Global, document: &mut String, extent: CellPosition) -> Resu
 }
 
 /// The position of the next glyph, and the glyph before it.
-#[derive(Clone, Copy, Debug)]
+#[derive(Clone, Copy)]
 struct Pen {
     /// The position.
     position: CellPosition,

@@ -1,6 +1,6 @@
 use Rattle.std.proofs.Common.{map, ap, ◌∙◌}
 use Rattle.codespan_documents.specs.Glyphs.{glyphs_of}
-use Rattle.codespan_documents.specs.HtmlReading.{html_parts, text_of_parts}
+use Rattle.codespan_documents.specs.HtmlReading.{html_tokens, text_of_tokens}
 use Rattle.codespan_documents.specs.Runs.{run_view, styled_runs}
 use Rattle.codespan_documents.specs.Svg.{svg_document}
 use Rattle.codespan_documents.proofs.SvgReading.{svg-read, svg-text}
@@ -11,10 +11,10 @@ pub returns-clause-document : goal.returns-clause-document
 returns-clause-document c =
     c.in_ok-document.ensures ∙ ap svg_document (c.as_slice-2.ensures.value ∙ c.in_ok-glyphs.ensures ∙ ap (λ runs. glyphs_of c.args.styles.now (map run_view runs)) c.as_slice.ensures.value)
 
-pub returns-clause-parts : goal.returns-clause-parts
-returns-clause-parts c =
-    ap (λ bytes. html_parts bytes) (returns-clause-document c) ∙ svg-read (glyphs_of c.args.styles.now (styled_runs c.args.text.now))
+pub returns-clause-tokens : goal.returns-clause-tokens
+returns-clause-tokens c =
+    ap (λ bytes. html_tokens bytes) (returns-clause-document c) ∙ svg-read (glyphs_of c.args.styles.now (styled_runs c.args.text.now))
 
 pub returns-clause-text : goal.returns-clause-text
 returns-clause-text c =
-    ap (λ bytes. text_of_parts (html_parts bytes)) (returns-clause-document c) ∙ svg-text c.args.styles.now (styled_runs c.args.text.now)
+    ap (λ bytes. text_of_tokens (html_tokens bytes)) (returns-clause-document c) ∙ svg-text c.args.styles.now (styled_runs c.args.text.now)
