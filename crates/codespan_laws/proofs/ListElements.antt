@@ -39,9 +39,9 @@ all-take P zero xs h = tt
 all-take P (suc n) [] h = tt
 all-take P (suc n) (x ∷ xs) h = (h.0, all-take P n xs h.1)
 
--- and of a part of them
-pub all-part : {X : Type 0} (P : X → Type 0) (at n : ℕ) (xs : List X) → AllByRecursion P xs → AllByRecursion P (take n (drop at xs))
-all-part P at n xs h = all-take P n (drop at xs) (all-drop P at xs h)
+-- and of a slice of them
+pub all-slice : {X : Type 0} (P : X → Type 0) (at n : ℕ) (xs : List X) → AllByRecursion P xs → AllByRecursion P (take n (drop at xs))
+all-slice P at n xs h = all-take P n (drop at xs) (all-drop P at xs h)
 
 -- what holds of the images of elements holds of the elements by their images
 pub all-mapped : {X Y : Type 0} (f : X → Y) (P : Y → Type 0) (xs : List X) → AllByRecursion P (map f xs) → AllByRecursion (λ x. P (f x)) xs

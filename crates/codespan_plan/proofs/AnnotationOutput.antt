@@ -63,12 +63,12 @@ module _ {Id : Type 0} {database : FileDatabase Id} (lawful : AreFiles database)
   s = labeled_file_model same file xs id
 
   -- its annotations in order
-  abbrev part : List Annotation
-  part = filter (is_of_file f) annotations
+  abbrev own : List Annotation
+  own = filter (is_of_file f) annotations
 
   -- those of a line
   abbrev bucket : ℕ → List Annotation
-  bucket l = filter (is_on_line l) part
+  bucket l = filter (is_on_line l) own
 
   -- the file has this index among those of the labels
   here : HasFileIndex same file (file_ids same xs) f id
@@ -80,32 +80,32 @@ module _ {Id : Type 0} {database : FileDatabase Id} (lawful : AreFiles database)
   }
 
   -- its annotations are of the file
-  part-file : AllByRecursion (λ e. e.file ≡ f) part
-  part-file = all-weaker (λ e. is_of_file f e ≡ true) (λ e. e.file ≡ f) (λ e t. eqb-true e.file f t) part (all-pass (is_of_file f) annotations)
+  own-file : AllByRecursion (λ e. e.file ≡ f) own
+  own-file = all-weaker (λ e. is_of_file f e ≡ true) (λ e. e.file ≡ f) (λ e t. eqb-true e.file f t) own (all-pass (is_of_file f) annotations)
 
   -- they are in order
-  part-rises : Rises is_before part
-  part-rises = rises-filter is_before (is_of_file f) annotations (rises-from_sorted is_before below_order annotations known.sorted)
+  own-rises : Rises is_before own
+  own-rises = rises-filter is_before (is_of_file f) annotations (rises-from_sorted is_before below_order annotations known.sorted)
 
   -- they are of lines that the file has
-  part-below : AllByRecursion (λ e. e.line < line_count (file id)) part
-  part-below =
+  own-below : AllByRecursion (λ e. e.line < line_count (file id)) own
+  own-below =
       let IsInside : (e : Annotation) → Type 0 = λ e. is_of_file f e ≡ true → e.line < line_count (file id) in
       let all_inside : AllByRecursion IsInside all = annotation_lines.annotations-below here config xs [] in
       let whole : AllByRecursion IsInside annotations =
       recursion_from_All IsInside annotations
       (All-permutation IsInside all annotations known.permutation
       (All-from_recursion IsInside all all_inside)) in
-      all-weaker (λ e. (is_of_file f e ≡ true) × IsInside e) (λ e. e.line < line_count (file id)) (λ e h. h.1 h.0) part
-      (all-both (λ e. is_of_file f e ≡ true) IsInside part (all-pass (is_of_file f) annotations) (all-filter IsInside (is_of_file f) annotations whole))
+      all-weaker (λ e. (is_of_file f e ≡ true) × IsInside e) (λ e. e.line < line_count (file id)) (λ e h. h.1 h.0) own
+      (all-both (λ e. is_of_file f e ≡ true) IsInside own (all-pass (is_of_file f) annotations) (all-filter IsInside (is_of_file f) annotations whole))
 
   -- the annotations of a line are of it
   bucket-on : (l : ℕ) → AllByRecursion (IsOn f l) (bucket l)
-  bucket-on l = all-both (λ e. e.file ≡ f) (λ e. e.line ≡ l) (bucket l) (all-filter (λ e. e.file ≡ f) (is_on_line l) part part-file) (all-on_line l part)
+  bucket-on l = all-both (λ e. e.file ≡ f) (λ e. e.line ≡ l) (bucket l) (all-filter (λ e. e.file ≡ f) (is_on_line l) own own-file) (all-on_line l own)
 
   -- they are in order
   bucket-rises : (l : ℕ) → Rises is_before (bucket l)
-  bucket-rises l = rises-filter is_before (is_on_line l) part part-rises
+  bucket-rises l = rises-filter is_before (is_on_line l) own own-rises
 
   -- an annotation of the file and the line that passes a test
   abbrev picks : ℕ → (Annotation → Bool) → Annotation → Bool
@@ -208,26 +208,26 @@ module _ {Id : Type 0} {database : FileDatabase Id} (lawful : AreFiles database)
   shown = filter is_shown (range_with_len 0 (line_count (file id)))
 
   -- the snippet lines are those of the shown lines
-  snippet_lines-are : lines_of part ≡ lines_after bucket None shown
+  snippet_lines-are : lines_of own ≡ lines_after bucket None shown
   snippet_lines-are =
-      snippet_lines-by_line (line_count (file id)) part (lines-rise f part part-file part-rises) part-below
+      snippet_lines-by_line (line_count (file id)) own (lines-rise f own own-file own-rises) own-below
       ∙ (λ i. lines_after bucket None (filter (λ l. shown-is l i) (range_with_len 0 (line_count (file id)))))
 
   -- ---- the snippet
 
   -- the snippet lines make the rows of the snippet
-  pub snippet-rows : rows_of_lines s.file (num_multi_labels s) (lines_of part) ≡ rows_after s None (drawn_lines config s.file s.labels)
+  pub snippet-rows : rows_of_lines s.file (num_multi_labels s) (lines_of own) ≡ rows_after s None (drawn_lines config s.file s.labels)
   snippet-rows =
       ap (rows_of_lines (file id) (num_multi_labels s)) snippet_lines-are
       ∙ snippet_lines-rows (file id) (num_multi_labels s) bucket is_shown (line_count (file id)) (none_past config s)
       ∙ (λ i. in_sequence (λ l. l) (break_between (break_rows (λ l. line-is l i))) (line_rows (λ l. line-is l i)) None (drawn_lines config s.file s.labels))
 
   -- they fill in the lines that are drawn and not shown
-  pub snippet-fills : fills_of (lines_of part) ≡ filled_lines config s
+  pub snippet-fills : fills_of (lines_of own) ≡ filled_lines config s
   snippet-fills = ap fills_of snippet_lines-are ∙ snippet_lines-fills bucket is_shown (line_count (file id)) (none_past config s)
 
   -- they render the drawn lines
-  pub snippet-lines : lines_of_snippet_lines (lines_of part) ≡ drawn_lines config s.file s.labels
+  pub snippet-lines : lines_of_snippet_lines (lines_of own) ≡ drawn_lines config s.file s.labels
   snippet-lines = ap lines_of_snippet_lines snippet_lines-are ∙ snippet_lines-lines bucket is_shown (line_count (file id)) (none_past config s)
 
   -- a line's labels are in the order of their starts
@@ -239,7 +239,7 @@ module _ {Id : Type 0} {database : FileDatabase Id} (lawful : AreFiles database)
   marks-fit l = ap (ascend_from (num_multi_labels s) 0) (marks-are l) ∙ marks-ascend s l
 
   -- so do those of each snippet line
-  pub snippet-fits : AllByRecursion (λ snippet_line. does_line_fit (num_multi_labels s) snippet_line ≡ true) (lines_of part)
+  pub snippet-fits : AllByRecursion (λ snippet_line. does_line_fit (num_multi_labels s) snippet_line ≡ true) (lines_of own)
   snippet-fits =
       subst (AllByRecursion (λ snippet_line. does_line_fit (num_multi_labels s) snippet_line ≡ true)) (sym snippet_lines-are)
       (snippet_lines-fit (num_multi_labels s) bucket (λ l i. starts-ascend l i && marks-fit l i) marks-fit None shown)

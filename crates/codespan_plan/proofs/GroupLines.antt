@@ -8,6 +8,7 @@ use Rattle.std.proofs.lemmas.Bool.{eq-eqb}
 use Rattle.codespan_annotations.specs.Annotations.{Annotation, is_on_line, shows_line}
 use Rattle.codespan_plan.specs.SnippetLines.{SnippetLine, are_shown, groups, lines_to, lines_from}
 use Rattle.codespan_plan.proofs.AnnotationGroups.{group_at, groups-cons}
+use Rattle.codespan_plan.proofs.FileSlices.{next_slice}
 
 -- ---- groups
 
@@ -40,16 +41,12 @@ shown-first (suc n) (x ∷ xs) d some more = refl
 
 -- ---- `lines_from` by indices
 
--- so many annotations from an index on
-abbrev pub part : List Annotation → ℕ → ℕ → List Annotation
-part xs at n = take (at + n - at) (drop at xs)
-
 -- so many annotations from an index on are the next group
 pub record IsGroup (xs : List Annotation) (at n : ℕ) (d : Annotation) : Type 0 where
-  pub len : length (part xs at n) ≡ n
+  pub len : length (next_slice xs at n) ≡ n
   pub some : 0 < n
-  pub shown : are_shown (part xs at n) ≡ shows_line (get_or xs at d)
-  pub first : groups (drop at xs) ≡ group_at (get_or xs at d).line (part xs at n) ∷ groups (drop (at + n) xs)
+  pub shown : are_shown (next_slice xs at n) ≡ shows_line (get_or xs at d)
+  pub first : groups (drop at xs) ≡ group_at (get_or xs at d).line (next_slice xs at n) ∷ groups (drop (at + n) xs)
 
 -- those of the line of the annotation at an index are
 pub next_group : (xs : List Annotation) (at n : ℕ) (d : Annotation) → at < length xs
@@ -64,7 +61,7 @@ next_group xs at n d inside is' le' =
     let more : 0 < length (drop at xs) = omega (arith, length-drop at xs) in
     let line_is : (get_or (drop at xs) 0 d).line ≡ l = ap (λ (e : Annotation). e.line) at_first in
     let some : 0 < n = rw is (prefix_len-some (drop at xs) d l more line_is) in
-    let front : part xs at n ≡ take n (drop at xs) = ap (λ i. take i (drop at xs)) cancelled in
+    let front : next_slice xs at n ≡ take n (drop at xs) = ap (λ i. take i (drop at xs)) cancelled in
     record {
       len = rw cancelled (length-take-le n (drop at xs) le);
       some = some;
@@ -76,11 +73,11 @@ next_group xs at n d inside is' le' =
 module _ (xs : List Annotation) (at n : ℕ) (d : Annotation) (previous : Option ℕ) (hidden : List Annotation) (next : IsGroup xs at n d) where
   -- the snippet lines where the next line is shown
   abbrev where_shown : List SnippetLine
-  where_shown = lines_to previous hidden (get_or xs at d).line (part xs at n) ++ lines_from (Some (get_or xs at d).line) [] (groups (drop (at + n) xs))
+  where_shown = lines_to previous hidden (get_or xs at d).line (next_slice xs at n) ++ lines_from (Some (get_or xs at d).line) [] (groups (drop (at + n) xs))
 
   -- and where it is hidden
   abbrev where_hidden : List SnippetLine
-  where_hidden = lines_from previous (part xs at n) (groups (drop (at + n) xs))
+  where_hidden = lines_from previous (next_slice xs at n) (groups (drop (at + n) xs))
 
   -- what `lines_from` makes of the next group
   by_group : lines_from previous hidden (groups (drop at xs)) ≡ cond (shows_line (get_or xs at d)) where_shown where_hidden
@@ -88,9 +85,9 @@ module _ (xs : List Annotation) (at n : ℕ) (d : Annotation) (previous : Option
 
   -- a shown line is next: the snippet lines up to it, and then the others
   pub snippet_lines-next : shows_line (get_or xs at d) ≡ true → lines_from previous hidden (groups (drop at xs))
-      ≡ lines_to previous hidden (get_or xs at d).line (part xs at n) ++ lines_from (Some (get_or xs at d).line) [] (groups (drop (at + n) xs))
+      ≡ lines_to previous hidden (get_or xs at d).line (next_slice xs at n) ++ lines_from (Some (get_or xs at d).line) [] (groups (drop (at + n) xs))
   snippet_lines-next t = by_group ∙ ap (λ b. cond b where_shown where_hidden) t
 
   -- a hidden line is next: the others
-  pub snippet_lines-skip : shows_line (get_or xs at d) ≡ false → lines_from previous hidden (groups (drop at xs)) ≡ lines_from previous (part xs at n) (groups (drop (at + n) xs))
+  pub snippet_lines-skip : shows_line (get_or xs at d) ≡ false → lines_from previous hidden (groups (drop at xs)) ≡ lines_from previous (next_slice xs at n) (groups (drop (at + n) xs))
   snippet_lines-skip f = by_group ∙ ap (λ b. cond b where_shown where_hidden) f

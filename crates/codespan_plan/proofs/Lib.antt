@@ -5,7 +5,7 @@ pub mod FileLabels
 pub mod AnnotationLines
 pub mod GroupAnnotations
 pub mod AnnotationOutput
-pub mod FileParts
+pub mod FileSlices
 pub mod LabelStarts
 pub mod LaneMarks
 pub mod LinesFound

@@ -31,10 +31,10 @@ use Rattle.codespan_annotations.specs.FileIndices.{IsIdAt}
 use Rattle.codespan_plan.specs.SnippetPlans.{ArePlans, IsPlan, by_index, number_lookups, lines_at}
 use Rattle.codespan_plan.specs.SnippetLines.{SnippetLine, fills_of, lines_of}
 use Rattle.codespan_collect.proofs.FirstErrors.{first_error-append, or_failure-succeeded, or_failure-none, or_failure-some, first_error-none, first_error-some}
-use Rattle.codespan_plan.proofs.FileParts.{IsFilePart, from_file, next-file, next_part}
+use Rattle.codespan_plan.proofs.FileSlices.{IsFileSlice, from_file, next-file, next_slice}
 use Rattle.codespan_annotations.proofs.FileIndices.{at-get}
 use Rattle.codespan_annotations.proofs.IndexedElements.{IsElementAt, take-at}
-use Rattle.codespan_laws.proofs.ListElements.{all-both, all-mapped, all-part, all-pass, all-weaker}
+use Rattle.codespan_laws.proofs.ListElements.{all-both, all-mapped, all-slice, all-pass, all-weaker}
 
 -- ---- ids at their indices
 
@@ -65,15 +65,15 @@ by_index-same {Id} {A} image each k (j ∷ js) same =
     (by_index-same image each (k + 1) js (λ i id at. let e : k + 1 + i ≡ k + suc i = omega arith in ap (λ n. image n id) e ∙ same (suc i) id at))
 
 module _ {Id : Type 0} (file : Id → FileModel) where
-  -- a file's part of the annotations is of lines that the file has
-  part-lines : (ids : List Id) (xs : List (RustAnnotation Id)) (at n f : ℕ) (id : Id) (ys : List Annotation) → IsIdAt ids f id → AllByRecursion (IsOfFiles file ids) xs
+  -- the annotations of a file are of lines that it has
+  slice-lines : (ids : List Id) (xs : List (RustAnnotation Id)) (at n f : ℕ) (id : Id) (ys : List Annotation) → IsIdAt ids f id → AllByRecursion (IsOfFiles file ids) xs
       → map annotation_view (take n (drop at xs)) ≡ filter (is_of_file f) ys → AllByRecursion (λ e. IsLineOf (file id) e.line) (take n (drop at xs))
-  part-lines ids xs at n f id ys is_at lines own =
-      let part = take n (drop at xs) in
-      let of_file = all-mapped annotation_view (λ e. is_of_file f e ≡ true) part (subst (AllByRecursion (λ e. is_of_file f e ≡ true)) (sym own) (all-pass (is_of_file f) ys)) in
+  slice-lines ids xs at n f id ys is_at lines own =
+      let slice = take n (drop at xs) in
+      let of_file = all-mapped annotation_view (λ e. is_of_file f e ≡ true) slice (subst (AllByRecursion (λ e. is_of_file f e ≡ true)) (sym own) (all-pass (is_of_file f) ys)) in
       all-weaker (λ e. (is_of_file f (annotation_view e) ≡ true) × IsOfFiles file ids e) (λ e. IsLineOf (file id) e.line)
       (λ e h. h.1 id (subst (λ k. IsIdAt ids k id) (sym (eqb-true e.file f h.0)) is_at))
-      part (all-both (λ e. is_of_file f (annotation_view e) ≡ true) (IsOfFiles file ids) part of_file (all-part (IsOfFiles file ids) at n xs lines))
+      slice (all-both (λ e. is_of_file f (annotation_view e) ≡ true) (IsOfFiles file ids) slice of_file (all-slice (IsOfFiles file ids) at n xs lines))
 
 -- ---- the turn of a file
 
@@ -88,41 +88,41 @@ pub record IsAtFile {Id : Type 0} (files : List (RustFile Id)) (xs : List (RustA
   pub here : IsElementAt files k f
 
 module _ {Id : Type 0} {files : List (RustFile Id)} {xs : List (RustAnnotation Id)} {at n k : ℕ} {f : RustFile Id} (turn : IsAtFile files xs at n k f) where
-  -- the file's part of the annotations
-  own_part : IsFilePart xs at n k
-  own_part = next-file xs at n k turn.up turn.inside turn.left turn.counted turn.within
+  -- the annotations of the file
+  own_slice : IsFileSlice xs at n k
+  own_slice = next-file xs at n k turn.up turn.inside turn.left turn.counted turn.within
 
   module _ {zs : List (RustAnnotation Id)} (same : zs ≡ xs) where
     -- it is the same in an equal list
-    own_annotations : map annotation_view (next_part zs at n) ≡ filter (is_of_file k) (map annotation_view xs)
-    own_annotations = ap (λ (es : List (RustAnnotation Id)). map annotation_view (next_part es at n)) same ∙ own_part.own
+    own_annotations : map annotation_view (next_slice zs at n) ≡ filter (is_of_file k) (map annotation_view xs)
+    own_annotations = ap (λ (es : List (RustAnnotation Id)). map annotation_view (next_slice es at n)) same ∙ own_slice.own
 
     -- its lines are the file's
-    pub own_lines : (file : Id → FileModel) → AllByRecursion (IsOfFiles file (ids_view files)) xs → All (λ e. IsLineOf (file f.id) e.line) (next_part zs at n)
+    pub own_lines : (file : Id → FileModel) → AllByRecursion (IsOfFiles file (ids_view files)) xs → All (λ e. IsLineOf (file f.id) e.line) (next_slice zs at n)
     own_lines file lines =
         let inside = turn.here.inside in
         let there : IsIdAt (ids_view files) k f.id =
         subst (IsIdAt (ids_view files) k) (get_or-map (λ (g : RustFile Id). g.id) files k f f.id inside ∙ ap (λ (g : RustFile Id). g.id) (sym turn.here.is))
         (at-get (ids_view files) k f.id (omega (arith, inside, length-map files (λ (g : RustFile Id). g.id)))) in
-        All-from_recursion (λ e. IsLineOf (file f.id) e.line) (next_part zs at n)
-        (part-lines file (ids_view files) zs at (at + n - at) k f.id (map annotation_view xs) there (subst (AllByRecursion (IsOfFiles file (ids_view files))) (sym same) lines) own_annotations)
+        All-from_recursion (λ e. IsLineOf (file f.id) e.line) (next_slice zs at n)
+        (slice-lines file (ids_view files) zs at (at + n - at) k f.id (map annotation_view xs) there (subst (AllByRecursion (IsOfFiles file (ids_view files))) (sym same) lines) own_annotations)
 
     -- so are its snippet lines
-    own_snippet_lines : lines_of (map annotation_view (next_part zs at n)) ≡ lines_at (map annotation_view xs) k
+    own_snippet_lines : lines_of (map annotation_view (next_slice zs at n)) ≡ lines_at (map annotation_view xs) k
     own_snippet_lines = ap lines_of own_annotations
 
     -- and what they look up
-    pub own_lookups : (layout : Layout) (failure : Failures Id) → first_error failure (lookups_of_file f.id (numbers_looked_up layout (fills_of (lines_of (map annotation_view (next_part zs at n))))))
+    pub own_lookups : (layout : Layout) (failure : Failures Id) → first_error failure (lookups_of_file f.id (numbers_looked_up layout (fills_of (lines_of (map annotation_view (next_slice zs at n))))))
         ≡ first_error failure (lookups_of_file f.id (numbers_looked_up layout (fills_of (lines_at (map annotation_view xs) k))))
     own_lookups layout failure = ap (λ snippet_lines. first_error failure (lookups_of_file f.id (numbers_looked_up layout (fills_of snippet_lines)))) own_snippet_lines
 
   -- the next file's turn is after it
   pub next_inside : at + n ≤ length xs
-  next_inside = omega (arith, own_part.within, own_part.len)
+  next_inside = omega (arith, own_slice.within, own_slice.len)
 
   -- later files remain there
   pub next_left : drop (at + n) (map annotation_view xs) ≡ from_file (k + 1) (map annotation_view xs)
-  next_left = ap (λ i. drop (at + i) (map annotation_view xs)) (sym own_part.len) ∙ own_part.rest
+  next_left = ap (λ i. drop (at + i) (map annotation_view xs)) (sym own_slice.len) ∙ own_slice.rest
 
 -- ---- plans
 
@@ -135,7 +135,7 @@ added-count {old = old} added = let whole = ap length added.whole in omega (arit
 pub plan_found : {Id : Type 0} {files : List (RustFile Id)} {xs zs : List (RustAnnotation Id)}
     {at n k : ℕ} {f : RustFile Id} (turn : IsAtFile files xs at n k f) {layout : Layout}
     {file : Id → FileModel}
-    {old new : List (RustLine Id)} (added : AddsLines layout (file f.id) old new (lines_of (map annotation_view (next_part zs at n)))) → zs ≡ xs
+    {old new : List (RustLine Id)} (added : AddsLines layout (file f.id) old new (lines_of (map annotation_view (next_slice zs at n)))) → zs ≡ xs
     → {count : ℕ} → count ≡ length new - length old → {snippet_plan : SnippetPlan Id} → snippet_plan.file.now ≡ f
     → IsTextLocus (snippet_start_of file f) (locus_view snippet_plan.locus) → snippet_plan.line_total ≡ count → IsPlan layout file (map annotation_view xs) k f snippet_plan added.more
 plan_found turn added zs_are counted same locus total = record {

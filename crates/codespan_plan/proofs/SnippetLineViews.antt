@@ -7,10 +7,10 @@ use Rattle.codespan_annotations.specs.declared.annotation.Annotation.{Annotation
 use Rattle.codespan_annotations.specs.Annotations.{Annotation, is_on_line, shows_line}
 use Rattle.codespan_annotations.specs.AnnotationViews.{annotation_view}
 use Rattle.codespan_plan.specs.SnippetLines.{SnippetLine, groups, lines_from, lines_to}
-use Rattle.codespan_plan.proofs.FileParts.{next_part, prefix-map}
-use Rattle.codespan_plan.proofs.GroupLines.{IsGroup, part, next_group, snippet_lines-next, snippet_lines-skip}
+use Rattle.codespan_plan.proofs.FileSlices.{next_slice, prefix-map}
+use Rattle.codespan_plan.proofs.GroupLines.{IsGroup, next_group, snippet_lines-next, snippet_lines-skip}
 
--- a part of what is mapped
+-- a slice of what is mapped
 cut-of_map : {X Y : Type 0} (f : X → Y) (n k : ℕ) (xs : List X) → take n (drop k (map f xs)) ≡ map f (take n (drop k xs))
 cut-of_map {X} {Y} f n k xs = ap (λ (l : List Y). take n l) (drop-map f k xs) ∙ take-map f n (drop k xs)
 
@@ -30,7 +30,7 @@ index_at xs at d = (get_or xs at d).line.index
 record IsGroupOfViews {Id : Type 0} (xs : List (RustAnnotation Id)) (at n : ℕ) (d : RustAnnotation Id) : Type 0 where
   next : IsGroup (views_of xs) at n (annotation_view d)
   line : (get_or (views_of xs) at (annotation_view d)).line ≡ index_at xs at d
-  group : part (views_of xs) at n ≡ views_of (next_part xs at n)
+  group : next_slice (views_of xs) at n ≡ views_of (next_slice xs at n)
   shown : shows_line (get_or (views_of xs) at (annotation_view d)) ≡ shows_line (annotation_view (get_or xs at d))
 
 -- so many annotations from an index on are of the line of the annotation there
@@ -46,7 +46,7 @@ group_of_views xs at n d counted =
     let rest : take (length (views_of xs) - at) (drop at (views_of xs)) ≡ views_of (take (length xs - at) (drop at xs)) =
     ap (λ k. take (k - at) (drop at (views_of xs))) whole ∙ cut-of_map annotation_view (length xs - at) at xs in
     let line_is : (get_or (views_of xs) at (annotation_view d)).line ≡ index_at xs at d = ap (λ (e : Annotation). e.line) (get_or-map annotation_view xs at d (annotation_view d) counted.inside) in
-    let group_is : part (views_of xs) at n ≡ views_of (next_part xs at n) = cut-of_map annotation_view (at + n - at) at xs in
+    let group_is : next_slice (views_of xs) at n ≡ views_of (next_slice xs at n) = cut-of_map annotation_view (at + n - at) at xs in
     record {
       next = next_group (views_of xs) at n (annotation_view d) (omega (arith, whole, counted.inside))
           (counted.is ∙ sym (prefix-map annotation_view (is_on_line (index_at xs at d)) (take (length xs - at) (drop at xs))) ∙ (λ i. prefix_len (is_on_line (sym line_is i)) (sym rest i)))
@@ -64,7 +64,7 @@ group_of_views-len xs at n d counted =
 
 -- the snippet lines up to a shown line: what is before it, and the line itself
 abbrev pub lines_to_shown : {Id : Type 0} → List (RustAnnotation Id) → ℕ → ℕ → ℕ → RustAnnotation Id → Option ℕ → List SnippetLine
-lines_to_shown xs from at n d previous = lines_to previous (views_of (between xs from at)) (index_at xs at d) (views_of (next_part xs at n))
+lines_to_shown xs from at n d previous = lines_to previous (views_of (between xs from at)) (index_at xs at d) (views_of (next_slice xs at n))
 
 -- the snippet lines of the annotations that are left, where those of a hidden line before them
 -- start at an index

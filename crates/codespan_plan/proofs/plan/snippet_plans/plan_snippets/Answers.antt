@@ -4,7 +4,7 @@ use Rattle.codespan_annotations.specs.FileLookups.{FailsByOrFormat}
 use Rattle.codespan_annotations.specs.AnnotationViews.{annotation_view}
 use Rattle.codespan_plan.specs.SnippetPlans.{ArePlans, plans_failure}
 use Rattle.codespan_annotations.proofs.FileLengths.{rest-sorted}
-use Rattle.codespan_plan.proofs.FileParts.{from_file-first}
+use Rattle.codespan_plan.proofs.FileSlices.{from_file-first}
 use Rattle.codespan_plan.proofs.PlansFound.{IsAtFile, next_inside, next_left, own_lookups, own_lines, plan_found, planned-more, planned-fails, planned-unlocated, plans-add, plans-all}
 use Rattle.codespan_plan.proofs.plan.snippet_plans.plan_snippets.Given.{Over}
 use Rattle.codespan_plan.proofs.plan.snippet_plans.plan_snippets.Goals.{After-branch-located, After-file_len-len, in-Err, in-Ok+in_ok-push-in-Ok}

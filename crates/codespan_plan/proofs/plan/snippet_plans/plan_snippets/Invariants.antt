@@ -1,6 +1,6 @@
 use Rattle.std.proofs.Common.{◌≡◌, ◌≤◌, length, map, take, drop}
 use Rattle.codespan_annotations.specs.AnnotationViews.{annotation_view}
-use Rattle.codespan_plan.proofs.FileParts.{from_file}
+use Rattle.codespan_plan.proofs.FileSlices.{from_file}
 use Rattle.codespan_plan.proofs.PlansFound.{ArePlanned}
 use Rattle.codespan_plan.proofs.plan.snippet_plans.plan_snippets.Given as goal
 

@@ -1,4 +1,4 @@
--- A loop over the files takes each file's part of the annotations in order, for the clause `plans`
+-- A loop over the files takes the annotations of each file in order, for the clause `plans`
 -- of `plan_snippets`.
 use Rattle.std.proofs.Common.{◌≡◌, ℕ, ◌+◌, ◌-◌, ◌≤◌, Bool, true, false, ◌&&◌, cond, ◌==◌, nat_lt, nat_le, List, [], ◌∷◌, ◌++◌, length, take, drop, map, filter, refl, sym, ◌∙◌, ap, arith, length-drop}
 use Rattle.std.specs.List.{prefix_len, AllByRecursion}
@@ -86,21 +86,21 @@ prefix-map f p [] = refl
 prefix-map f p (x ∷ xs) = ap (λ n. cond (p (f x)) (1 + n) 0) (prefix-map f p xs)
 
 -- the next n elements, as a loop takes them
-abbrev pub next_part : {X : Type 0} → List X → ℕ → ℕ → List X
-next_part xs at n = take (at + n - at) (drop at xs)
+abbrev pub next_slice : {X : Type 0} → List X → ℕ → ℕ → List X
+next_slice xs at n = take (at + n - at) (drop at xs)
 
 -- the next n annotations are those of the file, and later files remain
-pub record IsFilePart {Id : Type 0} (xs : List (RustAnnotation Id)) (at n f : ℕ) : Type 0 where
-  pub len : length (next_part xs at n) ≡ n
-  pub within : at + length (next_part xs at n) ≤ length xs
-  pub own : map annotation_view (next_part xs at n) ≡ filter (is_of_file f) (map annotation_view xs)
-  pub rest : drop (at + length (next_part xs at n)) (map annotation_view xs) ≡ from_file (f + 1) (map annotation_view xs)
+pub record IsFileSlice {Id : Type 0} (xs : List (RustAnnotation Id)) (at n f : ℕ) : Type 0 where
+  pub len : length (next_slice xs at n) ≡ n
+  pub within : at + length (next_slice xs at n) ≤ length xs
+  pub own : map annotation_view (next_slice xs at n) ≡ filter (is_of_file f) (map annotation_view xs)
+  pub rest : drop (at + length (next_slice xs at n)) (map annotation_view xs) ≡ from_file (f + 1) (map annotation_view xs)
 
--- a loop over the files takes the part of the next one
+-- a loop over the files takes the annotations of the next one
 pub next-file : {Id : Type 0} (xs : List (RustAnnotation Id)) (at n f : ℕ)
     → IsSortedBy is_before (map annotation_view xs) → at ≤ length xs
     → drop at (map annotation_view xs) ≡ from_file f (map annotation_view xs)
-    → n ≡ prefix_len (λ e. is_of_file f (annotation_view e)) (take (length xs - at) (drop at xs)) → n ≤ length (take (length xs - at) (drop at xs)) → IsFilePart xs at n f
+    → n ≡ prefix_len (λ e. is_of_file f (annotation_view e)) (take (length xs - at) (drop at xs)) → n ≤ length (take (length xs - at) (drop at xs)) → IsFileSlice xs at n f
 next-file xs at n f up inside left is low =
     let ys = map annotation_view xs in
     let a = filter (is_of_file f) ys in
@@ -111,10 +111,10 @@ next-file xs at n f up inside left is low =
     is ∙ ap (prefix_len (λ e. is_of_file f (annotation_view e))) whole ∙ sym (prefix-map annotation_view (is_of_file f) (drop at xs))
     ∙ ap (prefix_len (is_of_file f)) (sym (drop-map annotation_view at xs) ∙ here) ∙ own-len ys f in
     let k : at + n - at ≡ n = add-sub_cancel_left at n in
-    let front : map annotation_view (next_part xs at n) ≡ a =
+    let front : map annotation_view (next_slice xs at n) ≡ a =
     sym (take-map annotation_view (at + n - at) (drop at xs)) ∙ ap (λ (l : List Annotation). take (at + n - at) l) (sym (drop-map annotation_view at xs) ∙ here)
     ∙ ap (λ i. take i (a ++ b)) (k ∙ n-is) ∙ take-append_seam a b in
-    let long : length (next_part xs at n) ≡ n = sym (length-map (next_part xs at n) annotation_view) ∙ ap length front ∙ sym n-is in
+    let long : length (next_slice xs at n) ≡ n = sym (length-map (next_slice xs at n) annotation_view) ∙ ap length front ∙ sym n-is in
     let rest_len : length (take (length xs - at) (drop at xs)) ≡ length xs - at = ap length whole ∙ length-drop at xs in
     record {
       len = long;
