@@ -47,11 +47,6 @@ impl<W: Write> FailingWriter<W> {
         self.failed
     }
 
-    /// Returns the inner writer.
-    pub fn into_inner(self) -> W {
-        self.inner
-    }
-
     /// Writes the spelling of a style mark, or only its first byte and fails.
     fn write_style_mark(&mut self, text: &[u8]) -> io::Result<()>
         ensures { Writes (spelling_sink self.old.failed (W.contents self.old.inner))

@@ -188,10 +188,10 @@ fn judge_call<D: Render>(
         let recording = style_writer.record(alloc, output, text)?;
         let more = match style_writer {
             StyleWriterKind::Ansi => {
-                judge_colors(output, recording.text.as_slice(), colors)?;
+                judge_colors(output, recording.text(), colors)?;
                 0
             }
-            StyleWriterKind::Custom => judge_style_marks(alloc, output, recording.text.as_slice())?,
+            StyleWriterKind::Custom => judge_style_marks(alloc, output, recording.text())?,
             StyleWriterKind::Plain | StyleWriterKind::NoColor => 0,
         };
         let stops = judge_stops(alloc, style_writer, output, &recording)?;

@@ -1,37 +1,48 @@
-//! A writer that records what is written to it, and where each write began.
+//! A writer that records where each write begins, over a writer that may stop.
 
 use std::alloc::Global;
 use std::io;
 use std::io::Write;
+use test_writers::stopping::{Stop, Stopping};
 
-/// The bytes written, and how many preceded each write.
+/// A writer, and how many bytes it held before each write.
 #[derive(Drop)]
 pub struct Recording {
-    /// The bytes written.
-    pub text: Vec<u8>,
+    /// The writer, which holds the bytes written.
+    pub inner: Stopping,
     /// The number of bytes before each write.
     pub starts: Vec<usize>,
 }
 
 impl Recording {
-    /// Returns an empty recording.
+    /// Returns an empty recording of a writer that does not stop.
     pub fn new(alloc: Global) -> Recording {
+        Recording::stopping(alloc, usize::MAX, usize::MAX, Stop::Fails)
+    }
+
+    /// Returns an empty recording of a writer that takes `most` bytes at most at a time, and stops
+    /// so after `writes` writes.
+    pub fn stopping(alloc: Global, most: usize, writes: usize, stop: Stop) -> Recording {
         Recording {
-            text: Vec::new(alloc),
+            inner: Stopping::new(alloc, most, writes, stop),
             starts: Vec::new(alloc),
         }
     }
+
+    /// Returns the bytes written.
+    pub fn text(&self) -> &[u8] {
+        self.inner.text.as_slice()
+    }
 }
 
-/// Records all bytes.
+/// Records where the write begins, and makes it.
 impl Write for Recording {
     fn write(&mut self, buf: &[u8]) -> io::Result<usize> {
-        self.starts.push(self.text.len())?;
-        self.text.extend_from_slice(buf)?;
-        Ok(buf.len())
+        self.starts.push(self.inner.text.len())?;
+        self.inner.write(buf)
     }
 
     fn flush(&mut self) -> io::Result<()> {
-        Ok(())
+        self.inner.flush()
     }
 }

@@ -134,14 +134,11 @@ fn call_plain_over<'files, F: Files<'files>, W: Write>(
     writer: &mut W,
 ) -> Result<(), Error> {
     match call {
-        RenderCall::Render | RenderCall::EmitToWriteStyle => {
-            call_over(
-                call,
-                config,
-                files,
-                diagnostic,
-                &mut PlainWriter::new(writer),
-            )
+        RenderCall::Render => {
+            render_over(config, files, diagnostic, &mut PlainWriter::new(writer))
+        }
+        RenderCall::EmitToWriteStyle => {
+            emit_to_write_style(&mut PlainWriter::new(writer), config, files, diagnostic)
         }
         RenderCall::EmitToIoWrite => emit_to_io_write(writer, config, files, diagnostic),
         RenderCall::Emit => emit(writer, config, files, diagnostic),

@@ -6,7 +6,7 @@ use crate::recording::Recording;
 use crate::rendering::Render;
 use crate::style_writers::StyleWriterKind;
 use std::alloc::Global;
-use test_writers::stopping::{Stop, Stopping, is_as_expected};
+use test_writers::stopping::{Stop, is_as_expected};
 
 /// How a writer stops at a write.
 pub const STOPS: [Stop; 4] = [
@@ -32,23 +32,23 @@ pub fn judge_stops<D: Render>(
     output: &D,
     recording: &Recording,
 ) -> Result<usize, Failure> {
-    let whole = recording.text.as_slice();
-    let slow = Stopping::new(alloc, 1, usize::MAX, Stop::Fails);
+    let whole = recording.text();
+    let slow = Recording::stopping(alloc, 1, usize::MAX, Stop::Fails);
     if !stops_at(style_writer, output, slow, whole, whole.len()) {
         return Err(Failure::Stopped(style_writer, Ending::Slow, 0));
     }
     let mut runs = 1usize;
     for stop in STOPS {
         for (writes, start) in recording.starts.iter().enumerate() {
-            let inner = Stopping::new(alloc, usize::MAX, writes, stop);
+            let stopping = Recording::stopping(alloc, usize::MAX, writes, stop);
             let length = written_length(stop, *start, whole.len());
-            if !stops_at(style_writer, output, inner, whole, length) {
+            if !stops_at(style_writer, output, stopping, whole, length) {
                 return Err(Failure::Stopped(style_writer, Ending::AtWrite(stop), writes));
             }
             runs = runs.saturating_add(1);
         }
-        let inner = Stopping::new(alloc, usize::MAX, recording.starts.len(), stop);
-        if !stops_at(style_writer, output, inner, whole, whole.len()) {
+        let stopping = Recording::stopping(alloc, usize::MAX, recording.starts.len(), stop);
+        if !stops_at(style_writer, output, stopping, whole, whole.len()) {
             let writes = recording.starts.len();
             return Err(Failure::Stopped(style_writer, Ending::AtWrite(stop), writes));
         }
@@ -71,15 +71,15 @@ fn written_length(stop: Stop, start: usize, whole: usize) -> usize {
 fn stops_at<D: Render>(
     style_writer: StyleWriterKind,
     output: &D,
-    mut inner: Stopping,
+    mut recording: Recording,
     whole: &[u8],
     length: usize,
 ) -> bool {
     let is_whole = length == whole.len();
-    let returned = style_writer.render(output, &mut inner);
+    let returned = style_writer.render(output, &mut recording);
     is_as_expected(&returned, !is_whole)
-        && inner.is_right(is_whole, whole)
-        && inner.text.len() == length
+        && recording.inner.is_right(is_whole, whole)
+        && recording.text().len() == length
 }
 
 /// Renders to this program's writer of styles, which fails at each style mark in turn, and returns
@@ -115,9 +115,9 @@ fn stopped_at_style_mark(marks: usize) -> Failure {
     Failure::Stopped(StyleWriterKind::Custom, Ending::AtStyleMark, marks)
 }
 
-/// Renders to a writer that fails at the style mark after this many, and returns whether it then
-/// holds these bytes and, if they are not all, the result is `Io` and no style mark and no write
-/// followed.
+/// Renders to this program's writer of styles, which fails at the style mark after this many, and
+/// returns whether these bytes have then been written and, if they are not all, the result is `Io`
+/// and no style mark and no write followed.
 fn stops_at_style_mark<D: Render>(
     alloc: Global,
     output: &D,
@@ -125,10 +125,21 @@ fn stops_at_style_mark<D: Render>(
     written: &[u8],
     is_stopped: bool,
 ) -> bool {
-    let mut writer = FailingWriter::new(Vec::new(alloc), marks);
+    let mut recording = Recording::new(alloc);
+    fails_at_style_mark(output, &mut recording, marks, is_stopped) && recording.text() == written
+}
+
+/// Renders to this program's writer of styles, which fails at the style mark after this many, and
+/// returns whether, if it has stopped, the result is `Io` and no style mark and no write followed.
+fn fails_at_style_mark<D: Render>(
+    output: &D,
+    recording: &mut Recording,
+    marks: usize,
+    is_stopped: bool,
+) -> bool {
+    let mut writer = FailingWriter::new(recording, marks);
     let returned = output.render(&mut writer);
     is_as_expected(&returned, is_stopped)
         && writer.has_failed() == is_stopped
         && writer.calls_after == 0
-        && writer.into_inner().as_slice() == written
 }

@@ -86,7 +86,7 @@ impl StyleWriterKind {
         let mut recording = Recording::new(alloc);
         self.render(output, &mut recording)?;
         let has_sequences = self.shows_style_marks() && output.has_style_marks();
-        let bytes = recording.text.as_slice();
+        let bytes = recording.text();
         let is_text = if has_sequences {
             bytes.len() > text.len()
                 && without_sequences(alloc, bytes)?.as_slice() == text.as_bytes()
