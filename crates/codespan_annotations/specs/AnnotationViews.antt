@@ -6,30 +6,30 @@ use Rattle.codespan_base.specs.LawfulFiles.{IsLineRange}
 use Rattle.codespan_base.specs.Labels.{LabelModel, MultiLabel, Top, Left, Bottom, from_line_start}
 use Rattle.codespan_picture.specs.Picture.{label_of}
 use Rattle.codespan_annotations.specs.declared.annotation.Annotation.{Annotation as RustAnnotation}
-use Rattle.codespan_annotations.specs.declared.annotation.MultiPart.{MultiPart}
-use Rattle.codespan_annotations.specs.declared.annotation.MultiPart.TheVariants as part
+use Rattle.codespan_annotations.specs.declared.annotation.MultiLabelKind.{MultiLabelKind}
+use Rattle.codespan_annotations.specs.declared.annotation.MultiLabelKind.TheVariants as label_kind
 use Rattle.codespan_annotations.specs.declared.annotation.AnnotationKind.{AnnotationKind as RustKind}
 use Rattle.codespan_annotations.specs.declared.annotation.AnnotationKind.TheVariants as rust
 use Rattle.codespan_annotations.specs.declared.annotation.LineInfo.{LineInfo}
 use Rattle.codespan_annotations.specs.Annotations.{Annotation, AnnotationKind, Shown, Single, Multi}
 use Rattle.codespan_annotations.specs.FileIndices.{IsIdAt}
 
--- the part of a multi-line label on a line that starts at this byte index
-abbrev pub part_from : ℕ → LabelModel → MultiPart → MultiLabel
-part_from start x part.Top = Top (x.start - start)
-part_from start x part.Left = Left
-part_from start x part.Bottom = Bottom (x.end - start) x.message
+-- the multi-line label mark of this kind, on a line that starts at this byte index
+abbrev pub multi_label_from : ℕ → LabelModel → MultiLabelKind → MultiLabel
+multi_label_from start x label_kind.Top = Top (x.start - start)
+multi_label_from start x label_kind.Left = Left
+multi_label_from start x label_kind.Bottom = Bottom (x.end - start) x.message
 
 -- what a label does on a line that starts at this byte index
 abbrev pub kind_view : {Id : Type 0} → ℕ → RustKind Id → AnnotationKind
 kind_view start rust.Shown = Shown
 kind_view start (rust.Single index label) =
     Single index (from_line_start start (label_of label.now).label)
-kind_view start (rust.Multi part lane label) =
+kind_view start (rust.Multi kind lane label) =
     Multi (record {
       lane = lane;
       style = label.now.style;
-      part = part_from start (label_of label.now).label part;
+      multi_label = multi_label_from start (label_of label.now).label kind;
     })
 
 -- an annotation
@@ -63,12 +63,12 @@ abbrev pub AddsOf : {Id : Type 0} → FileModel → List (RustAnnotation Id) →
     → List Annotation → Type 0
 AddsOf f old new annotations = Adds (λ e. IsLineOf f e.line) old new annotations
 
--- the part of a label from line `s` to line `e` on line `l`, if it is a multi-line label that has
--- one
-abbrev pub part_of : ℕ → ℕ → ℕ → Option MultiPart
-part_of s e l =
+-- the kind of the mark that a label from line `s` to line `e` has on line `l`, if it is a
+-- multi-line label that has one
+abbrev pub multi_label_kind : ℕ → ℕ → ℕ → Option MultiLabelKind
+multi_label_kind s e l =
     if s == e then None
-    else if s == l then Some part.Top
-    else if e == l then Some part.Bottom
-    else if nat_lt s l && nat_lt l e then Some part.Left
+    else if s == l then Some label_kind.Top
+    else if e == l then Some label_kind.Bottom
+    else if nat_lt s l && nat_lt l e then Some label_kind.Left
     else None

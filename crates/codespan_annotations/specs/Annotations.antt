@@ -5,7 +5,7 @@ use Rattle.std.specs.declared.cmp.Ordering.{Ordering}
 use Rattle.codespan_base.specs.Labels.{LabelModel, LaneMark}
 
 -- a label makes the line shown, or is a single-line label on it, or is a multi-line label that has
--- a part on it
+-- a lane mark on it
 pub data AnnotationKind : Type 0 where
   Shown : AnnotationKind
   Single : (index : ℕ) (label : LabelModel) → AnnotationKind

@@ -5,7 +5,7 @@ ghost use Rattle.std.specs.Option.{option_map};
 ghost use Rattle.codespan_base.specs.Labels.{from_line_start};
 ghost use Rattle.codespan_picture.specs.Arguments.{multi_label_view};
 ghost use Rattle.codespan_picture.specs.Picture.{label_of};
-ghost use Rattle.codespan_annotations.specs.AnnotationViews.{Adds, kind_view, part_from};
+ghost use Rattle.codespan_annotations.specs.AnnotationViews.{Adds, kind_view, multi_label_from};
 ghost use Rattle.codespan_annotations.specs.Annotations.{annotation_if_any};
 
 use codespan_base::diagnostic::Label;
@@ -31,9 +31,9 @@ pub struct LineInfo {
     pub end: usize,
 }
 
-/// The part of a multi-line label that is on a line.
+/// The kind of a multi-line label mark: what the label does on the line.
 #[derive(Clone, Copy)]
-pub enum MultiPart {
+pub enum MultiLabelKind {
     /// The label starts on the line.
     Top,
     /// The label starts before the line and ends after it.
@@ -56,9 +56,9 @@ pub enum AnnotationKind<'d, FileId> {
     /// The label is a multi-line label, and the line is between its start and its end, or one of
     /// them. It may be hidden.
     Multi {
-        /// The label's part that is on the line. It is the first field, which makes the enum one
-        /// machine word smaller.
-        part: MultiPart,
+        /// What the label does on the line. It is the first field, which makes the enum one machine
+        /// word smaller.
+        kind: MultiLabelKind,
         /// The label's lane, 0-based: the number of the file's multi-line labels before it.
         lane: usize,
         /// The label.
@@ -123,19 +123,20 @@ pub fn push_annotation<'d, FileId>(
     Ok(())
 }
 
-/// Returns the part of a multi-line label for the renderer. `line_start` is the byte index at which
-/// the line starts.
+/// Returns a multi-line label mark of this kind for the renderer. `line_start` is the byte index at
+/// which the line starts.
 pub fn multi_label<FileId>(
     label: &Label<FileId>,
-    part: MultiPart,
+    kind: MultiLabelKind,
     line_start: usize,
 ) -> MultiLabel<'_>
-    ensures { multi_label_view result ≡ part_from line_start (label_of label.now).label part }
+    ensures { multi_label_view result
+        ≡ multi_label_from line_start (label_of label.now).label kind }
 {
-    match part {
-        MultiPart::Top => MultiLabel::Top(label.range.start.saturating_sub(line_start)),
-        MultiPart::Left => MultiLabel::Left,
-        MultiPart::Bottom => MultiLabel::Bottom(
+    match kind {
+        MultiLabelKind::Top => MultiLabel::Top(label.range.start.saturating_sub(line_start)),
+        MultiLabelKind::Left => MultiLabel::Left,
+        MultiLabelKind::Bottom => MultiLabel::Bottom(
             label.range.end.saturating_sub(line_start),
             label.message.as_str(),
         ),

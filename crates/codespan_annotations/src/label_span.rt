@@ -4,10 +4,10 @@ ghost use Rattle.std.specs.Prelude.{◌≡◌, ◌<◌, ◌≤◌, ℕ, ◌==◌
 ghost use Rattle.codespan_base.specs.LawfulFiles.{FailsBy};
 ghost use Rattle.codespan_picture.specs.Lines.{shows};
 ghost use Rattle.codespan_picture.specs.Lookups.{is_around};
-ghost use Rattle.codespan_annotations.specs.AnnotationViews.{part_of};
+ghost use Rattle.codespan_annotations.specs.AnnotationViews.{multi_label_kind};
 ghost use Rattle.codespan_annotations.specs.LabelSpans.{IsFarInside, ends_failure, is_near_end, line_of_end, line_of_start, spans_line};
 
-use crate::annotation::MultiPart;
+use crate::annotation::MultiLabelKind;
 use codespan_base::diagnostic::Label;
 use codespan_base::files::{Error, Files};
 use codespan_base::term::Config;
@@ -38,18 +38,18 @@ impl LabelSpan {
         self.first < index && index < self.last
     }
 
-    /// Returns the label's part on a line, if it is a multi-line label that has one.
-    pub fn part_on(self, index: usize) -> Option<MultiPart>
-        ensures { result ≡ part_of self.first self.last index }
+    /// Returns what the label does on a line, if it is a multi-line label that has a mark on it.
+    pub fn multi_label_kind(self, index: usize) -> Option<MultiLabelKind>
+        ensures { result ≡ multi_label_kind self.first self.last index }
     {
         if self.is_single() {
             None
         } else if self.first == index {
-            Some(MultiPart::Top)
+            Some(MultiLabelKind::Top)
         } else if self.last == index {
-            Some(MultiPart::Bottom)
+            Some(MultiLabelKind::Bottom)
         } else if self.is_inside(index) {
-            Some(MultiPart::Left)
+            Some(MultiLabelKind::Left)
         } else {
             None
         }

@@ -103,28 +103,30 @@ pub data MultiLabel : Type 0 where
 pub record LaneMark : Type 0 where
   pub lane : ℕ
   pub style : LabelStyle
-  pub part : MultiLabel
+  pub multi_label : MultiLabel
 
 -- what a label from line `s` to line `e` does on line `l`, which starts at this byte: it begins
 -- there, ends there, goes through, or does nothing
-abbrev pub part_at : ℕ → ℕ → ℕ → ℕ → LabelModel → Option MultiLabel
-part_at s e l start x =
+abbrev pub multi_label_at : ℕ → ℕ → ℕ → ℕ → LabelModel → Option MultiLabel
+multi_label_at s e l start x =
     if s == l then Some (Top (x.start - start))
     else if e == l then Some (Bottom (x.end - start) x.message)
     else if nat_lt s l && nat_lt l e then Some Left
     else None
 
 -- what the label does on a line of its file
-abbrev pub part_on : FileModel → ℕ → LabelModel → Option MultiLabel
-part_on f l x = part_at (first_line f x) (last_line f x) l (line_start f l) x
+abbrev pub multi_label_on : FileModel → ℕ → LabelModel → Option MultiLabel
+multi_label_on f l x = multi_label_at (first_line f x) (last_line f x) l (line_start f l) x
 
 -- the lane mark, where the label has one
 abbrev pub lane_mark_of : ℕ → LabelModel → Option MultiLabel → Option LaneMark
 lane_mark_of lane x None = None
-lane_mark_of lane x (Some part) = Some (record { lane = lane; style = x.style; part = part })
+lane_mark_of lane x (Some multi_label) =
+    Some (record { lane = lane; style = x.style; multi_label = multi_label })
 
 -- the lane marks of a line, in the order of the lanes
 abbrev pub lane_marks_on : FileModel → List LabelModel → ℕ → List LaneMark
 lane_marks_on f labels l =
-    filter_map (λ (entry : ℕ × LabelModel). lane_mark_of entry.0 entry.1 (part_on f l entry.1))
+    filter_map
+    (λ (entry : ℕ × LabelModel). lane_mark_of entry.0 entry.1 (multi_label_on f l entry.1))
     (enumerate_from 0 (multi_labels f labels))

@@ -18,7 +18,7 @@ use Rattle.codespan_collect.specs.LabelAnnotations.{line_annotations, kind_on, m
 use Rattle.codespan_annotations.specs.AnnotationViews.{Adds, IsLineOf, annotation_view, kind_view}
 use Rattle.codespan_annotations.specs.LabelSpans.{IsFarInside}
 use Rattle.codespan_annotations.specs.declared.annotation.AnnotationKind.TheVariants as rust
-use Rattle.codespan_annotations.specs.declared.annotation.MultiPart.TheVariants as part
+use Rattle.codespan_annotations.specs.declared.annotation.MultiLabelKind.TheVariants as label_kind
 use Rattle.codespan_collect.specs.declared.label_annotations.LabelIndices.{LabelIndices}
 use Rattle.codespan_picture.specs.Types.{Config, Label}
 use Rattle.codespan_picture.specs.Picture.{label_of}
@@ -99,7 +99,7 @@ module _ {Id : Type 0} (x : CollectedLabel Id) where
 pub far-kind : (config : Config) (at : LabelIndices) (s e l start : ℕ) (x : LabelModel) → IsFarInside config s e l → None ≡ kind_at config at s e l start x
 far-kind config at s e l start x far = grind (arith, nat_tests)
 
--- its part on such a line
-pub far-part : {Id : Type 0} (config : Config) (at : LabelIndices) (s e l start : ℕ) (label : Bor (Label Id)) → IsFarInside config s e l
-    → Some (kind_view start (rust.Multi part.Left at.lane label)) ≡ multi_at at s e l start (label_of label.now).label
-far-part config at s e l start label far = grind (arith, nat_tests)
+-- its lane mark on such a line
+pub far-multi_label : {Id : Type 0} (config : Config) (at : LabelIndices) (s e l start : ℕ) (label : Bor (Label Id)) → IsFarInside config s e l
+    → Some (kind_view start (rust.Multi label_kind.Left at.lane label)) ≡ multi_at at s e l start (label_of label.now).label
+far-multi_label config at s e l start label far = grind (arith, nat_tests)

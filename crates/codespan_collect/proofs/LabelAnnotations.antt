@@ -11,7 +11,7 @@ use Rattle.std.proofs.lemmas.List.Elements.{filter-append}
 use Rattle.std.proofs.lemmas.List.Folds.{list_any-append}
 use Rattle.codespan_base.specs.declared.term.config.Config.{Config}
 use Rattle.codespan_base.specs.FileModel.{FileModel, line_count, line_start}
-use Rattle.codespan_base.specs.Labels.{LaneMark, LabelModel, first_line, last_line, is_single, drawn_label, lane_mark_of, part_at, part_on}
+use Rattle.codespan_base.specs.Labels.{LaneMark, LabelModel, first_line, last_line, is_single, drawn_label, lane_mark_of, multi_label_at, multi_label_on}
 use Rattle.codespan_collect.specs.declared.label_annotations.LabelIndices.{LabelIndices}
 use Rattle.codespan_annotations.specs.Annotations.{Annotation, AnnotationKind, Shown, Single, Multi, rank_of, is_on_line, annotation_if_any, shows_line}
 use Rattle.codespan_collect.specs.LabelAnnotations.{line_annotations, annotations_of}
@@ -115,8 +115,8 @@ module _ (config : Config) where
   not_first s e l h = grind (arith, nat_tests)
 
   -- it has no multi-line label mark on another one
-  no_part : (s e l start : ℕ) (x : LabelModel) → looks_up s e l ≡ false → part_at s e l start x ≡ None
-  no_part s e l start x h =
+  no_multi_label : (s e l start : ℕ) (x : LabelModel) → looks_up s e l ≡ false → multi_label_at s e l start x ≡ None
+  no_multi_label s e l start x h =
       let a : (s == l) ≡ false = grind (arith, nat_tests) in
       let b : (e == l) ≡ false = grind (arith, nat_tests) in
       let c : (nat_lt s l && nat_lt l e) ≡ false = grind (arith, nat_tests) in
@@ -147,7 +147,7 @@ module _ (config : Config) (f : FileModel) (at : LabelIndices) (x : LabelModel) 
 
   -- its multi-line label mark on a line
   abbrev pub multi_annotations_on : ℕ → List Annotation
-  multi_annotations_on l = multi_annotations_where l (is_single f x) (lane_mark_of at.lane x (part_on f l x))
+  multi_annotations_on l = multi_annotations_where l (is_single f x) (lane_mark_of at.lane x (multi_label_on f l x))
 
   -- its own annotations on a line
   abbrev kind_annotations_on : ℕ → List Annotation
@@ -157,7 +157,7 @@ module _ (config : Config) (f : FileModel) (at : LabelIndices) (x : LabelModel) 
   each-line_annotations : (P : Annotation → Type 0) (l : ℕ) → ((s : AnnotationKind) → P (annotation_on l s)) → AllByRecursion P (line_annotations config f at x l)
   each-line_annotations P l h =
       all-append P (kind_annotations_on l) (multi_annotations_on l) (by_tests (is_single f x && (first_line f x == l)) (shows config (first_line f x) (last_line f x) l))
-      (by_lane_mark (is_single f x) (lane_mark_of at.lane x (part_on f l x)))
+      (by_lane_mark (is_single f x) (lane_mark_of at.lane x (multi_label_on f l x)))
     where
       by_lane_mark : (a : Bool) (o : Option LaneMark) → AllByRecursion P (multi_annotations_where l a o)
       by_lane_mark true o = tt
@@ -184,13 +184,13 @@ module _ (config : Config) (f : FileModel) (at : LabelIndices) (x : LabelModel) 
   not_looked_up l h =
       let a : shows config (first_line f x) (last_line f x) l ≡ false = not_shown config (first_line f x) (last_line f x) l h in
       let b : (first_line f x == l) ≡ false = not_first config (first_line f x) (last_line f x) l h in
-      let c : part_on f l x ≡ None = no_part config (first_line f x) (last_line f x) l (line_start f l) x h in
+      let c : multi_label_on f l x ≡ None = no_multi_label config (first_line f x) (last_line f x) l (line_start f l) x h in
       (λ i. kind_annotations_where l (is_single f x && b i) (a i) ++ multi_annotations_where l (is_single f x) (lane_mark_of at.lane x (c i)))
-      ∙ ap (λ t. kind_annotations_where l t false ++ multi_annotations_where l (is_single f x) None) (and-false (is_single f x)) ∙ without_part (is_single f x)
+      ∙ ap (λ t. kind_annotations_where l t false ++ multi_annotations_where l (is_single f x) None) (and-false (is_single f x)) ∙ without_multi_label (is_single f x)
     where
-      without_part : (a : Bool) → kind_annotations_where l false false ++ multi_annotations_where l a None ≡ []
-      without_part true = refl
-      without_part false = refl
+      without_multi_label : (a : Bool) → kind_annotations_where l false false ++ multi_annotations_where l a None ≡ []
+      without_multi_label true = refl
+      without_multi_label false = refl
 
   -- on a line that the file has these are its annotations
   pub annotations-on_line : (l : ℕ) → filter (is_on_line l) (annotations_of config f at x) ≡ cond (nat_lt l (line_count f)) (line_annotations config f at x l) []
@@ -217,7 +217,7 @@ module _ (config : Config) (f : FileModel) (at : LabelIndices) (x : LabelModel) 
   pub single_labels-on_line : (l : ℕ) → filter (is_kind 1) (line_annotations config f at x l) ≡ cond (is_single f x && (first_line f x == l)) (carets l ∷ []) []
   single_labels-on_line l =
       filter-append (is_kind 1) (kind_annotations_on l) (multi_annotations_on l)
-      ∙ (λ i. by_tests (is_single f x && (first_line f x == l)) (shows config (first_line f x) (last_line f x) l) i ++ by_lane_mark (is_single f x) (lane_mark_of at.lane x (part_on f l x)) i)
+      ∙ (λ i. by_tests (is_single f x && (first_line f x == l)) (shows config (first_line f x) (last_line f x) l) i ++ by_lane_mark (is_single f x) (lane_mark_of at.lane x (multi_label_on f l x)) i)
       ∙ append-nil (cond (is_single f x && (first_line f x == l)) (carets l ∷ []) [])
     where
       by_lane_mark : (a : Bool) (o : Option LaneMark) → filter (is_kind 1) (multi_annotations_where l a o) ≡ []
@@ -234,7 +234,7 @@ module _ (config : Config) (f : FileModel) (at : LabelIndices) (x : LabelModel) 
   pub marks-on_line : (l : ℕ) → filter (is_kind 2) (line_annotations config f at x l) ≡ multi_annotations_on l
   marks-on_line l =
       filter-append (is_kind 2) (kind_annotations_on l) (multi_annotations_on l)
-      ∙ (λ i. by_tests (is_single f x && (first_line f x == l)) (shows config (first_line f x) (last_line f x) l) i ++ by_lane_mark (is_single f x) (lane_mark_of at.lane x (part_on f l x)) i)
+      ∙ (λ i. by_tests (is_single f x && (first_line f x == l)) (shows config (first_line f x) (last_line f x) l) i ++ by_lane_mark (is_single f x) (lane_mark_of at.lane x (multi_label_on f l x)) i)
     where
       by_lane_mark : (a : Bool) (o : Option LaneMark) → filter (is_kind 2) (multi_annotations_where l a o) ≡ multi_annotations_where l a o
       by_lane_mark true o = refl
@@ -251,7 +251,7 @@ module _ (config : Config) (f : FileModel) (at : LabelIndices) (x : LabelModel) 
   shown-on_line l =
       list_any-append shows_line (kind_annotations_on l) (multi_annotations_on l)
       ∙ (λ i. by_tests (is_single f x) (first_line f x == l) (shows config (first_line f x) (last_line f x) l) (own_shown config (first_line f x) (last_line f x) l) i
-      || by_lane_mark (is_single f x) (lane_mark_of at.lane x (part_on f l x)) i)
+      || by_lane_mark (is_single f x) (lane_mark_of at.lane x (multi_label_on f l x)) i)
       ∙ or-none (shows config (first_line f x) (last_line f x) l)
     where
       or-none : (b : Bool) → (b || false) ≡ b

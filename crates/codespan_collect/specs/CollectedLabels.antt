@@ -136,7 +136,7 @@ kind_by collector label line =
     line.start
     (label_of label).label
 
--- its part on a line, by the lines of its ends
+-- its lane mark on a line, by the lines of its ends
 abbrev pub multi_by : {F Id Name Source : Type 0} → LabelCollector F Id Name Source → Label Id
     → LineInfo
     → Option AnnotationKind

@@ -3,23 +3,24 @@ use Rattle.std.specs.Prelude.{ℕ, ◌==◌, ◌&&◌, List, [], ◌++◌, flat_
 use Rattle.std.specs.Option.{option_map}
 use Rattle.codespan_picture.specs.Types.{Config}
 use Rattle.codespan_base.specs.FileModel.{FileModel, Lookup}
-use Rattle.codespan_base.specs.Labels.{LabelModel, first_line, last_line, is_single, drawn_label, lane_mark_of, part_on, from_line_start, part_at}
+use Rattle.codespan_base.specs.Labels.{LabelModel, first_line, last_line, is_single, drawn_label, lane_mark_of, multi_label_on, from_line_start, multi_label_at}
 use Rattle.codespan_picture.specs.Lines.{shows}
 use Rattle.codespan_picture.specs.Lookups.{looked_up_lines, is_looked_up, line_lookups}
 use Rattle.codespan_collect.specs.declared.label_annotations.LabelIndices.{LabelIndices}
 use Rattle.codespan_annotations.specs.Annotations.{Annotation, AnnotationKind, Shown, Single, Multi, annotation_if_any}
 
 module _ (config : Config) (f : FileModel) (at : LabelIndices) (x : LabelModel) where
-  -- what it does on a line, its part of a multi-line label aside
+  -- what it does on a line, its lane mark aside
   abbrev pub kind_on : ℕ → Option AnnotationKind
   kind_on l =
       if is_single f x && (first_line f x == l) then Some (Single at.index (drawn_label f x))
       else if shows config (first_line f x) (last_line f x) l then Some Shown else None
 
-  -- its part on a line, where it is a multi-line label
+  -- its lane mark on a line, where it is a multi-line label
   abbrev pub multi_on : ℕ → Option AnnotationKind
   multi_on l =
-      if is_single f x then None else option_map Multi (lane_mark_of at.lane x (part_on f l x))
+      if is_single f x then None
+      else option_map Multi (lane_mark_of at.lane x (multi_label_on f l x))
 
   -- its annotations of a line
   abbrev pub line_annotations : ℕ → List Annotation
@@ -38,10 +39,11 @@ kind_at config at s e l start x =
     if (s == e) && (s == l) then Some (Single at.index (from_line_start start x))
     else if shows config s e l then Some Shown else None
 
--- its part there in its lane, if it is a multi-line label that has one
+-- its lane mark there, if it is a multi-line label that has one
 abbrev pub multi_at : LabelIndices → ℕ → ℕ → ℕ → ℕ → LabelModel → Option AnnotationKind
 multi_at at s e l start x =
-    if s == e then None else option_map Multi (lane_mark_of at.lane x (part_at s e l start x))
+    if s == e then None
+    else option_map Multi (lane_mark_of at.lane x (multi_label_at s e l start x))
 
 -- ---- the lines that it has looked up
 

@@ -12,7 +12,7 @@ ghost use Rattle.codespan_annotations.specs.LabelSpans.{IsFarInside, line_of_end
 
 use crate::padding::PaddingWidth;
 use codespan_annotations::annotation::{
-    Annotation, AnnotationKind, LineInfo, MultiPart, push_annotation,
+    Annotation, AnnotationKind, LineInfo, MultiLabelKind, push_annotation,
 };
 use codespan_annotations::label_span::{LabelSpan, label_span};
 use codespan_annotations::source_file::SourceFile;
@@ -54,8 +54,8 @@ struct LabelCollector<'a, 'c, 'files, F: Files<'files>> {
 }
 
 impl<'a, 'c, 'files, F: Files<'files>> LabelCollector<'a, 'c, 'files, F> {
-    /// Returns what the label does on a line, its part of a multi-line label aside: it is a
-    /// single-line label there, or makes the line shown, or neither.
+    /// Returns what the label does on a line, its lane mark aside: it is a single-line label there,
+    /// or makes the line shown, or neither.
     fn kind_on_line<'d>(
         &self,
         label: &'d Label<F::FileId>,
@@ -75,18 +75,18 @@ impl<'a, 'c, 'files, F: Files<'files>> LabelCollector<'a, 'c, 'files, F> {
         }
     }
 
-    /// Returns the label's part on a line, if it is a multi-line label that has one.
-    fn part_on_line<'d>(
+    /// Returns the label's lane mark on a line, if it is a multi-line label that has one.
+    fn multi_label_on_line<'d>(
         &self,
         label: &'d Label<F::FileId>,
         line: LineInfo,
     ) -> Option<AnnotationKind<'d, F::FileId>>
         ensures { option_map (kind_view line.start) result ≡ multi_by self.now label.now line }
     {
-        match self.lines.part_on(line.index) {
+        match self.lines.multi_label_kind(line.index) {
             None => None,
-            Some(part) => Some(AnnotationKind::Multi {
-                part,
+            Some(kind) => Some(AnnotationKind::Multi {
+                kind,
                 lane: self.at.lane,
                 label,
             }),
@@ -117,7 +117,7 @@ impl<'a, 'c, 'files, F: Files<'files>> LabelCollector<'a, 'c, 'files, F> {
         ensures failed { OnErr result (IsErrOf result Error.OutOfMemory) }
     {
         let kind = AnnotationKind::Multi {
-            part: MultiPart::Left,
+            kind: MultiLabelKind::Left,
             lane: self.at.lane,
             label,
         };
@@ -161,7 +161,7 @@ impl<'a, 'c, 'files, F: Files<'files>> LabelCollector<'a, 'c, 'files, F> {
         push_annotation(
             self.at.file,
             line,
-            self.part_on_line(label, line),
+            self.multi_label_on_line(label, line),
             annotations,
         )?;
         Ok(())

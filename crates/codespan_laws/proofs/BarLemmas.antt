@@ -4,7 +4,7 @@ use Rattle.std.specs.List.{enumerate_from, cons_option}
 use Rattle.std.proofs.lemmas.Bool.Decides.{nat_tests}
 use Rattle.codespan_base.specs.FileModel.{FileModel, line_start, line_text}
 use Rattle.codespan_base.specs.declared.term.config.Layout.{Layout}
-use Rattle.codespan_base.specs.Labels.{LabelModel, first_line, last_line, part_on, lane_mark_of, lane_marks_on, multi_labels, LaneMark, MultiLabel, Top, Left, Bottom}
+use Rattle.codespan_base.specs.Labels.{LabelModel, first_line, last_line, multi_label_on, lane_mark_of, lane_marks_on, multi_labels, LaneMark, MultiLabel, Top, Left, Bottom}
 use Rattle.codespan_picture.specs.declared.lanes.Shape.{Shape}
 use Rattle.codespan_picture.specs.declared.lanes.Shape.TheVariants.{Space, Bar, TopCorner}
 use Rattle.codespan_picture.specs.Lanes.{source_shape, plain_shape, lane_mark_in, shape_of}
@@ -18,35 +18,35 @@ use Rattle.codespan_picture.specs.Snippets.{LabeledFileModel, line_at}
 
 abbrev pub lane_mark_for : FileModel → ℕ → ℕ → Option LabelModel → Option LaneMark
 lane_mark_for f l lane None = None
-lane_mark_for f l lane (Some x) = lane_mark_of lane x (part_on f l x)
+lane_mark_for f l lane (Some x) = lane_mark_of lane x (multi_label_on f l x)
 
 abbrev pub marks_from : FileModel → ℕ → ℕ → List LabelModel → List LaneMark
-marks_from f l n xs = filter_map (λ (entry : ℕ × LabelModel). lane_mark_of entry.0 entry.1 (part_on f l entry.1)) (enumerate_from n xs)
+marks_from f l n xs = filter_map (λ (entry : ℕ × LabelModel). lane_mark_of entry.0 entry.1 (multi_label_on f l entry.1)) (enumerate_from n xs)
 
 -- a multi-line label mark of another lane is passed over
-pass_by : (lane n : ℕ) (x : LabelModel) (part : Option MultiLabel) (marks : List LaneMark) → (n == lane) ≡ false
-    → lane_mark_in (cons_option (lane_mark_of n x part) marks) lane ≡ lane_mark_in marks lane
+pass_by : (lane n : ℕ) (x : LabelModel) (multi_label : Option MultiLabel) (marks : List LaneMark) → (n == lane) ≡ false
+    → lane_mark_in (cons_option (lane_mark_of n x multi_label) marks) lane ≡ lane_mark_in marks lane
 pass_by lane n x None marks h = refl
-pass_by lane n x (Some part) marks h = simp h
+pass_by lane n x (Some multi_label) marks h = simp h
 
 -- later lanes have other numbers
 none_before : (f : FileModel) (l n lane : ℕ) (xs : List LabelModel) → lane < n → lane_mark_in (marks_from f l n xs) lane ≡ None
 none_before f l n lane [] low = refl
 none_before f l n lane (x ∷ xs) low =
-    pass_by lane n x (part_on f l x) (marks_from f l (n + 1) xs) (grind (arith, nat_tests)) ∙ none_before f l (n + 1) lane xs (omega arith)
+    pass_by lane n x (multi_label_on f l x) (marks_from f l (n + 1) xs) (grind (arith, nat_tests)) ∙ none_before f l (n + 1) lane xs (omega arith)
 
-found : (lane : ℕ) (x : LabelModel) (part : Option MultiLabel) (marks : List LaneMark) → lane_mark_in marks lane ≡ None
-    → lane_mark_in (cons_option (lane_mark_of lane x part) marks) lane ≡ lane_mark_of lane x part
+found : (lane : ℕ) (x : LabelModel) (multi_label : Option MultiLabel) (marks : List LaneMark) → lane_mark_in marks lane ≡ None
+    → lane_mark_in (cons_option (lane_mark_of lane x multi_label) marks) lane ≡ lane_mark_of lane x multi_label
 found lane x None marks none = none
-found lane x (Some part) marks none = let same : (lane == lane) ≡ true = grind (arith, nat_tests) in simp same
+found lane x (Some multi_label) marks none = let same : (lane == lane) ≡ true = grind (arith, nat_tests) in simp same
 
 pub lane_mark_in-from : (f : FileModel) (l n k : ℕ) (xs : List LabelModel) → lane_mark_in (marks_from f l n xs) (n + k) ≡ lane_mark_for f l (n + k) (slice_get xs k)
 lane_mark_in-from f l n k [] = refl
 lane_mark_in-from f l n zero (x ∷ xs) =
-    rw add-zero (found n x (part_on f l x) (marks_from f l (n + 1) xs) (none_before f l (n + 1) n xs (omega arith)))
+    rw add-zero (found n x (multi_label_on f l x) (marks_from f l (n + 1) xs) (none_before f l (n + 1) n xs (omega arith)))
 lane_mark_in-from f l n (suc k) (x ∷ xs) =
     let e : n + suc k ≡ (n + 1) + k = omega arith in
-    pass_by (n + suc k) n x (part_on f l x) (marks_from f l (n + 1) xs) (grind (arith, nat_tests))
+    pass_by (n + suc k) n x (multi_label_on f l x) (marks_from f l (n + 1) xs) (grind (arith, nat_tests))
     ∙ rw e (lane_mark_in-from f l (n + 1) k xs)
 
 -- ---- bars
@@ -55,7 +55,7 @@ lane_mark_in-from f l n (suc k) (x ∷ xs) =
 module _ (shape : MultiLabel → Shape) (at_top : (start : ℕ) → shape (Top start) ≡ Bar → ⊥) (at_left : shape Left ≡ Bar)
     (at_bottom : (end : ℕ) (message : Stream) → shape (Bottom end message) ≡ Bar) where
   bar_of : (f : FileModel) (l lane : ℕ) (x : LabelModel) → first_line f x < last_line f x
-      → (shape_of shape (lane_mark_of lane x (part_on f l x)) ≡ Bar) ↔ IsCovered f x l
+      → (shape_of shape (lane_mark_of lane x (multi_label_on f l x)) ≡ Bar) ↔ IsCovered f x l
   bar_of f l lane x order = by_first (first_line f x == l) refl
     where
       between : Option MultiLabel
@@ -103,7 +103,7 @@ bars_are_labels layout s l lane x has several = (
   rw lane_mark_is (bar_of plain_shape (λ start bar. cc) refl (λ _ _. refl) s.file l lane x several),
 )
   where
-    lane_mark_is : lane_mark_in (lane_marks_on s.file s.labels l) lane ≡ lane_mark_of lane x (part_on s.file l x)
+    lane_mark_is : lane_mark_in (lane_marks_on s.file s.labels l) lane ≡ lane_mark_of lane x (multi_label_on s.file l x)
     lane_mark_is =
         ap (lane_mark_in (lane_marks_on s.file s.labels l)) (sym (zero-add lane))
         ∙ lane_mark_in-from s.file l 0 lane (multi_labels s.file s.labels) ∙ rw (zero-add, has)

@@ -110,7 +110,7 @@ module _ (context : RowContext) (chars : Chars) where
       flat_as_long _ _ (λ c. pointed (list_any (starts_in c) (hanging_labels labels)) (pointer_style (hanging_labels labels) c)
       (spaces_up_to (max_label_start labels) c (c.width - 1)) (spaces_up_to (max_label_start labels) c c.width)) cs
 
-  underline_as_long : (style : LabelStyle) (cs : List Metrics) (part : MultiLabel) → AreAsLong (underline chars style cs part) (underline context.chars style cs part)
+  underline_as_long : (style : LabelStyle) (cs : List Metrics) (multi_label : MultiLabel) → AreAsLong (underline chars style cs multi_label) (underline context.chars style cs multi_label)
   unfolding underline
   underline_as_long style cs (Top start) = joined _ _ _ _ (repeats _ _ _) (glyphs _ _)
   underline_as_long style cs Left = as_long []
@@ -148,7 +148,7 @@ module _ (context : RowContext) (chars : Chars) where
       same_before _ _ (style_mark Reset)
       (joined _ _ _ _ (same_before _ _ (style_mark (LabelMark context.severity m.style))
       (joined _ _ _ _ (same_after (outer_gutter context.padding) (border_left chars) (border_left context.chars) border_left_as_long) (lanes_as_long _ _ _ _ line.lanes)))
-      (underline_as_long m.style (line_metrics context line) m.part))
+      (underline_as_long m.style (line_metrics context line) m.multi_label))
   rows_as_long e (FirstNoteRow piece) =
       same_before _ _ (bytes piece) (same_before _ _ space (same_before _ _ (style_mark Reset)
       (same_after (outer_gutter context.padding ++ style_mark NoteBullet) (glyph chars.note_bullet) (glyph context.chars.note_bullet) (glyphs chars.note_bullet context.chars.note_bullet))))

@@ -38,7 +38,7 @@ each_below P line a b d =
     (each_hanging P line (hanging_labels line.labels) b d)
 
 abbrev is_underlined : Line → LaneMark → Bool
-is_underlined line m = has_underline (leading_of line) m.part
+is_underlined line m = has_underline (leading_of line) m.multi_label
 
 each_under : (P : Row → Type 0) (line : Line) (marks : List LaneMark) → AllByRecursion (λ m. P (UnderlineRow line m)) marks
     → AllByRecursion P (map (UnderlineRow line) (filter (is_underlined line) marks))
@@ -54,7 +54,7 @@ each_after_source P line a b d e =
 -- ---- a line on which the label neither begins nor ends
 
 abbrev pub lane_mark_with : ℕ → LabelStyle → MultiLabel → LaneMark
-lane_mark_with lane style part = record { lane = lane; style = style; part = part }
+lane_mark_with lane style multi_label = record { lane = lane; style = style; multi_label = multi_label }
 
 pub no_lane_mark : (layout : Layout) (lane : ℕ) (line : Line) → lane_mark_in line.lanes.marks lane ≡ None → AllByRecursion (Shows layout lane Space) (rows_of line)
 no_lane_mark layout lane line none = (

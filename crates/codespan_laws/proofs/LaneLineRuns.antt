@@ -7,7 +7,7 @@ use Rattle.std.proofs.lemmas.List.Sums.{count_by-le-length}
 use Rattle.codespan_base.specs.declared.term.config.Config.{Config}
 use Rattle.codespan_base.specs.declared.term.config.Layout.{Layout}
 use Rattle.codespan_base.specs.FileModel.{FileModel, line_start, line_of, line_count}
-use Rattle.codespan_base.specs.Labels.{LabelModel, is_single, first_line, last_line, part_on, lane_mark_of, lane_marks_on, multi_labels, LaneMark, MultiLabel, Top, Left, Bottom}
+use Rattle.codespan_base.specs.Labels.{LabelModel, is_single, first_line, last_line, multi_label_on, lane_mark_of, lane_marks_on, multi_labels, LaneMark, MultiLabel, Top, Left, Bottom}
 use Rattle.codespan_picture.specs.declared.lanes.Shape.TheVariants.{Space, Bar}
 use Rattle.codespan_picture.specs.Lanes.{plain_shape, lane_mark_in, shape_of}
 use Rattle.codespan_picture.specs.Lines.{is_shown, is_drawn, drawn_lines, is_broken}
@@ -24,20 +24,20 @@ use Rattle.codespan_laws.proofs.ListElements.{all-append, all-weaker}
 
 -- ---- the multi-line label marks of a line in their order
 
-each_lane_mark : (P : LaneMark → Type 0) (n : ℕ) (x : LabelModel) (part : Option MultiLabel) (marks : List LaneMark)
-    → ((p : MultiLabel) → P (lane_mark_with n x.style p)) → AllByRecursion P marks → AllByRecursion P (cons_option (lane_mark_of n x part) marks)
+each_lane_mark : (P : LaneMark → Type 0) (n : ℕ) (x : LabelModel) (multi_label : Option MultiLabel) (marks : List LaneMark)
+    → ((p : MultiLabel) → P (lane_mark_with n x.style p)) → AllByRecursion P marks → AllByRecursion P (cons_option (lane_mark_of n x multi_label) marks)
 each_lane_mark P n x None marks h a = a
 each_lane_mark P n x (Some p) marks h a = (h p, a)
 
 each_from : (f : FileModel) (l n : ℕ) (xs : List LabelModel) → AllByRecursion (λ (o : LaneMark). n ≤ o.lane) (marks_from f l n xs)
 each_from f l n [] = tt
 each_from f l n (x ∷ xs) =
-    each_lane_mark (λ (o : LaneMark). n ≤ o.lane) n x (part_on f l x) (marks_from f l (n + 1) xs) (λ p. omega arith)
+    each_lane_mark (λ (o : LaneMark). n ≤ o.lane) n x (multi_label_on f l x) (marks_from f l (n + 1) xs) (λ p. omega arith)
     (all-weaker (λ (o : LaneMark). n + 1 ≤ o.lane) (λ (o : LaneMark). n ≤ o.lane) (λ o h. omega arith) (marks_from f l (n + 1) xs) (each_from f l (n + 1) xs))
 
 -- one multi-line label mark more before the others
-split_later : (lane n : ℕ) (m : LaneMark) (x : LabelModel) (part : Option MultiLabel) (marks : List LaneMark) → n < lane → Split lane m marks
-    → Split lane m (cons_option (lane_mark_of n x part) marks)
+split_later : (lane n : ℕ) (m : LaneMark) (x : LabelModel) (multi_label : Option MultiLabel) (marks : List LaneMark) → n < lane → Split lane m marks
+    → Split lane m (cons_option (lane_mark_of n x multi_label) marks)
 split_later lane n m x None marks h r = r
 split_later lane n m x (Some p) marks h r = record {
   low = lane_mark_with n x.style p ∷ r.low;
@@ -47,56 +47,56 @@ split_later lane n m x (Some p) marks h r = record {
   above = r.above;
 }
 
-split_from : (f : FileModel) (l lane n k : ℕ) (xs : List LabelModel) (x : LabelModel) (part : MultiLabel) → n + k ≡ lane → slice_get xs k ≡ Some x → part_on f l x ≡ Some part
-    → Split lane (lane_mark_with lane x.style part) (marks_from f l n xs)
-split_from f l lane n k [] x part e h is = cc
-split_from f l lane n zero (y ∷ ys) x part e h is = record {
+split_from : (f : FileModel) (l lane n k : ℕ) (xs : List LabelModel) (x : LabelModel) (multi_label : MultiLabel) → n + k ≡ lane → slice_get xs k ≡ Some x → multi_label_on f l x ≡ Some multi_label
+    → Split lane (lane_mark_with lane x.style multi_label) (marks_from f l n xs)
+split_from f l lane n k [] x multi_label e h is = cc
+split_from f l lane n zero (y ∷ ys) x multi_label e h is = record {
   low = [];
   high = marks_from f l (n + 1) ys;
   is =
       let same : y ≡ x = cc in
       let here : n ≡ lane = omega arith in
-      ap (λ z. cons_option (lane_mark_of n z (part_on f l z)) (marks_from f l (n + 1) ys)) same
+      ap (λ z. cons_option (lane_mark_of n z (multi_label_on f l z)) (marks_from f l (n + 1) ys)) same
       ∙ ap (λ q. cons_option (lane_mark_of n x q) (marks_from f l (n + 1) ys)) is
-      ∙ ap (λ v. lane_mark_with v x.style part ∷ marks_from f l (n + 1) ys) here;
+      ∙ ap (λ v. lane_mark_with v x.style multi_label ∷ marks_from f l (n + 1) ys) here;
   below = tt;
   above = all-weaker (λ (o : LaneMark). n + 1 ≤ o.lane) (λ (o : LaneMark). lane < o.lane) (λ o h. omega arith) (marks_from f l (n + 1) ys) (each_from f l (n + 1) ys);
 }
-split_from f l lane n (suc k) (y ∷ ys) x part e h is =
-    split_later lane n (lane_mark_with lane x.style part) y (part_on f l y) (marks_from f l (n + 1) ys) (omega arith)
-    (split_from f l lane (n + 1) k ys x part (omega arith) h is)
+split_from f l lane n (suc k) (y ∷ ys) x multi_label e h is =
+    split_later lane n (lane_mark_with lane x.style multi_label) y (multi_label_on f l y) (marks_from f l (n + 1) ys) (omega arith)
+    (split_from f l lane (n + 1) k ys x multi_label (omega arith) h is)
 
 -- ---- what a label does on a line
 
-abbrev part_for : ℕ → ℕ → ℕ → MultiLabel → MultiLabel → Option MultiLabel
-part_for a b l top bottom = if a == l then Some top else if b == l then Some bottom else if nat_lt a l && nat_lt l b then Some Left else None
+abbrev multi_label_for : ℕ → ℕ → ℕ → MultiLabel → MultiLabel → Option MultiLabel
+multi_label_for a b l top bottom = if a == l then Some top else if b == l then Some bottom else if nat_lt a l && nat_lt l b then Some Left else None
 
-part_before : (a b l : ℕ) (top bottom : MultiLabel) → a < b → l < a → part_for a b l top bottom ≡ None
-part_before a b l top bottom order low =
+multi_label_before : (a b l : ℕ) (top bottom : MultiLabel) → a < b → l < a → multi_label_for a b l top bottom ≡ None
+multi_label_before a b l top bottom order low =
     let first : (a == l) ≡ false = grind (arith, nat_tests) in
     let last : (b == l) ≡ false = grind (arith, nat_tests) in
     let inside : nat_lt a l ≡ false = grind (arith, nat_tests) in
     simp (first, last, inside)
 
-part_top : (a b l : ℕ) (top bottom : MultiLabel) → a ≡ l → part_for a b l top bottom ≡ Some top
-part_top a b l top bottom same = let first : (a == l) ≡ true = grind (arith, nat_tests) in simp first
+multi_label_top : (a b l : ℕ) (top bottom : MultiLabel) → a ≡ l → multi_label_for a b l top bottom ≡ Some top
+multi_label_top a b l top bottom same = let first : (a == l) ≡ true = grind (arith, nat_tests) in simp first
 
-part_left : (a b l : ℕ) (top bottom : MultiLabel) → a < l → l < b → part_for a b l top bottom ≡ Some Left
-part_left a b l top bottom low high =
+multi_label_left : (a b l : ℕ) (top bottom : MultiLabel) → a < l → l < b → multi_label_for a b l top bottom ≡ Some Left
+multi_label_left a b l top bottom low high =
     let first : (a == l) ≡ false = grind (arith, nat_tests) in
     let last : (b == l) ≡ false = grind (arith, nat_tests) in
     let above : nat_lt a l ≡ true = grind (arith, nat_tests) in
     let below : nat_lt l b ≡ true = grind (arith, nat_tests) in
     simp (first, last, above, below)
 
-part_bottom : (a b l : ℕ) (top bottom : MultiLabel) → a < b → b ≡ l → part_for a b l top bottom ≡ Some bottom
-part_bottom a b l top bottom order same =
+multi_label_bottom : (a b l : ℕ) (top bottom : MultiLabel) → a < b → b ≡ l → multi_label_for a b l top bottom ≡ Some bottom
+multi_label_bottom a b l top bottom order same =
     let first : (a == l) ≡ false = grind (arith, nat_tests) in
     let last : (b == l) ≡ true = grind (arith, nat_tests) in
     simp (first, last)
 
-part_after : (a b l : ℕ) (top bottom : MultiLabel) → a < b → b < l → part_for a b l top bottom ≡ None
-part_after a b l top bottom order high =
+multi_label_after : (a b l : ℕ) (top bottom : MultiLabel) → a < b → b < l → multi_label_for a b l top bottom ≡ None
+multi_label_after a b l top bottom order high =
     let first : (a == l) ≡ false = grind (arith, nat_tests) in
     let last : (b == l) ≡ false = grind (arith, nat_tests) in
     let above : nat_lt a l ≡ true = grind (arith, nat_tests) in
@@ -121,32 +121,32 @@ module _ (layout : Layout) (s : LabeledFileModel) (lane : ℕ) (x : LabelModel) 
   abbrev bottom_of : ℕ → MultiLabel
   bottom_of l = Bottom (x.end - line_start s.file l) x.message
 
-  lane_mark_at : (l : ℕ) (part : Option MultiLabel) → part_on s.file l x ≡ part → lane_mark_in (lane_marks_on s.file s.labels l) lane ≡ lane_mark_of lane x part
-  lane_mark_at l part is =
+  lane_mark_at : (l : ℕ) (multi_label : Option MultiLabel) → multi_label_on s.file l x ≡ multi_label → lane_mark_in (lane_marks_on s.file s.labels l) lane ≡ lane_mark_of lane x multi_label
+  lane_mark_at l multi_label is =
       ap (lane_mark_in (lane_marks_on s.file s.labels l)) (sym (zero-add lane))
       ∙ lane_mark_in-from s.file l 0 lane (multi_labels s.file s.labels) ∙ rw (zero-add, has) (ap (lane_mark_of lane x) is)
 
-  split_on : (l : ℕ) (part : MultiLabel) → part_on s.file l x ≡ Some part → Split lane (lane_mark_with lane x.style part) (lane_marks_on s.file s.labels l)
-  split_on l part is = split_from s.file l lane 0 lane (multi_labels s.file s.labels) x part (zero-add lane) has is
+  split_on : (l : ℕ) (multi_label : MultiLabel) → multi_label_on s.file l x ≡ Some multi_label → Split lane (lane_mark_with lane x.style multi_label) (lane_marks_on s.file s.labels l)
+  split_on l multi_label is = split_from s.file l lane 0 lane (multi_labels s.file s.labels) x multi_label (zero-add lane) has is
 
   -- the label has no multi-line label mark on the line
   abbrev NoLaneMark : ℕ → Type 0
   NoLaneMark l = lane_mark_in (lane_marks_on s.file s.labels l) lane ≡ None
 
   no_lane_mark_before : (l : ℕ) → l < first_line s.file x → NoLaneMark l
-  no_lane_mark_before l h = lane_mark_at l None (part_before (first_line s.file x) (last_line s.file x) l (top_of l) (bottom_of l) several h)
+  no_lane_mark_before l h = lane_mark_at l None (multi_label_before (first_line s.file x) (last_line s.file x) l (top_of l) (bottom_of l) several h)
 
   no_lane_mark_after : (l : ℕ) → last_line s.file x < l → NoLaneMark l
-  no_lane_mark_after l h = lane_mark_at l None (part_after (first_line s.file x) (last_line s.file x) l (top_of l) (bottom_of l) several h)
+  no_lane_mark_after l h = lane_mark_at l None (multi_label_after (first_line s.file x) (last_line s.file x) l (top_of l) (bottom_of l) several h)
 
-  top_at : (l : ℕ) → first_line s.file x ≡ l → part_on s.file l x ≡ Some (top_of l)
-  top_at l h = part_top (first_line s.file x) (last_line s.file x) l (top_of l) (bottom_of l) h
+  top_at : (l : ℕ) → first_line s.file x ≡ l → multi_label_on s.file l x ≡ Some (top_of l)
+  top_at l h = multi_label_top (first_line s.file x) (last_line s.file x) l (top_of l) (bottom_of l) h
 
-  left_at : (l : ℕ) → first_line s.file x < l → l < last_line s.file x → part_on s.file l x ≡ Some Left
-  left_at l low high = part_left (first_line s.file x) (last_line s.file x) l (top_of l) (bottom_of l) low high
+  left_at : (l : ℕ) → first_line s.file x < l → l < last_line s.file x → multi_label_on s.file l x ≡ Some Left
+  left_at l low high = multi_label_left (first_line s.file x) (last_line s.file x) l (top_of l) (bottom_of l) low high
 
-  bottom_at : (l : ℕ) → last_line s.file x ≡ l → part_on s.file l x ≡ Some (bottom_of l)
-  bottom_at l h = part_bottom (first_line s.file x) (last_line s.file x) l (top_of l) (bottom_of l) several h
+  bottom_at : (l : ℕ) → last_line s.file x ≡ l → multi_label_on s.file l x ≡ Some (bottom_of l)
+  bottom_at l h = multi_label_bottom (first_line s.file x) (last_line s.file x) l (top_of l) (bottom_of l) several h
 
   begins_line : (l : ℕ) → first_line s.file x ≡ l → Begins layout lane (line_at s l) (rows_of (line_at s l))
   begins_line l h =
@@ -168,8 +168,8 @@ module _ (layout : Layout) (s : LabeledFileModel) (lane : ℕ) (x : LabelModel) 
   gap_break : (previous : Option ℕ) (l : ℕ) → first_line s.file x ≡ l → AllByRecursion (Shows layout lane Space) (breaks_before s previous l)
   gap_break previous l h = each_break (Shows layout lane Space) s previous l (ap (shape_of plain_shape) (lane_mark_at l (Some (top_of l)) (top_at l h)))
 
-  bar_break : (previous : Option ℕ) (l : ℕ) (part : MultiLabel) → plain_shape part ≡ Bar → part_on s.file l x ≡ Some part → AllByRecursion (Shows layout lane Bar) (breaks_before s previous l)
-  bar_break previous l part bar is = each_break (Shows layout lane Bar) s previous l (ap (shape_of plain_shape) (lane_mark_at l (Some part) is) ∙ bar)
+  bar_break : (previous : Option ℕ) (l : ℕ) (multi_label : MultiLabel) → plain_shape multi_label ≡ Bar → multi_label_on s.file l x ≡ Some multi_label → AllByRecursion (Shows layout lane Bar) (breaks_before s previous l)
+  bar_break previous l multi_label bar is = each_break (Shows layout lane Bar) s previous l (ap (shape_of plain_shape) (lane_mark_at l (Some multi_label) is) ∙ bar)
 
   abbrev lines_from : ℕ → ℕ → List ℕ
   lines_from a n = filter drawn (range_with_len a n)

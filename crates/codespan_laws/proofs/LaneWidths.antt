@@ -26,7 +26,7 @@ row_length-crossing_cells : (severity : Severity) (chars : Chars) (crossing : Op
 unfolding crossing_cells
 row_length-crossing_cells severity chars None n = row_length-spaces n
 row_length-crossing_cells severity chars (Some m) n =
-    between_marks (LabelMark severity m.style) (repeated n (corner_line chars m.part)) ∙ row_length-repeated n (corner_line chars m.part)
+    between_marks (LabelMark severity m.style) (repeated n (corner_line chars m.multi_label)) ∙ row_length-repeated n (corner_line chars m.multi_label)
 
 pub row_length-label_glyph : (severity : Severity) (style : LabelStyle) (c : ℕ) → row_length (label_glyph severity style c) ≡ 1
 unfolding label_glyph
@@ -51,7 +51,7 @@ pub row_length-inner_gutter_column : (context : RowContext) (crossing : Option L
     → row_length (inner_gutter_column context crossing shape lane_mark) ≡ 2
 unfolding inner_gutter_column
 row_length-inner_gutter_column context crossing shape None = row_length-lane_cells context.severity context.chars crossing Primary Space
-row_length-inner_gutter_column context crossing shape (Some m) = row_length-lane_cells context.severity context.chars crossing m.style (shape m.part)
+row_length-inner_gutter_column context crossing shape (Some m) = row_length-lane_cells context.severity context.chars crossing m.style (shape m.multi_label)
 
 twice : (f : ℕ → Stream) → ((k : ℕ) → row_length (f k) ≡ 2) → (a n : ℕ) → row_length (flat_map f (range_with_len a n)) ≡ 2 * n
 twice f two a zero = refl

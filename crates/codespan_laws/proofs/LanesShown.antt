@@ -113,7 +113,7 @@ underline_shows context line m =
     (more _ _ _
     (more _ _ _
     (more _ _ _ (alone (outer_gutter context.padding ++ border_left context.chars) _ _ (underline_are context line m)) (style_mark (LabelMark context.severity m.style)))
-    (underline context.chars m.style (line_metrics context line) m.part))
+    (underline context.chars m.style (line_metrics context line) m.multi_label))
     (style_mark Reset))
 
 -- each row that has lanes shows them

@@ -7,12 +7,12 @@ use Rattle.std.proofs.lemmas.List.Sums.{sum_by-cons, sum_by-append}
 use Rattle.std.proofs.lemmas.List.Sorted.{sum_by-IsPermutation, IsPermutation-reverse}
 use Rattle.codespan_base.specs.FileModel.{FileModel, line_start}
 use Rattle.codespan_base.specs.Streams.{Stream}
-use Rattle.codespan_base.specs.Labels.{LabelModel, has_message, is_empty_stream, LaneMark, MultiLabel, Top, Left, Bottom, first_line, last_line, is_single, drawn_label, multi_labels, range_precedes, insert_sorted, sorted, single_labels, part_on, lane_mark_of}
+use Rattle.codespan_base.specs.Labels.{LabelModel, has_message, is_empty_stream, LaneMark, MultiLabel, Top, Left, Bottom, first_line, last_line, is_single, drawn_label, multi_labels, range_precedes, insert_sorted, sorted, single_labels, multi_label_on, lane_mark_of}
 use Rattle.codespan_picture.specs.CharMetrics.{leading_whitespace}
 use Rattle.codespan_picture.specs.Rows.{Line, SourceRow, CaretRow, PointerRow, HangingRow, UnderlineRow, trailing_label, hanging_labels, has_underline, caret_rows, hanging_rows, underline_rows, rows_of}
 use Rattle.codespan_picture.specs.Snippets.{LabeledFileModel, line_at}
 use Rattle.codespan_laws.proofs.MessageLemmas.{trailing_and_hanging, weight_of}
-use Rattle.codespan_laws.proofs.SlotLemmas.{slots, slots-nil, part_slots, row_slots}
+use Rattle.codespan_laws.proofs.SlotLemmas.{slots, slots-nil, multi_label_slots, row_slots}
 
 -- ---- sums
 
@@ -77,7 +77,7 @@ abbrev pub label_slots : ℕ → LabelModel → ℕ
 label_slots k x = slots k x.message
 
 abbrev pub lane_mark_slots : ℕ → LaneMark → ℕ
-lane_mark_slots k m = part_slots k m.part
+lane_mark_slots k m = multi_label_slots k m.multi_label
 
 no_message : (k : ℕ) (x : LabelModel) → has_message x ≡ false → label_slots k x ≡ 0
 no_message k x h = by_stream x.message h
@@ -100,15 +100,15 @@ hanging_sum k line (x ∷ xs) =
       sum-reverse (label_slots k) (x ∷ xs),
     )
 
-no_underline : (k : ℕ) (leading : ℕ) (part : MultiLabel) → has_underline leading part ≡ false → part_slots k part ≡ 0
+no_underline : (k : ℕ) (leading : ℕ) (multi_label : MultiLabel) → has_underline leading multi_label ≡ false → multi_label_slots k multi_label ≡ 0
 no_underline k leading (Top start) h = refl
 no_underline k leading Left h = refl
 no_underline k leading (Bottom end message) h = cc
 
 underline_sum : (k : ℕ) (line : Line) → sum_by (row_slots k) (underline_rows line) ≡ sum_by (lane_mark_slots k) line.lanes.marks
 underline_sum k line =
-    sum-map (row_slots k) (UnderlineRow line) (filter (λ (m : LaneMark). has_underline (leading_whitespace line.text) m.part) line.lanes.marks)
-    ∙ sum-filter_free (lane_mark_slots k) (λ (m : LaneMark). has_underline (leading_whitespace line.text) m.part) (λ m. no_underline k (leading_whitespace line.text) m.part) line.lanes.marks
+    sum-map (row_slots k) (UnderlineRow line) (filter (λ (m : LaneMark). has_underline (leading_whitespace line.text) m.multi_label) line.lanes.marks)
+    ∙ sum-filter_free (lane_mark_slots k) (λ (m : LaneMark). has_underline (leading_whitespace line.text) m.multi_label) (λ m. no_underline k (leading_whitespace line.text) m.multi_label) line.lanes.marks
 
 line_sum : (k : ℕ) (line : Line) → sum_by (row_slots k) (rows_of line) ≡ sum_by (label_slots k) line.labels + sum_by (lane_mark_slots k) line.lanes.marks
 line_sum k line =
@@ -147,25 +147,25 @@ single_sum k f xs l =
     ∙ sum-map (label_slots k) (drawn_label f) (filter (is_here f l) xs)
     ∙ sum-filter (label_slots k) (is_here f l) xs
 
-abbrev pub some_part_slots : ℕ → Option MultiLabel → ℕ
-some_part_slots k None = 0
-some_part_slots k (Some part) = part_slots k part
+abbrev pub any_multi_label_slots : ℕ → Option MultiLabel → ℕ
+any_multi_label_slots k None = 0
+any_multi_label_slots k (Some multi_label) = multi_label_slots k multi_label
 
-cons_lane_mark : (k n : ℕ) (x : LabelModel) (part : Option MultiLabel) (ms : List LaneMark)
-    → sum_by (lane_mark_slots k) (cons_option (lane_mark_of n x part) ms) ≡ some_part_slots k part + sum_by (lane_mark_slots k) ms
+cons_lane_mark : (k n : ℕ) (x : LabelModel) (multi_label : Option MultiLabel) (ms : List LaneMark)
+    → sum_by (lane_mark_slots k) (cons_option (lane_mark_of n x multi_label) ms) ≡ any_multi_label_slots k multi_label + sum_by (lane_mark_slots k) ms
 cons_lane_mark k n x None ms = omega arith
-cons_lane_mark k n x (Some part) ms = sum_by-cons (lane_mark_slots k) (record { lane = n; style = x.style; part = part }) ms
+cons_lane_mark k n x (Some multi_label) ms = sum_by-cons (lane_mark_slots k) (record { lane = n; style = x.style; multi_label = multi_label }) ms
 
 lane_mark_sum : (k : ℕ) (f : FileModel) (l n : ℕ) (xs : List LabelModel)
-    → sum_by (lane_mark_slots k) (filter_map (λ (entry : ℕ × LabelModel). lane_mark_of entry.0 entry.1 (part_on f l entry.1)) (enumerate_from n xs))
-    ≡ sum_by (λ x. some_part_slots k (part_on f l x)) xs
+    → sum_by (lane_mark_slots k) (filter_map (λ (entry : ℕ × LabelModel). lane_mark_of entry.0 entry.1 (multi_label_on f l entry.1)) (enumerate_from n xs))
+    ≡ sum_by (λ x. any_multi_label_slots k (multi_label_on f l x)) xs
 lane_mark_sum k f l n [] = refl
 lane_mark_sum k f l n (x ∷ xs) =
     omega (
       arith,
-      cons_lane_mark k n x (part_on f l x) (filter_map (λ (entry : ℕ × LabelModel). lane_mark_of entry.0 entry.1 (part_on f l entry.1)) (enumerate_from (n + 1) xs)),
+      cons_lane_mark k n x (multi_label_on f l x) (filter_map (λ (entry : ℕ × LabelModel). lane_mark_of entry.0 entry.1 (multi_label_on f l entry.1)) (enumerate_from (n + 1) xs)),
       lane_mark_sum k f l (n + 1) xs,
-      sum_by-cons (λ x. some_part_slots k (part_on f l x)) x xs,
+      sum_by-cons (λ x. any_multi_label_slots k (multi_label_on f l x)) x xs,
     )
 
 -- a label weighs its message on its last line
@@ -174,7 +174,7 @@ on_line k f l x = cond (last_line f x == l) (label_slots k x) 0
 
 last_is : (k : ℕ) (a b l top end : ℕ) (message : Stream) (between : Bool) (p q r : Bool) → (a == b) ≡ p → (a == l) ≡ q → (b == l) ≡ r
     → cond (p && q) (slots k message) 0
-    + cond (not p) (some_part_slots k (if q then Some (Top top) else if r then Some (Bottom end message) else if between then Some Left else None)) 0
+    + cond (not p) (any_multi_label_slots k (if q then Some (Top top) else if r then Some (Bottom end message) else if between then Some Left else None)) 0
     ≡ cond r (slots k message) 0
 last_is k a b l top end message between true true true h i j = omega arith
 last_is k a b l top end message between true true false h i j = absurd (grind (arith, nat_tests))
@@ -187,7 +187,7 @@ last_is k a b l top end message true false false false h i j = refl
 last_is k a b l top end message false false false false h i j = refl
 
 here_or_lane_mark : (k : ℕ) (f : FileModel) (l : ℕ) (x : LabelModel)
-    → cond (is_here f l x) (label_slots k x) 0 + cond (not (is_single f x)) (some_part_slots k (part_on f l x)) 0 ≡ on_line k f l x
+    → cond (is_here f l x) (label_slots k x) 0 + cond (not (is_single f x)) (any_multi_label_slots k (multi_label_on f l x)) 0 ≡ on_line k f l x
 here_or_lane_mark k f l x =
     last_is k (first_line f x) (last_line f x) l (x.start - line_start f l) (x.end - line_start f l) x.message (nat_lt (first_line f x) l && nat_lt l (last_line f x))
     (first_line f x == last_line f x) (first_line f x == l) (last_line f x == l) refl refl refl
@@ -199,8 +199,8 @@ labels_on_line k s l =
       line_sum k (line_at s l),
       single_sum k s.file s.labels l,
       lane_mark_sum k s.file l 0 (multi_labels s.file s.labels),
-      sum-filter (λ x. some_part_slots k (part_on s.file l x)) (λ x. not (is_single s.file x)) s.labels,
-      sum-add (λ x. cond (is_here s.file l x) (label_slots k x) 0) (λ x. cond (not (is_single s.file x)) (some_part_slots k (part_on s.file l x)) 0) s.labels,
-      sum-ext (λ x. cond (is_here s.file l x) (label_slots k x) 0 + cond (not (is_single s.file x)) (some_part_slots k (part_on s.file l x)) 0) (on_line k s.file l)
+      sum-filter (λ x. any_multi_label_slots k (multi_label_on s.file l x)) (λ x. not (is_single s.file x)) s.labels,
+      sum-add (λ x. cond (is_here s.file l x) (label_slots k x) 0) (λ x. cond (not (is_single s.file x)) (any_multi_label_slots k (multi_label_on s.file l x)) 0) s.labels,
+      sum-ext (λ x. cond (is_here s.file l x) (label_slots k x) 0 + cond (not (is_single s.file x)) (any_multi_label_slots k (multi_label_on s.file l x)) 0) (on_line k s.file l)
           (here_or_lane_mark k s.file l) s.labels,
     )

@@ -11,7 +11,7 @@ use Rattle.codespan_base.specs.declared.term.config.DisplayStyle.TheVariants.{Ri
 use Rattle.codespan_base.specs.declared.term.config.Layout.{Layout}
 use Rattle.codespan_base.specs.declared.term.config.Layout.TheVariants.{Classic, Unbroken}
 use Rattle.codespan_base.specs.FileModel.{FileModel, line_count, line_text}
-use Rattle.codespan_base.specs.Labels.{LabelModel, first_line, last_line, first_seen, part_on, lane_mark_of}
+use Rattle.codespan_base.specs.Labels.{LabelModel, first_line, last_line, first_seen, multi_label_on, lane_mark_of}
 use Rattle.codespan_picture.specs.CharMetrics.{text_without_line_end}
 use Rattle.codespan_laws.specs.LineLaws.{shown_lines}
 use Rattle.codespan_picture.specs.Lines.{shows, is_shown, drawn_lines}
@@ -45,7 +45,7 @@ module _ (f : FileModel) (xs ys : List LabelModel) (equal : AreEqual f xs ys) wh
   -- the multi-line label marks of a line depend on the multi-line labels alone
   lanes-same : (l : ℕ) → (line_at s l).lanes ≡ (line_at t l).lanes
   lanes-same l = ap {B = Lanes}
-      (λ zs. record { count = length zs; marks = filter_map (λ (entry : ℕ × LabelModel). lane_mark_of entry.0 entry.1 (part_on f l entry.1)) (enumerate_from 0 zs) })
+      (λ zs. record { count = length zs; marks = filter_map (λ (entry : ℕ × LabelModel). lane_mark_of entry.0 entry.1 (multi_label_on f l entry.1)) (enumerate_from 0 zs) })
       equal.several_lines
 
   bare-same : empty_lanes s ≡ empty_lanes t

@@ -13,7 +13,7 @@ use Rattle.codespan_base.specs.declared.term.config.DisplayStyle.{DisplayStyle}
 use Rattle.codespan_base.specs.declared.term.config.DisplayStyle.TheVariants.{Rich, Medium, Short}
 use Rattle.codespan_base.specs.FileModel.{FileDatabase, FileModel, line_text}
 use Rattle.codespan_base.specs.LawfulFiles.{IsLawful}
-use Rattle.codespan_base.specs.Labels.{LabelModel, LaneMark, Top, Left, Bottom, drawn_label, first_line, has_message, is_single, lane_mark_of, multi_labels, part_at, part_on, insert_sorted, single_labels, sorted, range_precedes}
+use Rattle.codespan_base.specs.Labels.{LabelModel, LaneMark, Top, Left, Bottom, drawn_label, first_line, has_message, is_single, lane_mark_of, multi_labels, multi_label_at, multi_label_on, insert_sorted, single_labels, sorted, range_precedes}
 use Rattle.codespan_picture.specs.Lines.{drawn_lines}
 use Rattle.codespan_picture.specs.Padding.{padding_of}
 use Rattle.codespan_picture.specs.Picture.{NamesAreTexts, files_of, header_text_of, label_of, labels_of, context_of, notes_of, output, starts}
@@ -29,7 +29,7 @@ use Rattle.codespan_laws.proofs.LaneLineLemmas.{each_all, each_map}
 use Rattle.codespan_picture.proofs.Rightmost.{Around, others, around_trails, around_rightmost, hanging_of, around_is, hanging_is}
 use Rattle.codespan_laws.proofs.Loci.{each_start, stated_texts}
 use Rattle.codespan_laws.proofs.StreamTexts.{text-bytes}
-use Rattle.codespan_laws.proofs.RowTexts.{IsTextLine, IsTextPart, IsTextRow, text-rows}
+use Rattle.codespan_laws.proofs.RowTexts.{IsTextLine, IsTextMultiLabel, IsTextRow, text-rows}
 use Rattle.codespan_laws.proofs.ListElements.{all-append, all-filter}
 use Rattle.codespan_laws.proofs.SortedLists.{all-reverse}
 use Rattle.codespan_laws.proofs.DrawnTexts.{drawn-utf8, line-utf8, rows-notes}
@@ -57,24 +57,24 @@ module _ (f : FileModel) (labels : List LabelModel) (texts : AllByRecursion HasT
       (all-reverse HasTextMessage (map (drawn_label f) own) (each_map HasTextMessage (drawn_label f) own (all-filter HasTextMessage (λ x. is_single f x && (first_line f x == l)) labels texts)))
 
   -- the message of a multi-line label mark is that of its label
-  text_message-part : (s e l start : ℕ) (x : LabelModel) (lane : ℕ) → HasTextMessage x → IfSome (lane_mark_of lane x (part_at s e l start x)) (λ m. IsTextPart m.part)
-  text_message-part s e l start x lane t = by (s == l) (e == l) (nat_lt s l && nat_lt l e)
+  text_message-multi_label : (s e l start : ℕ) (x : LabelModel) (lane : ℕ) → HasTextMessage x → IfSome (lane_mark_of lane x (multi_label_at s e l start x)) (λ m. IsTextMultiLabel m.multi_label)
+  text_message-multi_label s e l start x lane t = by (s == l) (e == l) (nat_lt s l && nat_lt l e)
     where
       by : (a b c : Bool)
-          → IfSome (lane_mark_of lane x (if a then Some (Top (x.start - start)) else if b then Some (Bottom (x.end - start) x.message) else if c then Some Left else None)) (λ m. IsTextPart m.part)
+          → IfSome (lane_mark_of lane x (if a then Some (Top (x.start - start)) else if b then Some (Bottom (x.end - start) x.message) else if c then Some Left else None)) (λ m. IsTextMultiLabel m.multi_label)
       by true b c = tt
       by false true c = t
       by false false true = tt
       by false false false = tt
 
   text_message-marks : (l k : ℕ) (xs : List LabelModel) → AllByRecursion HasTextMessage xs
-      → AllByRecursion (λ (m : LaneMark). IsTextPart m.part) (filter_map (λ (entry : ℕ × LabelModel). lane_mark_of entry.0 entry.1 (part_on f l entry.1)) (enumerate_from k xs))
+      → AllByRecursion (λ (m : LaneMark). IsTextMultiLabel m.multi_label) (filter_map (λ (entry : ℕ × LabelModel). lane_mark_of entry.0 entry.1 (multi_label_on f l entry.1)) (enumerate_from k xs))
   text_message-marks l k [] h = tt
-  text_message-marks l k (x ∷ xs) h = by (lane_mark_of k x (part_on f l x)) (text_message-part _ _ l _ x k h.0) (text_message-marks l (k + 1) xs h.1)
+  text_message-marks l k (x ∷ xs) h = by (lane_mark_of k x (multi_label_on f l x)) (text_message-multi_label _ _ l _ x k h.0) (text_message-marks l (k + 1) xs h.1)
     where
-      by : (o : Option LaneMark) → IfSome o (λ m. IsTextPart m.part)
-          → AllByRecursion (λ (m : LaneMark). IsTextPart m.part) (filter_map (λ (entry : ℕ × LabelModel). lane_mark_of entry.0 entry.1 (part_on f l entry.1)) (enumerate_from (k + 1) xs))
-          → AllByRecursion (λ (m : LaneMark). IsTextPart m.part) (cons_option o (filter_map (λ (entry : ℕ × LabelModel). lane_mark_of entry.0 entry.1 (part_on f l entry.1)) (enumerate_from (k + 1) xs)))
+      by : (o : Option LaneMark) → IfSome o (λ m. IsTextMultiLabel m.multi_label)
+          → AllByRecursion (λ (m : LaneMark). IsTextMultiLabel m.multi_label) (filter_map (λ (entry : ℕ × LabelModel). lane_mark_of entry.0 entry.1 (multi_label_on f l entry.1)) (enumerate_from (k + 1) xs))
+          → AllByRecursion (λ (m : LaneMark). IsTextMultiLabel m.multi_label) (cons_option o (filter_map (λ (entry : ℕ × LabelModel). lane_mark_of entry.0 entry.1 (multi_label_on f l entry.1)) (enumerate_from (k + 1) xs)))
       by None t rest = rest
       by (Some m) t rest = (t, rest)
 
@@ -107,11 +107,11 @@ rows-caret line (x ∷ xs) h = (h, tt)
 
 rows-line : (line : Line) → IsTextLine line → AllByRecursion IsTextRow (rows_of line)
 rows-line line t =
-    let test : LaneMark → Bool = λ m. has_underline (leading_whitespace line.text) m.part in
+    let test : LaneMark → Bool = λ m. has_underline (leading_whitespace line.text) m.multi_label in
     all-append IsTextRow ((SourceRow line ∷ caret_rows line line.labels) ++ hanging_rows line (hanging_labels line.labels)) (underline_rows line)
     (all-append IsTextRow (SourceRow line ∷ caret_rows line line.labels) (hanging_rows line (hanging_labels line.labels)) (t.text, rows-caret line line.labels t.labels)
     (rows-hanging_labels line (hanging_labels line.labels) (text_message-hanging_labels line.labels t.labels)))
-    (each_map IsTextRow (UnderlineRow line) (filter test line.lanes.marks) (all-filter (λ (m : LaneMark). IsTextPart m.part) test line.lanes.marks t.marks))
+    (each_map IsTextRow (UnderlineRow line) (filter test line.lanes.marks) (all-filter (λ (m : LaneMark). IsTextMultiLabel m.multi_label) test line.lanes.marks t.marks))
 
 -- ---- the rows of a file
 

@@ -14,7 +14,7 @@ use Rattle.codespan_picture.specs.declared.lanes.Shape.TheVariants.{Space, Bar, 
 use Rattle.codespan_picture.specs.Lanes.{source_shape, plain_shape, below_shape, underline_shape, lane_mark_in, corner_line, crossing_cells, lane_cells, Source, Plain, Below, Underline}
 use Rattle.codespan_picture.specs.Rows.{RowContext, Lanes, Line, trailing_label, hanging_labels}
 use Rattle.codespan_picture.proofs.Rightmost.{Around, others, behind, around_with_end, around_trails, around_rightmost, trailing_of, hanging_of, trailing_is, hanging_is}
-use Rattle.codespan_picture.specs.RowParts.{styled, inner_gutter_column, lanes_in, inner_gutter, line_metrics, part_covers, source_style, source_glyph, colored_text, caret_glyphs, carets, pointer_style, pointer_at, pointers, starts_in, max_label_start}
+use Rattle.codespan_picture.specs.RowParts.{styled, inner_gutter_column, lanes_in, inner_gutter, line_metrics, multi_label_covers, source_style, source_glyph, colored_text, caret_glyphs, carets, pointer_style, pointer_at, pointers, starts_in, max_label_start}
 
 -- ---- lists
 
@@ -50,16 +50,16 @@ map-append' f (x ∷ xs) ys = ap (λ zs. f x ∷ zs) (map-append' f xs ys)
 
 -- ---- other messages
 
-abbrev pub re_part : (Stream → Stream) → MultiLabel → MultiLabel
-re_part φ (Top start) = Top start
-re_part φ Left = Left
-re_part φ (Bottom end message) = Bottom end (φ message)
+abbrev pub re_multi_label : (Stream → Stream) → MultiLabel → MultiLabel
+re_multi_label φ (Top start) = Top start
+re_multi_label φ Left = Left
+re_multi_label φ (Bottom end message) = Bottom end (φ message)
 
 abbrev pub re : (Stream → Stream) → LabelModel → LabelModel
 re φ x = record x { message = φ x.message }
 
 abbrev pub re_lane_mark : (Stream → Stream) → LaneMark → LaneMark
-re_lane_mark φ m = record m { part = re_part φ m.part }
+re_lane_mark φ m = record m { multi_label = re_multi_label φ m.multi_label }
 
 abbrev pub re_lanes : (Stream → Stream) → Lanes → Lanes
 re_lanes φ lanes = record lanes { marks = map (re_lane_mark φ) lanes.marks }
@@ -138,7 +138,7 @@ module _ (φ : Stream → Stream) (keeps : (s : Stream) → is_empty_stream (φ 
 
   -- ---- lanes
 
-  corner : (chars : _) (part : MultiLabel) → corner_line chars (re_part φ part) ≡ corner_line chars part
+  corner : (chars : _) (multi_label : MultiLabel) → corner_line chars (re_multi_label φ multi_label) ≡ corner_line chars multi_label
   corner chars (Top start) = refl
   corner chars Left = refl
   corner chars (Bottom end message) = refl
@@ -146,7 +146,7 @@ module _ (φ : Stream → Stream) (keeps : (s : Stream) → is_empty_stream (φ 
   pub crossing_cells-re : (severity : _) (chars : _) (m : Option LaneMark) (n : ℕ) → crossing_cells severity chars (option_map (re_lane_mark φ) m) n ≡ crossing_cells severity chars m n
   unfolding crossing_cells
   crossing_cells-re severity chars None n = refl
-  crossing_cells-re severity chars (Some m) n = simp (corner chars m.part)
+  crossing_cells-re severity chars (Some m) n = simp (corner chars m.multi_label)
 
   char_metrics-re : (severity : _) (chars : _) (m : Option LaneMark) (style : LabelStyle) (shape : Shape)
       → lane_cells severity chars (option_map (re_lane_mark φ) m) style shape ≡ lane_cells severity chars m style shape
@@ -156,15 +156,15 @@ module _ (φ : Stream → Stream) (keeps : (s : Stream) → is_empty_stream (φ 
   char_metrics-re severity chars m style TopCorner = simp (crossing_cells-re severity chars m 1)
   char_metrics-re severity chars m style BottomCorner = simp (crossing_cells-re severity chars m 1)
 
-  lane-re : (context : RowContext) (c m : Option LaneMark) (shape : MultiLabel → Shape) → ((part : MultiLabel) → shape (re_part φ part) ≡ shape part)
+  lane-re : (context : RowContext) (c m : Option LaneMark) (shape : MultiLabel → Shape) → ((multi_label : MultiLabel) → shape (re_multi_label φ multi_label) ≡ shape multi_label)
       → inner_gutter_column context (option_map (re_lane_mark φ) c) shape (option_map (re_lane_mark φ) m) ≡ inner_gutter_column context c shape m
   unfolding inner_gutter_column
   lane-re context c None shape h = char_metrics-re context.severity context.chars c Primary _
-  lane-re context c (Some m) shape h = simp (h m.part) (char_metrics-re context.severity context.chars c m.style (shape m.part))
+  lane-re context c (Some m) shape h = simp (h m.multi_label) (char_metrics-re context.severity context.chars c m.style (shape m.multi_label))
 
   lanes-re : (context : RowContext) (crossing crossing' : ℕ → Option LaneMark) (shape : ℕ → MultiLabel → Shape) (lanes : Lanes)
       → ((lane : ℕ) → crossing' lane ≡ option_map (re_lane_mark φ) (crossing lane))
-      → ((lane : ℕ) (part : MultiLabel) → shape lane (re_part φ part) ≡ shape lane part)
+      → ((lane : ℕ) (multi_label : MultiLabel) → shape lane (re_multi_label φ multi_label) ≡ shape lane multi_label)
       → lanes_in context crossing' shape (re_lanes φ lanes) ≡ lanes_in context crossing shape lanes
   lanes-re context crossing crossing' shape lanes h same =
       ap (λ f. flat_map f (range_with_len 0 lanes.count)) (fun_ext each)
@@ -174,23 +174,23 @@ module _ (φ : Stream → Stream) (keeps : (s : Stream) → is_empty_stream (φ 
           ap₂ (λ c m. inner_gutter_column context c (shape lane) m) (h lane) (find-map (λ (m : LaneMark). m.lane == lane) (re_lane_mark φ) lanes.marks)
           ∙ lane-re context (crossing lane) (lane_mark_in lanes.marks lane) (shape lane) (same lane)
 
-  source_shape-re : (leading : ℕ) (part : MultiLabel) → source_shape leading (re_part φ part) ≡ source_shape leading part
+  source_shape-re : (leading : ℕ) (multi_label : MultiLabel) → source_shape leading (re_multi_label φ multi_label) ≡ source_shape leading multi_label
   source_shape-re leading (Top start) = refl
   source_shape-re leading Left = refl
   source_shape-re leading (Bottom end message) = refl
 
-  plain_shape-re : (part : MultiLabel) → plain_shape (re_part φ part) ≡ plain_shape part
+  plain_shape-re : (multi_label : MultiLabel) → plain_shape (re_multi_label φ multi_label) ≡ plain_shape multi_label
   plain_shape-re (Top start) = refl
   plain_shape-re Left = refl
   plain_shape-re (Bottom end message) = refl
 
-  below_shape-re : (layout : _) (leading : ℕ) (part : MultiLabel) → below_shape layout leading (re_part φ part) ≡ below_shape layout leading part
+  below_shape-re : (layout : _) (leading : ℕ) (multi_label : MultiLabel) → below_shape layout leading (re_multi_label φ multi_label) ≡ below_shape layout leading multi_label
   below_shape-re layout leading (Top start) = refl
   below_shape-re layout leading Left = refl
   below_shape-re layout leading (Bottom end message) = refl
 
-  underline_shape-re : (layout : _) (leading corner_lane lane : ℕ) (part : MultiLabel)
-      → underline_shape layout leading corner_lane lane (re_part φ part) ≡ underline_shape layout leading corner_lane lane part
+  underline_shape-re : (layout : _) (leading corner_lane lane : ℕ) (multi_label : MultiLabel)
+      → underline_shape layout leading corner_lane lane (re_multi_label φ multi_label) ≡ underline_shape layout leading corner_lane lane multi_label
   underline_shape-re layout leading corner_lane lane (Top start) = refl
   underline_shape-re layout leading corner_lane lane Left = refl
   underline_shape-re layout leading corner_lane lane (Bottom end message) = refl
@@ -220,17 +220,17 @@ module _ (φ : Stream → Stream) (keeps : (s : Stream) → is_empty_stream (φ 
 
   -- ---- text, carets and pointers
 
-  part_covers-re : (c : Metrics) (part : MultiLabel) → part_covers c (re_part φ part) ≡ part_covers c part
-  part_covers-re c (Top start) = refl
-  part_covers-re c Left = refl
-  part_covers-re c (Bottom end message) = refl
+  multi_label_covers-re : (c : Metrics) (multi_label : MultiLabel) → multi_label_covers c (re_multi_label φ multi_label) ≡ multi_label_covers c multi_label
+  multi_label_covers-re c (Top start) = refl
+  multi_label_covers-re c Left = refl
+  multi_label_covers-re c (Bottom end message) = refl
 
   source_style-re : (line : Line) (c : Metrics) → source_style (re_line φ line) c ≡ source_style line c
   source_style-re line c =
       ap₂ (λ a b. if a || b then Some Primary else None)
       (any-map (λ x. is_primary x && covers x c) (re φ) line.labels)
-      (any-map (λ (m : LaneMark). is_primary_style m.style && part_covers c m.part) (re_lane_mark φ) line.lanes.marks
-      ∙ ap (λ p. list_any p line.lanes.marks) (fun_ext (λ (m : LaneMark). ap (λ b. is_primary_style m.style && b) (part_covers-re c m.part))))
+      (any-map (λ (m : LaneMark). is_primary_style m.style && multi_label_covers c m.multi_label) (re_lane_mark φ) line.lanes.marks
+      ∙ ap (λ p. list_any p line.lanes.marks) (fun_ext (λ (m : LaneMark). ap (λ b. is_primary_style m.style && b) (multi_label_covers-re c m.multi_label))))
 
   pub colored_text-re : (context : RowContext) (line : Line) → colored_text context (re_line φ line) ≡ colored_text context line
   unfolding colored_text

@@ -9,14 +9,14 @@ use Rattle.codespan_base.specs.declared.term.config.Layout.{Layout}
 use Rattle.codespan_base.specs.declared.term.config.Layout.TheVariants.{Classic, Unbroken}
 use Rattle.codespan_base.specs.FileModel.{FileModel, line_count, line_start}
 use Rattle.codespan_base.specs.Streams.{Stream}
-use Rattle.codespan_base.specs.Labels.{LabelModel, is_empty_stream, LaneMark, MultiLabel, Top, Left, Bottom, first_line, last_line, is_single, drawn_label, first_seen, multi_labels, range_precedes, insert_sorted, sorted, single_labels, part_on, lane_mark_of, lane_marks_on}
+use Rattle.codespan_base.specs.Labels.{LabelModel, is_empty_stream, LaneMark, MultiLabel, Top, Left, Bottom, first_line, last_line, is_single, drawn_label, first_seen, multi_labels, range_precedes, insert_sorted, sorted, single_labels, multi_label_on, lane_mark_of, lane_marks_on}
 use Rattle.codespan_picture.specs.CharMetrics.{leading_whitespace}
 use Rattle.codespan_picture.specs.Lines.{shows, is_shown, drawn_lines, is_broken}
 use Rattle.codespan_picture.specs.Rows.{Locus, HeaderText, Lanes, Line, HeaderRow, SnippetStartRow, EmptyRow, BreakRow, SourceRow, PointerRow, HangingRow, UnderlineRow, FirstNoteRow, LaterNoteRow, FinalRow, hanging_labels, has_underline, caret_rows, hanging_rows, underline_rows, rows_of}
 use Rattle.codespan_picture.specs.Snippets.{LabeledFileModel, InFile, labeled_file_model, labeled_file_models, num_multi_labels, empty_lanes, line_at, rows_after, snippet, has_any, row_after, snippets, piece_rows, note_rows, rich_rows}
 use Rattle.codespan_laws.proofs.FillLemmas.{breaks_before}
 use Rattle.codespan_picture.specs.Padding.{spans, spanned_lines, numbered_lines, digits_of, padding_of}
-use Rattle.codespan_laws.proofs.RefillLemmas.{any-map, filter-map, map-append', re, re_part, re_lane_mark, re_lanes, re_line, hanging_labels-re}
+use Rattle.codespan_laws.proofs.RefillLemmas.{any-map, filter-map, map-append', re, re_multi_label, re_lane_mark, re_lanes, re_line, hanging_labels-re}
 use Rattle.codespan_laws.proofs.RefillRows.{re_row}
 
 map-map : {X Y Z : Type 0} (g : Y → Z) (f : X → Y) (xs : List X) → map g (map f xs) ≡ map (λ x. g (f x)) xs
@@ -62,17 +62,17 @@ module _ (φ : Stream → Stream) (keeps : (s : Stream) → is_empty_stream (φ 
       ∙ sym (map-map (HangingRow (re_line φ line)) (re φ) (reverse (x ∷ xs)))
       ∙ ap (map (HangingRow (re_line φ line))) (sym (reverse-map (re φ) (x ∷ xs))))
 
-  has-underline : (leading : ℕ) (part : MultiLabel) → has_underline leading (re_part φ part) ≡ has_underline leading part
+  has-underline : (leading : ℕ) (multi_label : MultiLabel) → has_underline leading (re_multi_label φ multi_label) ≡ has_underline leading multi_label
   has-underline leading (Top start) = refl
   has-underline leading Left = refl
   has-underline leading (Bottom end message) = refl
 
   underline-rows : (line : Line) → map (re_row φ) (underline_rows line) ≡ underline_rows (re_line φ line)
   underline-rows line =
-      let p = λ (m : LaneMark). has_underline (leading_whitespace line.text) m.part in
+      let p = λ (m : LaneMark). has_underline (leading_whitespace line.text) m.multi_label in
       map-map (re_row φ) (UnderlineRow line) (filter p line.lanes.marks)
       ∙ sym (map-map (UnderlineRow (re_line φ line)) (re_lane_mark φ) (filter p line.lanes.marks))
-      ∙ ap (λ q. map (UnderlineRow (re_line φ line)) (map (re_lane_mark φ) (filter q line.lanes.marks))) (fun_ext (λ (m : LaneMark). sym (has-underline (leading_whitespace line.text) m.part)))
+      ∙ ap (λ q. map (UnderlineRow (re_line φ line)) (map (re_lane_mark φ) (filter q line.lanes.marks))) (fun_ext (λ (m : LaneMark). sym (has-underline (leading_whitespace line.text) m.multi_label)))
       ∙ ap (map (UnderlineRow (re_line φ line))) (sym (filter-map p (re_lane_mark φ) line.lanes.marks))
 
   line-rows : (line : Line) → map (re_row φ) (rows_of line) ≡ rows_of (re_line φ line)
@@ -110,33 +110,33 @@ module _ (φ : Stream → Stream) (keeps : (s : Stream) → is_empty_stream (φ 
   multi-re : (f : FileModel) (xs : List LabelModel) → multi_labels f (map (re φ) xs) ≡ map (re φ) (multi_labels f xs)
   multi-re f xs = filter-map (λ x. not (is_single f x)) (re φ) xs
 
-  part-on : (f : FileModel) (l : ℕ) (x : LabelModel) → part_on f l (re φ x) ≡ option_map (re_part φ) (part_on f l x)
-  part-on f l x = by_tests (first_line f x == l) (last_line f x == l) (nat_lt (first_line f x) l && nat_lt l (last_line f x))
+  multi_label-on : (f : FileModel) (l : ℕ) (x : LabelModel) → multi_label_on f l (re φ x) ≡ option_map (re_multi_label φ) (multi_label_on f l x)
+  multi_label-on f l x = by_tests (first_line f x == l) (last_line f x == l) (nat_lt (first_line f x) l && nat_lt l (last_line f x))
     where
       by_tests : (a b c : Bool)
           → (if a then Some (Top (x.start - line_start f l)) else if b then Some (Bottom (x.end - line_start f l) (φ x.message)) else if c then Some Left else None)
-          ≡ option_map (re_part φ) (if a then Some (Top (x.start - line_start f l)) else if b then Some (Bottom (x.end - line_start f l) x.message) else if c then Some Left else None)
+          ≡ option_map (re_multi_label φ) (if a then Some (Top (x.start - line_start f l)) else if b then Some (Bottom (x.end - line_start f l) x.message) else if c then Some Left else None)
       by_tests true b c = refl
       by_tests false true c = refl
       by_tests false false true = refl
       by_tests false false false = refl
 
-  cons-lane_mark : (n : ℕ) (x : LabelModel) (part : Option MultiLabel) (ms : List LaneMark)
-      → cons_option (lane_mark_of n (re φ x) (option_map (re_part φ) part)) (map (re_lane_mark φ) ms) ≡ map (re_lane_mark φ) (cons_option (lane_mark_of n x part) ms)
+  cons-lane_mark : (n : ℕ) (x : LabelModel) (multi_label : Option MultiLabel) (ms : List LaneMark)
+      → cons_option (lane_mark_of n (re φ x) (option_map (re_multi_label φ) multi_label)) (map (re_lane_mark φ) ms) ≡ map (re_lane_mark φ) (cons_option (lane_mark_of n x multi_label) ms)
   cons-lane_mark n x None ms = refl
-  cons-lane_mark n x (Some part) ms = refl
+  cons-lane_mark n x (Some multi_label) ms = refl
 
   marks-from : (f : FileModel) (l n : ℕ) (xs : List LabelModel)
-      → filter_map (λ (entry : ℕ × LabelModel). lane_mark_of entry.0 entry.1 (part_on f l entry.1)) (enumerate_from n (map (re φ) xs))
-      ≡ map (re_lane_mark φ) (filter_map (λ (entry : ℕ × LabelModel). lane_mark_of entry.0 entry.1 (part_on f l entry.1)) (enumerate_from n xs))
+      → filter_map (λ (entry : ℕ × LabelModel). lane_mark_of entry.0 entry.1 (multi_label_on f l entry.1)) (enumerate_from n (map (re φ) xs))
+      ≡ map (re_lane_mark φ) (filter_map (λ (entry : ℕ × LabelModel). lane_mark_of entry.0 entry.1 (multi_label_on f l entry.1)) (enumerate_from n xs))
   marks-from f l n [] = refl
   marks-from f l n (x ∷ xs) =
-      ap₂ (λ part ms. cons_option (lane_mark_of n (re φ x) part) ms) (part-on f l x) (marks-from f l (n + 1) xs)
-      ∙ cons-lane_mark n x (part_on f l x) (filter_map (λ (entry : ℕ × LabelModel). lane_mark_of entry.0 entry.1 (part_on f l entry.1)) (enumerate_from (n + 1) xs))
+      ap₂ (λ multi_label ms. cons_option (lane_mark_of n (re φ x) multi_label) ms) (multi_label-on f l x) (marks-from f l (n + 1) xs)
+      ∙ cons-lane_mark n x (multi_label_on f l x) (filter_map (λ (entry : ℕ × LabelModel). lane_mark_of entry.0 entry.1 (multi_label_on f l entry.1)) (enumerate_from (n + 1) xs))
 
   marks-re : (f : FileModel) (xs : List LabelModel) (l : ℕ) → lane_marks_on f (map (re φ) xs) l ≡ map (re_lane_mark φ) (lane_marks_on f xs l)
   marks-re f xs l =
-      ap (λ ys. filter_map (λ (entry : ℕ × LabelModel). lane_mark_of entry.0 entry.1 (part_on f l entry.1)) (enumerate_from 0 ys)) (multi-re f xs)
+      ap (λ ys. filter_map (λ (entry : ℕ × LabelModel). lane_mark_of entry.0 entry.1 (multi_label_on f l entry.1)) (enumerate_from 0 ys)) (multi-re f xs)
       ∙ marks-from f l 0 (multi_labels f xs)
 
   lanes-count : (s : LabeledFileModel) → num_multi_labels (re_file φ s) ≡ num_multi_labels s

@@ -15,7 +15,7 @@ use Rattle.codespan_picture.specs.RowStreams.{empty_row, break_row, source_row, 
 use Rattle.codespan_laws.specs.MessageLaws.{is_slot}
 use Rattle.codespan_laws.proofs.SlotLemmas as slot
 use Rattle.codespan_laws.proofs.SlotLemmas.{slots}
-use Rattle.codespan_laws.proofs.RefillLemmas.{re, re_part, re_lane_mark, re_lanes, re_line, source_lanes-re, plain_lanes-re, below_lanes-re, underline_lanes-re, colored_text-re, carets-re, pointers-re, trailing_label-re}
+use Rattle.codespan_laws.proofs.RefillLemmas.{re, re_multi_label, re_lane_mark, re_lanes, re_line, source_lanes-re, plain_lanes-re, below_lanes-re, underline_lanes-re, colored_text-re, carets-re, pointers-re, trailing_label-re}
 use Rattle.codespan_picture.specs.Lanes.{Underline}
 
 -- the stream with each slot filled, shut
@@ -125,7 +125,7 @@ module _ (m : ℕ → List ℕ) (full : (k : ℕ) → is_empty_stream (map Byte 
   underline-message-re [] = refl
   underline-message-re (p ∷ s) = join space (p ∷ s) one-space refl ∙ sym (some_message (fill m (p ∷ s)) (keeps (p ∷ s)))
 
-  underline-re : (chars : Chars) (style : LabelStyle) (cs : List Metrics) (part : MultiLabel) → fill m (underline chars style cs part) ≡ underline chars style cs (re_part (fill m) part)
+  underline-re : (chars : Chars) (style : LabelStyle) (cs : List Metrics) (multi_label : MultiLabel) → fill m (underline chars style cs multi_label) ≡ underline chars style cs (re_multi_label (fill m) multi_label)
   unfolding underline
   underline-re chars style cs (Top start) =
       join _ _ (without_slots (repeated (width_of (filter (λ (c : Metrics). nat_le c.byte_index start) cs)) chars.multi_top) (λ k. slot.slots-repeated k _ _) refl) (without_slots (glyph _) (λ k. slot.slots-bytes k _) refl)
@@ -167,7 +167,7 @@ module _ (m : ℕ → List ℕ) (full : (k : ℕ) → is_empty_stream (map Byte 
       (without_slots (inner_gutter context (leading_of line) (Underline a) line.lanes) (λ k. slot.slots-inner_gutter k context (leading_of line) (Underline a) line.lanes)
       (underline_lanes-re (fill m) keeps context (leading_of line) a line.lanes)))
       (one-lane_mark (LabelMark context.severity a.style)))
-      (underline-re context.chars a.style (line_metrics context line) a.part))
+      (underline-re context.chars a.style (line_metrics context line) a.multi_label))
       (one-lane_mark Reset)
   fill-row context (FirstNoteRow piece) = without_slots _ (λ k. slot.slots-stream_of k context (FirstNoteRow piece)) refl
   fill-row context (LaterNoteRow piece) = without_slots _ (λ k. slot.slots-stream_of k context (LaterNoteRow piece)) refl

@@ -79,7 +79,7 @@ closes-lane_cells severity chars crossing style BottomCorner = closes-append _ _
 closes-inner_gutter_column : (context : RowContext) (crossing : Option LaneMark) (shape : MultiLabel → Shape) (lane_mark : Option LaneMark) → Closes (inner_gutter_column context crossing shape lane_mark)
 unfolding inner_gutter_column
 closes-inner_gutter_column context crossing shape None = closes-lane_cells context.severity context.chars crossing Primary Space
-closes-inner_gutter_column context crossing shape (Some m) = closes-lane_cells context.severity context.chars crossing m.style (shape m.part)
+closes-inner_gutter_column context crossing shape (Some m) = closes-lane_cells context.severity context.chars crossing m.style (shape m.multi_label)
 
 -- each part closes
 pub closes-flat_map : {X : Type 0} (f : X → Stream) → ((x : X) → Closes (f x)) → (xs : List X) → Closes (flat_map f xs)

@@ -37,7 +37,7 @@ unfolding label_glyph
 text-label_glyph severity style c s = search (pieces, s)
 
 module _ (chars : Chars) (ok : AreCharacters chars) where
-  scalar-corner_line : (part : MultiLabel) → IsScalar (corner_line chars part)
+  scalar-corner_line : (multi_label : MultiLabel) → IsScalar (corner_line chars multi_label)
   scalar-corner_line (Top start) = ok.multi_top
   scalar-corner_line Left = ok.multi_bottom
   scalar-corner_line (Bottom end message) = ok.multi_bottom
@@ -45,7 +45,7 @@ module _ (chars : Chars) (ok : AreCharacters chars) where
   text-crossing_cells : (severity : Severity) (crossing : Option LaneMark) (n : ℕ) → IsText (crossing_cells severity chars crossing n)
   unfolding crossing_cells
   text-crossing_cells severity None n = text-spaces n
-  text-crossing_cells severity (Some m) n = search (pieces, scalar-corner_line m.part)
+  text-crossing_cells severity (Some m) n = search (pieces, scalar-corner_line m.multi_label)
 
   text-lane_cells : (severity : Severity) (crossing : Option LaneMark) (style : LabelStyle) (shape : Shape) → IsText (lane_cells severity chars crossing style shape)
   unfolding lane_cells
@@ -98,15 +98,15 @@ text-source_glyph c s = by (c.code == 9)
 -- ---- what a row is of
 
 -- the message of a multi-line label mark
-abbrev pub IsTextPart : MultiLabel → Type 0
-IsTextPart (Bottom end message) = IsText message
-IsTextPart _ = Unit {0}
+abbrev pub IsTextMultiLabel : MultiLabel → Type 0
+IsTextMultiLabel (Bottom end message) = IsText message
+IsTextMultiLabel _ = Unit {0}
 
 -- the text of a line and the messages of its labels are texts
 pub record IsTextLine (line : Line) : Type 0 where
   pub text : IsUtf8 line.text
   pub labels : AllByRecursion (λ (x : LabelModel). IsText x.message) line.labels
-  pub marks : AllByRecursion (λ (m : LaneMark). IsTextPart m.part) line.lanes.marks
+  pub marks : AllByRecursion (λ (m : LaneMark). IsTextMultiLabel m.multi_label) line.lanes.marks
 
 -- what a row is of is a text
 abbrev pub IsTextRow : Row → Type 0
@@ -115,7 +115,7 @@ IsTextRow (SnippetStartRow at) = IsUtf8 at.name
 IsTextRow (SourceRow line) = IsUtf8 line.text
 IsTextRow (CaretRow line) = AllByRecursion (λ (x : LabelModel). IsText x.message) line.labels
 IsTextRow (HangingRow line x) = IsText x.message
-IsTextRow (UnderlineRow line m) = IsTextPart m.part
+IsTextRow (UnderlineRow line m) = IsTextMultiLabel m.multi_label
 IsTextRow (FirstNoteRow piece) = IsUtf8 piece
 IsTextRow (LaterNoteRow piece) = IsUtf8 piece
 IsTextRow _ = Unit {0}
@@ -214,7 +214,7 @@ module _ (context : RowContext) (ok : AreCharacters context.chars) where
   text-underline_message [] t = text-none
   text-underline_message (p ∷ ps) t = text-both space (p ∷ ps) text-space t
 
-  text-underline : (style : LabelStyle) (cs : List Metrics) (part : MultiLabel) → IsTextPart part → IsText (underline context.chars style cs part)
+  text-underline : (style : LabelStyle) (cs : List Metrics) (multi_label : MultiLabel) → IsTextMultiLabel multi_label → IsText (underline context.chars style cs multi_label)
   unfolding underline
   text-underline style cs (Top start) t =
       followed (text-repeated (width_of (metrics_up_to start cs)) context.chars.multi_top ok.multi_top) (text-glyph (start_caret context.chars style) (scalar-start_caret context.chars ok style))
@@ -246,7 +246,7 @@ module _ (context : RowContext) (ok : AreCharacters context.chars) where
   text-row (HangingRow line x) h =
       followed (followed (text-row_start line) (text-pointers line.labels (metrics_before x.start (line_metrics context line)))) (text-label_message context.severity x.style x.message h)
   text-row (UnderlineRow line m) h =
-      followed (followed (followed (followed (followed (text-outer_gutter context.padding) (text-border_left context.chars ok)) (text-inner_gutter (leading_of line) (Underline m) line.lanes)) (text-lane_mark (LabelMark context.severity m.style))) (text-underline m.style (line_metrics context line) m.part h)) (text-lane_mark Reset)
+      followed (followed (followed (followed (followed (text-outer_gutter context.padding) (text-border_left context.chars ok)) (text-inner_gutter (leading_of line) (Underline m) line.lanes)) (text-lane_mark (LabelMark context.severity m.style))) (text-underline m.style (line_metrics context line) m.multi_label h)) (text-lane_mark Reset)
   text-row (FirstNoteRow piece) h =
       followed (followed (followed (followed (followed (text-outer_gutter context.padding) (text-lane_mark NoteBullet)) (text-glyph context.chars.note_bullet ok.note_bullet)) (text-lane_mark Reset)) text-space) (text-bytes piece h)
   text-row (LaterNoteRow piece) h =

@@ -82,7 +82,7 @@ slots-lane_cells k severity chars m style BottomCorner = simp (slots_of_parts, s
 pub slots-inner_gutter_column : (k : ℕ) (context : RowContext) (crossing : Option LaneMark) (shape : MultiLabel → Shape) (m : Option LaneMark) → slots k (inner_gutter_column context crossing shape m) ≡ 0
 unfolding inner_gutter_column
 slots-inner_gutter_column k context crossing shape None = slots-lane_cells k context.severity context.chars crossing Primary Space
-slots-inner_gutter_column k context crossing shape (Some m) = slots-lane_cells k context.severity context.chars crossing m.style (shape m.part)
+slots-inner_gutter_column k context crossing shape (Some m) = slots-lane_cells k context.severity context.chars crossing m.style (shape m.multi_label)
 
 pub slots-lanes_in : (k : ℕ) (context : RowContext) (crossing : ℕ → Option LaneMark) (shape : ℕ → MultiLabel → Shape) (lanes : Lanes) → slots k (lanes_in context crossing shape lanes) ≡ 0
 slots-lanes_in k context crossing shape lanes =
@@ -194,13 +194,13 @@ unfolding underline_message
 slots-underline_message k [] = refl
 slots-underline_message k (p ∷ ps) = omega (arith, slots-append k space (p ∷ ps), slots-bytes k (32 ∷ []))
 
--- what a part weighs by its message
-abbrev pub part_slots : ℕ → MultiLabel → ℕ
-part_slots k (Top start) = 0
-part_slots k Left = 0
-part_slots k (Bottom end message) = slots k message
+-- the slots of a multi-line label mark, by its message
+abbrev pub multi_label_slots : ℕ → MultiLabel → ℕ
+multi_label_slots k (Top start) = 0
+multi_label_slots k Left = 0
+multi_label_slots k (Bottom end message) = slots k message
 
-pub slots-underline : (k : ℕ) (chars : Chars) (style : LabelStyle) (cs : List Metrics) (part : MultiLabel) → slots k (underline chars style cs part) ≡ part_slots k part
+pub slots-underline : (k : ℕ) (chars : Chars) (style : LabelStyle) (cs : List Metrics) (multi_label : MultiLabel) → slots k (underline chars style cs multi_label) ≡ multi_label_slots k multi_label
 unfolding underline
 slots-underline k chars style cs (Top start) = simp slots_of_parts
 slots-underline k chars style cs Left = slots-nil k
@@ -225,7 +225,7 @@ slots-row_start k context line = simp parts
 abbrev pub row_slots : ℕ → Row → ℕ
 row_slots k (CaretRow line) = weight_of (λ x. slots k x.message) (trailing_label line.labels)
 row_slots k (HangingRow line x) = slots k x.message
-row_slots k (UnderlineRow line m) = part_slots k m.part
+row_slots k (UnderlineRow line m) = multi_label_slots k m.multi_label
 row_slots k _ = 0
 
 pub slots-stream_of : (k : ℕ) (context : RowContext) (row : Row) → slots k (stream_of context row) ≡ row_slots k row

@@ -44,7 +44,7 @@ multi_label_view (rust_variant.Bottom end message) = Bottom end (bytes message.n
 
 -- a lane mark
 abbrev pub lane_mark_view : LaneMarkTuple → LaneMark
-lane_mark_view m = record { lane = m.0; style = m.1; part = multi_label_view m.2 }
+lane_mark_view m = record { lane = m.0; style = m.1; multi_label = multi_label_view m.2 }
 
 -- how many lanes a row has, and the lane marks in them
 abbrev pub lanes_of : ℕ → List LaneMarkTuple → Lanes

@@ -69,7 +69,7 @@ lane_mark_in marks lane = find (λ (m : LaneMark). m.lane == lane) marks
 -- what a row shows in a lane, from the lane mark in it
 abbrev pub shape_of : (MultiLabel → Shape) → Option LaneMark → Shape
 shape_of shape None = Space
-shape_of shape (Some m) = shape m.part
+shape_of shape (Some m) = shape m.multi_label
 
 -- the style of a lane mark, primary where there is none
 abbrev pub style_of_lane_mark : Option LaneMark → LabelStyle
@@ -91,7 +91,7 @@ label_glyph severity style c = style_mark (LabelMark severity style) ++ glyph c 
 unfoldable pub crossing_cells : Severity → Chars → Option LaneMark → ℕ → Stream
 crossing_cells severity chars None n = spaces n
 crossing_cells severity chars (Some m) n =
-    style_mark (LabelMark severity m.style) ++ repeated n (corner_line chars m.part)
+    style_mark (LabelMark severity m.style) ++ repeated n (corner_line chars m.multi_label)
     ++ style_mark Reset
 
 -- the two characters of a lane; `crossing` is the lane mark, in its own underline row, whose corner

@@ -106,16 +106,16 @@ abbrev pub leading_of : Line → ℕ
 leading_of line = leading_whitespace line.text
 
 -- a multi-line label covers the character on this line
-abbrev pub part_covers : Metrics → MultiLabel → Bool
-part_covers c (Top start) = nat_le start c.byte_index
-part_covers c Left = true
-part_covers c (Bottom end message) = nat_le (c.byte_index + c.bytes) end
+abbrev pub multi_label_covers : Metrics → MultiLabel → Bool
+multi_label_covers c (Top start) = nat_le start c.byte_index
+multi_label_covers c Left = true
+multi_label_covers c (Bottom end message) = nat_le (c.byte_index + c.bytes) end
 
 -- a character is primary where a primary label covers it
 abbrev pub source_style : Line → Metrics → Option LabelStyle
 source_style line c =
     if list_any (λ x. is_primary x && covers x c) line.labels
-    || list_any (λ (m : LaneMark). is_primary_style m.style && part_covers c m.part)
+    || list_any (λ (m : LaneMark). is_primary_style m.style && multi_label_covers c m.multi_label)
     line.lanes.marks
     then Some Primary else None
 

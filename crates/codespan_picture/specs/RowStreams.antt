@@ -83,7 +83,7 @@ underline_row context line m =
     outer_gutter context.padding ++ border_left context.chars
     ++ inner_gutter context (leading_of line) (Underline m) line.lanes
     ++ style_mark (LabelMark context.severity m.style)
-    ++ underline context.chars m.style (line_metrics context line) m.part ++ style_mark Reset
+    ++ underline context.chars m.style (line_metrics context line) m.multi_label ++ style_mark Reset
 
 -- the first row of a note
 unfoldable pub first_note_row : Chars → ℕ → List ℕ → Stream

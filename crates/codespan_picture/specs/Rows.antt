@@ -108,7 +108,7 @@ hanging_rows line (x ∷ xs) = PointerRow line ∷ map (HangingRow line) (revers
 abbrev pub underline_rows : Line → List Row
 underline_rows line =
     map (UnderlineRow line)
-    (filter (λ (m : LaneMark). has_underline (leading_whitespace line.text) m.part)
+    (filter (λ (m : LaneMark). has_underline (leading_whitespace line.text) m.multi_label)
     line.lanes.marks)
 
 -- all rows of a line

@@ -9,7 +9,7 @@ use Rattle.std.proofs.lemmas.List.Folds.{list_any-append}
 use Rattle.std.proofs.Math.Bool.{and-false}
 use Rattle.codespan_base.specs.declared.term.config.Config.{Config}
 use Rattle.codespan_base.specs.FileModel.{FileModel, line_count}
-use Rattle.codespan_base.specs.Labels.{LaneMark, LabelModel, first_line, last_line, is_single, drawn_label, lane_mark_of, multi_labels, part_on}
+use Rattle.codespan_base.specs.Labels.{LaneMark, LabelModel, first_line, last_line, is_single, drawn_label, lane_mark_of, multi_labels, multi_label_on}
 use Rattle.codespan_collect.specs.declared.label_annotations.LabelIndices.{LabelIndices}
 use Rattle.codespan_annotations.specs.Annotations.{Annotation, Single, Multi, is_before, is_on_line, is_of_file, annotation_if_any, shows_line}
 use Rattle.codespan_collect.specs.LabelAnnotations.{line_annotations, annotations_of}
@@ -218,8 +218,8 @@ module _ {Id : Type 0} {same : Id → Id → Bool} {file : Id → FileModel} {id
     -- ---- lane marks
 
     -- the label has no lane mark on a line past the last
-    part-outside : (x : LabelModel) → nat_lt l (line_count own_file) ≡ false → part_on own_file l x ≡ None
-    part-outside x h =
+    multi_label-outside : (x : LabelModel) → nat_lt l (line_count own_file) ≡ false → multi_label_on own_file l x ≡ None
+    multi_label-outside x h =
         let e = ends-below x in
         let low : first_line own_file x < line_count own_file = e.0 in
         let end : last_line own_file x < line_count own_file = e.1 in
@@ -235,7 +235,7 @@ module _ {Id : Type 0} {same : Id → Id → Bool} {file : Id → FileModel} {id
 
     -- the lane mark of a label that comes after these
     one-lane_mark : (before : List (InFile Id)) (x : InFile Id)
-        → filter (is_kind 2) (line_annotations_of before x) ≡ cond (same id x.id) (multi_annotations_if (is_single own_file x.label) (lane_mark_of (num_multi_labels_of same file before id) x.label (part_on own_file l x.label))) []
+        → filter (is_kind 2) (line_annotations_of before x) ≡ cond (same id x.id) (multi_annotations_if (is_single own_file x.label) (lane_mark_of (num_multi_labels_of same file before id) x.label (multi_label_on own_file l x.label))) []
     one-lane_mark before x = by_tests (same id x.id) (nat_lt l (line_count own_file)) refl
       where
         lane : ℕ
@@ -246,10 +246,10 @@ module _ {Id : Type 0} {same : Id → Id → Bool} {file : Id → FileModel} {id
         none false = refl
 
         by_tests : (s t : Bool) → nat_lt l (line_count own_file) ≡ t
-            → filter (is_kind 2) (cond (s && t) (line_annotations config own_file (indices_at before) x.label l) []) ≡ cond s (multi_annotations_if (is_single own_file x.label) (lane_mark_of lane x.label (part_on own_file l x.label))) []
+            → filter (is_kind 2) (cond (s && t) (line_annotations config own_file (indices_at before) x.label l) []) ≡ cond s (multi_annotations_if (is_single own_file x.label) (lane_mark_of lane x.label (multi_label_on own_file l x.label))) []
         by_tests false t h = refl
         by_tests true true h = marks-on_line config own_file (indices_at before) x.label l
-        by_tests true false h = none (is_single own_file x.label) ∙ ap (λ o. multi_annotations_if (is_single own_file x.label) (lane_mark_of lane x.label o)) (sym (part-outside x.label h))
+        by_tests true false h = none (is_single own_file x.label) ∙ ap (λ o. multi_annotations_if (is_single own_file x.label) (lane_mark_of lane x.label o)) (sym (multi_label-outside x.label h))
 
     -- the lane marks of labels that come after these, in their lanes
     pub all-marks : (xs before : List (InFile Id)) (n : ℕ) → num_multi_labels_of same file before id ≡ n
@@ -257,7 +257,7 @@ module _ {Id : Type 0} {same : Id → Id → Bool} {file : Id → FileModel} {id
     all-marks [] before n e = refl
     all-marks (x ∷ xs) before n e =
         filter-append (is_kind 2) (line_annotations_of before x) (line_annotations_after (before ++ x ∷ []) xs)
-        ∙ (λ i. (one-lane_mark before x ∙ ap (λ k. cond (same id x.id) (multi_annotations_if (is_single own_file x.label) (lane_mark_of k x.label (part_on own_file l x.label))) []) e) i
+        ∙ (λ i. (one-lane_mark before x ∙ ap (λ k. cond (same id x.id) (multi_annotations_if (is_single own_file x.label) (lane_mark_of k x.label (multi_label_on own_file l x.label))) []) e) i
         ++ all-marks xs (before ++ x ∷ []) (n + (if same id x.id then label_lanes own_file x.label else 0)) (num_multi_labels_of-more same file before x id ∙ ap (λ k. k + (if same id x.id then label_lanes own_file x.label else 0)) e) i)
         ∙ by_tests (same id x.id) (is_single own_file x.label) refl
       where
@@ -269,12 +269,12 @@ module _ {Id : Type 0} {same : Id → Id → Bool} {file : Id → FileModel} {id
         by_lane_mark (Some m) = refl
 
         by_tests : (s t : Bool) → is_single own_file x.label ≡ t
-            → cond s (multi_annotations_if t (lane_mark_of n x.label (part_on own_file l x.label))) [] ++ later (n + (if s then (if t then 0 else 1) else 0))
+            → cond s (multi_annotations_if t (lane_mark_of n x.label (multi_label_on own_file l x.label))) [] ++ later (n + (if s then (if t then 0 else 1) else 0))
             ≡ map (lane_mark_annotation f l) (marks_from own_file l n (multi_labels own_file (map (λ (y : InFile Id). y.label) (cond s (x ∷ own xs) (own xs)))))
         by_tests false t h = let e : n + 0 ≡ n = omega arith in ap later e
         by_tests true true h = (let e : n + 0 ≡ n = omega arith in ap later e)
             ∙ ap (λ b. map (lane_mark_annotation f l) (marks_from own_file l n (cond (not b) (x.label ∷ multi_labels own_file (labels_in xs)) (multi_labels own_file (labels_in xs))))) (sym h)
-        by_tests true false h = by_lane_mark (lane_mark_of n x.label (part_on own_file l x.label))
+        by_tests true false h = by_lane_mark (lane_mark_of n x.label (multi_label_on own_file l x.label))
             ∙ ap (λ b. map (lane_mark_annotation f l) (marks_from own_file l n (cond (not b) (x.label ∷ multi_labels own_file (labels_in xs)) (multi_labels own_file (labels_in xs))))) (sym h)
 
     -- ---- lines that are shown

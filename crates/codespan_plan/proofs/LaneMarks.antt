@@ -4,7 +4,7 @@ use Rattle.std.specs.List.{AllByRecursion, enumerate_from, filter_map, cons_opti
 use Rattle.std.proofs.lemmas.Bool.{leb-true}
 use Rattle.std.proofs.lemmas.Bool.Decides.{nat_tests}
 use Rattle.codespan_base.specs.FileModel.{FileModel}
-use Rattle.codespan_base.specs.Labels.{LabelModel, LaneMark, MultiLabel, lane_mark_of, lane_marks_on, multi_labels, part_on}
+use Rattle.codespan_base.specs.Labels.{LabelModel, LaneMark, MultiLabel, lane_mark_of, lane_marks_on, multi_labels, multi_label_on}
 use Rattle.codespan_picture.specs.Arguments.{LaneMarkTuple, lane_mark_view, lanes_in_order, ascend_from}
 use Rattle.codespan_picture.specs.Snippets.{LabeledFileModel, num_multi_labels}
 use Rattle.codespan_annotations.specs.Annotations.{Annotation, is_before}
@@ -17,17 +17,17 @@ use Rattle.codespan_laws.proofs.SortedLists.{Climbs}
 
 -- the lane marks on a line of these labels, whose lanes begin here
 abbrev pub marks_from : FileModel → ℕ → ℕ → List LabelModel → List LaneMark
-marks_from f l n ys = filter_map (λ (annotation : ℕ × LabelModel). lane_mark_of annotation.0 annotation.1 (part_on f l annotation.1)) (enumerate_from n ys)
+marks_from f l n ys = filter_map (λ (annotation : ℕ × LabelModel). lane_mark_of annotation.0 annotation.1 (multi_label_on f l annotation.1)) (enumerate_from n ys)
 
 -- they ascend from a lane on
 ascend-from : (f : FileModel) (l count n least : ℕ) (ys : List LabelModel) → least ≤ n → n + length ys ≡ count → ascend_from count least (marks_from f l n ys) ≡ true
 ascend-from f l count n least [] low total = refl
-ascend-from f l count n least (y ∷ ys) low total = by_part (part_on f l y) (λ k h. ascend-from f l count (n + 1) k ys h (omega arith))
+ascend-from f l count n least (y ∷ ys) low total = by_multi_label (multi_label_on f l y) (λ k h. ascend-from f l count (n + 1) k ys h (omega arith))
   where
-    by_part : (o : Option MultiLabel) → ((k : ℕ) → k ≤ n + 1 → ascend_from count k (marks_from f l (n + 1) ys) ≡ true)
+    by_multi_label : (o : Option MultiLabel) → ((k : ℕ) → k ≤ n + 1 → ascend_from count k (marks_from f l (n + 1) ys) ≡ true)
         → ascend_from count least (cons_option (lane_mark_of n y o) (marks_from f l (n + 1) ys)) ≡ true
-    by_part None rest = rest least (omega arith)
-    by_part (Some part) rest =
+    by_multi_label None rest = rest least (omega arith)
+    by_multi_label (Some multi_label) rest =
         let a : nat_le least n ≡ true = grind (arith, nat_tests) in
         let b : nat_lt n count ≡ true = grind (arith, nat_tests) in
         rw (a, b) (rest (n + 1) (omega arith))

@@ -78,7 +78,7 @@ single_label_of (Multi lane_mark) = None
 abbrev pub single_labels_in : List Annotation → List LabelModel
 single_labels_in es = filter_map (λ (e : Annotation). single_label_of e.kind) es
 
--- the lane mark of an annotation, where it is a part of a multi-line label
+-- the lane mark of an annotation, where it has one
 abbrev pub lane_mark_in : AnnotationKind → Option LaneMark
 lane_mark_in Shown = None
 lane_mark_in (Single index x) = None

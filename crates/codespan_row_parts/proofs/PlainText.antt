@@ -23,7 +23,7 @@ use Rattle.codespan_row_parts.proofs.RowEquations.{change-same}
 use Rattle.codespan_row_parts.proofs.TextRuns.{IsOver, text-end, text_rest}
 use Rattle.codespan_picture.specs.CharMetrics.{metrics_then, width_at}
 use Rattle.codespan_picture.specs.Rows.{Line, RowContext}
-use Rattle.codespan_picture.specs.RowParts.{change, colored_text, source_glyph, source_style, styled, part_covers}
+use Rattle.codespan_picture.specs.RowParts.{change, colored_text, source_glyph, source_style, styled, multi_label_covers}
 
 -- ---- no label is primary
 
@@ -40,7 +40,7 @@ no-label c (x ∷ xs) e =
 
 -- none of these lane marks is of a primary label that covers the character
 no-lane_mark : (c : Metrics) (ms : List LaneMark) → list_any (λ (m : LaneMark). is_primary_style m.style) ms ≡ false
-    → list_any (λ (m : LaneMark). is_primary_style m.style && part_covers c m.part) ms ≡ false
+    → list_any (λ (m : LaneMark). is_primary_style m.style && multi_label_covers c m.multi_label) ms ≡ false
 no-lane_mark c [] e = refl
 no-lane_mark c (m ∷ ms) e =
     let parts = or_parts (is_primary_style m.style) (list_any (λ (x : LaneMark). is_primary_style x.style) ms) e in

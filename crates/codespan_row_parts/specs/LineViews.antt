@@ -40,8 +40,8 @@ abbrev pub lane_row_view : RustLaneRow → LaneRow
 lane_row_view rust_variant.Source = Source
 lane_row_view rust_variant.Plain = Plain
 lane_row_view rust_variant.Below = Below
-lane_row_view (rust_variant.Underline corner_lane style part) =
-    Underline (lane_mark_view (corner_lane, style, part))
+lane_row_view (rust_variant.Underline corner_lane style multi_label) =
+    Underline (lane_mark_view (corner_lane, style, multi_label))
 
 -- one lane of a kind of row, from the lane mark in it
 unfoldable pub lane_of_view : RowContext → ℕ → RustLaneRow → ℕ → Option LaneMarkTuple → Stream

@@ -2,7 +2,7 @@
 use Rattle.std.specs.Prelude.{◌≡◌, ℕ, ◌+◌, ◌≤◌, Bool, false, ◌||◌, ◌&&◌, nat_le, List, Option, Some, None}
 use Rattle.std.specs.List.{list_any}
 use Rattle.codespan_base.specs.Labels.{LaneMark, is_primary_style}
-use Rattle.codespan_picture.specs.RowParts.{part_covers}
+use Rattle.codespan_picture.specs.RowParts.{multi_label_covers}
 use Rattle.codespan_picture.specs.declared.char_metrics.Metrics.{Metrics}
 use Rattle.codespan_row_parts.specs.declared.primary_lane_marks.PrimaryLaneMarks.{PrimaryLaneMarks}
 
@@ -19,4 +19,5 @@ is_marked m c = is_from m.from c.byte_index || nat_le (c.byte_index + c.bytes) m
 abbrev pub CoversAsMarks : List LaneMark → PrimaryLaneMarks → Type 0
 CoversAsMarks marks covered =
     (c : Metrics) → 1 ≤ c.bytes → is_marked covered c
-    ≡ list_any (λ (m : LaneMark). is_primary_style m.style && part_covers c m.part) marks
+    ≡ list_any (λ (m : LaneMark). is_primary_style m.style && multi_label_covers c m.multi_label)
+    marks

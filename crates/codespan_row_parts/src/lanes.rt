@@ -48,20 +48,20 @@ fn crossing<'d>(row: LaneRow<'d>, lane: usize) -> Option<(usize, LabelStyle, Mul
     ensures { option_map lane_mark_view result ≡ row_crossing (lane_row_view row.entry) lane }
 {
     match row {
-        LaneRow::Underline(corner_lane, style, part) if corner_lane < lane => Some((
+        LaneRow::Underline(corner_lane, style, multi_label) if corner_lane < lane => Some((
             corner_lane,
             style,
-            part,
+            multi_label,
         )),
         LaneRow::Source | LaneRow::Plain | LaneRow::Below | LaneRow::Underline(_, _, _) => None,
     }
 }
 
 /// Returns the character of the line that runs right from a corner.
-fn corner_line(chars: &Chars<'_>, part: MultiLabel<'_>) -> char
-    ensures { result ≡ corner_line chars.now (multi_label_view part.entry) }
+fn corner_line(chars: &Chars<'_>, multi_label: MultiLabel<'_>) -> char
+    ensures { result ≡ corner_line chars.now (multi_label_view multi_label.entry) }
 {
-    match part {
+    match multi_label {
         MultiLabel::Top(_) => chars.multi_top,
         MultiLabel::Left | MultiLabel::Bottom(_, _) => chars.multi_bottom,
     }
@@ -82,9 +82,9 @@ fn write_crossing_cells<W: PutStyle>(
 {
     match crossing {
         None => put_spaces(w, count),
-        Some((_, style, part)) => {
+        Some((_, style, multi_label)) => {
             w.set_label(context.severity, style)?;
-            put_repeated(w, corner_line(context.chars, part), count)?;
+            put_repeated(w, corner_line(context.chars, multi_label), count)?;
             w.reset()
         }
     }
@@ -159,8 +159,8 @@ fn inner_gutter_column<W: PutStyle>(
     let crossing = crossing(row, lane.index);
     match lane.mark {
         None => write_lane_cells(w, context, crossing, LabelStyle::Primary, Shape::Space),
-        Some((_, style, part)) => {
-            let shape = shape_in(context.layout, leading, row, lane.index, part);
+        Some((_, style, multi_label)) => {
+            let shape = shape_in(context.layout, leading, row, lane.index, multi_label);
             write_lane_cells(w, context, crossing, style, shape)
         }
     }

@@ -3,7 +3,7 @@
 ghost use Rattle.std.specs.Prelude.{◌≡◌, ◌||◌, ◌+◌, ◌^◌, ◌<◌, ◌≤◌, ℕ, false, map, nat_le};
 ghost use Rattle.codespan_picture.specs.declared.char_metrics.Metrics as metrics;
 ghost use Rattle.codespan_picture.specs.Arguments.{lane_mark_view, multi_label_view};
-ghost use Rattle.codespan_picture.specs.RowParts.{part_covers};
+ghost use Rattle.codespan_picture.specs.RowParts.{multi_label_covers};
 ghost use Rattle.codespan_row_parts.specs.PrimaryLaneMarks.{CoversAsMarks, is_from, is_marked};
 
 use codespan_base::diagnostic::LabelStyle;
@@ -35,11 +35,11 @@ impl PrimaryLaneMarks {
     }
 
     /// Adds what the label of one more multi-line label mark covers.
-    fn with(self, part: MultiLabel<'_>) -> PrimaryLaneMarks
+    fn with(self, multi_label: MultiLabel<'_>) -> PrimaryLaneMarks
         ensures { (c : metrics.Metrics) → 1 ≤ c.bytes → is_marked result c
-            ≡ (is_marked self c || part_covers c (multi_label_view part.entry)) }
+            ≡ (is_marked self c || multi_label_covers c (multi_label_view multi_label.entry)) }
     {
-        match part {
+        match multi_label {
             MultiLabel::Top(start) => PrimaryLaneMarks {
                 from: Some(least(self.from, start)),
                 to: self.to,

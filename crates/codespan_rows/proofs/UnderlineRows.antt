@@ -31,10 +31,10 @@ use Rattle.codespan_row_parts.specs.RenderedRows.{later_note_rows}
 -- ---- the lanes of an underline row
 
 -- the lanes of the row of a lane mark are those of that kind of row
-pub underline_lanes_are : (context : RowContext) (leading : ℕ) (lane : ℕ) (style : LabelStyle) (part : rust_multi_label.MultiLabel) (lanes : Lanes)
-    → row_lanes_view context leading (Underline lane style part) lanes ≡ inner_gutter context leading (kind.Underline (lane_mark_view (lane, style, part))) lanes
+pub underline_lanes_are : (context : RowContext) (leading : ℕ) (lane : ℕ) (style : LabelStyle) (multi_label : rust_multi_label.MultiLabel) (lanes : Lanes)
+    → row_lanes_view context leading (Underline lane style multi_label) lanes ≡ inner_gutter context leading (kind.Underline (lane_mark_view (lane, style, multi_label))) lanes
 unfolding row_lanes_view inner_gutter
-underline_lanes_are context leading lane style part lanes = refl
+underline_lanes_are context leading lane style multi_label lanes = refl
 
 -- ---- the message of an underline
 
@@ -55,8 +55,8 @@ pub ruleset underline_messages = (underline_message-none, underline_message-some
 -- ---- the line of an underline
 
 -- an underline is that of the width of its line
-pub underline-runs : (chars : Chars) (style : LabelStyle) (width : ℕ) (cs : List Metrics) (part : MultiLabel) → width ≡ underline_width cs part
-    → underline chars style cs part ≡ underline_by_width chars style width part
+pub underline-runs : (chars : Chars) (style : LabelStyle) (width : ℕ) (cs : List Metrics) (multi_label : MultiLabel) → width ≡ underline_width cs multi_label
+    → underline chars style cs multi_label ≡ underline_by_width chars style width multi_label
 unfolding underline underline_by_width
 underline-runs chars style width cs (Top start) e = rw e refl
 underline-runs chars style width cs Left e = refl
@@ -66,7 +66,7 @@ underline-runs chars style width cs (Bottom end message) e = rw e refl
 
 -- the rows of the remaining lane marks
 abbrev pub underlines_of : RowContext → Line → List LaneMarkTuple → Stream
-underlines_of context line marks = stream_of_rows context (map (UnderlineRow line) (filter (λ (m : LaneMark). has_underline (leading_whitespace line.text) m.part) (map lane_mark_view marks)))
+underlines_of context line marks = stream_of_rows context (map (UnderlineRow line) (filter (λ (m : LaneMark). has_underline (leading_whitespace line.text) m.multi_label) (map lane_mark_view marks)))
 
 -- the lane mark at an index has a row
 pub underlines-in : (context : RowContext) (line : Line) (leading : ℕ) (marks : List LaneMarkTuple) (i : ℕ) (d : LaneMarkTuple) → i < length marks

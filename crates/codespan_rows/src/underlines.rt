@@ -57,11 +57,12 @@ fn write_underline_message<W: PutStyle>(w: &mut W, message: &str) -> Result<(), 
 }
 
 /// Returns how many cells an underline has between its corner and its caret.
-fn underline_width<S: LineSource>(source: &S, part: MultiLabel<'_>) -> u128
+fn underline_width<S: LineSource>(source: &S, multi_label: MultiLabel<'_>) -> u128
     ensures { result
-        ≡ underline_width (characters_of (S.input source.now)) (multi_label_view part.entry) }
+        ≡ underline_width (characters_of (S.input source.now))
+        (multi_label_view multi_label.entry) }
 {
-    match part {
+    match multi_label {
         MultiLabel::Top(start) => source.width_up_to(start),
         MultiLabel::Left => 0,
         MultiLabel::Bottom(end, _) => source.width_before(end),
@@ -74,14 +75,14 @@ fn label_multi_caret<W: PutStyle>(
     w: &mut W,
     chars: &Chars<'_>,
     style: LabelStyle,
-    part: MultiLabel<'_>,
+    multi_label: MultiLabel<'_>,
     width: u128,
 ) -> Result<(), W::Error>
     ensures { Writes (W.sink w.old)
-        (underline_by_width chars.now style width (multi_label_view part.entry))
+        (underline_by_width chars.now style width (multi_label_view multi_label.entry))
         result (W.sink w.new) }
 {
-    match part {
+    match multi_label {
         MultiLabel::Top(_) => {
             write_repeated(w, chars.multi_top, width)?;
             put_char(w, start_caret(chars, style))
@@ -105,14 +106,14 @@ fn write_underline_lanes<W: PutStyle>(
     ensures { Writes (W.sink w.old) (underline_lanes_view context.entry line.entry lane_mark.entry)
         result (W.sink w.new) }
 {
-    let (lane, style, part) = lane_mark;
+    let (lane, style, multi_label) = lane_mark;
     outer_gutter(w, context.padding)?;
     border_left(w, context.chars)?;
     inner_gutter(
         w,
         context,
         line.leading,
-        LaneRow::Underline(lane, style, part),
+        LaneRow::Underline(lane, style, multi_label),
         line.lanes,
     )
 }
@@ -132,20 +133,20 @@ fn write_underline_row<W: PutStyle>(
         (lane_mark_view lane_mark.entry)
         ++ newline) result (W.sink w.new) }
 {
-    let (_, style, part) = lane_mark;
+    let (_, style, multi_label) = lane_mark;
     write_underline_lanes(w, context, line, lane_mark)?;
     w.set_label(context.severity, style)?;
-    label_multi_caret(w, context.chars, style, part, width)?;
+    label_multi_caret(w, context.chars, style, multi_label, width)?;
     w.reset()?;
     write_newline(w)
 }
 
 /// Returns whether a multi-line label mark has an underline row: one whose corner is in the source
 /// row has none.
-fn has_underline(leading: usize, part: MultiLabel<'_>) -> bool
-    ensures { result ≡ has_underline leading (multi_label_view part.entry) }
+fn has_underline(leading: usize, multi_label: MultiLabel<'_>) -> bool
+    ensures { result ≡ has_underline leading (multi_label_view multi_label.entry) }
 {
-    match part {
+    match multi_label {
         MultiLabel::Top(start) => start > leading,
         MultiLabel::Left => false,
         MultiLabel::Bottom(_, _) => true,

@@ -43,5 +43,5 @@ farther_lane_mark reach (Bottom end message) = farther reach end
 -- underlines have; none where it has neither
 abbrev pub reach_of : List LabelModel → List LaneMark → Option ℕ
 reach_of labels marks =
-    fold (λ reach (m : LaneMark). farther_lane_mark reach m.part)
+    fold (λ reach (m : LaneMark). farther_lane_mark reach m.multi_label)
     (fold (λ reach (x : LabelModel). farther (farther reach x.start) x.end) None labels) marks

@@ -15,18 +15,19 @@ pub fn shape_in(
     leading: usize,
     row: LaneRow<'_>,
     lane: usize,
-    part: MultiLabel<'_>,
+    multi_label: MultiLabel<'_>,
 ) -> Shape
     ensures { result
-        ≡ row_shape layout leading (lane_row_view row.entry) lane (multi_label_view part.entry) }
+        ≡ row_shape layout leading (lane_row_view row.entry) lane
+        (multi_label_view multi_label.entry) }
 {
-    match (row, part) {
+    match (row, multi_label) {
         (LaneRow::Source, MultiLabel::Top(start)) if start <= leading => Shape::TopCorner,
         (LaneRow::Source | LaneRow::Plain, MultiLabel::Top(_)) => Shape::Space,
         (LaneRow::Below, MultiLabel::Top(start)) if goes_on(layout, leading, start) => Shape::Bar,
         (LaneRow::Below, MultiLabel::Top(_)) => Shape::Space,
-        (LaneRow::Underline(corner_lane, _, _), part) => {
-            underline_shape(layout, leading, corner_lane, lane, part)
+        (LaneRow::Underline(corner_lane, _, _), multi_label) => {
+            underline_shape(layout, leading, corner_lane, lane, multi_label)
         }
         (
             LaneRow::Source | LaneRow::Plain | LaneRow::Below,
@@ -51,12 +52,12 @@ fn underline_shape(
     leading: usize,
     corner_lane: usize,
     lane: usize,
-    part: MultiLabel<'_>,
+    multi_label: MultiLabel<'_>,
 ) -> Shape
     ensures { result ≡ underline_shape layout leading corner_lane lane
-        (multi_label_view part.entry) }
+        (multi_label_view multi_label.entry) }
 {
-    match part {
+    match multi_label {
         MultiLabel::Top(start) if goes_on(layout, leading, start) => Shape::Bar,
         MultiLabel::Top(_) if lane == corner_lane => Shape::TopCorner,
         MultiLabel::Top(_) if lane < corner_lane => Shape::Bar,

@@ -21,7 +21,7 @@ use std::alloc::Global;
 pub struct LineBuffers<'d> {
     /// The single-line labels.
     pub single_labels: Vec<SingleLabel<'d>>,
-    /// The lane marks: of each multi-line label its lane, its style and its part on the line.
+    /// The lane marks: of each multi-line label its lane, its style and what it does on the line.
     pub multi_labels: Vec<(usize, LabelStyle, MultiLabel<'d>)>,
     /// The characters of the line and the pointers under them, as far as its rows reach.
     pub metrics: LineMetrics,
@@ -76,8 +76,8 @@ pub fn fill_multi_labels<'d, FileId>(
         match annotation.kind {
             AnnotationKind::Shown => {}
             AnnotationKind::Single { .. } => {}
-            AnnotationKind::Multi { part, lane, label } => {
-                let multi = multi_label(label, part, annotation.line.start);
+            AnnotationKind::Multi { kind, lane, label } => {
+                let multi = multi_label(label, kind, annotation.line.start);
                 multi_labels.push((lane, label.style, multi))?;
             }
         }

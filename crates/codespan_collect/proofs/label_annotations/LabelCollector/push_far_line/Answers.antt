@@ -1,7 +1,7 @@
 use Rattle.std.proofs.Common.{sym, subst}
 use Rattle.codespan_collect.specs.CollectedLabels.{label_of_collector}
 use Rattle.codespan_annotations.specs.AnnotationViews.{IsLineOf}
-use Rattle.codespan_collect.proofs.Collecting.{Adds-as, Adds-weaker, annotation_if_any-line, far-kind, far-part}
+use Rattle.codespan_collect.proofs.Collecting.{Adds-as, Adds-weaker, annotation_if_any-line, far-kind, far-multi_label}
 use Rattle.codespan_collect.proofs.label_annotations.LabelCollector.push_far_line.Goals as goal
 
 pub returns-clause-added : goal.returns-clause-added
@@ -11,5 +11,5 @@ returns-clause-added g c =
     let line = c.args.line in
     Adds-as (annotation_if_any-line x c.requires.first c.requires.last c.requires.line
     (far-kind x.config x.at lines.first lines.last line.index line.start x.label c.requires.far)
-    (far-part x.config x.at lines.first lines.last line.index line.start c.args.label c.requires.far))
+    (far-multi_label x.config x.at lines.first lines.last line.index line.start c.args.label c.requires.far))
     (Adds-weaker (λ e same. subst (IsLineOf x.file) (sym same) c.requires.line) c.in_ok-push_annotation.ensures.added)

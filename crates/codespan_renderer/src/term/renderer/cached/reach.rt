@@ -25,10 +25,10 @@ pub fn reach_of(line: Line<'_, '_>) -> Option<usize>
 
 /// Returns the greater of a reach and the byte index that the underline of a multi-line label mark
 /// needs.
-fn farther_lane_mark(reach: Option<usize>, part: MultiLabel<'_>) -> Option<usize>
-    ensures { result ≡ farther_lane_mark reach (multi_label_view part.entry) }
+fn farther_lane_mark(reach: Option<usize>, multi_label: MultiLabel<'_>) -> Option<usize>
+    ensures { result ≡ farther_lane_mark reach (multi_label_view multi_label.entry) }
 {
-    match part {
+    match multi_label {
         MultiLabel::Top(start) => farther(reach, start),
         MultiLabel::Left => reach,
         MultiLabel::Bottom(end, _) => farther(reach, end),

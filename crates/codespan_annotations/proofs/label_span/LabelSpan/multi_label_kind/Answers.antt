@@ -1,6 +1,6 @@
 use Rattle.std.proofs.Common.{refl, sym, ◌∙◌}
 use Rattle.std.proofs.lemmas.Bool.{ne_eqb}
-use Rattle.codespan_annotations.proofs.label_span.LabelSpan.part_on.Goals as goal
+use Rattle.codespan_annotations.proofs.label_span.LabelSpan.multi_label_kind.Goals as goal
 
 -- the line is neither end of a multi-line label, and between them
 pub returns-then-is_inside : goal.returns-then-is_inside
