@@ -6,7 +6,8 @@ use Rattle.gallery_script.specs.declared.errors.LineError.{LineError}
 use Rattle.gallery_script.specs.declared.errors.LineError.TheVariants.{BadNumber}
 use Rattle.gallery_script.specs.declared.statement.Statement.{Statement}
 use Rattle.gallery_script.specs.declared.words.Word.{Word}
-use Rattle.gallery_script.specs.Fields.{IsNoNumber, field_of, past_space}
+use Rattle.script_words.specs.Fields.{field_of, past_space}
+use Rattle.gallery_script.specs.Numbers.{IsNoNumber}
 use Rattle.gallery_script.specs.Statements.{IsWrong, LacksNumber, LacksOneOfThree, past_two}
 
 -- a number that has to follow the word is missing

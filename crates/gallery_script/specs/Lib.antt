@@ -1,5 +1,5 @@
--- the fields and the words of lines, and the names that may follow these
-pub mod Fields
+-- the numbers and the words of lines, and the names that may follow these
+pub mod Numbers
 pub mod Words
 -- texts with escapes
 pub mod Escapes

@@ -13,8 +13,10 @@ use Rattle.gallery_script.specs.declared.statement.Statement.TheVariants as stat
 use Rattle.gallery_script.specs.declared.words.Word.{Word}
 use Rattle.gallery_script.specs.declared.words.Word.TheVariants.{Database, File, Source, Number, Style, Layout, Tab, Context, Characters, Colors, Severity, Code, Message, Primary, Secondary, Note}
 use Rattle.gallery_script.specs.Escapes.{Unescapes}
-use Rattle.gallery_script.specs.Fields.{field_of, past_space, IsNumber, IsNoNumber, is_ignored}
-use Rattle.gallery_script.specs.Words.{word_named, database_kind_named, style_named, layout_named, characters_named, colors_named, severity_named}
+use Rattle.script_words.specs.Fields.{field_of, past_space, is_ignored_text}
+use Rattle.script_words.specs.Names.{severity_named, style_named}
+use Rattle.gallery_script.specs.Numbers.{IsNumber, IsNoNumber}
+use Rattle.gallery_script.specs.Words.{word_named, database_kind_named, layout_named, characters_named, colors_named}
 
 -- ---- what a line describes
 
@@ -82,11 +84,12 @@ Describes word rest (statements.Note note) =
 
 -- what a line is: ignored, the first of a case of this name, or a statement of the last case
 abbrev pub ParsesTo : List ℕ → Line → Type 0
-ParsesTo line Ignored = is_ignored line ≡ true
+ParsesTo line Ignored = is_ignored_text line ≡ true
 ParsesTo line (NewCase name) =
-    (is_ignored line ≡ false) × (field_of line ≡ codes "case") × (name.now ≡ past_space line)
+    (is_ignored_text line ≡ false) × (field_of line ≡ codes "case") × (name.now ≡ past_space line)
 ParsesTo line (Description statement) =
-    (is_ignored line ≡ false) × Describes (word_named (field_of line)) (past_space line) statement
+    (is_ignored_text line ≡ false)
+    × Describes (word_named (field_of line)) (past_space line) statement
 
 -- ---- what is wrong with a line
 
@@ -138,6 +141,6 @@ IsWrong word rest OutOfMemory = Unit {0}
 
 -- what is wrong with a line that is neither ignored nor the first of a case
 pub record IsWrongLine (line : List ℕ) (line_error : LineError) : Type 0 where
-  pub not_ignored : is_ignored line ≡ false
+  pub not_ignored : is_ignored_text line ≡ false
   pub not_new_case : field_of line ≢ codes "case"
   pub wrong : IsWrong (word_named (field_of line)) (past_space line) line_error

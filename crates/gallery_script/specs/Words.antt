@@ -1,10 +1,6 @@
 -- The words of lines, and the names that may follow them.
 use Rattle.std.specs.Prelude.{ℕ, List, Option, Some, None, codes, if◌then◌else◌}
 use Rattle.std.specs.Str.{bytes_eq}
-use Rattle.codespan_base.specs.declared.diagnostic.Severity as severities
-use Rattle.codespan_base.specs.declared.diagnostic.Severity.TheVariants as severity
-use Rattle.codespan_base.specs.declared.term.config.DisplayStyle.{DisplayStyle}
-use Rattle.codespan_base.specs.declared.term.config.DisplayStyle.TheVariants.{Rich, Medium, Short}
 use Rattle.codespan_base.specs.declared.term.config.Layout as layouts
 use Rattle.codespan_base.specs.declared.term.config.Layout.TheVariants.{Classic, Unbroken}
 use Rattle.codespan_base.specs.declared.term.config.chars.Chars.{Chars}
@@ -47,14 +43,6 @@ database_kind_named text =
     else if bytes_eq text (codes "mapped") then Some Mapped
     else None
 
--- the style of this name
-unfoldable pub style_named : List ℕ → Option DisplayStyle
-style_named text =
-    if bytes_eq text (codes "rich") then Some Rich
-    else if bytes_eq text (codes "medium") then Some Medium
-    else if bytes_eq text (codes "short") then Some Short
-    else None
-
 -- the layout of this name
 unfoldable pub layout_named : List ℕ → Option layouts.Layout
 layout_named text =
@@ -75,16 +63,6 @@ colors_named text =
     if bytes_eq text (codes "none") then Some Plain
     else if bytes_eq text (codes "ansi") then Some Ansi
     else if bytes_eq text (codes "svg") then Some Svg
-    else None
-
--- the severity of this name
-unfoldable pub severity_named : List ℕ → Option severities.Severity
-severity_named text =
-    if bytes_eq text (codes "bug") then Some severity.Bug
-    else if bytes_eq text (codes "error") then Some severity.Error
-    else if bytes_eq text (codes "warning") then Some severity.Warning
-    else if bytes_eq text (codes "note") then Some severity.Note
-    else if bytes_eq text (codes "help") then Some severity.Help
     else None
 
 -- the characters of a set

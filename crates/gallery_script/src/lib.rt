@@ -8,7 +8,7 @@ pub mod cases;
 pub mod database;
 pub mod errors;
 pub mod escape;
-pub mod fields;
+pub mod numbers;
 pub mod request;
 pub mod statement;
 pub mod words;

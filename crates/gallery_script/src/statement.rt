@@ -9,13 +9,14 @@ ghost use Rattle.gallery_script.specs.declared.words.Word.TheVariants as words;
 use crate::case::{CharacterSet, Colors, DatabaseKind};
 use crate::errors::LineError;
 use crate::escape::unescape;
-use crate::fields::{cut, cut_number, is_ignored, parse_number};
+use crate::numbers::{cut_number, parse_number};
 use crate::words::{
-    Word, parse_characters, parse_colors, parse_database_kind, parse_layout, parse_severity,
-    parse_style, parse_word,
+    Word, parse_characters, parse_colors, parse_database_kind, parse_layout, parse_word,
 };
 use codespan_base::diagnostic::{Label, LabelStyle, Severity};
 use codespan_base::term::{DisplayStyle, Layout};
+use script_words::fields::{cut, is_ignored};
+use script_words::names::{parse_severity, parse_style};
 use std::alloc::Global;
 
 /// A parsed line.

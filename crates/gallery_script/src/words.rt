@@ -1,11 +1,10 @@
 //! The words of lines, and the names that may follow them.
 
 ghost use Rattle.std.specs.Prelude.{◌≡◌};
-ghost use Rattle.gallery_script.specs.Words.{word_named, database_kind_named, style_named, layout_named, characters_named, colors_named, severity_named};
+ghost use Rattle.gallery_script.specs.Words.{word_named, database_kind_named, layout_named, characters_named, colors_named};
 
 use crate::case::{CharacterSet, Colors, DatabaseKind};
-use codespan_base::diagnostic::Severity;
-use codespan_base::term::{DisplayStyle, Layout};
+use codespan_base::term::Layout;
 
 /// The first word of a line that describes a case.
 #[derive(Clone, Copy)]
@@ -83,19 +82,6 @@ pub fn parse_database_kind(text: &str) -> Option<DatabaseKind>
     }
 }
 
-/// Returns the style of this name, or `None`.
-#[tactic(auto, unfolding(crate::specs::Words::style_named))]
-pub fn parse_style(text: &str) -> Option<DisplayStyle>
-    ensures { result ≡ style_named text.now }
-{
-    match text {
-        "rich" => Some(DisplayStyle::Rich),
-        "medium" => Some(DisplayStyle::Medium),
-        "short" => Some(DisplayStyle::Short),
-        _ => None,
-    }
-}
-
 /// Returns the layout of this name, or `None`.
 #[tactic(auto, unfolding(crate::specs::Words::layout_named))]
 pub fn parse_layout(text: &str) -> Option<Layout>
@@ -129,21 +115,6 @@ pub fn parse_colors(text: &str) -> Option<Colors>
         "none" => Some(Colors::Plain),
         "ansi" => Some(Colors::Ansi),
         "svg" => Some(Colors::Svg),
-        _ => None,
-    }
-}
-
-/// Returns the severity of this name, or `None`.
-#[tactic(auto, unfolding(crate::specs::Words::severity_named))]
-pub fn parse_severity(text: &str) -> Option<Severity>
-    ensures { result ≡ severity_named text.now }
-{
-    match text {
-        "bug" => Some(Severity::Bug),
-        "error" => Some(Severity::Error),
-        "warning" => Some(Severity::Warning),
-        "note" => Some(Severity::Note),
-        "help" => Some(Severity::Help),
         _ => None,
     }
 }

@@ -9,6 +9,8 @@ use Rattle.std.proofs.lemmas.List.{get_or_append_left, get_or_at}
 use Rattle.std.proofs.lemmas.List.Splits.{join_with_byte-slice_split}
 use Rattle.std.proofs.lemmas.List.Sums.{passes_at_first, prefix_len-le-length}
 use Rattle.std.proofs.lemmas.Str.{IsCharBoundary-after_ascii, IsCharBoundary-before_ascii, IsCharBoundary-end, IsCharBoundary-start}
+use Rattle.script_words.specs.Fields.{field_of, is_space, past_space}
+use Rattle.script_words.specs.Names.{severity_named}
 use Rattle.report_script.proofs.ScriptCuts.{left_after}
 use Rattle.report_script.specs.declared.script.Fault.{Fault}
 use Rattle.report_script.specs.declared.script.FaultNumber.{FaultNumber}
@@ -18,8 +20,8 @@ use Rattle.report_script.specs.declared.script.words.Word.TheVariants.{Severity,
 use Rattle.report_script.specs.Requests.{number_of}
 use Rattle.report_script.specs.ScriptFaults.{fault_at, fault_from, line_of_word, line_fault, number_fault, or_fault, repetition, severity_fault, word_fault}
 use Rattle.report_script.specs.ScriptLaws.{FaultLiesIn, FaultsLieInside, LiesIn}
-use Rattle.report_script.specs.ScriptLines.{ScriptLine, body, field_of, is_space, is_end, is_newline, is_ignored, lines_from, lines_of, past_space, range_at, rest_of, source_of, word_of, word_range}
-use Rattle.report_script.specs.ScriptWords.{severity_named, word_named}
+use Rattle.report_script.specs.ScriptLines.{ScriptLine, body, is_end, is_newline, is_ignored, lines_from, lines_of, range_at, rest_of, source_of, word_of, word_range}
+use Rattle.report_script.specs.ScriptWords.{word_named}
 use Rattle.report_script.specs.Scripts.{read_lines, read_script}
 
 -- what holds of each element holds of each of none or all

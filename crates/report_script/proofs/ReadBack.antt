@@ -9,6 +9,8 @@ use Rattle.std.proofs.lemmas.Option.{slice_get-map}
 use Rattle.codespan_base.specs.declared.diagnostic.LabelStyle.TheVariants.{Primary, Secondary}
 use Rattle.codespan_base.specs.declared.diagnostic.Severity.{Severity}
 use Rattle.codespan_base.specs.declared.diagnostic.Severity.TheVariants.{Error}
+use Rattle.script_words.specs.Fields.{field_of, past_space}
+use Rattle.script_words.specs.Names.{severity_named}
 use Rattle.report_script.specs.declared.script.Fault.{Fault}
 use Rattle.report_script.specs.declared.script.FaultNumber.TheVariants.{UnknownSeverity, RepeatedWord}
 use Rattle.report_script.specs.Requests.{number_of}
@@ -16,8 +18,8 @@ use Rattle.report_script.specs.ScriptFaults.{fault_at, fault_from, line_of_word,
 use Rattle.report_script.specs.ScriptLaws.{ScriptReadsBack}
 use Rattle.report_script.specs.Statements.{IsStatable, Statement, code_stated, label_fields, label_stated, message_stated, note_stated, first_stated, stated_diagnostic, severity_name, severity_stated, statement_line, written}
 use Rattle.report_script.specs.Statements.Statement.{SeverityLine, CodeLine, MessageLine, LabelLine, NoteLine, CommentLine, EmptyLine}
-use Rattle.report_script.specs.ScriptLines.{ScriptLine, field_of, is_newline, lines_from, lines_of, past_space, range_at, rest_of, source_of, word_of, word_range}
-use Rattle.report_script.specs.ScriptWords.{severity_named, word_named}
+use Rattle.report_script.specs.ScriptLines.{ScriptLine, is_newline, lines_from, lines_of, range_at, rest_of, source_of, word_of, word_range}
+use Rattle.report_script.specs.ScriptWords.{word_named}
 use Rattle.report_script.specs.Scripts.{diagnostic_of, parsed_label, parsed_note, read_lines, read_script, rest_of_word, parsed_severity}
 use Rattle.report_script.proofs.WrittenScripts.{line_at, statement_lines, body_written, source_written}
 use Rattle.report_script.proofs.ReadLines.{rest_by, severity_read, code_read, message_read, note_read, name_read, fields_read, label_read, all_read}

@@ -7,11 +7,13 @@ use Rattle.codespan_base.specs.declared.diagnostic.LabelStyle.{LabelStyle}
 use Rattle.codespan_base.specs.declared.diagnostic.LabelStyle.TheVariants.{Primary, Secondary}
 use Rattle.codespan_base.specs.declared.diagnostic.Severity.{Severity}
 use Rattle.codespan_base.specs.declared.diagnostic.Severity.TheVariants.{Bug, Error, Warning, Note, Help}
+use Rattle.script_words.specs.Fields.{field_of, is_space, past_space}
+use Rattle.script_words.specs.Names.{severity_named}
 use Rattle.report_script.specs.Requests.{number_of}
 use Rattle.report_script.specs.Statements.{IsStatable, Statement, code_stated, fields, label_fields, label_stated, message_stated, note_stated, severity_name, severity_stated, statement_line}
 use Rattle.report_script.specs.Statements.Statement.{SeverityLine, CodeLine, MessageLine, LabelLine, NoteLine, CommentLine, EmptyLine}
-use Rattle.report_script.specs.ScriptLines.{ScriptLine, field_of, is_space, past_space, rest_of, word_of}
-use Rattle.report_script.specs.ScriptWords.{severity_named, word_named}
+use Rattle.report_script.specs.ScriptLines.{ScriptLine, rest_of, word_of}
+use Rattle.report_script.specs.ScriptWords.{word_named}
 use Rattle.report_script.specs.Scripts.{label_by_word, parsed_label, label_of_rest, parsed_note, with_ends}
 use Rattle.report_script.proofs.Numbers.{number_of-decimal}
 use Rattle.report_script.proofs.WrittenScripts.{field_alone, past_alone, first_field, past_field, no_space, line_at, statement_lines}

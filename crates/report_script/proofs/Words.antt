@@ -3,7 +3,8 @@
 use Rattle.std.proofs.Common.{◌≡◌, ℕ, ◌<◌, ◌≤◌, ◌⊎◌, inl, inr, List, [], ◌∷◌, length, get_or, map, Option, None, refl, ap, sym, ◌∙◌, arith}
 use Rattle.codespan_base.specs.declared.term.config.DisplayStyle.{DisplayStyle}
 use Rattle.std.specs.Option.{option_map}
-use Rattle.report_script.specs.Requests.{command_of, number_of, request_of, style_named, with_parts}
+use Rattle.script_words.specs.Names.{style_named}
+use Rattle.report_script.specs.Requests.{command_of, number_of, request_of, with_parts}
 use Rattle.report_script.specs.Requests.CommandView.{OneLabel, OfScript}
 
 -- five words by their indices

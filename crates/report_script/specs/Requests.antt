@@ -3,8 +3,8 @@ use Rattle.std.specs.Prelude.{ℕ, ◌^◌, ◌&&◌, nat_lt, List, [], ◌∷�
 use Rattle.std.specs.Str.{all_ascii_digits, bytes_eq}
 use Rattle.std.specs.Str.Parse.{digits_value}
 use Rattle.codespan_base.specs.declared.term.config.DisplayStyle.{DisplayStyle}
-use Rattle.codespan_base.specs.declared.term.config.DisplayStyle.TheVariants.{Rich, Medium, Short}
 use Rattle.std.specs.Option.{option_map}
+use Rattle.script_words.specs.Names.{style_named}
 use Rattle.report_script.specs.declared.request.Command.{Command}
 use Rattle.report_script.specs.declared.request.Command.TheVariants as variants
 use Rattle.report_script.specs.declared.request.Request.{Request}
@@ -33,14 +33,6 @@ number_of [] = None
 number_of (d ∷ ds) =
     if all_ascii_digits (d ∷ ds) && nat_lt (digits_value 10 (d ∷ ds)) (2 ^ 64)
     then Some (digits_value 10 (d ∷ ds)) else None
-
--- the style of this name
-unfoldable pub style_named : List ℕ → Option DisplayStyle
-style_named word =
-    if bytes_eq word (codes "rich") then Some Rich
-    else if bytes_eq word (codes "medium") then Some Medium
-    else if bytes_eq word (codes "short") then Some Short
-    else None
 
 -- the request of a name and a message, where the style is one and both ends are numbers
 abbrev pub with_parts : List ℕ → List ℕ → Option DisplayStyle → Option ℕ → Option ℕ

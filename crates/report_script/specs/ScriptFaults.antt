@@ -3,6 +3,8 @@ use Rattle.std.specs.Prelude.{◌≡◌, ℕ, List, [], ◌∷◌, ◌++◌, len
 use Rattle.std.specs.Option.{option_map}
 use Rattle.std.specs.Str.{bytes_eq}
 use Rattle.std.specs.declared.ops.Range.{Range}
+use Rattle.script_words.specs.Fields.{field_of, past_space}
+use Rattle.script_words.specs.Names.{severity_named}
 use Rattle.report_script.specs.declared.script.Fault.{Fault}
 use Rattle.report_script.specs.declared.script.FaultNumber.{FaultNumber}
 use Rattle.report_script.specs.declared.script.FaultNumber.TheVariants.{UnknownWord, UnknownSeverity, BadNumber, RepeatedWord, MissingEnd}
@@ -11,8 +13,8 @@ use Rattle.report_script.specs.declared.script.ScriptError.TheVariants as errors
 use Rattle.report_script.specs.declared.script.words.Word.{Word}
 use Rattle.report_script.specs.declared.script.words.Word.TheVariants.{Severity, Code, Message, Primary, Secondary, Note}
 use Rattle.report_script.specs.Requests.{number_of}
-use Rattle.report_script.specs.ScriptLines.{ScriptLine, is_ignored, word_of, rest_of, field_of, past_space, range_at, word_range}
-use Rattle.report_script.specs.ScriptWords.{word_named, severity_named}
+use Rattle.report_script.specs.ScriptLines.{ScriptLine, is_ignored, word_of, rest_of, range_at, word_range}
+use Rattle.report_script.specs.ScriptWords.{word_named}
 
 -- an error with one range
 abbrev pub fault_at : FaultNumber → Range ℕ → Fault

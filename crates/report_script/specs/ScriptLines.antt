@@ -4,6 +4,7 @@ use Rattle.std.specs.List.{slice_split, before_first, after_first}
 use Rattle.std.specs.Str.{bytes_eq}
 use Rattle.std.specs.Str.Lines.{strip_carriage_return}
 use Rattle.std.specs.declared.ops.Range.{Range}
+use Rattle.script_words.specs.Fields.{field_of, is_ignored_text, past_space}
 use Rattle.report_script.specs.declared.script.line.Line.{Line}
 
 -- a line: where it starts in the input, its text without its end, and where the next line starts
@@ -19,10 +20,6 @@ line_view line = record { start = line.start; text = line.text.now; next = line.
 -- the byte at which lines are cut
 abbrev pub is_newline : ℕ → Bool
 is_newline b = b == 10
-
--- the byte at which a line is cut into fields: one space
-abbrev pub is_space : ℕ → Bool
-is_space b = b == 32
 
 -- the lines of pieces that are cut at each newline, of which the first starts at this byte; a `\r`
 -- right before a newline is dropped
@@ -58,22 +55,9 @@ abbrev pub lines_left : ℕ → Option (List ℕ) → List ScriptLine
 lines_left size None = []
 lines_left size (Some text) = lines_from (size - length text) (slice_split is_newline text)
 
--- a text that is empty or begins with `#`
-abbrev pub is_ignored_text : List ℕ → Bool
-is_ignored_text [] = true
-is_ignored_text (b ∷ bs) = b == 35
-
 -- the line is ignored
 abbrev pub is_ignored : ScriptLine → Bool
 is_ignored line = is_ignored_text line.text
-
--- the first field of a text: what precedes its first space, or all of it
-abbrev pub field_of : List ℕ → List ℕ
-field_of text = before_first is_space text
-
--- what follows the first space of a text, or nothing
-abbrev pub past_space : List ℕ → List ℕ
-past_space text = after_first is_space text
 
 -- the word of a line
 abbrev pub word_of : ScriptLine → List ℕ

@@ -1,8 +1,6 @@
--- The words of scripts, and the names of severities.
+-- The words of scripts.
 use Rattle.std.specs.Prelude.{ℕ, List, Option, Some, None, codes, if◌then◌else◌}
 use Rattle.std.specs.Str.{bytes_eq}
-use Rattle.codespan_base.specs.declared.diagnostic.Severity as severities
-use Rattle.codespan_base.specs.declared.diagnostic.Severity.TheVariants as severity
 use Rattle.report_script.specs.declared.script.words.Word.{Word}
 use Rattle.report_script.specs.declared.script.words.Word.TheVariants.{Severity, Code, Message, Primary, Secondary, Note}
 
@@ -15,14 +13,4 @@ word_named text =
     else if bytes_eq text (codes "primary") then Some Primary
     else if bytes_eq text (codes "secondary") then Some Secondary
     else if bytes_eq text (codes "note") then Some Note
-    else None
-
--- the severity of this name
-unfoldable pub severity_named : List ℕ → Option severities.Severity
-severity_named text =
-    if bytes_eq text (codes "bug") then Some severity.Bug
-    else if bytes_eq text (codes "error") then Some severity.Error
-    else if bytes_eq text (codes "warning") then Some severity.Warning
-    else if bytes_eq text (codes "note") then Some severity.Note
-    else if bytes_eq text (codes "help") then Some severity.Help
     else None

@@ -10,14 +10,16 @@ use Rattle.codespan_base.specs.declared.diagnostic.LabelStyle.{LabelStyle}
 use Rattle.codespan_base.specs.declared.diagnostic.LabelStyle.TheVariants as styles
 use Rattle.codespan_base.specs.declared.diagnostic.Severity.{Severity}
 use Rattle.codespan_base.specs.declared.diagnostic.Severity.TheVariants as severities
+use Rattle.script_words.specs.Fields.{field_of, past_space}
+use Rattle.script_words.specs.Names.{severity_named}
 use Rattle.report_script.specs.declared.script.Fault.{Fault}
 use Rattle.report_script.specs.declared.script.Script.{Script}
 use Rattle.report_script.specs.declared.script.words.Word.{Word}
 use Rattle.report_script.specs.declared.script.words.Word.TheVariants.{Primary, Secondary}
 use Rattle.report_script.specs.Requests.{number_of}
 use Rattle.report_script.specs.ScriptFaults.{line_of_word, fault_from, missing_end}
-use Rattle.report_script.specs.ScriptLines.{ScriptLine, lines_of, body, source_of, word_of, rest_of, field_of, past_space}
-use Rattle.report_script.specs.ScriptWords.{word_named, severity_named}
+use Rattle.report_script.specs.ScriptLines.{ScriptLine, lines_of, body, source_of, word_of, rest_of}
+use Rattle.report_script.specs.ScriptWords.{word_named}
 
 -- what a script states: a diagnostic of one file, and that file's source
 pub record ScriptView : Type 0 where

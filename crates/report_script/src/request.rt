@@ -2,9 +2,10 @@
 
 ghost use Rattle.std.specs.Prelude.{◌≡◌, map, string_bytes};
 ghost use Rattle.std.specs.Option.{option_map};
-ghost use Rattle.report_script.specs.Requests.{number_of, style_named};
+ghost use Rattle.report_script.specs.Requests.{number_of};
 
 use codespan_base::term::DisplayStyle;
+use script_words::names::parse_style;
 
 /// A request for an error with one label over the input.
 #[derive(Clone, Copy)]
@@ -64,19 +65,6 @@ impl<'args> Command<'args> {
             [style, name] => Some(Command::OfScript(parse_style(style.as_str())?, name.as_str())),
             _ => Some(Command::OneLabel(Request::from_arguments(args)?)),
         }
-    }
-}
-
-/// Parses `rich`, `medium` or `short`; `None` for any other word.
-#[tactic(auto, unfolding(crate::specs::Requests::style_named))]
-fn parse_style(text: &str) -> Option<DisplayStyle>
-    ensures { result ≡ style_named text.now }
-{
-    match text {
-        "rich" => Some(DisplayStyle::Rich),
-        "medium" => Some(DisplayStyle::Medium),
-        "short" => Some(DisplayStyle::Short),
-        _ => None,
     }
 }
 

@@ -19,8 +19,8 @@ use crate::worked_output::{TextKind, WorkedOutput};
 use codespan_base::term::Chars;
 use gallery_script::errors::LineError;
 use gallery_script::escape::unescape;
-use gallery_script::fields::cut;
 use gallery_script::statement::{Line, Statement, parse_line};
+use script_words::fields::cut;
 use std::alloc::Global;
 
 /// Returns the worked outputs of an input.

@@ -5,11 +5,12 @@ ghost use Rattle.report_script.specs.ScriptLines.{line_view};
 ghost use Rattle.report_script.specs.ScriptFaults.{fault_from, line_fault, severity_fault, number_fault, repetition};
 
 use super::line::Line;
-use super::lines::cut;
 use super::parts::line_of_word;
-use super::words::{Word, parse_severity, parse_word};
+use super::words::{Word, parse_word};
 use super::{Fault, FaultNumber};
 use crate::request::parse_number;
+use script_words::fields::cut;
+use script_words::names::parse_severity;
 use std::ops::Range;
 
 /// Returns the first error in the lines of a script.

@@ -2,7 +2,7 @@
 
 ghost use Rattle.std.specs.Prelude.{◌+◌, ◌<◌, ◌^◌, length};
 
-use super::lines::cut;
+use script_words::fields::{cut, is_ignored};
 use std::ops::Range;
 
 /// A line of a script.
@@ -41,10 +41,7 @@ impl<'input> Line<'input> {
     pub(super) fn is_ignored(&self) -> bool
         ensures { result ≡ is_ignored (line_view self.now) }
     {
-        match self.text.as_bytes() {
-            [] => true,
-            [first, ..] => *first == b'#',
-        }
+        is_ignored(self.text)
     }
 
     /// Returns the range in the input of a field with which `from`, a suffix of the line, begins.

@@ -1,26 +1,12 @@
 //! The lines of a script.
 
 ghost use Rattle.std.specs.Prelude.{◌≡◌, ◌≤◌, ◌+◌, ◌-◌, ◌<◌, ◌∷◌, length, map, drop, IfOk, IfSome, IfNone, Some};
-ghost use Rattle.std.specs.List.{before_first, after_first};
 ghost use Rattle.std.specs.Option.{option_map};
 ghost use Rattle.std.specs.Str.Lines.{strip_carriage_return};
-ghost use Rattle.report_script.specs.ScriptLines.{is_space, line_view, lines_of, lines_left, body, source_of};
+ghost use Rattle.report_script.specs.ScriptLines.{line_view, lines_of, lines_left, body, source_of};
 
 use super::line::Line;
 use std::alloc::{AllocError, Global};
-
-/// Splits a text at its first space, which is left out; without one the second part is empty.
-pub(super) fn cut(text: &str) -> (&str, &str)
-    ensures before { result.0.now ≡ before_first is_space text.now }
-    ensures after { result.1.now ≡ after_first is_space text.now }
-    ensures before_short { length result.0.now ≤ length text.now }
-    ensures after_short { length result.1.now ≤ length text.now }
-{
-    match text.split_once(' ') {
-        Some((before, after)) => (before, after),
-        None => (text, ""),
-    }
-}
 
 /// Returns the text without a carriage return at its end.
 fn without_return(text: &str) -> &str

@@ -8,10 +8,11 @@ ghost use Rattle.report_script.specs.Scripts.{rest_of_word, parsed_severity, par
 
 use super::ScriptLabel;
 use super::line::Line;
-use super::lines::cut;
-use super::words::{Word, parse_severity, parse_word};
+use super::words::{Word, parse_word};
 use crate::request::parse_number;
 use codespan_base::diagnostic::{LabelStyle, Severity};
+use script_words::fields::cut;
+use script_words::names::parse_severity;
 use std::alloc::{AllocError, Global};
 
 /// Returns the first line whose word is this.

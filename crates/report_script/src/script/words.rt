@@ -1,9 +1,7 @@
 //! The words of a script.
 
 ghost use Rattle.std.specs.Prelude.{◌≡◌};
-ghost use Rattle.report_script.specs.ScriptWords.{word_named, severity_named};
-
-use codespan_base::diagnostic::Severity;
+ghost use Rattle.report_script.specs.ScriptWords.{word_named};
 
 /// The word with which a line begins.
 #[derive(Clone, Copy)]
@@ -34,21 +32,6 @@ pub(super) fn parse_word(text: &str) -> Option<Word>
         "primary" => Some(Word::Primary),
         "secondary" => Some(Word::Secondary),
         "note" => Some(Word::Note),
-        _ => None,
-    }
-}
-
-/// Parses the name of a severity; `None` for any other text.
-#[tactic(auto, unfolding(crate::specs::ScriptWords::severity_named))]
-pub(super) fn parse_severity(text: &str) -> Option<Severity>
-    ensures { result ≡ severity_named text.now }
-{
-    match text {
-        "bug" => Some(Severity::Bug),
-        "error" => Some(Severity::Error),
-        "warning" => Some(Severity::Warning),
-        "note" => Some(Severity::Note),
-        "help" => Some(Severity::Help),
         _ => None,
     }
 }

@@ -1,7 +1,8 @@
 use Rattle.std.proofs.Common.{◌⊎◌, ◌<◌, ◌≤◌, length, string_bytes, Some, None, inl, inr, ap, sym, ◌∙◌, arith, rules, tests}
 use Rattle.std.specs.Option.{option_map}
+use Rattle.script_words.specs.Names.{style_named}
 use Rattle.report_script.proofs.Words.{other_arguments, two_arguments}
-use Rattle.report_script.specs.Requests.{command_view, style_named}
+use Rattle.report_script.specs.Requests.{command_view}
 use Rattle.report_script.specs.Requests.CommandView.{OneLabel, OfScript}
 use Rattle.report_script.proofs.request.Command.from_arguments.Goals.{in_default-via-then-args-lt2, in_default-via-else-args-lt2+else-args-lt3}
 use Rattle.report_script.proofs.request.Command.from_arguments.Goals as goal

@@ -1,7 +1,8 @@
 use Rattle.std.proofs.Common.{◌≡◌, string_bytes, Some, None, inl, inr, refl, ap, ◌∙◌, arith, rules, tests}
 use Rattle.std.specs.Option.{option_map}
+use Rattle.script_words.specs.Names.{style_named}
 use Rattle.report_script.proofs.Words.{other_words, five_arguments}
-use Rattle.report_script.specs.Requests.{number_of, request_view, style_named}
+use Rattle.report_script.specs.Requests.{number_of, request_view}
 use Rattle.report_script.proofs.request.Request.from_arguments.Goals.{in_default-via-then-args-lt5, in_default-via-else-args-lt5+else-args-lt6}
 use Rattle.report_script.proofs.request.Request.from_arguments.Goals as goal
 

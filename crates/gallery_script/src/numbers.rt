@@ -1,23 +1,13 @@
-//! The fields of a line.
+//! The numbers in the fields of a line.
 
 ghost use Rattle.std.specs.Prelude.{◌≡◌, IfOk, IfErr};
 ghost use Rattle.std.specs.Str.Parse.{ParsesUnsigned};
-ghost use Rattle.gallery_script.specs.Fields.{field_of, past_space, IsNumber, IsNoNumber, is_ignored};
+ghost use Rattle.script_words.specs.Fields.{field_of, past_space};
+ghost use Rattle.gallery_script.specs.Numbers.{IsNumber, IsNoNumber};
 ghost use Rattle.gallery_script.specs.declared.errors.LineError.TheVariants.{BadNumber};
 
 use crate::errors::LineError;
-
-/// Returns what precedes the first space of a text, and what follows it; the whole text and an
-/// empty one if there is no space.
-pub fn cut(text: &str) -> (&str, &str)
-    ensures before { result.0.now ≡ field_of text.now }
-    ensures after { result.1.now ≡ past_space text.now }
-{
-    match text.split_once(' ') {
-        Some((before, after)) => (before, after),
-        None => (text, ""),
-    }
-}
+use script_words::fields::cut;
 
 /// Parses a number of decimal digits, which may follow a plus sign.
 ///
@@ -47,14 +37,4 @@ pub fn cut_number(text: &str) -> Result<(usize, &str), LineError>
 {
     let (number, left) = cut(text);
     Ok((parse_number(number)?, left))
-}
-
-/// Returns whether a line is ignored: it is empty or begins with `#`.
-pub fn is_ignored(line: &str) -> bool
-    ensures { result ≡ is_ignored line.now }
-{
-    match line.as_bytes() {
-        [] => true,
-        [first, ..] => *first == b'#',
-    }
 }

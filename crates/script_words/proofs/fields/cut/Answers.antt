@@ -2,8 +2,8 @@ use Rattle.std.proofs.Common.{◌≡◌, ◌+◌, lit<, length, Some, None, sym,
 use Rattle.std.specs.List.{position_or_len}
 use Rattle.std.proofs.lemmas.List.{drop_all, take_all}
 use Rattle.std.proofs.lemmas.Str.Pattern.{split_once_first}
-use Rattle.gallery_script.specs.Fields.{is_space}
-use Rattle.gallery_script.proofs.fields.cut.Goals as goal
+use Rattle.script_words.specs.Fields.{is_space}
+use Rattle.script_words.proofs.fields.cut.Goals as goal
 
 -- the text is cut at its first space
 pub returns-in-Some-clause-before : goal.returns-in-Some-clause-before

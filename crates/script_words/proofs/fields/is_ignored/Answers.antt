@@ -1,14 +1,14 @@
 use Rattle.std.proofs.Common.{◌≡◌, ℕ, ◌<◌, ◌≤◌, ◌==◌, ◌∙◌, true, List, [], ◌∷◌, length, get_or, ap, arith, refl}
-use Rattle.gallery_script.specs.Fields.{is_ignored}
-use Rattle.gallery_script.proofs.fields.is_ignored.Goals as goal
+use Rattle.script_words.specs.Fields.{is_ignored_text}
+use Rattle.script_words.proofs.fields.is_ignored.Goals as goal
 
 -- an empty line is ignored
-empty : (line : List ℕ) → length line < 1 → true ≡ is_ignored line
+empty : (line : List ℕ) → length line < 1 → true ≡ is_ignored_text line
 empty [] short = refl
 empty (b ∷ bs) short = absurd (omega (arith, short))
 
 -- any other line by its first byte
-first_decides : (line : List ℕ) → 1 ≤ length line → (get_or line 0 0 == 35) ≡ is_ignored line
+first_decides : (line : List ℕ) → 1 ≤ length line → (get_or line 0 0 == 35) ≡ is_ignored_text line
 first_decides [] long = absurd (omega (arith, long))
 first_decides (b ∷ bs) long = refl
 

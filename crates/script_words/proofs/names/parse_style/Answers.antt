@@ -1,6 +1,6 @@
 use Rattle.std.proofs.Common.{refl}
-use Rattle.report_script.specs.Requests.{style_named}
-use Rattle.report_script.proofs.request.parse_style.Goals as goal
+use Rattle.script_words.specs.Names.{style_named}
+use Rattle.script_words.proofs.names.parse_style.Goals as goal
 
 -- the style of the word `short`
 pub returns-in-short : goal.returns-in-short

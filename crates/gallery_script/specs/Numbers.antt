@@ -1,0 +1,13 @@
+-- The numbers in the fields of a line.
+use Rattle.std.specs.Prelude.{ℕ, List, Ok, Err}
+use Rattle.std.specs.Str.Parse.{ParsesUnsigned}
+use Rattle.gallery_script.specs.declared.errors.LineError.{LineError}
+use Rattle.gallery_script.specs.declared.errors.LineError.TheVariants.{BadNumber}
+
+-- the text is this number in decimal digits, which may follow a plus sign
+abbrev pub IsNumber : List ℕ → ℕ → Type 0
+IsNumber text n = ParsesUnsigned {E = LineError} 64 10 text (Ok n)
+
+-- the text is no number, or one that does not fit
+abbrev pub IsNoNumber : List ℕ → Type 0
+IsNoNumber text = ParsesUnsigned {E = LineError} 64 10 text (Err BadNumber)

@@ -1,0 +1,4 @@
+-- the fields of a line
+pub mod Fields
+-- the names of styles and severities
+pub mod Names

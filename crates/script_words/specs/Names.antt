@@ -1,0 +1,25 @@
+-- The names of styles and severities.
+use Rattle.std.specs.Prelude.{ℕ, List, Option, Some, None, codes, if◌then◌else◌}
+use Rattle.std.specs.Str.{bytes_eq}
+use Rattle.codespan_base.specs.declared.diagnostic.Severity.{Severity}
+use Rattle.codespan_base.specs.declared.diagnostic.Severity.TheVariants.{Bug, Error, Warning, Note, Help}
+use Rattle.codespan_base.specs.declared.term.config.DisplayStyle.{DisplayStyle}
+use Rattle.codespan_base.specs.declared.term.config.DisplayStyle.TheVariants.{Rich, Medium, Short}
+
+-- the style of this name
+unfoldable pub style_named : List ℕ → Option DisplayStyle
+style_named text =
+    if bytes_eq text (codes "rich") then Some Rich
+    else if bytes_eq text (codes "medium") then Some Medium
+    else if bytes_eq text (codes "short") then Some Short
+    else None
+
+-- the severity of this name
+unfoldable pub severity_named : List ℕ → Option Severity
+severity_named text =
+    if bytes_eq text (codes "bug") then Some Bug
+    else if bytes_eq text (codes "error") then Some Error
+    else if bytes_eq text (codes "warning") then Some Warning
+    else if bytes_eq text (codes "note") then Some Note
+    else if bytes_eq text (codes "help") then Some Help
+    else None

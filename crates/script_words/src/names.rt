@@ -1,0 +1,35 @@
+//! The names of styles and severities.
+
+ghost use Rattle.std.specs.Prelude.{◌≡◌};
+ghost use Rattle.script_words.specs.Names.{style_named, severity_named};
+
+use codespan_base::diagnostic::Severity;
+use codespan_base::term::DisplayStyle;
+
+/// Returns the style of this name, or `None`.
+#[tactic(auto, unfolding(crate::specs::Names::style_named))]
+pub fn parse_style(text: &str) -> Option<DisplayStyle>
+    ensures { result ≡ style_named text.now }
+{
+    match text {
+        "rich" => Some(DisplayStyle::Rich),
+        "medium" => Some(DisplayStyle::Medium),
+        "short" => Some(DisplayStyle::Short),
+        _ => None,
+    }
+}
+
+/// Returns the severity of this name, or `None`.
+#[tactic(auto, unfolding(crate::specs::Names::severity_named))]
+pub fn parse_severity(text: &str) -> Option<Severity>
+    ensures { result ≡ severity_named text.now }
+{
+    match text {
+        "bug" => Some(Severity::Bug),
+        "error" => Some(Severity::Error),
+        "warning" => Some(Severity::Warning),
+        "note" => Some(Severity::Note),
+        "help" => Some(Severity::Help),
+        _ => None,
+    }
+}
