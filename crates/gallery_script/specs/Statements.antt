@@ -16,7 +16,8 @@ use Rattle.gallery_script.specs.Escapes.{Unescapes}
 use Rattle.script_words.specs.Fields.{field_of, past_space, is_ignored_text}
 use Rattle.script_words.specs.Names.{severity_named, style_named}
 use Rattle.gallery_script.specs.Numbers.{IsNumber, IsNoNumber}
-use Rattle.gallery_script.specs.Words.{word_named, database_kind_named, layout_named, characters_named, colors_named}
+use Rattle.gallery_script.specs.Words.{characters_named, colors_named, database_kind_named}
+use Rattle.gallery_script.specs.Words.{layout_named, word_named}
 
 -- ---- what a line describes
 

@@ -1,7 +1,8 @@
 //! The words of lines, and the names that may follow them.
 
 ghost use Rattle.std.specs.Prelude.{◌≡◌};
-ghost use Rattle.gallery_script.specs.Words.{word_named, database_kind_named, layout_named, characters_named, colors_named};
+ghost use Rattle.gallery_script.specs.Words.{characters_named, colors_named, database_kind_named};
+ghost use Rattle.gallery_script.specs.Words.{layout_named, word_named};
 
 use crate::case::{CharacterSet, Colors, DatabaseKind};
 use codespan_base::term::Layout;

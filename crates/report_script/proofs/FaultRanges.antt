@@ -20,7 +20,9 @@ use Rattle.report_script.specs.declared.script.words.Word.TheVariants.{Severity,
 use Rattle.report_script.specs.Requests.{number_of}
 use Rattle.report_script.specs.ScriptFaults.{fault_at, fault_from, line_of_word, line_fault, number_fault, or_fault, repetition, severity_fault, word_fault}
 use Rattle.report_script.specs.ScriptLaws.{FaultLiesIn, FaultsLieInside, LiesIn}
-use Rattle.report_script.specs.ScriptLines.{ScriptLine, body, is_end, is_newline, is_ignored, lines_from, lines_of, range_at, rest_of, source_of, word_of, word_range}
+use Rattle.report_script.specs.ScriptLines.{ScriptLine, body, is_end, is_newline, is_ignored}
+use Rattle.report_script.specs.ScriptLines.{lines_from, lines_of, range_at, rest_of}
+use Rattle.report_script.specs.ScriptLines.{source_of, word_of, word_range}
 use Rattle.report_script.specs.ScriptWords.{word_named}
 use Rattle.report_script.specs.Scripts.{read_lines, read_script}
 

@@ -18,7 +18,8 @@ use Rattle.report_script.specs.ScriptFaults.{fault_at, fault_from, line_of_word,
 use Rattle.report_script.specs.ScriptLaws.{ScriptReadsBack}
 use Rattle.report_script.specs.Statements.{IsStatable, Statement, code_stated, label_fields, label_stated, message_stated, note_stated, first_stated, stated_diagnostic, severity_name, severity_stated, statement_line, written}
 use Rattle.report_script.specs.Statements.Statement.{SeverityLine, CodeLine, MessageLine, LabelLine, NoteLine, CommentLine, EmptyLine}
-use Rattle.report_script.specs.ScriptLines.{ScriptLine, is_newline, lines_from, lines_of, range_at, rest_of, source_of, word_of, word_range}
+use Rattle.report_script.specs.ScriptLines.{ScriptLine, is_newline, lines_from, lines_of}
+use Rattle.report_script.specs.ScriptLines.{range_at, rest_of, source_of, word_of, word_range}
 use Rattle.report_script.specs.ScriptWords.{word_named}
 use Rattle.report_script.specs.Scripts.{diagnostic_of, parsed_label, parsed_note, read_lines, read_script, rest_of_word, parsed_severity}
 use Rattle.report_script.proofs.WrittenScripts.{line_at, statement_lines, body_written, source_written}

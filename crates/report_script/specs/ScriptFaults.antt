@@ -13,7 +13,8 @@ use Rattle.report_script.specs.declared.script.ScriptError.TheVariants as errors
 use Rattle.report_script.specs.declared.script.words.Word.{Word}
 use Rattle.report_script.specs.declared.script.words.Word.TheVariants.{Severity, Code, Message, Primary, Secondary, Note}
 use Rattle.report_script.specs.Requests.{number_of}
-use Rattle.report_script.specs.ScriptLines.{ScriptLine, is_ignored, word_of, rest_of, range_at, word_range}
+use Rattle.report_script.specs.ScriptLines.{ScriptLine, is_ignored, word_of, rest_of}
+use Rattle.report_script.specs.ScriptLines.{range_at, word_range}
 use Rattle.report_script.specs.ScriptWords.{word_named}
 
 -- an error with one range

@@ -1,5 +1,5 @@
-//! What the scripts of `report` and the cases of `gallery` have in common: the fields of a line, and
-//! the names of styles and severities.
+//! What the scripts of `report` and the cases of `gallery` have in common: the fields of a line,
+//! and the names of styles and severities.
 #![tactic(auto)]
 
 pub mod fields;

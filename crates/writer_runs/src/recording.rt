@@ -21,7 +21,7 @@ impl Recording {
     }
 
     /// Returns an empty recording of a writer that takes `most` bytes at most at a time, and stops
-    /// so after `writes` writes.
+    /// in this way after `writes` writes.
     pub fn stopping(alloc: Global, most: usize, writes: usize, stop: Stop) -> Recording {
         Recording {
             inner: Stopping::new(alloc, most, writes, stop),

@@ -15,9 +15,9 @@ use std::fmt::Display;
 use std::io;
 use std::io::{Read, Write};
 
-/// Makes the runs of each worked output and of each direct call, writes a line for each, and returns
-/// the program's status. The number of runs is written to `error_output`, after the error that ends
-/// the program, if there is one; an error of `error_output` is ignored.
+/// Makes the runs of each worked output and of each direct call, writes a line for each, and
+/// returns the program's status. The number of runs is written to `error_output`, after the error
+/// that ends the program, if there is one; an error of `error_output` is ignored.
 pub fn run<R: Read, W: Write, E: Write>(
     alloc: Global,
     input: &mut R,
