@@ -94,8 +94,47 @@ const INITIAL: Texts<'_> = Texts {
     notes: &["n"],
 };
 
+/// The same, as the calls read them.
+static BEFORE: Texts<'_> = INITIAL;
+
+/// The texts with a code.
+static WITH_CODE: Texts<'_> = Texts {
+    code: Some("c"),
+    ..INITIAL
+};
+
+/// The texts with another message.
+static WITH_MESSAGE: Texts<'_> = Texts {
+    message: "another",
+    ..INITIAL
+};
+
+/// The texts with another label.
+static WITH_LABEL: Texts<'_> = Texts {
+    labels: &["a", "b"],
+    ..INITIAL
+};
+
+/// The texts with two other labels.
+static WITH_LABELS: Texts<'_> = Texts {
+    labels: &["a", "b", "c"],
+    ..INITIAL
+};
+
+/// The texts with another note.
+static WITH_NOTE: Texts<'_> = Texts {
+    notes: &["n", "o"],
+    ..INITIAL
+};
+
+/// The texts with two other notes.
+static WITH_NOTES: Texts<'_> = Texts {
+    notes: &["n", "o", "p"],
+    ..INITIAL
+};
+
 /// Returns the diagnostic of these texts, built field by field.
-fn diagnostic(alloc: Global, texts: Texts<'_>) -> Result<Diagnostic<usize>, Error> {
+fn diagnostic(alloc: Global, texts: &Texts<'_>) -> Result<Diagnostic<usize>, Error> {
     let code = match texts.code {
         Some(code) => Some(String::from_str(alloc, code)?),
         None => None,
@@ -124,32 +163,14 @@ pub fn judge_label(alloc: Global, call: LabelCall) -> Result<Outcome, Error> {
 }
 
 /// Returns the texts that a diagnostic has to have after a call.
-fn expected_texts(call: DiagnosticCall) -> Texts<'static> {
+fn expected_texts(call: DiagnosticCall) -> &'static Texts<'static> {
     match call {
-        DiagnosticCall::WithText(TextCall::Code) | DiagnosticCall::Clone => Texts {
-            code: Some("c"),
-            ..INITIAL
-        },
-        DiagnosticCall::WithText(TextCall::Message) => Texts {
-            message: "another",
-            ..INITIAL
-        },
-        DiagnosticCall::WithLabel => Texts {
-            labels: &["a", "b"],
-            ..INITIAL
-        },
-        DiagnosticCall::WithLabels(_) => Texts {
-            labels: &["a", "b", "c"],
-            ..INITIAL
-        },
-        DiagnosticCall::WithText(TextCall::Note) => Texts {
-            notes: &["n", "o"],
-            ..INITIAL
-        },
-        DiagnosticCall::WithNotes(_) => Texts {
-            notes: &["n", "o", "p"],
-            ..INITIAL
-        },
+        DiagnosticCall::WithText(TextCall::Code) | DiagnosticCall::Clone => &WITH_CODE,
+        DiagnosticCall::WithText(TextCall::Message) => &WITH_MESSAGE,
+        DiagnosticCall::WithLabel => &WITH_LABEL,
+        DiagnosticCall::WithLabels(_) => &WITH_LABELS,
+        DiagnosticCall::WithText(TextCall::Note) => &WITH_NOTE,
+        DiagnosticCall::WithNotes(_) => &WITH_NOTES,
     }
 }
 
@@ -160,54 +181,58 @@ fn expected_texts(call: DiagnosticCall) -> Texts<'static> {
 /// `OutOfMemory` if an allocation of the preparation fails.
 pub fn judge_diagnostic(alloc: Global, call: DiagnosticCall) -> Result<Outcome, Error> {
     let expected = diagnostic(alloc, expected_texts(call))?;
-    let initial = diagnostic(alloc, INITIAL)?;
+    let returned = returned_diagnostic(alloc, call, &expected)?;
+    Ok(judge_value(&returned, &expected))
+}
+
+/// Makes a call of a diagnostic.
+fn returned_diagnostic(
+    alloc: Global,
+    call: DiagnosticCall,
+    expected: &Diagnostic<usize>,
+) -> Result<Result<Diagnostic<usize>, Error>, Error> {
     match call {
-        DiagnosticCall::WithLabel => {
-            let added = label(alloc, "b")?;
-            Ok(judge_value(&initial.with_label(added), &expected))
-        }
-        DiagnosticCall::WithLabels(list) => {
-            let added = labels(alloc, &["b", "c"])?;
-            Ok(judge_value(&with_labels(initial, list, added), &expected))
-        }
-        DiagnosticCall::WithNotes(list) => {
-            let added = notes(alloc, &["o", "p"])?;
-            Ok(judge_value(&with_notes(initial, list, added), &expected))
-        }
-        DiagnosticCall::Clone => Ok(judge_value(&expected.clone(), &expected)),
-        DiagnosticCall::WithText(text) => Ok(judge_value(&with_text(initial, text), &expected)),
+        DiagnosticCall::WithLabel => with_label(alloc),
+        DiagnosticCall::WithLabels(list) => with_labels(alloc, list),
+        DiagnosticCall::WithNotes(list) => with_notes(alloc, list),
+        DiagnosticCall::Clone => Ok(expected.clone()),
+        DiagnosticCall::WithText(text) => with_text(alloc, text),
     }
+}
+
+/// Makes a call that takes a label.
+fn with_label(alloc: Global) -> Result<Result<Diagnostic<usize>, Error>, Error> {
+    let added = label(alloc, "b")?;
+    let initial = diagnostic(alloc, &BEFORE)?;
+    Ok(initial.with_label(added))
 }
 
 /// Makes a call that takes labels.
-fn with_labels(
-    initial: Diagnostic<usize>,
-    list: ListCall,
-    added: Vec<Label<usize>>,
-) -> Result<Diagnostic<usize>, Error> {
-    match list {
+fn with_labels(alloc: Global, list: ListCall) -> Result<Result<Diagnostic<usize>, Error>, Error> {
+    let added = labels(alloc, &["b", "c"])?;
+    let initial = diagnostic(alloc, &BEFORE)?;
+    Ok(match list {
         ListCall::OfVector => initial.with_labels(added),
         ListCall::OfIterator => initial.with_labels_iter(added),
-    }
+    })
 }
 
 /// Makes a call that takes notes.
-fn with_notes(
-    initial: Diagnostic<usize>,
-    list: ListCall,
-    added: Vec<String>,
-) -> Result<Diagnostic<usize>, Error> {
-    match list {
+fn with_notes(alloc: Global, list: ListCall) -> Result<Result<Diagnostic<usize>, Error>, Error> {
+    let added = notes(alloc, &["o", "p"])?;
+    let initial = diagnostic(alloc, &BEFORE)?;
+    Ok(match list {
         ListCall::OfVector => initial.with_notes(added),
         ListCall::OfIterator => initial.with_notes_iter(added),
-    }
+    })
 }
 
 /// Makes a call that takes a text.
-fn with_text(initial: Diagnostic<usize>, text: TextCall) -> Result<Diagnostic<usize>, Error> {
-    match text {
+fn with_text(alloc: Global, text: TextCall) -> Result<Result<Diagnostic<usize>, Error>, Error> {
+    let initial = diagnostic(alloc, &BEFORE)?;
+    Ok(match text {
         TextCall::Code => initial.with_code("c"),
         TextCall::Message => initial.with_message("another"),
         TextCall::Note => initial.with_note("o"),
-    }
+    })
 }

@@ -11,7 +11,7 @@ use crate::recording::Recording;
 use codespan_base::diagnostic::Diagnostic;
 use codespan_base::files::{Error, Files, MappedFile, SimpleFiles};
 use codespan_base::term::{
-    Ansi, Config, DisplayStyle, PlainWriter, Styles, StylesWriter, WriteStyle,
+    Ansi, Config, DisplayStyle, PlainWriter, Styles, StylesWriter, WriteColor, WriteStyle,
 };
 use codespan_renderer::term::renderer::Renderer;
 use codespan_views::emitting::{
@@ -160,7 +160,8 @@ fn judge_colored<'files, F: Files<'files>>(
     diagnostic: &Diagnostic<F::FileId>,
 ) -> Outcome {
     let mut recording = Recording::new(alloc);
-    let returned = render_colored(&mut recording, rendering, files, diagnostic);
+    let colored = Ansi::new(&mut recording);
+    let returned = render_colored(colored, rendering, files, diagnostic);
     judge_recording(&returned, &recording, output)
 }
 
@@ -191,16 +192,16 @@ fn render_plain<'files, F: Files<'files>, W: Write>(
     render_styled(&mut plain, rendering, files, diagnostic)
 }
 
-/// Makes a call that writes style marks, in escape sequences.
-fn render_colored<'files, F: Files<'files>, W: Write>(
-    writer: &mut W,
+/// Makes a call that writes style marks, in colors.
+fn render_colored<'files, F: Files<'files>, W: WriteColor + Drop>(
+    colored: W,
     rendering: &Rendering<'_>,
     files: &'files F,
     diagnostic: &Diagnostic<F::FileId>,
 ) -> Result<(), Error> {
     let styles = Styles::default();
-    let mut colored = StylesWriter::new(Ansi::new(writer), &styles);
-    render_styled(&mut colored, rendering, files, diagnostic)
+    let mut writer = StylesWriter::new(colored, &styles);
+    render_styled(&mut writer, rendering, files, diagnostic)
 }
 
 /// Renders to a writer of styles: by the view of the style, or by the emit call.

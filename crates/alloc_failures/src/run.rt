@@ -3,7 +3,8 @@
 ghost use Rattle.std.specs.Prelude.{◌≤◌};
 
 use crate::outcome::Outcome;
-use crate::subject::{CALLS, CASES, RENDER_CALLS, Subject};
+use crate::rendering::RenderCall;
+use crate::subject::{Call, Subject, calls, cases, render_calls};
 use std::alloc::Global;
 use std::io;
 use std::io::Write;
@@ -39,17 +40,39 @@ pub fn conclude<W: Write>(outcome: Outcome, output: &mut W) -> u8
 /// Judges all subjects, writes a line for each, and returns whether all are done.
 fn judge_all<W: Write>(alloc: Global, output: &mut W) -> io::Result<bool> {
     let mut are_done = true;
-    for (name, subject) in &CALLS {
+    for calls in &calls() {
+        are_done &= judge_calls(alloc, calls, output)?;
+    }
+    for (name, call) in render_calls() {
+        are_done &= judge_cases(alloc, name, *call, output)?;
+    }
+    Ok(are_done)
+}
+
+/// Judges subjects named by one word, writes a line for each, and returns whether all are done.
+fn judge_calls<W: Write>(alloc: Global, calls: &[Call], output: &mut W) -> io::Result<bool> {
+    let mut are_done = true;
+    for (name, subject) in calls {
         let outcome = subject.judge(alloc);
         writeln!(output, "{name}: {outcome}")?;
-        are_done = are_done && outcome == Outcome::Done;
+        are_done &= outcome == Outcome::Done;
     }
-    for (call_name, call) in &RENDER_CALLS {
-        for (name, case) in &CASES {
-            let outcome = Subject::Rendering(*call, *case).judge(alloc);
-            writeln!(output, "{call_name} {name}: {outcome}")?;
-            are_done = are_done && outcome == Outcome::Done;
-        }
+    Ok(are_done)
+}
+
+/// Judges the subjects of a call that renders, writes a line for each, and returns whether all are
+/// done.
+fn judge_cases<W: Write>(
+    alloc: Global,
+    call_name: &str,
+    call: RenderCall,
+    output: &mut W,
+) -> io::Result<bool> {
+    let mut are_done = true;
+    for (name, case) in cases() {
+        let outcome = Subject::Rendering(call, *case).judge(alloc);
+        writeln!(output, "{call_name} {name}: {outcome}")?;
+        are_done &= outcome == Outcome::Done;
     }
     Ok(are_done)
 }

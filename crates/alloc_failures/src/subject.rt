@@ -37,8 +37,11 @@ pub enum Subject {
     WithoutAlloc(Extent),
 }
 
-/// The subjects named by one word.
-pub static CALLS: [(&str, Subject); 28] = [
+/// A subject named by one word, with its name.
+pub type Call = (&'static str, Subject);
+
+/// The calls of labels and diagnostics.
+static BUILDERS: [Call; 11] = [
     (
         "Label::with_message",
         Subject::Label(LabelCall::WithMessage),
@@ -80,12 +83,20 @@ pub static CALLS: [(&str, Subject); 28] = [
         "Diagnostic::clone",
         Subject::Diagnostic(DiagnosticCall::Clone),
     ),
+];
+
+/// The clones of configurations and of parts of them.
+static CLONES: [Call; 3] = [
     (
         "SnippetStart::clone",
         Subject::Clone(CloneCall::SnippetStart),
     ),
     ("Chars::clone", Subject::Clone(CloneCall::Chars)),
     ("Config::clone", Subject::Clone(CloneCall::Config)),
+];
+
+/// The calls of file databases.
+static DATABASES: [Call; 4] = [
     (
         "SimpleFile::new",
         Subject::Database(DatabaseCall::SimpleFileNew),
@@ -99,6 +110,10 @@ pub static CALLS: [(&str, Subject); 28] = [
         "MappedFile::set_line",
         Subject::Database(DatabaseCall::SetLine),
     ),
+];
+
+/// The calls of `codespan_styled` and `codespan_lsp`.
+static DOCUMENTS: [Call; 7] = [
     ("styled_text", Subject::Document(DocumentCall::StyledText)),
     (
         "to_html",
@@ -118,6 +133,10 @@ pub static CALLS: [(&str, Subject); 28] = [
         "to_lsp_diagnostics",
         Subject::Document(DocumentCall::ToLspDiagnostics),
     ),
+];
+
+/// The call of `codespan_native`, and the calls that do not allocate.
+static OTHERS: [Call; 3] = [
     ("codespan_emit", Subject::Native),
     (
         "without_alloc_prepared",
@@ -126,8 +145,8 @@ pub static CALLS: [(&str, Subject); 28] = [
     ("without_alloc", Subject::WithoutAlloc(Extent::Calls)),
 ];
 
-/// The first words of the subjects named by two words.
-pub static RENDER_CALLS: [(&str, RenderCall); 6] = [
+/// The first words of the subjects named by two words, with their calls.
+static RENDER_CALLS: [(&str, RenderCall); 6] = [
     ("render", RenderCall::Render),
     ("emit_to_write_style", RenderCall::EmitToWriteStyle),
     ("emit_to_io_write", RenderCall::EmitToIoWrite),
@@ -136,8 +155,8 @@ pub static RENDER_CALLS: [(&str, RenderCall); 6] = [
     ("emit_to_string", RenderCall::EmitToString),
 ];
 
-/// The second words of the subjects named by two words.
-pub static CASES: [(&str, &Case<'static>); 8] = [
+/// The second words of the subjects named by two words, with their cases.
+static CASES: [(&str, &Case<'static>); 8] = [
     ("mutable_borrows", &MUTABLE_BORROWS),
     ("mismatched_types", &MISMATCHED_TYPES),
     ("coloured_header", &COLOURED_HEADER),
@@ -148,14 +167,29 @@ pub static CASES: [(&str, &Case<'static>); 8] = [
     ("surrounding_lines", &SURROUNDING_LINES),
 ];
 
+/// Returns the subjects named by one word.
+pub fn calls() -> [&'static [Call]; 5] {
+    [&BUILDERS, &CLONES, &DATABASES, &DOCUMENTS, &OTHERS]
+}
+
+/// Returns the first words of the subjects named by two words, with their calls.
+pub fn render_calls() -> &'static [(&'static str, RenderCall)] {
+    &RENDER_CALLS
+}
+
+/// Returns the second words of the subjects named by two words, with their cases.
+pub fn cases() -> &'static [(&'static str, &'static Case<'static>)] {
+    &CASES
+}
+
 impl Subject {
     /// Returns the subject that the arguments name.
     pub fn from_arguments(args: &[String]) -> Option<Subject> {
         match args {
-            [word] => entry_named(&CALLS, word.as_str()),
+            [word] => call_named(word.as_str()),
             [call, case_name] => Some(Subject::Rendering(
-                entry_named(&RENDER_CALLS, call.as_str())?,
-                entry_named(&CASES, case_name.as_str())?,
+                entry_named(render_calls(), call.as_str())?,
+                entry_named(cases(), case_name.as_str())?,
             )),
             _ => None,
         }
@@ -174,6 +208,16 @@ impl Subject {
             Subject::WithoutAlloc(extent) => judge_without_alloc(alloc, extent),
         })
     }
+}
+
+/// Returns the subject of this name.
+fn call_named(name: &str) -> Option<Subject> {
+    for calls in &calls() {
+        if let Some(subject) = entry_named(calls, name) {
+            return Some(subject);
+        }
+    }
+    None
 }
 
 /// Returns the entry of a table of this name.

@@ -10,7 +10,7 @@ ghost use Rattle.gallery_cases.specs.CaseOutputs.{AppendsOutput};
 
 use codespan_base::diagnostic::Diagnostic;
 use codespan_base::files::{Error, Files};
-use codespan_base::term::{Ansi, Styles, StylesWriter};
+use codespan_base::term::{Ansi, Styles, StylesWriter, WriteColor};
 use codespan_styled::{StyledText, styled_text};
 use codespan_views::emitting::{emit_into_string, emit_to_write_style};
 use gallery_script::case::{Case, Colors};
@@ -50,10 +50,20 @@ fn render_over<'files, F: Files<'files>>(
         output.extend_from_slice(text.as_bytes())?;
         Ok(())
     } else {
-        let styles = Styles::default();
-        let mut writer = StylesWriter::new(Ansi::new(output), &styles);
-        emit_to_write_style(&mut writer, &case.config, files, diagnostic)
+        render_colored(case, files, diagnostic, Ansi::new(output))
     }
+}
+
+/// Writes the rendered case over these files to a writer of colors.
+fn render_colored<'files, F: Files<'files>, W: WriteColor + Drop>(
+    case: &Case<'_>,
+    files: &'files F,
+    diagnostic: &Diagnostic<F::FileId>,
+    colored: W,
+) -> Result<(), Error> {
+    let styles = Styles::default();
+    let mut writer = StylesWriter::new(colored, &styles);
+    emit_to_write_style(&mut writer, &case.config, files, diagnostic)
 }
 
 /// Renders a case over its files, whatever colors it states, and returns its runs of text, each in

@@ -2,7 +2,7 @@
 
 ghost use Rattle.std.specs.Prelude.{◌≤◌};
 
-use crate::direct::rows::ROWS;
+use crate::direct::rows::{DirectRow, rows};
 use crate::failure::{FailureAt, ProgramError};
 use crate::judging::{STYLES, judge_direct, judge_output};
 use crate::rendering::CALLS;
@@ -89,7 +89,10 @@ fn judge_all<R: Read, W: Write>(
 ) -> Result<(), ProgramError> {
     let text = read_text(alloc, input)?;
     judge_text(alloc, text.as_str(), output, sum)?;
-    judge_direct_rows(alloc, output, sum)
+    for rows in &rows() {
+        judge_direct_rows(alloc, rows, output, sum)?;
+    }
+    Ok(())
 }
 
 /// Makes the runs of the worked outputs of an input.
@@ -120,13 +123,14 @@ fn judge_outputs<W: Write>(
     Ok(())
 }
 
-/// Makes the runs of the direct calls, and writes a line for each.
+/// Makes the runs of direct calls, and writes a line for each.
 fn judge_direct_rows<W: Write>(
     alloc: Global,
+    rows: &[DirectRow<'_>],
     output: &mut W,
     sum: &mut Sum,
 ) -> Result<(), ProgramError> {
-    for row in &ROWS {
+    for row in rows {
         let (name, judged) = (row.name, judge_direct(alloc, row));
         sum.report(output, format_args!("row {name}"), judged, row.call)?;
     }

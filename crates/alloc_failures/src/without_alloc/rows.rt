@@ -3,7 +3,9 @@
 use codespan_base::diagnostic::LabelStyle::{Primary, Secondary};
 use codespan_base::diagnostic::{LabelStyle, Severity};
 use codespan_base::files::Error;
-use codespan_base::term::{Ansi, Config, PlainWriter, Styles, StylesWriter, WriteStyle};
+use codespan_base::term::{
+    Ansi, Config, PlainWriter, Styles, StylesWriter, WriteColor, WriteStyle,
+};
 use codespan_renderer::term::renderer::{Locus, MultiLabel, Renderer, lanes_in_order};
 use std::io::Write;
 
@@ -97,8 +99,13 @@ fn render_line<W: WriteStyle>(
 ///
 /// Those of `render_snippet_source`.
 pub fn render_colored<W: Write>(output: &mut W) -> Result<(), Error> {
+    render_label_colored(Ansi::new(output))
+}
+
+/// Writes a source line with a label and its message, in the default styles.
+fn render_label_colored<W: WriteColor + Drop>(writer: W) -> Result<(), Error> {
     let styles = Styles::default();
-    render_label(&mut StylesWriter::new(Ansi::new(output), &styles))
+    render_label(&mut StylesWriter::new(writer, &styles))
 }
 
 /// Writes a source line with a label and its message.

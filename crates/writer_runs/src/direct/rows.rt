@@ -46,8 +46,8 @@ const WITH_TABS: Line<'static> = Line {
     ..LINE
 };
 
-/// The rows.
-pub static ROWS: [DirectRow<'static>; 26] = [
+/// The rows before a snippet.
+static HEADERS: [DirectRow<'static>; 5] = [
     DirectRow {
         name: "report_short_and_medium",
         call: RowCall::LocatedHeader(None, "bad"),
@@ -78,6 +78,10 @@ pub static ROWS: [DirectRow<'static>; 26] = [
         text: "  ┌─ f.txt:1:1\n",
         ..ROW
     },
+];
+
+/// Source lines with labels.
+static LABELS: [DirectRow<'static>; 6] = [
     DirectRow {
         name: "reversed_handed_in",
         call: RowCall::Source(Line {
@@ -156,6 +160,10 @@ pub static ROWS: [DirectRow<'static>; 26] = [
          \x20 │ ------ Cow does not start or end at boundary.\n",
         ..ROW
     },
+];
+
+/// A source line with tabs, by tab width.
+static TABS: [DirectRow<'static>; 3] = [
     DirectRow {
         name: "tab_stops, 4",
         call: RowCall::Source(WITH_TABS),
@@ -183,6 +191,10 @@ pub static ROWS: [DirectRow<'static>; 26] = [
          \x20 │                    ^^^^^^^^^^^^^^^ the condition\n",
         ..ROW
     },
+];
+
+/// Source lines with lanes.
+static LANES: [DirectRow<'static>; 3] = [
     DirectRow {
         name: "crossing_lanes, first line",
         call: RowCall::Source(Line {
@@ -224,6 +236,10 @@ pub static ROWS: [DirectRow<'static>; 26] = [
         text: "3 │   │ ef\n  │   ╰─^ p\n",
         ..ROW
     },
+];
+
+/// Empty rows and breaks.
+static BREAKS: [DirectRow<'static>; 4] = [
     DirectRow {
         name: "report_run, empty row",
         call: RowCall::SnippetEmpty(1, 0),
@@ -248,6 +264,10 @@ pub static ROWS: [DirectRow<'static>; 26] = [
         text: "   · │\n",
         ..ROW
     },
+];
+
+/// Notes.
+static NOTES: [DirectRow<'static>; 3] = [
     DirectRow {
         name: "script_run",
         call: RowCall::Note(1, "why"),
@@ -266,6 +286,10 @@ pub static ROWS: [DirectRow<'static>; 26] = [
         text: " = a\n   \n   b\n",
         ..ROW
     },
+];
+
+/// Rows in colors.
+static COLORED: [DirectRow<'static>; 2] = [
     DirectRow {
         name: "coloured_header",
         call: RowCall::Header(None, "m"),
@@ -286,3 +310,10 @@ pub static ROWS: [DirectRow<'static>; 26] = [
         ),
     },
 ];
+
+/// Returns the rows.
+pub fn rows() -> [&'static [DirectRow<'static>]; 7] {
+    [
+        &HEADERS, &LABELS, &TABS, &LANES, &BREAKS, &NOTES, &COLORED,
+    ]
+}

@@ -224,20 +224,37 @@ const SCRIPTS_WITHOUT_END: [ScriptRun<'static>; 2] = [
     ),
 ];
 
-/// The runs over scripts with an error, by name.
-static SCRIPTS_WITH_ERRORS: [(&str, &[ScriptRun<'static>]); 4] = [
+/// The runs over scripts with an unknown word or severity, by name.
+static SCRIPTS_WITH_UNKNOWN: [(&str, &[ScriptRun<'static>]); 2] = [
     ("scripts_with_unknown_words", &SCRIPTS_WITH_UNKNOWN_WORDS),
     (
         "scripts_with_unknown_severities",
         &SCRIPTS_WITH_UNKNOWN_SEVERITIES,
     ),
+];
+
+/// The runs over scripts with other errors, by name.
+static SCRIPTS_WITH_OTHER_ERRORS: [(&str, &[ScriptRun<'static>]); 2] = [
     ("scripts_with_bad_numbers", &SCRIPTS_WITH_BAD_NUMBERS),
     ("scripts_without_end", &SCRIPTS_WITHOUT_END),
 ];
 
-/// Asserts what is seen of these runs.
-pub fn check_scripts_with_errors(rt: &impl Abort, alloc: Global) {
-    for (name, runs) in &SCRIPTS_WITH_ERRORS {
+/// Asserts what is seen of the runs over scripts with an unknown word or severity.
+fn check_scripts_with_unknown(rt: &impl Abort, alloc: Global) {
+    for (name, runs) in &SCRIPTS_WITH_UNKNOWN {
         check_scripts(rt, alloc, name, runs);
     }
+}
+
+/// Asserts so of the runs over scripts with other errors.
+fn check_scripts_with_other_errors(rt: &impl Abort, alloc: Global) {
+    for (name, runs) in &SCRIPTS_WITH_OTHER_ERRORS {
+        check_scripts(rt, alloc, name, runs);
+    }
+}
+
+/// Asserts so of the runs over scripts with an error.
+pub fn check_scripts_with_errors(rt: &impl Abort, alloc: Global) {
+    check_scripts_with_unknown(rt, alloc);
+    check_scripts_with_other_errors(rt, alloc);
 }
