@@ -11,8 +11,8 @@
 //!
 //! | status | meaning |
 //! |---|---|
-//! | 0 | no error; without SUBJECT, each subject is done |
-//! | 1 | a wrong outcome, without SUBJECT any but `done`; or writing the output failed |
+//! | 0 | the outcome is `done`, `failed` or `unprepared`; without SUBJECT, each is `done` |
+//! | 1 | the outcome is `wrong`, without SUBJECT any but `done`; or writing the output failed |
 //! | 2 | no subject has this name |
 #![tactic(auto)]
 

@@ -20,8 +20,8 @@ abbrev pub starts_view : {Id : Type 0} → List (RustFile Id) → List FileStart
 starts_view {Id} files = map (λ (f : RustFile Id). f.start) files
 
 -- how many lanes each has
-abbrev pub lanes_view : {Id : Type 0} → List (RustFile Id) → List ℕ
-lanes_view {Id} files = map (λ (f : RustFile Id). f.num_multi_labels) files
+abbrev pub lane_counts : {Id : Type 0} → List (RustFile Id) → List ℕ
+lane_counts {Id} files = map (λ (f : RustFile Id). f.num_multi_labels) files
 
 -- how many lanes the file of an id has for these labels
 abbrev pub num_multi_labels_of : {Id : Type 0} → (Id → Id → Bool) → (Id → FileModel)

@@ -31,7 +31,7 @@ pub struct LineInfo {
     pub end: usize,
 }
 
-/// The kind of a multi-line label mark: what the label does on the line.
+/// The kind of a multi-line label mark.
 #[derive(Clone, Copy)]
 pub enum MultiLabelKind {
     /// The label starts on the line.
@@ -42,7 +42,7 @@ pub enum MultiLabelKind {
     Bottom,
 }
 
-/// What a label does on a line.
+/// The kind of an annotation.
 pub enum AnnotationKind<'d, FileId> {
     /// The label makes the line shown.
     Shown,

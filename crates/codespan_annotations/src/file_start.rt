@@ -1,4 +1,4 @@
-//! Where the snippet of each file starts.
+//! The byte of each file's locus.
 
 ghost use Rattle.std.specs.Prelude.{◌≡◌};
 ghost use Rattle.codespan_base.specs.Labels.{is_primary};
@@ -24,7 +24,7 @@ fn least(known: Option<usize>, start: usize) -> usize
     }
 }
 
-/// Where the snippet of a file starts, by the labels that were added. Byte indices are 0-based.
+/// The byte of a file's locus, by the labels that were added. Byte indices are 0-based.
 #[derive(Clone, Copy)]
 pub struct FileStart {
     /// The least byte index at which a primary label starts; `None` where none is primary.
@@ -60,8 +60,8 @@ impl FileStart {
         }
     }
 
-    /// Returns the byte index at which the snippet starts: the least start of a primary label, or
-    /// of any label where none is primary; 0 without labels.
+    /// Returns the byte index of the locus: the least start of a primary label, or of any label
+    /// where none is primary; 0 without labels.
     pub fn byte(self) -> usize
         ensures { result ≡ start_byte self }
     {

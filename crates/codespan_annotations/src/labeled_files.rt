@@ -3,7 +3,7 @@
 ghost use Rattle.std.specs.Prelude.{◌≡◌, ◌<◌, ◌≤◌, ◌+◌, ◌^◌, false, [], ◌∷◌, ◌++◌, IfOk, OnOk, OnErr, IsErrOf, length, slice_index_or, take};
 ghost use Rattle.std.specs.List.{AllByRecursion};
 ghost use Rattle.codespan_picture.specs.Picture.{label_of};
-ghost use Rattle.codespan_annotations.specs.LabeledFiles.{ids_view, lanes_by, lanes_view, lanes_with_label, starts_with_label, starts_view, with_file};
+ghost use Rattle.codespan_annotations.specs.LabeledFiles.{ids_view, lanes_by, lane_counts, lanes_with_label, starts_with_label, starts_view, with_file};
 ghost use Rattle.codespan_annotations.specs.FileStarts.{no_start, start_with};
 ghost use Rattle.codespan_annotations.specs.FileIndices.{AreDistinct, index_of_file};
 
@@ -17,7 +17,7 @@ use codespan_base::files::Error;
 pub struct LabeledFile<FileId> {
     /// The file's id.
     pub id: FileId,
-    /// Where its snippet starts.
+    /// The byte of its locus.
     pub start: FileStart,
     /// The number of its multi-line labels, each of which has a lane.
     pub num_multi_labels: usize,
@@ -55,12 +55,12 @@ pub fn add_label<FileId>(
     lines: LabelSpan,
 )
     requires index { index < length files.old.items }
-    requires bound { slice_index_or (lanes_view files.old.items) index 0 + 1 < 2 ^ 64 }
+    requires bound { slice_index_or (lane_counts files.old.items) index 0 + 1 < 2 ^ 64 }
     ensures ids { ids_view files.new.items ≡ ids_view files.old.items }
     ensures starts { starts_view files.new.items
         ≡ starts_with_label (starts_view files.old.items) index (label_of label.now).label }
-    ensures lanes { lanes_view files.new.items
-        ≡ lanes_with_label (lanes_view files.old.items) index (lanes_by lines) }
+    ensures lanes { lane_counts files.new.items
+        ≡ lanes_with_label (lane_counts files.old.items) index (lanes_by lines) }
 {
     files[index].add(label, lines);
 }
@@ -88,8 +88,8 @@ pub fn get_or_insert_file<FileId: Copy + Eq>(
     ensures starts { OnOk result (starts_view files.new.items
         ≡ with_file FileId.eq (ids_view files.old.items) id (starts_view files.old.items)
         no_start) }
-    ensures lanes { OnOk result (lanes_view files.new.items
-        ≡ with_file FileId.eq (ids_view files.old.items) id (lanes_view files.old.items) 0) }
+    ensures lanes { OnOk result (lane_counts files.new.items
+        ≡ with_file FileId.eq (ids_view files.old.items) id (lane_counts files.old.items) 0) }
     ensures failed { OnErr result (IsErrOf result Error.OutOfMemory) }
 {
     let index = find_file(files, previous, id);
@@ -108,7 +108,7 @@ fn push_file<FileId: Copy>(files: &mut Vec<LabeledFile<FileId>>, id: FileId) -> 
     ensures ids { OnOk result (ids_view files.new.items ≡ ids_view files.old.items ++ id ∷ []) }
     ensures starts { OnOk result (starts_view files.new.items ≡ starts_view files.old.items
         ++ no_start ∷ []) }
-    ensures lanes { OnOk result (lanes_view files.new.items ≡ lanes_view files.old.items
+    ensures lanes { OnOk result (lane_counts files.new.items ≡ lane_counts files.old.items
         ++ 0 ∷ []) }
     ensures failed { OnErr result (IsErrOf result Error.OutOfMemory) }
 {

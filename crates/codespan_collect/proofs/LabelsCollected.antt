@@ -20,7 +20,7 @@ use Rattle.codespan_collect.specs.CollectedLabels.{FindsLines, ExtendsPadding, c
 use Rattle.codespan_annotations.specs.Annotations.{Annotation}
 use Rattle.codespan_collect.specs.LabelAnnotations.{annotations_of}
 use Rattle.codespan_annotations.specs.AnnotationViews.{Adds, AddsOf, IsLineOf, IsOfFiles, annotation_view}
-use Rattle.codespan_annotations.specs.LabeledFiles.{HasLabels, ids_view, lanes_view, num_multi_labels_of, lanes_with_label, starts_with_label, starts_view, with_file}
+use Rattle.codespan_annotations.specs.LabeledFiles.{HasLabels, ids_view, lane_counts, num_multi_labels_of, lanes_with_label, starts_with_label, starts_view, with_file}
 use Rattle.codespan_annotations.specs.FileStarts.{file_start, no_start}
 use Rattle.codespan_picture.specs.Lookups.{lookups_of_file, first_error, label_lookups, label_line_lookups}
 use Rattle.codespan_picture.specs.Picture.{label_of}
@@ -46,7 +46,7 @@ use Rattle.codespan_collect.proofs.FirstErrors.{first_error-none, first_error-so
 pub record AreCollected {Id : Type 0} (database : FileDatabase Id) (config : Config) (ids : List Id) (done : List (InFile Id)) (files : List (RustFile Id)) (found : FoundAnnotations Id) : Type 0 where
   pub ids_are : ids_view files ≡ ids
   pub starts_are : starts_view files ≡ map (file_start database.same done) ids
-  pub lanes_are : lanes_view files ≡ map (num_multi_labels_of database.same database.file done) ids
+  pub lanes_are : lane_counts files ≡ map (num_multi_labels_of database.same database.file done) ids
   pub added : Adds (IsOfFiles database.file ids) [] found.annotations.items (annotations_after database.same database.file config ids [] done)
   pub counted : found.padding.digits ≡ fold max 0 (all_digits database.file done)
   pub succeeded : labels_failure config database done ≡ None
@@ -62,13 +62,13 @@ pub record IsCollectedLabel {Id : Type 0} (database : FileDatabase Id) (config :
 pub record IsAddedLabel {Id : Type 0} (file : Id → FileModel) (at : ℕ) (label : Label Id) (files next : List (RustFile Id)) : Type 0 where
   pub ids : ids_view next ≡ ids_view files
   pub starts : starts_view next ≡ starts_with_label (starts_view files) at (label_of label).label
-  pub lanes : lanes_view next ≡ lanes_with_label (lanes_view files) at (label_lanes (file label.file_id) (label_of label).label)
+  pub lanes : lane_counts next ≡ lanes_with_label (lane_counts files) at (label_lanes (file label.file_id) (label_of label).label)
 
 -- a file of this id was found: it is one of the files, or comes after them
 pub record IsIndexedFile {Id : Type 0} (same : Id → Id → Bool) (id : Id) (files now : List (RustFile Id)) : Type 0 where
   pub ids : ids_view now ≡ with_file same (ids_view files) id (ids_view files) id
   pub starts : starts_view now ≡ with_file same (ids_view files) id (starts_view files) no_start
-  pub lanes : lanes_view now ≡ with_file same (ids_view files) id (lanes_view files) 0
+  pub lanes : lane_counts now ≡ with_file same (ids_view files) id (lane_counts files) 0
 
 module _ {Id : Type 0} {database : FileDatabase Id} (lawful : AreFiles database) {labels : List (Label Id)} {index : ℕ} {label : Label Id} (turn : IsElementAt labels index label) where
   -- which ids name one file, and the file that an id names
@@ -130,7 +130,7 @@ module _ {Id : Type 0} {database : FileDatabase Id} (lawful : AreFiles database)
       (g : AreCollected database config (file_ids same (before labels (index + 1)))
       (before labels index) files found) where
     -- the lanes that are kept at its file's index are those of its file
-    lanes-unchanged : get_or (lanes_view files) (index_of_file same ids label.file_id) 0 ≡ num_multi_labels_of same file (before labels index) label.file_id
+    lanes-unchanged : get_or (lane_counts files) (index_of_file same ids label.file_id) 0 ≡ num_multi_labels_of same file (before labels index) label.file_id
     lanes-unchanged =
         ap (λ (all : List ℕ). get_or all (index_of_file same ids label.file_id) 0) g.lanes_are
         ∙ unchanged-at o (num_multi_labels_of same file (before labels index)) (num_multi_labels_of-equal lawful (before labels index)) ids label.file_id 0 (has-file turn o)
@@ -172,8 +172,8 @@ module _ {Id : Type 0} {database : FileDatabase Id} (lawful : AreFiles database)
         ∙ ap (λ xs. fold max 0 (all_digits file xs)) (sym (before-more turn))
 
     -- the label's file has its lane too, and no other file's lanes change
-    lanes-next : (next : List (RustFile Id)) → lanes_view next ≡ lanes_with_label (lanes_view files) (index_of_file same ids label.file_id) (label_lanes (file label.file_id) (label_of label).label)
-        → lanes_view next ≡ map (num_multi_labels_of same file (before labels (index + 1))) ids
+    lanes-next : (next : List (RustFile Id)) → lane_counts next ≡ lanes_with_label (lane_counts files) (index_of_file same ids label.file_id) (label_lanes (file label.file_id) (label_of label).label)
+        → lane_counts next ≡ map (num_multi_labels_of same file (before labels (index + 1))) ids
     lanes-next next changed =
         changed ∙ (λ i. set (g.lanes_are i) (index_of_file same ids label.file_id) (lanes-unchanged i + label_lanes (file label.file_id) (label_of label).label))
         ∙ set-at o lanes-changed ids (ids-differ turn o) (has-file turn o)
@@ -184,11 +184,11 @@ module _ {Id : Type 0} {database : FileDatabase Id} (lawful : AreFiles database)
       index-found = there ∙ ap (λ (js : List Id). index_of_file same js label.file_id) g.ids_are
 
       -- as many lanes are counted for the file as there are multi-line labels before
-      pub lane-found : get_or (lanes_view files) at 0 ≡ num_multi_labels_of same file (before labels index) label.file_id
-      lane-found = ap (λ k. get_or (lanes_view files) k 0) index-found ∙ lanes-unchanged
+      pub lane-found : get_or (lane_counts files) at 0 ≡ num_multi_labels_of same file (before labels index) label.file_id
+      lane-found = ap (λ k. get_or (lane_counts files) k 0) index-found ∙ lanes-unchanged
 
       -- one more can be counted
-      pub lane-bound : length labels < 2 ^ 64 → get_or (lanes_view files) at 0 + 1 < 2 ^ 64
+      pub lane-bound : length labels < 2 ^ 64 → get_or (lane_counts files) at 0 + 1 < 2 ^ 64
       lane-bound small =
           let inside = turn.inside in
           let low = lanes-within same file label.file_id (before labels index) in
@@ -204,13 +204,13 @@ module _ {Id : Type 0} {database : FileDatabase Id} (lawful : AreFiles database)
       -- one more label, whose file is at this index
       pub collected-more : {next : List (RustFile Id)} {more : FoundAnnotations Id}
           → IsCollectedLabel database config
-          (record { file = at; index = index; lane = get_or (lanes_view files) at 0 }) label found
+          (record { file = at; index = index; lane = get_or (lane_counts files) at 0 }) label found
           more → IsAddedLabel file at label files next
           → AreCollected database config (file_ids same (before labels (index + 1))) (before labels (index + 1)) next more
       collected-more {next} {more} own known = record {
         ids_are = known.ids ∙ g.ids_are;
         starts_are = starts-set turn o g.starts_are (known.starts ∙ ap (λ k. starts_with_label (starts_view files) k (label_of label).label) index-found);
-        lanes_are = lanes-next next (known.lanes ∙ ap (λ k. lanes_with_label (lanes_view files) k (label_lanes (file label.file_id) (label_of label).label)) index-found);
+        lanes_are = lanes-next next (known.lanes ∙ ap (λ k. lanes_with_label (lane_counts files) k (label_lanes (file label.file_id) (label_of label).label)) index-found);
         added = added-more more
             (subst₂ (λ k n. AddsOf (file label.file_id) found.annotations.items
             more.annotations.items (annotations_of config (file label.file_id)
@@ -239,7 +239,7 @@ module _ {Id : Type 0} {database : FileDatabase Id} (lawful : AreFiles database)
           starts_are = known-more o xs x (file_start same xs) (start-unknown same xs label.file_id) g.starts_are
               (indexed.starts ∙ ap (λ (js : List Id). with_file same js label.file_id (starts_view files) no_start) g.ids_are);
           lanes_are = known-more o xs x (num_multi_labels_of same file xs) (num_multi_labels_of-none same file xs label.file_id) g.lanes_are
-              (indexed.lanes ∙ ap (λ (js : List Id). with_file same js label.file_id (lanes_view files) 0) g.ids_are);
+              (indexed.lanes ∙ ap (λ (js : List Id). with_file same js label.file_id (lane_counts files) 0) g.ids_are);
           added = added-with_file o xs x file config g.added;
           counted = g.counted;
           succeeded = g.succeeded;
@@ -273,7 +273,7 @@ collected-all {Id} {database} {config} {files} {found} labels index past g =
 
 -- each file has what the labels add to it
 pub each-labels : {Id : Type 0} (same : Id → Id → Bool) (file : Id → FileModel) (xs : List (InFile Id)) (files : List (RustFile Id))
-    → starts_view files ≡ map (file_start same xs) (ids_view files) → lanes_view files ≡ map (num_multi_labels_of same file xs) (ids_view files) → AllByRecursion (HasLabels same file xs) files
+    → starts_view files ≡ map (file_start same xs) (ids_view files) → lane_counts files ≡ map (num_multi_labels_of same file xs) (ids_view files) → AllByRecursion (HasLabels same file xs) files
 each-labels same file xs [] starts lanes = tt
 each-labels same file xs (f ∷ fs) starts lanes = (
   record { start_is = ap (λ (ss : List FileStart). get_or ss 0 f.start) starts; lanes_are = ap (λ (ls : List ℕ). get_or ls 0 f.num_multi_labels) lanes },

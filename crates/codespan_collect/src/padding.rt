@@ -1,4 +1,4 @@
-//! The padding width for the numbers of collected lines.
+//! The padding width for the numbers of the lines that labels span.
 
 ghost use Rattle.std.specs.Prelude.{◌≡◌, ◌<◌, ◌≤◌, ℕ, decimal, length, max};
 

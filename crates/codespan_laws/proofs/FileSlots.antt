@@ -8,7 +8,7 @@ use Rattle.std.proofs.lemmas.List.Sums.{sum_by-cons, sum_by-append, count_by-le-
 use Rattle.codespan_base.specs.declared.term.config.Config.{Config}
 use Rattle.codespan_base.specs.FileModel.{FileModel, line_count, line_of}
 use Rattle.codespan_base.specs.Labels.{LabelModel, first_line, last_line}
-use Rattle.codespan_picture.specs.Lines.{shows, is_drawn, drawn_lines, is_broken}
+use Rattle.codespan_picture.specs.Lines.{shows, is_drawn, drawn_lines, has_break_between}
 use Rattle.codespan_picture.specs.Rows.{HeaderText, Locus, HeaderRow, SnippetStartRow, EmptyRow, BreakRow, FirstNoteRow, LaterNoteRow, FinalRow, rows_of}
 use Rattle.codespan_picture.specs.Snippets.{LabeledFileModel, empty_lanes, line_at, rows_after, snippet, has_any, row_after, snippets, piece_rows, note_rows, rich_rows}
 use Rattle.codespan_laws.proofs.FillLemmas.{breaks_before}
@@ -82,7 +82,7 @@ all_drawn k config f some p (x ∷ xs) h =
 
 break_sum : (k : ℕ) (s : LabeledFileModel) (previous : Option ℕ) (l : ℕ) → sum_by (row_slots k) (breaks_before s previous l) ≡ 0
 break_sum k s None l = refl
-break_sum k s (Some c) l = by_test (is_broken c l)
+break_sum k s (Some c) l = by_test (has_break_between c l)
   where
     by_test : (b : Bool) → sum_by (row_slots k) (cond b (BreakRow (line_at s l).lanes ∷ []) []) ≡ 0
     by_test true = refl

@@ -10,7 +10,7 @@ use Rattle.codespan_picture.specs.declared.lanes.Shape.TheVariants.{Space, Bar, 
 use Rattle.codespan_picture.specs.Lanes.{is_unbroken}
 use Rattle.codespan_picture.specs.Rows.{Line, Row, SourceRow}
 use Rattle.codespan_picture.specs.Snippets.{LabeledFileModel, line_at}
-use Rattle.codespan_laws.specs.LaneLaws.{shape_in, shape_at, line_of_row, MayLeaveOut, IsOneLine}
+use Rattle.codespan_laws.specs.LaneLaws.{shape_in, shape_at, line_of_row, MayLeaveOut, IsCornerToCorner}
 use Rattle.codespan_laws.proofs.ListElements.{all-append, all-weaker}
 
 -- ---- lists
@@ -189,7 +189,7 @@ whole_joined layout lane line xs ys b r = record {
 -- ---- the same by indices
 
 pub one_line : (layout : Layout) (s : LabeledFileModel) (rows : List Row) (lane : ℕ) (x : LabelModel)
-    → Whole layout lane (line_at s (first_line s.file x)) rows → IsOneLine layout s rows lane x
+    → Whole layout lane (line_at s (first_line s.file x)) rows → IsCornerToCorner layout s rows lane x
 one_line layout s rows lane x w = record {
   top = at_top;
   bottom = at_bottom;

@@ -10,11 +10,11 @@ use Rattle.codespan_base.specs.FileModel.{FileModel, line_start, line_of, line_c
 use Rattle.codespan_base.specs.Labels.{LabelModel, is_single, first_line, last_line, multi_label_on, lane_mark_of, lane_marks_on, multi_labels, LaneMark, MultiLabel, Top, Left, Bottom}
 use Rattle.codespan_picture.specs.declared.lanes.Shape.TheVariants.{Space, Bar}
 use Rattle.codespan_picture.specs.Lanes.{plain_shape, lane_mark_in, shape_of}
-use Rattle.codespan_picture.specs.Lines.{is_shown, is_drawn, drawn_lines, is_broken}
+use Rattle.codespan_picture.specs.Lines.{is_shown, is_drawn, drawn_lines, has_break_between}
 use Rattle.codespan_picture.specs.Rows.{Row, BreakRow, SnippetStartRow, EmptyRow, rows_of}
 use Rattle.codespan_picture.specs.Snippets.{LabeledFileModel, line_at, rows_after, row_after, snippet, empty_lanes}
 use Rattle.codespan_laws.proofs.FillLemmas.{breaks_before}
-use Rattle.codespan_laws.specs.LaneLaws.{HasLane, LanesAreLines}
+use Rattle.codespan_laws.specs.LaneLaws.{HasLane, LanesJoinCorners}
 use Rattle.codespan_laws.specs.RichLaws.{StartsBeforeEnds}
 use Rattle.codespan_laws.proofs.BarLemmas.{marks_from, lane_mark_in-from}
 use Rattle.codespan_laws.proofs.RangeLemmas.{kept, has_lane-ordered, line_of-below, shown-by, shows-first, shows-last}
@@ -107,7 +107,7 @@ multi_label_after a b l top bottom order high =
 
 each_break : (P : Row → Type 0) (s : LabeledFileModel) (previous : Option ℕ) (l : ℕ) → P (BreakRow (line_at s l).lanes) → AllByRecursion P (breaks_before s previous l)
 each_break P s None l h = tt
-each_break P s (Some c) l h = by_test (is_broken c l)
+each_break P s (Some c) l h = by_test (has_break_between c l)
   where
     by_test : (b : Bool) → AllByRecursion P (cond b (BreakRow (line_at s l).lanes ∷ []) [])
     by_test true = (h, tt)
@@ -268,7 +268,7 @@ some_line starts a b h = omega (arith, count_by-le-length (λ s. nat_le s b) sta
 shown_is_drawn : (b d : Bool) → b ≡ true → (b || d) ≡ true
 shown_is_drawn b d h = simp h
 
-pub lanes_are_lines : (config : Config) (layout : Layout) (s : LabeledFileModel) → StartsBeforeEnds s.labels → LanesAreLines config layout s
+pub lanes_are_lines : (config : Config) (layout : Layout) (s : LabeledFileModel) → StartsBeforeEnds s.labels → LanesJoinCorners config layout s
 lanes_are_lines config layout s ordered = λ locus is_followed lane x has.
     let several = has_lane-ordered s lane x ordered has in
     let inside = (kept (λ x. not (is_single s.file x)) s.labels lane x has).0 in

@@ -10,7 +10,7 @@ use Rattle.codespan_base.specs.Streams.{Stream, StyleMark, LabelMark, Reset, sty
 use Rattle.codespan_laws.specs.RowLaws.{row_length}
 use Rattle.codespan_picture.specs.declared.lanes.Shape.{Shape}
 use Rattle.codespan_picture.specs.declared.lanes.Shape.TheVariants.{Space, Bar, TopCorner, BottomCorner}
-use Rattle.codespan_picture.specs.Lanes.{corner_line, crossing_cells, label_glyph, lane_mark_in, lane_cells}
+use Rattle.codespan_picture.specs.Lanes.{underline_char, crossing_cells, label_glyph, lane_mark_in, lane_cells}
 use Rattle.codespan_picture.specs.Rows.{RowContext, Lanes}
 use Rattle.codespan_picture.specs.RowParts.{inner_gutter_column, lanes_in}
 use Rattle.codespan_laws.proofs.Texts.{row_length-append, row_length-glyph, row_length-style_mark, row_length-repeated, row_length-spaces}
@@ -26,7 +26,7 @@ row_length-crossing_cells : (severity : Severity) (chars : Chars) (crossing : Op
 unfolding crossing_cells
 row_length-crossing_cells severity chars None n = row_length-spaces n
 row_length-crossing_cells severity chars (Some m) n =
-    between_marks (LabelMark severity m.style) (repeated n (corner_line chars m.multi_label)) ∙ row_length-repeated n (corner_line chars m.multi_label)
+    between_marks (LabelMark severity m.style) (repeated n (underline_char chars m.multi_label)) ∙ row_length-repeated n (underline_char chars m.multi_label)
 
 pub row_length-label_glyph : (severity : Severity) (style : LabelStyle) (c : ℕ) → row_length (label_glyph severity style c) ≡ 1
 unfolding label_glyph

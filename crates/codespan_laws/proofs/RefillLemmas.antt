@@ -11,7 +11,7 @@ use Rattle.codespan_picture.specs.declared.char_metrics.Metrics.{Metrics}
 use Rattle.codespan_picture.specs.Carets.{style_under, covers, max_label_end, is_overlapping}
 use Rattle.codespan_picture.specs.declared.lanes.Shape.{Shape}
 use Rattle.codespan_picture.specs.declared.lanes.Shape.TheVariants.{Space, Bar, TopCorner, BottomCorner}
-use Rattle.codespan_picture.specs.Lanes.{source_shape, plain_shape, below_shape, underline_shape, lane_mark_in, corner_line, crossing_cells, lane_cells, Source, Plain, Below, Underline}
+use Rattle.codespan_picture.specs.Lanes.{source_shape, plain_shape, below_shape, underline_shape, lane_mark_in, underline_char, crossing_cells, lane_cells, Source, Plain, Below, Underline}
 use Rattle.codespan_picture.specs.Rows.{RowContext, Lanes, Line, trailing_label, hanging_labels}
 use Rattle.codespan_picture.proofs.Rightmost.{Around, others, behind, around_with_end, around_trails, around_rightmost, trailing_of, hanging_of, trailing_is, hanging_is}
 use Rattle.codespan_picture.specs.RowParts.{styled, inner_gutter_column, lanes_in, inner_gutter, line_metrics, multi_label_covers, source_style, source_glyph, colored_text, caret_glyphs, carets, pointer_style, pointer_at, pointers, starts_in, max_label_start}
@@ -138,7 +138,7 @@ module _ (φ : Stream → Stream) (keeps : (s : Stream) → is_empty_stream (φ 
 
   -- ---- lanes
 
-  corner : (chars : _) (multi_label : MultiLabel) → corner_line chars (re_multi_label φ multi_label) ≡ corner_line chars multi_label
+  corner : (chars : _) (multi_label : MultiLabel) → underline_char chars (re_multi_label φ multi_label) ≡ underline_char chars multi_label
   corner chars (Top start) = refl
   corner chars Left = refl
   corner chars (Bottom end message) = refl

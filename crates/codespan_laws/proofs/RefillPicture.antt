@@ -11,7 +11,7 @@ use Rattle.codespan_base.specs.FileModel.{FileModel, line_count, line_start}
 use Rattle.codespan_base.specs.Streams.{Stream}
 use Rattle.codespan_base.specs.Labels.{LabelModel, is_empty_stream, LaneMark, MultiLabel, Top, Left, Bottom, first_line, last_line, is_single, drawn_label, first_seen, multi_labels, range_precedes, insert_sorted, sorted, single_labels, multi_label_on, lane_mark_of, lane_marks_on}
 use Rattle.codespan_picture.specs.CharMetrics.{leading_whitespace}
-use Rattle.codespan_picture.specs.Lines.{shows, is_shown, drawn_lines, is_broken}
+use Rattle.codespan_picture.specs.Lines.{shows, is_shown, drawn_lines, has_break_between}
 use Rattle.codespan_picture.specs.Rows.{Locus, HeaderText, Lanes, Line, HeaderRow, SnippetStartRow, EmptyRow, BreakRow, SourceRow, PointerRow, HangingRow, UnderlineRow, FirstNoteRow, LaterNoteRow, FinalRow, hanging_labels, has_underline, caret_rows, hanging_rows, underline_rows, rows_of}
 use Rattle.codespan_picture.specs.Snippets.{LabeledFileModel, InFile, labeled_file_model, labeled_file_models, num_multi_labels, empty_lanes, line_at, rows_after, snippet, has_any, row_after, snippets, piece_rows, note_rows, rich_rows}
 use Rattle.codespan_laws.proofs.FillLemmas.{breaks_before}
@@ -157,7 +157,7 @@ module _ (φ : Stream → Stream) (keeps : (s : Stream) → is_empty_stream (φ 
 
   break-re : (s : LabeledFileModel) (previous : Option ℕ) (l : ℕ) → map (re_row φ) (breaks_before s previous l) ≡ breaks_before (re_file φ s) previous l
   break-re s None l = refl
-  break-re s (Some c) l = by_test (is_broken c l)
+  break-re s (Some c) l = by_test (has_break_between c l)
     where
       by_test : (b : Bool) → map (re_row φ) (if b then BreakRow (line_at s l).lanes ∷ [] else []) ≡ (if b then BreakRow (line_at (re_file φ s) l).lanes ∷ [] else [])
       by_test true = ap (λ lanes. BreakRow lanes ∷ []) (lanes-at s l)

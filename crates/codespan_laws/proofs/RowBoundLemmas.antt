@@ -7,7 +7,7 @@ use Rattle.std.proofs.lemmas.List.Sums.{sum_by-cons, sum_by-append, sum_by-le-su
 use Rattle.codespan_base.specs.declared.term.config.Config.{Config}
 use Rattle.codespan_base.specs.FileModel.{FileModel, line_count}
 use Rattle.codespan_base.specs.Labels.{LabelModel, LaneMark, first_line, last_line}
-use Rattle.codespan_picture.specs.Lines.{shows, is_shown, is_drawn, drawn_lines, is_broken}
+use Rattle.codespan_picture.specs.Lines.{shows, is_shown, is_drawn, drawn_lines, has_break_between}
 use Rattle.codespan_picture.specs.CharMetrics.{leading_whitespace}
 use Rattle.codespan_picture.specs.Rows.{Line, SourceRow, BreakRow, HangingRow, UnderlineRow, PointerRow, caret_rows, hanging_rows, underline_rows, rows_of, hanging_labels, has_underline}
 use Rattle.codespan_picture.specs.Snippets.{LabeledFileModel, line_at, rows_after}
@@ -176,7 +176,7 @@ module _ (shown : ℕ → Bool) where
 
 no_source_break : (s : LabeledFileModel) (previous : Option ℕ) (l : ℕ) → count_by is_source_row (breaks_before s previous l) ≡ 0
 no_source_break s None l = refl
-no_source_break s (Some c) l = by_test (is_broken c l)
+no_source_break s (Some c) l = by_test (has_break_between c l)
   where
     by_test : (b : Bool) → count_by is_source_row (cond b (BreakRow (line_at s l).lanes ∷ []) []) ≡ 0
     by_test true = refl

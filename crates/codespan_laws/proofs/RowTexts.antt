@@ -20,7 +20,7 @@ use Rattle.codespan_picture.specs.declared.lanes.Shape.{Shape}
 use Rattle.codespan_picture.specs.declared.lanes.Shape.TheVariants.{Space, Bar, TopCorner, BottomCorner}
 use Rattle.codespan_picture.specs.Carets.{caret_for, max_label_end, style_under}
 use Rattle.codespan_picture.specs.CharMetrics.{char_metrics, metrics_then, width_of, width_at}
-use Rattle.codespan_picture.specs.Lanes.{LaneRow, Source, Plain, Below, Underline, corner_line, crossing_cells, label_glyph, lane_cells, lane_mark_in, row_crossing, row_shape, shape_of, style_of_lane_mark}
+use Rattle.codespan_picture.specs.Lanes.{LaneRow, Source, Plain, Below, Underline, underline_char, crossing_cells, label_glyph, lane_cells, lane_mark_in, row_crossing, row_shape, shape_of, style_of_lane_mark}
 use Rattle.codespan_picture.specs.Rows.{Locus, RowContext, Lanes, Line, Row, HeaderRow, SnippetStartRow, EmptyRow, BreakRow, SourceRow, CaretRow, PointerRow, HangingRow, UnderlineRow, FirstNoteRow, LaterNoteRow, FinalRow, hanging_labels, trailing_label}
 use Rattle.codespan_picture.specs.RowParts.{locus, label_message, inner_gutter_column, inner_gutter, leading_of, line_metrics, line_metrics_to_end, source_style, source_glyph, colored_text, caret_glyphs, carets, trailing_message, starts_in, max_label_start, spaces_up_to, pointer_style, pointer_at, pointers, metrics_before, metrics_up_to, start_caret, end_caret, underline_message, underline}
 use Rattle.codespan_picture.specs.RowStreams.{bracketed, leading_locus, header_row, snippet_start_row, empty_row, break_row, source_row, row_start, caret_row, pointer_row, hanging_row, underline_row, first_note_row, later_note_row, stream_of, stream_of_rows}
@@ -37,15 +37,15 @@ unfolding label_glyph
 text-label_glyph severity style c s = search (pieces, s)
 
 module _ (chars : Chars) (ok : AreCharacters chars) where
-  scalar-corner_line : (multi_label : MultiLabel) → IsScalar (corner_line chars multi_label)
-  scalar-corner_line (Top start) = ok.multi_top
-  scalar-corner_line Left = ok.multi_bottom
-  scalar-corner_line (Bottom end message) = ok.multi_bottom
+  scalar-underline_char : (multi_label : MultiLabel) → IsScalar (underline_char chars multi_label)
+  scalar-underline_char (Top start) = ok.multi_top
+  scalar-underline_char Left = ok.multi_bottom
+  scalar-underline_char (Bottom end message) = ok.multi_bottom
 
   text-crossing_cells : (severity : Severity) (crossing : Option LaneMark) (n : ℕ) → IsText (crossing_cells severity chars crossing n)
   unfolding crossing_cells
   text-crossing_cells severity None n = text-spaces n
-  text-crossing_cells severity (Some m) n = search (pieces, scalar-corner_line m.multi_label)
+  text-crossing_cells severity (Some m) n = search (pieces, scalar-underline_char m.multi_label)
 
   text-lane_cells : (severity : Severity) (crossing : Option LaneMark) (style : LabelStyle) (shape : Shape) → IsText (lane_cells severity chars crossing style shape)
   unfolding lane_cells

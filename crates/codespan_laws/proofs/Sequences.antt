@@ -4,14 +4,14 @@ use Rattle.std.proofs.Common.{◌≡◌, ℕ, ◌+◌, Bool, true, false, cond, 
 use Rattle.std.specs.List.{AllByRecursion}
 use Rattle.std.proofs.lemmas.Bool.{cond_both}
 use Rattle.std.proofs.lemmas.List.Concat.{flat_map-append}
-use Rattle.codespan_picture.specs.Lines.{is_broken}
+use Rattle.codespan_picture.specs.Lines.{has_break_between}
 use Rattle.codespan_picture.specs.Sequences.{before_line, break_between, gap_between, in_sequence}
 use Rattle.codespan_laws.proofs.ListElements.{all-append}
 
 module _ {A : Type 0} (P : A → Type 0) where
   -- what holds of all elements of breaks
   pub all-break : (broken : ℕ → List A) → ((d : ℕ) → AllByRecursion P (broken d)) → (c d : ℕ) → AllByRecursion P (break_between broken c d)
-  all-break broken each c d = cond_both (is_broken c d) (broken d) [] (AllByRecursion P) (λ _. each d) (λ _. tt)
+  all-break broken each c d = cond_both (has_break_between c d) (broken d) [] (AllByRecursion P) (λ _. each d) (λ _. tt)
 
   -- and of all elements of filled lines
   pub all-gap : (filled broken : ℕ → List A) → ((l : ℕ) → AllByRecursion P (filled l)) → ((d : ℕ) → AllByRecursion P (broken d))
@@ -53,7 +53,7 @@ flat_map-sequence {X} {A} {B} expand line_of between own previous (x ∷ xs) =
 -- the elements of a gap are those of the filled line or of the break in it
 pub flat_map-gap : {A B : Type 0} (expand : A → List B) (filled broken : ℕ → List A) (c d : ℕ)
     → flat_map expand (gap_between filled broken c d) ≡ gap_between (λ l. flat_map expand (filled l)) (λ l. flat_map expand (broken l)) c d
-flat_map-gap expand filled broken c d = by_tests (d == c + 2) (is_broken c d)
+flat_map-gap expand filled broken c d = by_tests (d == c + 2) (has_break_between c d)
   where
     by_tests : (a b : Bool) → flat_map expand (cond a (filled (c + 1)) (cond b (broken d) []))
         ≡ cond a (flat_map expand (filled (c + 1))) (cond b (flat_map expand (broken d)) [])
@@ -75,4 +75,4 @@ sequence-flat {X} {A} line_of own previous (x ∷ xs) =
 
     nothing : (before : Option ℕ) → before_line {A = A} (break_between (λ _. [])) before (line_of x) ≡ []
     nothing None = refl
-    nothing (Some c) = by_test (is_broken c (line_of x))
+    nothing (Some c) = by_test (has_break_between c (line_of x))

@@ -76,7 +76,7 @@ pub record MayLeaveOut (layout : Layout) (s : LabeledFileModel) (rows : List Row
       → line_of_row row ≡ Some (line_at s (first_line s.file x))
 
 -- a lane turns in one row, runs down, and turns back in one later row
-pub record IsOneLine (layout : Layout) (s : LabeledFileModel) (rows : List Row) (lane : ℕ)
+pub record IsCornerToCorner (layout : Layout) (s : LabeledFileModel) (rows : List Row) (lane : ℕ)
     (x : LabelModel) : Type 0 where
   pub top : ℕ
   pub bottom : ℕ
@@ -90,10 +90,10 @@ pub record IsOneLine (layout : Layout) (s : LabeledFileModel) (rows : List Row) 
 
 -- each lane of a file is one line through the rows of its snippet and the empty row after it, if it
 -- has one, whatever the locus
-abbrev pub LanesAreLines : Config → Layout → LabeledFileModel → Type 0
-LanesAreLines config layout s =
+abbrev pub LanesJoinCorners : Config → Layout → LabeledFileModel → Type 0
+LanesJoinCorners config layout s =
     (locus : Locus) (is_followed : Bool) (lane : ℕ) (x : LabelModel) → HasLane s lane x
-    → IsOneLine layout s (snippet config locus s ++ row_after is_followed s) lane x
+    → IsCornerToCorner layout s (snippet config locus s ++ row_after is_followed s) lane x
 
 -- ---- what each lane shows is what the stream of its row has there
 

@@ -6,7 +6,7 @@ use Rattle.codespan_base.specs.FileModel.{FileModel, line_count}
 use Rattle.codespan_base.specs.Labels.{LabelModel}
 use Rattle.codespan_picture.specs.declared.lanes.Shape.TheVariants.{Bar}
 use Rattle.codespan_picture.specs.Lanes.{is_unbroken}
-use Rattle.codespan_picture.specs.Lines.{drawn_lines, is_broken, is_shown}
+use Rattle.codespan_picture.specs.Lines.{drawn_lines, has_break_between, is_shown}
 use Rattle.codespan_picture.specs.Rows.{Lanes, Locus, Row, BreakRow, SourceRow}
 use Rattle.codespan_picture.specs.Snippets.{LabeledFileModel, rows_after, rows_of_shown, line_at, snippet}
 use Rattle.codespan_picture.specs.Padding.{padding_of, count_digits}
@@ -30,7 +30,7 @@ abbrev pub broken_before : List ℕ → List ℕ
 broken_before [] = []
 broken_before (c ∷ []) = []
 broken_before (c ∷ d ∷ more) =
-    if is_broken c d then d ∷ broken_before (d ∷ more) else broken_before (d ∷ more)
+    if has_break_between c d then d ∷ broken_before (d ∷ more) else broken_before (d ∷ more)
 
 -- the lanes of a break row
 abbrev pub break_lanes : Row → Option Lanes

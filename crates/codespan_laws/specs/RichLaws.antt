@@ -9,7 +9,7 @@ use Rattle.codespan_picture.specs.Snippets.{LabeledFileModel, line_at}
 use Rattle.codespan_picture.specs.Padding.{padding_of}
 use Rattle.codespan_picture.specs.Picture.{AreLoci, files_of, context_of}
 use Rattle.codespan_laws.specs.CaretLaws.{CaretsAreCells, StartsHaveCells, PointersAreCells}
-use Rattle.codespan_laws.specs.LaneLaws.{BarsAreLabels, LanesAreLines, LanesAreShown}
+use Rattle.codespan_laws.specs.LaneLaws.{BarsAreLabels, LanesJoinCorners, LanesAreShown}
 use Rattle.codespan_laws.specs.LineLaws.{BreaksAreGaps, BreaksAreCovered, RowsOfShown, SourceRowsAreFew, PaddingFits}
 use Rattle.codespan_laws.specs.MessageLaws.{MessagesAppearOnce}
 
@@ -28,7 +28,7 @@ pub record SnippetMeansLabels (view_config : Config) (context : RowContext)
       → PointersAreCells context (line_at s l)
   pub bars : StartsBeforeEnds s.labels → BarsAreLabels context.layout s
   pub covered : StartsBeforeEnds s.labels → BreaksAreCovered view_config context.layout s
-  pub lanes : StartsBeforeEnds s.labels → LanesAreLines view_config context.layout s
+  pub lanes : StartsBeforeEnds s.labels → LanesJoinCorners view_config context.layout s
 
 -- what a rich output means that a view renders, whatever the loci in it
 pub record MeansLabels {Id : Type 0} (renderer_config view_config : Config)

@@ -18,7 +18,7 @@ ghost use Rattle.codespan_laws.specs.RowLaws.{row_length, CharactersAreFree, Row
 ghost use Rattle.codespan_laws.specs.ColorLaws.{ColorsChangeNoText, NoColorIsPlain};
 ghost use Rattle.codespan_laws.specs.CaretLaws.{CaretsAreCells, PointersAreCells, StartsHaveCells};
 ghost use Rattle.codespan_laws.specs.RichLaws.{MeansLabels, StartsBeforeEnds};
-ghost use Rattle.codespan_laws.specs.LaneLaws.{BarsAreLabels, LanesAreLines, LanesAreShown};
+ghost use Rattle.codespan_laws.specs.LaneLaws.{BarsAreLabels, LanesJoinCorners, LanesAreShown};
 ghost use Rattle.codespan_laws.specs.LineLaws.{BreaksAreCovered, BreaksAreGaps, RowsOfShown, PaddingFits, SourceRowsAreFew};
 ghost use Rattle.codespan_laws.specs.MessageLaws.{MessagesAppearOnce};
 ghost use Rattle.codespan_laws.specs.TrailingLaws.{EachTrailsOrHangs};
@@ -99,7 +99,7 @@ pub fn bars_are_labels()
 /// the lane out below a corner in the source row.
 pub fn lanes_are_lines()
     ensures { (config : Config) (layout : Layout) (s : LabeledFileModel)
-        → StartsBeforeEnds s.labels → LanesAreLines config layout s }
+        → StartsBeforeEnds s.labels → LanesJoinCorners config layout s }
 {}
 
 /// States that after the bar left of the source the stream of each row that has lanes has what the

@@ -15,7 +15,7 @@ ghost use Rattle.codespan_native.specs.RenderedStreams.{stream_of_output};
 use crate::style_mark_writer::StyleMarkWriter;
 use codespan_base::diagnostic::Diagnostic;
 use codespan_base::term::{Ansi, Config, PlainWriter, Styles, StylesWriter, WriteStyle};
-use codespan_sources::source_files::SourceFiles;
+use codespan_sources::native_files::NativeFiles;
 use codespan_structs::convert::{Settings, Spelling};
 use codespan_structs::error::OutOfMemory;
 use codespan_views::emitting::emit_to_write_style;
@@ -33,7 +33,7 @@ const INITIAL_CAPACITY: usize = 1024;
 pub fn render(
     alloc: Global,
     settings: &Settings<'_>,
-    files: &SourceFiles<'_>,
+    files: &NativeFiles<'_>,
     diagnostic: &Diagnostic<usize>,
 ) -> Result<Vec<u8>, OutOfMemory>
     ensures value { IfOk result (λ bytes. bytes.items ≡ spelled
@@ -55,7 +55,7 @@ pub fn render(
 fn render_plain(
     buffer: Vec<u8>,
     config: &Config<'_>,
-    files: &SourceFiles<'_>,
+    files: &NativeFiles<'_>,
     diagnostic: &Diagnostic<usize>,
 ) -> Result<Vec<u8>, OutOfMemory>
     ensures value { IfOk result (λ bytes. bytes.items ≡ buffer.items ++ spelled no_style_marks
@@ -73,7 +73,7 @@ fn render_ansi(
     buffer: Vec<u8>,
     styles: &Styles,
     config: &Config<'_>,
-    files: &SourceFiles<'_>,
+    files: &NativeFiles<'_>,
     diagnostic: &Diagnostic<usize>,
 ) -> Result<Vec<u8>, OutOfMemory>
     ensures value { IfOk result (λ bytes. bytes.items ≡ buffer.items
@@ -91,7 +91,7 @@ fn render_ansi(
 fn render_style_marks(
     buffer: Vec<u8>,
     config: &Config<'_>,
-    files: &SourceFiles<'_>,
+    files: &NativeFiles<'_>,
     diagnostic: &Diagnostic<usize>,
 ) -> Result<Vec<u8>, OutOfMemory>
     ensures value { IfOk result (λ bytes. bytes.items ≡ buffer.items ++ spelled style_mark_spelling
@@ -113,7 +113,7 @@ fn render_style_marks(
 fn write_to<W: WriteStyle>(
     writer: &mut W,
     config: &Config<'_>,
-    files: &SourceFiles<'_>,
+    files: &NativeFiles<'_>,
     diagnostic: &Diagnostic<usize>,
 ) -> Result<(), OutOfMemory>
     ensures value { is_known (W.sink writer.old) ≡ true → OnOk result (W.sink writer.new

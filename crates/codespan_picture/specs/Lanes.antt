@@ -79,9 +79,9 @@ style_of_lane_mark (Some m) = m.style
 -- ---- their characters
 
 -- the line that runs right from a corner
-abbrev pub corner_line : Chars → MultiLabel → ℕ
-corner_line chars (Top start) = chars.multi_top
-corner_line chars _ = chars.multi_bottom
+abbrev pub underline_char : Chars → MultiLabel → ℕ
+underline_char chars (Top start) = chars.multi_top
+underline_char chars _ = chars.multi_bottom
 
 -- one character in a label's style
 unfoldable pub label_glyph : Severity → LabelStyle → ℕ → Stream
@@ -91,7 +91,7 @@ label_glyph severity style c = style_mark (LabelMark severity style) ++ glyph c 
 unfoldable pub crossing_cells : Severity → Chars → Option LaneMark → ℕ → Stream
 crossing_cells severity chars None n = spaces n
 crossing_cells severity chars (Some m) n =
-    style_mark (LabelMark severity m.style) ++ repeated n (corner_line chars m.multi_label)
+    style_mark (LabelMark severity m.style) ++ repeated n (underline_char chars m.multi_label)
     ++ style_mark Reset
 
 -- the two characters of a lane; `crossing` is the lane mark, in its own underline row, whose corner

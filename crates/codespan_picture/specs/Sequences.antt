@@ -1,6 +1,6 @@
 -- Items in the order of their lines, and what is between two consecutive ones.
 use Rattle.std.specs.Prelude.{ℕ, ◌+◌, ◌==◌, List, [], ◌∷◌, ◌++◌, Option, Some, None, if◌then◌else◌}
-use Rattle.codespan_picture.specs.Lines.{is_broken}
+use Rattle.codespan_picture.specs.Lines.{has_break_between}
 
 -- what is before a line, where `previous` is the line before it: nothing before the first one
 abbrev pub before_line : {A : Type 0} → (ℕ → ℕ → List A) → Option ℕ → ℕ → List A
@@ -18,7 +18,7 @@ in_sequence line_of between own previous (x ∷ xs) =
 
 -- between two drawn lines: a break, where lines are left out, or nothing
 abbrev pub break_between : {A : Type 0} → (ℕ → List A) → ℕ → ℕ → List A
-break_between broken c d = if is_broken c d then broken d else []
+break_between broken c d = if has_break_between c d then broken d else []
 
 -- between two shown lines: the one line between them, a break, or nothing
 abbrev pub gap_between : {A : Type 0} → (ℕ → List A) → (ℕ → List A) → ℕ → ℕ → List A

@@ -20,7 +20,7 @@ use Rattle.codespan_picture.specs.Sequences.{break_between, in_sequence}
 use Rattle.codespan_annotations.specs.FileIndices.{IsIdAt}
 use Rattle.codespan_collect.specs.IndexedLabels.{all_annotations}
 use Rattle.codespan_picture.specs.Snippets.{InFile, LabeledFileModel, labeled_file_model, num_multi_labels, line_at, line_rows, break_rows, rows_after, file_ids}
-use Rattle.codespan_plan.specs.SnippetLines.{are_shown, lane_marks_in, lines_of, single_labels_in, line_of_group, rows_of_lines, fills_of, do_lane_marks_fit, does_line_fit}
+use Rattle.codespan_plan.specs.SnippetLines.{are_shown, lane_marks_in, lines_of, single_labels_in, line_of_group, rows_of_lines, fills_of, are_lane_marks_in_order, is_line_in_order}
 use Rattle.codespan_plan.proofs.AnnotationGroups.{lines_after, snippet_lines-by_line, all-on_line}
 use Rattle.codespan_plan.proofs.AnnotationLines as annotation_lines
 use Rattle.codespan_plan.proofs.FileLabels.{HasFileIndex, is_of_range}
@@ -235,11 +235,11 @@ module _ {Id : Type 0} {database : FileDatabase Id} (lawful : AreFiles database)
   starts-ascend l = ascends-starts (single_labels_in (bucket l)) (single_labels-ascend f l (bucket l) (bucket-on l) (bucket-rises l))
 
   -- its lane marks ascend in the lanes of the file
-  marks-fit : (l : ℕ) → do_lane_marks_fit (num_multi_labels s) (bucket l) ≡ true
+  marks-fit : (l : ℕ) → are_lane_marks_in_order (num_multi_labels s) (bucket l) ≡ true
   marks-fit l = ap (ascend_from (num_multi_labels s) 0) (marks-are l) ∙ marks-ascend s l
 
   -- so do those of each snippet line
-  pub snippet-fits : AllByRecursion (λ snippet_line. does_line_fit (num_multi_labels s) snippet_line ≡ true) (lines_of own)
+  pub snippet-fits : AllByRecursion (λ snippet_line. is_line_in_order (num_multi_labels s) snippet_line ≡ true) (lines_of own)
   snippet-fits =
-      subst (AllByRecursion (λ snippet_line. does_line_fit (num_multi_labels s) snippet_line ≡ true)) (sym snippet_lines-are)
+      subst (AllByRecursion (λ snippet_line. is_line_in_order (num_multi_labels s) snippet_line ≡ true)) (sym snippet_lines-are)
       (snippet_lines-fit (num_multi_labels s) bucket (λ l i. starts-ascend l i && marks-fit l i) marks-fit None shown)

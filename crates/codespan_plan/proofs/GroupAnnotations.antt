@@ -7,7 +7,7 @@ use Rattle.std.proofs.lemmas.List.{append-nil}
 use Rattle.std.proofs.lemmas.List.Elements.{filter_map-append, filter_agree}
 use Rattle.codespan_base.specs.Labels.{LaneMark, LabelModel}
 use Rattle.codespan_annotations.specs.Annotations.{Annotation, AnnotationKind, Shown, Single, Multi, rank_of, is_before, shows_line}
-use Rattle.codespan_plan.specs.SnippetLines.{are_shown, lane_mark_in, lane_marks_in, single_label_of, single_labels_in}
+use Rattle.codespan_plan.specs.SnippetLines.{are_shown, lane_mark_of_kind, lane_marks_in, single_label_of, single_labels_in}
 use Rattle.codespan_plan.proofs.AnnotationGroups.{IsRising}
 use Rattle.codespan_plan.proofs.FileLabels.{has_label_range, is_of_range}
 use Rattle.codespan_annotations.proofs.AnnotationOrder.{kind_rises, line_rises, lane_mark_annotation}
@@ -52,7 +52,7 @@ marks-rank [] = refl
 marks-rank (x ∷ xs) = by_kind x.kind (marks-rank xs)
   where
     by_kind : (s : AnnotationKind) → lane_marks_in xs ≡ lane_marks_in (filter (is_kind 2) xs)
-        → cons_option (lane_mark_in s) (lane_marks_in xs) ≡ lane_marks_in (cond (rank_of s == 2) (record x { kind = s } ∷ filter (is_kind 2) xs) (filter (is_kind 2) xs))
+        → cons_option (lane_mark_of_kind s) (lane_marks_in xs) ≡ lane_marks_in (cond (rank_of s == 2) (record x { kind = s } ∷ filter (is_kind 2) xs) (filter (is_kind 2) xs))
     by_kind Shown rest = rest
     by_kind (Single p y) rest = rest
     by_kind (Multi m) rest = ap (λ (ms : List LaneMark). m ∷ ms) rest

@@ -8,7 +8,7 @@ use Rattle.codespan_base.specs.Labels.{LabelModel, LaneMark, MultiLabel, lane_ma
 use Rattle.codespan_picture.specs.Arguments.{LaneMarkTuple, lane_mark_view, lanes_in_order, ascend_from}
 use Rattle.codespan_picture.specs.Snippets.{LabeledFileModel, num_multi_labels}
 use Rattle.codespan_annotations.specs.Annotations.{Annotation, is_before}
-use Rattle.codespan_plan.specs.SnippetLines.{do_lane_marks_fit, lane_marks_in}
+use Rattle.codespan_plan.specs.SnippetLines.{are_lane_marks_in_order, lane_marks_in}
 use Rattle.codespan_annotations.proofs.AnnotationOrder.{lane_below, lane_mark_annotation}
 use Rattle.codespan_laws.proofs.ListElements.{all-weaker}
 use Rattle.codespan_laws.proofs.SortedLists.{Climbs}
@@ -63,5 +63,5 @@ ascend-climbs f l count least (m ∷ ms) up =
     later (k ∷ ks) h = (lane_below f l m k (let low = h.0 in omega arith), later ks h.1)
 
 -- a renderer takes lane marks that ascend
-pub lanes_fit : (count : ℕ) (es : List Annotation) (ms : List LaneMarkTuple) → map lane_mark_view ms ≡ lane_marks_in es → do_lane_marks_fit count es ≡ true → lanes_in_order count ms ≡ true
+pub lanes_fit : (count : ℕ) (es : List Annotation) (ms : List LaneMarkTuple) → map lane_mark_view ms ≡ lane_marks_in es → are_lane_marks_in_order count es ≡ true → lanes_in_order count ms ≡ true
 lanes_fit count es ms same fits = ap (ascend_from count 0) same ∙ fits

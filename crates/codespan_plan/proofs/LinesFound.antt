@@ -10,7 +10,7 @@ use Rattle.codespan_base.specs.FileModel.{FileModel, Lookup, or_failure}
 use Rattle.codespan_base.specs.FileModel.Lookup.{LineNumber}
 use Rattle.codespan_picture.specs.Lookups.{Failures, lookups_of_file, first_error}
 use Rattle.codespan_plan.specs.declared.plan.snippet_lines.SnippetLine.{SnippetLine as RustLine}
-use Rattle.codespan_plan.specs.SnippetLineViews.{AddsLines, IsSnippetLineIn, numbers_looked_up, line_view}
+use Rattle.codespan_plan.specs.SnippetLineViews.{AddsLines, IsSnippetLineIn, numbers_looked_up, snippet_line_view}
 use Rattle.codespan_annotations.specs.Annotations.{Annotation}
 use Rattle.codespan_plan.specs.SnippetLines.{SnippetLine, Labeled, fill_of, fills_of}
 use Rattle.codespan_collect.proofs.FirstErrors.{first_error-lookups, or_failure-succeeded, or_failure-some}
@@ -26,7 +26,7 @@ module _ {Id : Type 0} {layout : Layout} {f : FileModel} where
   adds_then {old} first second = record {
     more = first.more ++ second.more;
     whole = second.whole ∙ ap (λ (l : List (RustLine Id)). l ++ second.more) first.whole ∙ append_assoc old first.more second.more;
-    are = map-append line_view first.more second.more ∙ (λ i. first.are i ++ second.are i);
+    are = map-append snippet_line_view first.more second.more ∙ (λ i. first.are i ++ second.are i);
     each = all-append (IsSnippetLineIn layout f) first.more second.more first.each second.each;
   }
 

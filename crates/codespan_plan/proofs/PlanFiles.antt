@@ -28,13 +28,13 @@ use Rattle.codespan_collect.specs.Collections.{IsCollected}
 use Rattle.codespan_annotations.specs.AnnotationViews.{annotation_view}
 use Rattle.codespan_annotations.specs.LabeledFiles.{HasLabels, ids_view}
 use Rattle.codespan_plan.specs.declared.plan.OutputPlan.{OutputPlan}
-use Rattle.codespan_plan.specs.SnippetLineViews.{IsSnippetLineIn, IsSnippetLineOf, lookups_of_line, lookups_of_lines, numbers_looked_up, line_view}
+use Rattle.codespan_plan.specs.SnippetLineViews.{IsSnippetLineIn, IsSnippetLineOf, lookups_of_line, lookups_of_lines, numbers_looked_up, snippet_line_view}
 use Rattle.codespan_annotations.specs.SourceFiles.{lookups_of_filled}
 use Rattle.codespan_plan.specs.Loci.{loci_lookups}
 use Rattle.codespan_annotations.specs.FileStarts.{start_byte}
 use Rattle.codespan_annotations.specs.FileIndices.{IsIdAt}
 use Rattle.codespan_plan.specs.SnippetPlans.{ArePlans, ArePlansOf, IsPlan, number_lookups, plans_failure, line_digits, lines_at, width_in}
-use Rattle.codespan_plan.specs.SnippetLines.{SnippetLine, fill_of, fills_of, rows_of_lines, DoFit}
+use Rattle.codespan_plan.specs.SnippetLines.{SnippetLine, fill_of, fills_of, rows_of_lines, AreInOrder}
 use Rattle.codespan_plan.proofs.PlansFound.{by_index-same}
 use Rattle.codespan_plan.proofs.SpannedPadding.{spanned-padding_width}
 use Rattle.codespan_plan.proofs.AnnotationOutput.{snippet-fills, snippet-fits, snippet-lines, snippet-rows}
@@ -45,23 +45,23 @@ use Rattle.codespan_plan.proofs.SnippetLineRows.{line_of_snippet_line, lines_of_
 -- ---- one snippet line
 
 -- a snippet line in a layout is one of the file
-line_view-file : {Id : Type 0} (layout : Layout) (f : FileModel) (g : RustLine Id) → IsSnippetLineIn layout f g → IsSnippetLineOf f g
-line_view-file layout f (rust.Labeled line annotations) is = is
-line_view-file Classic f (rust.Filled index number annotations) is = subst (λ (o : Option ℕ). IfSome o (λ known. known ≡ f.line_number index)) (sym is) tt
-line_view-file Unbroken f (rust.Filled index number annotations) is = subst (λ (o : Option ℕ). IfSome o (λ known. known ≡ f.line_number index)) (sym is) refl
-line_view-file layout f (rust.Break next) is = is
+snippet_line_view-file : {Id : Type 0} (layout : Layout) (f : FileModel) (g : RustLine Id) → IsSnippetLineIn layout f g → IsSnippetLineOf f g
+snippet_line_view-file layout f (rust.Labeled line annotations) is = is
+snippet_line_view-file Classic f (rust.Filled index number annotations) is = subst (λ (o : Option ℕ). IfSome o (λ known. known ≡ f.line_number index)) (sym is) tt
+snippet_line_view-file Unbroken f (rust.Filled index number annotations) is = subst (λ (o : Option ℕ). IfSome o (λ known. known ≡ f.line_number index)) (sym is) refl
+snippet_line_view-file layout f (rust.Break next) is = is
 
 -- its lookups are those of the layout for the line that it fills in
 snippet_line-lookups : {Id : Type 0} (layout : Layout) (f : FileModel) (g : RustLine Id)
     → IsSnippetLineIn layout f g → lookups_of_line g
-    ≡ flat_map (filled_line_lookups layout) (fill_of (line_view g))
+    ≡ flat_map (filled_line_lookups layout) (fill_of (snippet_line_view g))
 snippet_line-lookups layout f (rust.Labeled line annotations) is = refl
 snippet_line-lookups Classic f (rust.Filled index number annotations) is = ap (λ (o : Option ℕ). lookups_of_filled o index) is
 snippet_line-lookups Unbroken f (rust.Filled index number annotations) is = ap (λ (o : Option ℕ). lookups_of_filled o index) is
 snippet_line-lookups layout f (rust.Break next) is = refl
 
 -- in the unbroken layout the digits of its number are those of its line's
-snippet_line-digits : {Id : Type 0} (f : FileModel) (g : RustLine Id) → IsSnippetLineIn Unbroken f g → line_digits g ≡ map (λ l. count_digits (f.line_number l)) (line_of_snippet_line (line_view g))
+snippet_line-digits : {Id : Type 0} (f : FileModel) (g : RustLine Id) → IsSnippetLineIn Unbroken f g → line_digits g ≡ map (λ l. count_digits (f.line_number l)) (line_of_snippet_line (snippet_line_view g))
 snippet_line-digits f (rust.Labeled line annotations) is = ap (λ n. count_digits n ∷ []) is.number_is
 snippet_line-digits {Id} f (rust.Filled index number annotations) is = ap (λ (o : Option ℕ). line_digits {Id = Id} (rust.Filled index o annotations)) is
 snippet_line-digits f (rust.Break next) is = refl
@@ -71,26 +71,26 @@ snippet_line-digits f (rust.Break next) is = refl
 -- snippet lines in a layout are those of the file
 lines_of-file : {Id : Type 0} (layout : Layout) (f : FileModel) (gs : List (RustLine Id)) → AllByRecursion (IsSnippetLineIn layout f) gs → AllByRecursion (IsSnippetLineOf f) gs
 lines_of-file layout f [] h = tt
-lines_of-file layout f (g ∷ gs) h = (line_view-file layout f g h.0, lines_of-file layout f gs h.1)
+lines_of-file layout f (g ∷ gs) h = (snippet_line_view-file layout f g h.0, lines_of-file layout f gs h.1)
 
 -- their lookups are those of the layout for the lines that they fill in
 snippet_lines-lookups : {Id : Type 0} (layout : Layout) (f : FileModel) (gs : List (RustLine Id))
     → AllByRecursion (IsSnippetLineIn layout f) gs
-    → lookups_of_lines gs ≡ flat_map (filled_line_lookups layout) (fills_of (map line_view gs))
+    → lookups_of_lines gs ≡ flat_map (filled_line_lookups layout) (fills_of (map snippet_line_view gs))
 snippet_lines-lookups layout f [] h = refl
 snippet_lines-lookups layout f (g ∷ gs) h =
     (λ i. snippet_line-lookups layout f g h.0 i ++ snippet_lines-lookups layout f gs h.1 i)
-    ∙ sym (flat_map-append (filled_line_lookups layout) (fill_of (line_view g)) (fills_of (map line_view gs)))
+    ∙ sym (flat_map-append (filled_line_lookups layout) (fill_of (snippet_line_view g)) (fills_of (map snippet_line_view gs)))
 
 -- in the unbroken layout the digits of their numbers are those of their lines'
 snippet_lines-digits : {Id : Type 0} (f : FileModel) (gs : List (RustLine Id))
     → AllByRecursion (IsSnippetLineIn Unbroken f) gs
     → flat_map line_digits gs ≡ map (λ l. count_digits (f.line_number l))
-    (lines_of_snippet_lines (map line_view gs))
+    (lines_of_snippet_lines (map snippet_line_view gs))
 snippet_lines-digits f [] h = refl
 snippet_lines-digits f (g ∷ gs) h =
     (λ i. snippet_line-digits f g h.0 i ++ snippet_lines-digits f gs h.1 i)
-    ∙ sym (map-append (λ l. count_digits (f.line_number l)) (line_of_snippet_line (line_view g)) (lines_of_snippet_lines (map line_view gs)))
+    ∙ sym (map-append (λ l. count_digits (f.line_number l)) (line_of_snippet_line (snippet_line_view g)) (lines_of_snippet_lines (map snippet_line_view gs)))
 
 -- ---- plans
 
@@ -100,7 +100,7 @@ record AreLinesOfSnippet (config : Config) (s : LabeledFileModel) (snippet_lines
   fills : fills_of snippet_lines ≡ filled_lines config s
   lines : lines_of_snippet_lines snippet_lines ≡ drawn_lines config s.file s.labels
   rows : rows_of_lines s.file (num_multi_labels s) snippet_lines ≡ rows_after s None (drawn_lines config s.file s.labels)
-  fits : DoFit (num_multi_labels s) snippet_lines
+  fits : AreInOrder (num_multi_labels s) snippet_lines
 
 -- in the unbroken layout the numbers of drawn lines count
 numbered : (config : Config) → config.layout ≡ Unbroken → (s : LabeledFileModel) → numbered_lines config s ≡ drawn_lines config s.file s.labels
@@ -172,7 +172,7 @@ module _ {Id : Type 0} {database : FileDatabase Id} (lawful : AreFiles database)
       locus_is = subst (λ n. IsTextLocus (file f.id, n) (locus_view snippet_plan.locus)) (file_start-is known) is.locus_is;
       count_is = is.count_is;
       each = lines_of-file config.layout (file f.id) own is.each;
-      fits = subst (DoFit (num_multi_labels (labeled f.id))) (sym is.are) (snippet k f.id at).fits;
+      fits = subst (AreInOrder (num_multi_labels (labeled f.id))) (sym is.are) (snippet k f.id at).fits;
       rows = ap (rows_of_lines (file f.id) (num_multi_labels (labeled f.id))) is.are ∙ (snippet k f.id at).rows;
       lookups = snippet_lines-lookups config.layout (file f.id) own is.each ∙ ap (λ (snippet_lines : List SnippetLine). flat_map (filled_line_lookups config.layout) (fills_of snippet_lines)) is.are
           ∙ ap (λ (ls : List ℕ). flat_map (filled_line_lookups config.layout) ls) (snippet k f.id at).fills;

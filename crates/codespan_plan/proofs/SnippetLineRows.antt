@@ -10,7 +10,7 @@ use Rattle.codespan_picture.specs.Snippets.{break_rows, line_rows}
 use Rattle.codespan_laws.proofs.Filling.{given, is_filled, lines-shown}
 use Rattle.codespan_laws.proofs.Sequences.{all-gap, all-sequence, flat_map-gap, flat_map-sequence, sequence-flat}
 use Rattle.codespan_annotations.specs.Annotations.{Annotation}
-use Rattle.codespan_plan.specs.SnippetLines.{SnippetLine, Labeled, Filled, Break, line_of_group, rows_of_line, rows_of_lines, fill_of, fills_of, do_annotations_fit, do_lane_marks_fit, does_line_fit}
+use Rattle.codespan_plan.specs.SnippetLines.{SnippetLine, Labeled, Filled, Break, line_of_group, rows_of_line, rows_of_lines, fill_of, fills_of, are_annotations_in_order, are_lane_marks_in_order, is_line_in_order}
 use Rattle.codespan_plan.proofs.AnnotationGroups.{lines_after}
 
 -- the line of a snippet line that has one
@@ -67,12 +67,12 @@ module _ (f : FileModel) (count : ℕ) (m : ℕ → List Annotation) where
 -- ---- labels in order
 
 -- the labels of all snippet lines are in order, and their lane marks in so many lanes
-pub snippet_lines-fit : (count : ℕ) (m : ℕ → List Annotation) → ((l : ℕ) → do_annotations_fit count (m l) ≡ true) → ((l : ℕ) → do_lane_marks_fit count (m l) ≡ true)
-    → (previous : Option ℕ) (ds : List ℕ) → AllByRecursion (λ snippet_line. does_line_fit count snippet_line ≡ true) (lines_after m previous ds)
+pub snippet_lines-fit : (count : ℕ) (m : ℕ → List Annotation) → ((l : ℕ) → are_annotations_in_order count (m l) ≡ true) → ((l : ℕ) → are_lane_marks_in_order count (m l) ≡ true)
+    → (previous : Option ℕ) (ds : List ℕ) → AllByRecursion (λ snippet_line. is_line_in_order count snippet_line ≡ true) (lines_after m previous ds)
 snippet_lines-fit count m fit lane_marks_fit =
-    all-sequence (λ snippet_line. does_line_fit count snippet_line ≡ true) (λ l. l)
+    all-sequence (λ snippet_line. is_line_in_order count snippet_line ≡ true) (λ l. l)
     (gap_between (λ l. Filled l (m l) ∷ []) (λ d. Break (m d) ∷ [])) (λ l. Labeled l (m l) ∷ [])
-    (all-gap (λ snippet_line. does_line_fit count snippet_line ≡ true) (λ l. Filled l (m l) ∷ []) (λ d. Break (m d) ∷ []) (λ l. (fit l, tt)) (λ d. (lane_marks_fit d, tt))) (λ l. (fit l, tt))
+    (all-gap (λ snippet_line. is_line_in_order count snippet_line ≡ true) (λ l. Filled l (m l) ∷ []) (λ d. Break (m d) ∷ []) (λ l. (fit l, tt)) (λ d. (lane_marks_fit d, tt))) (λ l. (fit l, tt))
 
 -- ---- the lines of snippet lines
 

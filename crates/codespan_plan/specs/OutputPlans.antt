@@ -12,8 +12,8 @@ use Rattle.codespan_picture.specs.Snippets.{InFile, LabeledFileModel, labeled_fi
 use Rattle.codespan_plan.specs.declared.plan.OutputPlan.{OutputPlan}
 use Rattle.codespan_plan.specs.declared.plan.snippet_plans.SnippetPlan.{SnippetPlan}
 use Rattle.codespan_plan.specs.declared.plan.snippet_lines.SnippetLine.{SnippetLine as RustLine}
-use Rattle.codespan_plan.specs.SnippetLineViews.{IsSnippetLineOf, lookups_of_lines, line_view}
-use Rattle.codespan_plan.specs.SnippetLines.{rows_of_lines, DoFit}
+use Rattle.codespan_plan.specs.SnippetLineViews.{IsSnippetLineOf, lookups_of_lines, snippet_line_view}
+use Rattle.codespan_plan.specs.SnippetLines.{rows_of_lines, AreInOrder}
 use Rattle.codespan_annotations.specs.TextLoci.{IsLocusOfFile}
 
 -- where the snippet of each file starts
@@ -34,8 +34,8 @@ pub record IsSnippetPlan {Id : Type 0} (config : Config) (s : LabeledFileModel)
   pub locus_is : IsLocusOfFile s (locus_view snippet_plan.locus)
   pub count_is : snippet_plan.line_total ≡ length own
   pub each : AllByRecursion (IsSnippetLineOf s.file) own
-  pub fits : DoFit (num_multi_labels s) (map line_view own)
-  pub rows : rows_of_lines s.file (num_multi_labels s) (map line_view own)
+  pub fits : AreInOrder (num_multi_labels s) (map snippet_line_view own)
+  pub rows : rows_of_lines s.file (num_multi_labels s) (map snippet_line_view own)
       ≡ rows_after s None (drawn_lines config s.file s.labels)
   pub lookups : lookups_of_lines own ≡ flat_map (filled_line_lookups config.layout)
       (filled_lines config s)

@@ -15,12 +15,12 @@ use Rattle.codespan_picture.specs.Sequences.{before_line}
 use Rattle.codespan_annotations.specs.SourceFiles.{lookups_of_filled}
 
 -- a line of a snippet
-abbrev pub line_view : {Id : Type 0} → RustLine Id → SnippetLine
-line_view (rust.Labeled line annotations) = Labeled line.index
+abbrev pub snippet_line_view : {Id : Type 0} → RustLine Id → SnippetLine
+snippet_line_view (rust.Labeled line annotations) = Labeled line.index
     (map annotation_view annotations.now)
-line_view (rust.Filled index number annotations) = Filled index
+snippet_line_view (rust.Filled index number annotations) = Filled index
     (map annotation_view annotations.now)
-line_view (rust.Break next) = Break (map annotation_view next.now)
+snippet_line_view (rust.Break next) = Break (map annotation_view next.now)
 
 -- what is in a gap before a line with these annotations, where the line between has those
 abbrev pub gap_lines : List Annotation → List Annotation → Gap → List SnippetLine
@@ -73,5 +73,5 @@ pub record AddsLines {Id : Type 0} (layout : Layout) (f : FileModel) (old new : 
     (snippet_lines : List SnippetLine) : Type 0 where
   pub more : List (RustLine Id)
   pub whole : new ≡ old ++ more
-  pub are : map line_view more ≡ snippet_lines
+  pub are : map snippet_line_view more ≡ snippet_lines
   pub each : AllByRecursion (IsSnippetLineIn layout f) more

@@ -79,14 +79,14 @@ abbrev pub single_labels_in : List Annotation → List LabelModel
 single_labels_in es = filter_map (λ (e : Annotation). single_label_of e.kind) es
 
 -- the lane mark of an annotation, where it has one
-abbrev pub lane_mark_in : AnnotationKind → Option LaneMark
-lane_mark_in Shown = None
-lane_mark_in (Single index x) = None
-lane_mark_in (Multi lane_mark) = Some lane_mark
+abbrev pub lane_mark_of_kind : AnnotationKind → Option LaneMark
+lane_mark_of_kind Shown = None
+lane_mark_of_kind (Single index x) = None
+lane_mark_of_kind (Multi lane_mark) = Some lane_mark
 
 -- the lane marks
 abbrev pub lane_marks_in : List Annotation → List LaneMark
-lane_marks_in es = filter_map (λ (e : Annotation). lane_mark_in e.kind) es
+lane_marks_in es = filter_map (λ (e : Annotation). lane_mark_of_kind e.kind) es
 
 module _ (f : FileModel) (count : ℕ) where
   -- so many lanes, with the lane marks of these annotations
@@ -127,21 +127,22 @@ fills_of snippet_lines = flat_map fill_of snippet_lines
 -- ---- labels in order
 
 -- the lane marks of these annotations ascend in so many lanes
-abbrev pub do_lane_marks_fit : ℕ → List Annotation → Bool
-do_lane_marks_fit count es = ascend_from count 0 (lane_marks_in es)
+abbrev pub are_lane_marks_in_order : ℕ → List Annotation → Bool
+are_lane_marks_in_order count es = ascend_from count 0 (lane_marks_in es)
 
 -- and the single-line labels are in the order of their starts
-abbrev pub do_annotations_fit : ℕ → List Annotation → Bool
-do_annotations_fit count es = starts_in_order (single_labels_in es) && do_lane_marks_fit count es
+abbrev pub are_annotations_in_order : ℕ → List Annotation → Bool
+are_annotations_in_order count es =
+    starts_in_order (single_labels_in es) && are_lane_marks_in_order count es
 
 -- so are those of a line of a snippet
-abbrev pub does_line_fit : ℕ → SnippetLine → Bool
-does_line_fit count (Labeled l es) = do_annotations_fit count es
-does_line_fit count (Filled l es) = do_annotations_fit count es
-does_line_fit count (Break es) = do_lane_marks_fit count es
+abbrev pub is_line_in_order : ℕ → SnippetLine → Bool
+is_line_in_order count (Labeled l es) = are_annotations_in_order count es
+is_line_in_order count (Filled l es) = are_annotations_in_order count es
+is_line_in_order count (Break es) = are_lane_marks_in_order count es
 
 -- the single-line labels of each line are in the order of their starts, and its lane marks ascend
 -- in so many lanes
-abbrev pub DoFit : ℕ → List SnippetLine → Type 0
-DoFit count snippet_lines = AllByRecursion (λ snippet_line. does_line_fit count snippet_line ≡ true)
-    snippet_lines
+abbrev pub AreInOrder : ℕ → List SnippetLine → Type 0
+AreInOrder count snippet_lines =
+    AllByRecursion (λ snippet_line. is_line_in_order count snippet_line ≡ true) snippet_lines

@@ -13,7 +13,7 @@ use Rattle.codespan_plan.specs.declared.plan.snippet_lines.SnippetLine.{SnippetL
 use Rattle.codespan_plan.specs.declared.plan.snippet_lines.SnippetLine.TheVariants as rust
 use Rattle.codespan_annotations.specs.Annotations.{Annotation, is_of_file}
 use Rattle.codespan_annotations.specs.AnnotationViews.{annotation_view}
-use Rattle.codespan_plan.specs.SnippetLineViews.{IsSnippetLineIn, numbers_looked_up, line_view}
+use Rattle.codespan_plan.specs.SnippetLineViews.{IsSnippetLineIn, numbers_looked_up, snippet_line_view}
 use Rattle.codespan_annotations.specs.LabeledFiles.{ids_view}
 use Rattle.codespan_plan.specs.Loci.{loci_lookups}
 use Rattle.codespan_annotations.specs.FileStarts.{start_byte}
@@ -42,7 +42,7 @@ module _ {Id : Type 0} (layout : Layout) (file : Id → FileModel) (es : List An
     pub file_is : snippet_plan.file.now ≡ f
     pub locus_is : IsTextLocus (file f.id, start_byte f.start) (locus_view snippet_plan.locus)
     pub count_is : snippet_plan.line_total ≡ length own
-    pub are : map line_view own ≡ lines_at es k
+    pub are : map snippet_line_view own ≡ lines_at es k
     pub each : AllByRecursion (IsSnippetLineIn layout (file f.id)) own
 
   -- the plans are those of the files from an index on, and these are all their lines, those of the

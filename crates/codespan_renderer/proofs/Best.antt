@@ -1,4 +1,4 @@
--- For `style_under` and `best_start`: which of the styles of some labels takes precedence.
+-- For `style_under` and `start_style`: which of the styles of some labels takes precedence.
 use Rattle.std.proofs.Common.{◌≡◌, Bool, true, false, cond, List, [], ◌∷◌, filter, fold, Option, None, Some, refl}
 use Rattle.std.specs.Prelude.{◌&&◌, if◌then◌else◌}
 use Rattle.std.specs.List.{list_any}

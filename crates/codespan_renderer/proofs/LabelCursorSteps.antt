@@ -1,4 +1,4 @@
--- For `LabelCursor::advance` and `StartCursor::best_start`: a cursor over the characters of a line
+-- For `LabelCursor::advance` and `StartCursor::start_style`: a cursor over the characters of a line
 -- that passes its labels as they begin.
 use Rattle.std.proofs.Props.{props}
 use Rattle.std.proofs.Math.Logic.{∥∥₁_elim}

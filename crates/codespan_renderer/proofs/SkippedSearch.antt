@@ -13,7 +13,7 @@ use Rattle.codespan_picture.proofs.Consecutive.{AreConsecutive, char_metrics-con
 use Rattle.codespan_renderer.specs.declared.term.renderer.char_metrics.CharMetrics.{CharMetrics}
 use Rattle.codespan_renderer.specs.Private.MetricsLeft.{metrics_from, no_more}
 use Rattle.codespan_renderer.specs.Private.CachedMetrics.{AreCached}
-use Rattle.codespan_row_parts.specs.LineSources.{EndBy}
+use Rattle.codespan_row_parts.specs.LineCharacters.{EndBy}
 use Rattle.codespan_row_parts.specs.Runs.{least_start}
 use Rattle.codespan_renderer.proofs.WidthSearch.{consecutive-front, consecutive-low}
 

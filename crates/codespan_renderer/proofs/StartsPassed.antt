@@ -1,4 +1,4 @@
--- For `StartCursor::best_start`: the starts of labels with messages, as a cursor over the
+-- For `StartCursor::start_style`: the starts of labels with messages, as a cursor over the
 -- characters of a line passes them.
 use Rattle.std.proofs.Common.{◌≡◌, ℕ, ◌+◌, ◌<◌, ◌≤◌, Bool, true, false, cond, ◌==◌, nat_lt, nat_le, List, [], ◌∷◌, length, drop, get_or, filter, Option, refl, sym, ◌∙◌, arith}
 use Rattle.std.specs.Prelude.{not, if◌then◌else◌}

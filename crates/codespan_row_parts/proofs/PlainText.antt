@@ -17,8 +17,8 @@ use Rattle.codespan_picture.specs.declared.char_metrics.Metrics.{Metrics}
 use Rattle.codespan_picture.specs.Carets.{covers, max_label_end}
 use Rattle.codespan_picture.specs.Types.{LabelStyle, Primary}
 use Rattle.codespan_picture.proofs.CaretEnds.{style_under-below}
-use Rattle.codespan_row_parts.specs.declared.primary_lane_marks.PrimaryLaneMarks.{PrimaryLaneMarks}
-use Rattle.codespan_row_parts.specs.PrimaryLaneMarks.{CoversAsMarks, is_marked}
+use Rattle.codespan_row_parts.specs.declared.primary_cover.PrimaryCover.{PrimaryCover}
+use Rattle.codespan_row_parts.specs.PrimaryCover.{CoversAsLaneMarks, is_marked}
 use Rattle.codespan_row_parts.proofs.RowEquations.{change-same}
 use Rattle.codespan_row_parts.proofs.TextRuns.{IsOver, text-end, text_rest}
 use Rattle.codespan_picture.specs.CharMetrics.{metrics_then, width_at}
@@ -112,7 +112,7 @@ no-label-past labels c past = by_test (list_any (λ x. is_primary x && covers x 
     by_test false is = is
 
 -- past that and what marks cover no character is primary
-pub no-style-past : (line : Line) (given : PrimaryLaneMarks) (c : Metrics) → CoversAsMarks line.lanes.marks given → is_marked given c ≡ false
+pub no-style-past : (line : Line) (given : PrimaryCover) (c : Metrics) → CoversAsLaneMarks line.lanes.marks given → is_marked given c ≡ false
     → max_label_end line.labels ≤ c.byte_index → 1 ≤ c.bytes → source_style line c ≡ None
 no-style-past line given c are none past some = rw (no-label-past line.labels c past, ← are c some, none) refl
 

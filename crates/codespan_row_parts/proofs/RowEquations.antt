@@ -1,4 +1,4 @@
--- For `write_line`, `write_empty` and `write_break`: equations of rows, as the calls that write
+-- For `write_line`, `write_snippet_empty` and `write_break`: equations of rows, as the calls that write
 -- them put them together.
 use Rattle.std.proofs.Common.{◌≡◌, ℕ, ◌+◌, ◌-◌, ◌^◌, ◌<◌, ◌≤◌, ◌==◌, List, [], ◌∷◌, ◌++◌, true, false, nat_lt, lt-ltb, Option, None, Some, append_assoc, append-nil, length, replicate, refl, ap, sym, ◌∙◌, arith}
 use Rattle.std.proofs.lemmas.List.{replicate-append-replicate}

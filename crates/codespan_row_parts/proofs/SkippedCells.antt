@@ -14,7 +14,7 @@ use Rattle.codespan_picture.specs.Carets.{covers, max_label_end, style_under}
 use Rattle.codespan_picture.specs.CharMetrics.{metrics_then, char_metrics_to_end, placeholder, width_at, width_of}
 use Rattle.codespan_picture.specs.Rows.{RowContext}
 use Rattle.codespan_picture.specs.RowParts.{carets}
-use Rattle.codespan_row_parts.specs.LineSources.{EndBy, LeavesOut}
+use Rattle.codespan_row_parts.specs.LineCharacters.{EndBy, LeavesOut}
 use Rattle.codespan_row_parts.specs.Runs.{least_start}
 use Rattle.codespan_row_parts.proofs.CaretRuns.{carets_left, carets-same, carets-start, counts-all}
 use Rattle.codespan_row_parts.proofs.ScanState.{ConsecutiveWithin, ScanState, scan_state-more}

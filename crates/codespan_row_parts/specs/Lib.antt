@@ -4,7 +4,7 @@ pub mod RenderedRows
 pub mod LineViews
 pub mod RowViews
 pub mod CharCursors
-pub mod LineSources
+pub mod LineCharacters
 pub mod LaneMarksLeft
-pub mod PrimaryLaneMarks
+pub mod PrimaryCover
 pub mod Runs

@@ -38,9 +38,9 @@ abbrev pub rendered_source : Config → Severity → ℕ → Line → Stream
 rendered_source config severity padding line =
     stream_of_rows (context_of config severity padding) (rows_of line)
 
--- a row of a snippet without text
-abbrev pub rendered_empty : Config → Severity → ℕ → ℕ → List LaneMarkTuple → Stream
-rendered_empty config severity padding num_multi_labels marks =
+-- an empty row of a snippet
+abbrev pub rendered_snippet_empty : Config → Severity → ℕ → ℕ → List LaneMarkTuple → Stream
+rendered_snippet_empty config severity padding num_multi_labels marks =
     empty_row (context_of config severity padding) (lanes_of num_multi_labels marks) ++ newline
 
 -- the row of a break

@@ -11,11 +11,11 @@ ghost use Rattle.codespan_row_parts.specs.RowViews.{carets_view, line_metrics_to
 ghost use Rattle.codespan_picture.specs.RowParts.{carets, change, trailing_message};
 ghost use Rattle.codespan_picture.specs.RowStreams.{caret_row};
 ghost use Rattle.codespan_picture.specs.Rows.{trailing_label};
-ghost use Rattle.codespan_row_parts.specs.LineSources.{char_input};
+ghost use Rattle.codespan_row_parts.specs.LineCharacters.{char_input};
 
 use crate::char_cursor::CharCursor;
 use crate::line::{Line, RowContext};
-use crate::line_source::LineSource;
+use crate::line_characters::LineCharacters;
 use crate::messages::Messages;
 use crate::parts::{change_style, write_newline, write_row_start, write_space};
 use crate::runs::{write_repeated, write_spaces};
@@ -82,26 +82,26 @@ fn end_caret_run<W: PutStyle>(
 
 /// Writes the carets under the characters of a line, the last of which is the placeholder after the
 /// text.
-fn write_carets<W: PutStyle, S: LineSource>(
+fn write_carets<W: PutStyle, S: LineCharacters>(
     w: &mut W,
     context: RowContext<'_>,
     line: Line<'_, '_>,
-    source: &S,
+    characters: &S,
 ) -> Result<(), W::Error>
-    requires input { S.input source.now ≡ char_input context line }
+    requires input { S.input characters.now ≡ char_input context line }
     ensures { Writes (W.sink w.old)
         (carets_view context.entry line.entry.labels.now
         (line_metrics_to_end_view context.entry line.entry))
         result (W.sink w.new) }
 {
     let end = max_label_end(line.labels);
-    let (mut run, mut characters) = source.characters_from_labels(end);
+    let (mut run, mut cursor) = characters.characters_from_labels(end);
     let mut previous = None;
-    while let Some(metrics) = characters.next_metrics() {
+    while let Some(metrics) = cursor.next_metrics() {
         if metrics.byte_index >= end {
             break;
         }
-        let style = characters.style_under(metrics);
+        let style = cursor.style_under(metrics);
         if style != previous {
             end_caret_run(w, context, previous, run, style)?;
             run = 0;
@@ -159,16 +159,16 @@ fn write_trailing<W: PutStyle>(
 ///
 /// # Requires
 ///
-/// - `source` has the context's tab width, and the text and labels of `line`.
+/// - `characters` has the context's tab width, and the text and labels of `line`.
 /// - `messages.trailing` is the label of `line` whose message trails, where there is one.
-pub fn write_caret_row<W: PutStyle, S: LineSource>(
+pub fn write_caret_row<W: PutStyle, S: LineCharacters>(
     w: &mut W,
     context: RowContext<'_>,
     line: Line<'_, '_>,
-    source: &S,
+    characters: &S,
     messages: Messages<'_, '_>,
 ) -> Result<(), W::Error>
-    requires input { S.input source.now ≡ char_input context line }
+    requires input { S.input characters.now ≡ char_input context line }
     requires trailing_label { optional_label_view messages.trailing_label
         ≡ trailing_label (single_label_views line.labels.now) }
     ensures { Writes (W.sink w.old)
@@ -176,7 +176,7 @@ pub fn write_caret_row<W: PutStyle, S: LineSource>(
         (W.sink w.new) }
 {
     write_row_start(w, context, line)?;
-    write_carets(w, context, line, source)?;
+    write_carets(w, context, line, characters)?;
     write_trailing(w, context.severity, messages.trailing_label)?;
     write_newline(w)
 }

@@ -7,7 +7,7 @@ ghost use Rattle.codespan_picture.specs.Arguments.{lane_mark_view, multi_label_v
 ghost use Rattle.codespan_row_parts.specs.LineViews.{context_view, lanes_view, lane_row_view, lane_of_view, row_lanes_view};
 ghost use Rattle.codespan_row_parts.specs.RowViews.{lane_glyph_view};
 ghost use Rattle.codespan_row_parts.specs.LaneMarksLeft.{lane_mark_here, lane_marks_after};
-ghost use Rattle.codespan_picture.specs.Lanes.{crossing_cells, lane_cells, corner_line, row_crossing};
+ghost use Rattle.codespan_picture.specs.Lanes.{crossing_cells, lane_cells, underline_char, row_crossing};
 
 use crate::lanes::shapes::shape_in;
 use crate::line::{Lanes, RowContext};
@@ -58,8 +58,8 @@ fn crossing<'d>(row: LaneRow<'d>, lane: usize) -> Option<(usize, LabelStyle, Mul
 }
 
 /// Returns the character of the line that runs right from a corner.
-fn corner_line(chars: &Chars<'_>, multi_label: MultiLabel<'_>) -> char
-    ensures { result ≡ corner_line chars.now (multi_label_view multi_label.entry) }
+fn underline_char(chars: &Chars<'_>, multi_label: MultiLabel<'_>) -> char
+    ensures { result ≡ underline_char chars.now (multi_label_view multi_label.entry) }
 {
     match multi_label {
         MultiLabel::Top(_) => chars.multi_top,
@@ -84,7 +84,7 @@ fn write_crossing_cells<W: PutStyle>(
         None => put_spaces(w, count),
         Some((_, style, multi_label)) => {
             w.set_label(context.severity, style)?;
-            put_repeated(w, corner_line(context.chars, multi_label), count)?;
+            put_repeated(w, underline_char(context.chars, multi_label), count)?;
             w.reset()
         }
     }

@@ -7,14 +7,14 @@ ghost use Rattle.codespan_base.specs.Streams.{bytes};
 ghost use Rattle.codespan_picture.specs.declared.char_metrics.Metrics as metrics;
 ghost use Rattle.codespan_picture.specs.Arguments.{single_label_views, lane_mark_view};
 ghost use Rattle.codespan_row_parts.specs.LineViews.{line_view};
-ghost use Rattle.codespan_row_parts.specs.PrimaryLaneMarks.{CoversAsMarks};
+ghost use Rattle.codespan_row_parts.specs.PrimaryCover.{CoversAsLaneMarks};
 ghost use Rattle.codespan_picture.specs.Rows.{RowContext as RowContextSpec};
 ghost use Rattle.codespan_picture.specs.RowParts.{colored_text, source_style};
 
 use crate::carets::max_label_end;
 use crate::char_cursor::CharCursor;
 use crate::line::Line;
-use crate::primary_lane_marks::PrimaryLaneMarks;
+use crate::primary_cover::PrimaryCover;
 use codespan_base::diagnostic::LabelStyle;
 use codespan_picture::arguments::{MultiLabel, SingleLabel};
 use codespan_picture::char_metrics::Metrics;
@@ -26,17 +26,17 @@ use codespan_picture::char_metrics::Metrics;
 ///
 /// - The character has a byte, and `characters` has just returned it.
 /// - `characters` has the labels of `line`.
-/// - `primary` is [`PrimaryLaneMarks::of`] the lane marks of `line`.
+/// - `primary` is [`PrimaryCover::of`] the lane marks of `line`.
 pub fn text_style<C: CharCursor>(
     characters: &mut C,
-    primary: PrimaryLaneMarks,
+    primary: PrimaryCover,
     line: Line<'_, '_>,
     metrics: Metrics,
 ) -> Option<LabelStyle>
     requires some { 1 ≤ metrics.bytes }
     requires returned { C.has_returned metrics characters.old }
     requires labels { C.labels characters.old ≡ line.labels.now }
-    requires primary { CoversAsMarks (map lane_mark_view line.lanes.marks.now) primary }
+    requires primary { CoversAsLaneMarks (map lane_mark_view line.lanes.marks.now) primary }
     ensures left { C.left characters.new ≡ C.left characters.old }
     ensures labels { C.labels characters.new ≡ C.labels characters.old }
     ensures style { result ≡ source_style (line_view line.entry) metrics }
@@ -96,10 +96,10 @@ pub fn is_plain(line: Line<'_, '_>) -> bool
 ///
 /// # Requires
 ///
-/// `primary` is [`PrimaryLaneMarks::of`] the lane marks of `line`.
+/// `primary` is [`PrimaryCover::of`] the lane marks of `line`.
 #[inline(always)]
-pub fn plain_from(line: Line<'_, '_>, primary: PrimaryLaneMarks) -> usize
-    requires primary { CoversAsMarks (map lane_mark_view line.lanes.marks.now) primary }
+pub fn plain_from(line: Line<'_, '_>, primary: PrimaryCover) -> usize
+    requires primary { CoversAsLaneMarks (map lane_mark_view line.lanes.marks.now) primary }
     ensures style { (c : metrics.Metrics) → result ≤ c.byte_index
         → c.byte_index < length line.entry.text.now
         → 1 ≤ c.bytes → source_style (line_view line.entry) c ≡ None }

@@ -1,5 +1,5 @@
 //! The rows of a rendered diagnostic, written to any writer of styles and text: the header, the
-//! rows of a line over any source of its characters, and those without text.
+//! rows of a line over any `LineCharacters`, and those without text.
 #![tactic(auto)]
 
 pub mod header;

@@ -5,7 +5,7 @@ ghost use Rattle.codespan_base.specs.WriterLaw.{Writes};
 ghost use Rattle.codespan_picture.specs.Arguments.{single_label_views};
 ghost use Rattle.codespan_picture.specs.Rows.{rows_of, trailing_label};
 ghost use Rattle.codespan_picture.specs.RowStreams.{stream_of_rows};
-ghost use Rattle.codespan_row_parts.specs.LineSources.{char_input};
+ghost use Rattle.codespan_row_parts.specs.LineCharacters.{char_input};
 ghost use Rattle.codespan_row_parts.specs.LineViews.{context_view, line_view};
 ghost use Rattle.codespan_row_parts.specs.RowViews.{caret_rows_view};
 ghost use Rattle.codespan_row_parts.specs.Runs.{optional_label_view};
@@ -16,18 +16,18 @@ use crate::underlines::write_underlines;
 use codespan_base::term::config::put_style::PutStyle;
 use codespan_row_parts::carets::write_caret_row;
 use codespan_row_parts::line::{Line, RowContext};
-use codespan_row_parts::line_source::LineSource;
+use codespan_row_parts::line_characters::LineCharacters;
 use codespan_row_parts::messages::Messages;
 
 /// Writes the caret row of a line, where it has labels.
-fn write_caret_rows<W: PutStyle, S: LineSource>(
+fn write_caret_rows<W: PutStyle, S: LineCharacters>(
     w: &mut W,
     context: RowContext<'_>,
     line: Line<'_, '_>,
-    source: &S,
+    characters: &S,
     messages: Messages<'_, '_>,
 ) -> Result<(), W::Error>
-    requires input { S.input source.now ≡ char_input context line }
+    requires input { S.input characters.now ≡ char_input context line }
     requires trailing_label { optional_label_view messages.trailing_label
         ≡ trailing_label (single_label_views line.labels.now) }
     ensures { Writes (W.sink w.old) (caret_rows_view context.entry line.entry) result
@@ -36,7 +36,7 @@ fn write_caret_rows<W: PutStyle, S: LineSource>(
     if line.labels.is_empty() {
         Ok(())
     } else {
-        write_caret_row(w, context, line, source, messages)
+        write_caret_row(w, context, line, characters, messages)
     }
 }
 
@@ -49,21 +49,21 @@ fn write_caret_rows<W: PutStyle, S: LineSource>(
 ///
 /// # Requires
 ///
-/// `source` has the context's tab width, and the text and labels of `line`.
-pub fn write_line<W: PutStyle, S: LineSource>(
+/// `characters` has the context's tab width, and the text and labels of `line`.
+pub fn write_line<W: PutStyle, S: LineCharacters>(
     w: &mut W,
     context: RowContext<'_>,
     line: Line<'_, '_>,
-    source: &S,
+    characters: &S,
 ) -> Result<(), W::Error>
-    requires input { S.input source.now ≡ char_input context line }
+    requires input { S.input characters.now ≡ char_input context line }
     ensures { Writes (W.sink w.old)
         (stream_of_rows (context_view context.entry) (rows_of (line_view line.entry)))
         result (W.sink w.new) }
 {
     let messages = Messages::of(line.labels);
-    write_source_row(w, context, line, source)?;
-    write_caret_rows(w, context, line, source, messages)?;
-    write_hanging(w, context, line, source, messages)?;
-    write_underlines(w, context, line, source)
+    write_source_row(w, context, line, characters)?;
+    write_caret_rows(w, context, line, characters, messages)?;
+    write_hanging(w, context, line, characters, messages)?;
+    write_underlines(w, context, line, characters)
 }

@@ -1,4 +1,4 @@
-//! Notes, breaks, and the rows of a snippet without source.
+//! Notes, breaks, and the empty rows of a snippet.
 
 ghost use Rattle.std.specs.Prelude.{◌++◌};
 ghost use Rattle.std.specs.Str.Lines.{lines};
@@ -17,12 +17,12 @@ use codespan_row_parts::parts::{
     border_left, border_left_break, outer_gutter, write_newline, write_space,
 };
 
-/// Writes a row of a snippet without source.
+/// Writes an empty row of a snippet.
 ///
 /// # Errors
 ///
 /// The writer's error; a prefix has then been written.
-pub fn write_empty<W: PutStyle>(
+pub fn write_snippet_empty<W: PutStyle>(
     w: &mut W,
     context: RowContext<'_>,
     lanes: Lanes<'_, '_>,
@@ -58,7 +58,7 @@ pub fn write_break<W: PutStyle>(
 }
 
 /// Writes the first row of a note.
-fn write_first_piece<W: PutStyle>(
+fn write_first_note_line<W: PutStyle>(
     w: &mut W,
     chars: &Chars<'_>,
     padding: usize,
@@ -77,7 +77,11 @@ fn write_first_piece<W: PutStyle>(
 }
 
 /// Writes a later row of a note.
-fn write_later_piece<W: PutStyle>(w: &mut W, padding: usize, piece: &str) -> Result<(), W::Error>
+fn write_later_note_line<W: PutStyle>(
+    w: &mut W,
+    padding: usize,
+    piece: &str,
+) -> Result<(), W::Error>
     ensures { Writes (W.sink w.old) (later_note_row padding piece.now ++ newline)
         result (W.sink w.new) }
 {
@@ -106,9 +110,9 @@ pub fn write_note<W: PutStyle>(
     let Some(first) = pieces.next() else {
         return Ok(());
     };
-    write_first_piece(w, chars, padding, first)?;
+    write_first_note_line(w, chars, padding, first)?;
     for piece in pieces {
-        write_later_piece(w, padding, piece)?;
+        write_later_note_line(w, padding, piece)?;
     }
     Ok(())
 }

@@ -10,14 +10,14 @@ ghost use Rattle.codespan_picture.specs.Lanes.{label_glyph};
 ghost use Rattle.codespan_picture.specs.RowParts.{max_label_start};
 ghost use Rattle.codespan_picture.specs.RowStreams.{pointer_row, hanging_row};
 ghost use Rattle.codespan_row_parts.specs.Runs.{AreHanging, ArePieces};
-ghost use Rattle.codespan_row_parts.specs.LineSources.{char_input};
+ghost use Rattle.codespan_row_parts.specs.LineCharacters.{char_input};
 
 use codespan_base::diagnostic::LabelStyle;
 use codespan_base::term::config::put_style::PutStyle;
 use codespan_picture::arguments::SingleLabel;
 use codespan_row_parts::carets::write_message;
 use codespan_row_parts::line::{Line, RowContext};
-use codespan_row_parts::line_source::LineSource;
+use codespan_row_parts::line_characters::LineCharacters;
 use codespan_row_parts::messages::{Messages, has_any_message};
 use codespan_row_parts::parts::{write_label_glyph, write_newline, write_row_start};
 use codespan_row_parts::runs::write_spaces;
@@ -62,17 +62,17 @@ struct RowsUnder<'row, 'd, S> {
     /// The line.
     line: Line<'row, 'd>,
     /// Its characters, their widths and its pointers.
-    source: &'row S,
+    characters: &'row S,
     /// Which of its labels trails, and which may hang.
     messages: Messages<'row, 'd>,
 }
 
 /// Writes the row of the pointers under a line.
-fn write_pointer_row<W: PutStyle, S: LineSource>(
+fn write_pointer_row<W: PutStyle, S: LineCharacters>(
     w: &mut W,
     rows: &RowsUnder<'_, '_, S>,
 ) -> Result<(), W::Error>
-    requires input { S.input rows.now.source.now ≡ char_input rows.now.context rows.now.line }
+    requires input { S.input rows.now.characters.now ≡ char_input rows.now.context rows.now.line }
     requires hanging_labels { AreHanging rows.now.line.labels.now
         rows.now.messages.before.now rows.now.messages.after.now }
     ensures { Writes (W.sink w.old)
@@ -80,18 +80,18 @@ fn write_pointer_row<W: PutStyle, S: LineSource>(
         result (W.sink w.new) }
 {
     write_row_start(w, rows.context, rows.line)?;
-    rows.source
+    rows.characters
         .caret_pointers(w, rows.context, rows.line, rows.messages)?;
     write_newline(w)
 }
 
 /// Writes a hanging message under its pointer.
-fn write_hanging_row<W: PutStyle, S: LineSource>(
+fn write_hanging_row<W: PutStyle, S: LineCharacters>(
     w: &mut W,
     rows: &RowsUnder<'_, '_, S>,
     label: &SingleLabel<'_>,
 ) -> Result<(), W::Error>
-    requires input { S.input rows.now.source.now ≡ char_input rows.now.context rows.now.line }
+    requires input { S.input rows.now.characters.now ≡ char_input rows.now.context rows.now.line }
     requires hanging_labels { AreHanging rows.now.line.labels.now
         rows.now.messages.before.now rows.now.messages.after.now }
     requires near { (single_label_view label.now).start
@@ -102,19 +102,19 @@ fn write_hanging_row<W: PutStyle, S: LineSource>(
         ++ newline) result (W.sink w.new) }
 {
     write_row_start(w, rows.context, rows.line)?;
-    rows.source
+    rows.characters
         .caret_pointers_before(w, rows.context, rows.line, rows.messages, label.1.start)?;
     write_message(w, rows.context.severity, label)?;
     write_newline(w)
 }
 
 /// Writes the rows of the hanging messages of these labels, the last one first.
-fn write_hanging_rows<W: PutStyle, S: LineSource>(
+fn write_hanging_rows<W: PutStyle, S: LineCharacters>(
     w: &mut W,
     rows: &RowsUnder<'_, '_, S>,
     labels: &[SingleLabel<'_>],
 ) -> Result<(), W::Error>
-    requires input { S.input rows.now.source.now ≡ char_input rows.now.context rows.now.line }
+    requires input { S.input rows.now.characters.now ≡ char_input rows.now.context rows.now.line }
     requires hanging_labels { AreHanging rows.now.line.labels.now
         rows.now.messages.before.now rows.now.messages.after.now }
     requires near { max_label_start (single_label_views labels.now)
@@ -132,11 +132,11 @@ fn write_hanging_rows<W: PutStyle, S: LineSource>(
 }
 
 /// Writes the pointers, and a row for each hanging message.
-fn write_pointers_and_messages<W: PutStyle, S: LineSource>(
+fn write_pointers_and_messages<W: PutStyle, S: LineCharacters>(
     w: &mut W,
     rows: &RowsUnder<'_, '_, S>,
 ) -> Result<(), W::Error>
-    requires input { S.input rows.now.source.now ≡ char_input rows.now.context rows.now.line }
+    requires input { S.input rows.now.characters.now ≡ char_input rows.now.context rows.now.line }
     requires hanging_labels { AreHanging rows.now.line.labels.now
         rows.now.messages.before.now rows.now.messages.after.now }
     requires pieces { ArePieces rows.now.line.labels.now
@@ -157,17 +157,17 @@ fn write_pointers_and_messages<W: PutStyle, S: LineSource>(
 ///
 /// # Requires
 ///
-/// - `source` has the context's tab width, and the text and labels of `line`.
+/// - `characters` has the context's tab width, and the text and labels of `line`.
 /// - The labels with a message in `messages.before` and `messages.after` are those of `line` that
 ///   hang, and the two are a prefix and a suffix of its labels.
-pub fn write_hanging<W: PutStyle, S: LineSource>(
+pub fn write_hanging<W: PutStyle, S: LineCharacters>(
     w: &mut W,
     context: RowContext<'_>,
     line: Line<'_, '_>,
-    source: &S,
+    characters: &S,
     messages: Messages<'_, '_>,
 ) -> Result<(), W::Error>
-    requires input { S.input source.now ≡ char_input context line }
+    requires input { S.input characters.now ≡ char_input context line }
     requires hanging_labels { AreHanging line.labels.now messages.before.now messages.after.now }
     requires pieces { ArePieces line.labels.now messages.before.now messages.after.now }
     ensures { Writes (W.sink w.old) (hanging_rows_view context.entry line.entry)
@@ -179,7 +179,7 @@ pub fn write_hanging<W: PutStyle, S: LineSource>(
     let rows = RowsUnder {
         context,
         line,
-        source,
+        characters,
         messages,
     };
     write_pointers_and_messages(w, &rows)

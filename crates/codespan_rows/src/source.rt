@@ -6,7 +6,7 @@ ghost use Rattle.codespan_base.specs.WriterLaw.{Writes};
 ghost use Rattle.codespan_picture.specs.CharMetrics.{char_metrics};
 ghost use Rattle.codespan_row_parts.specs.LineViews.{context_view, line_view};
 ghost use Rattle.codespan_row_parts.specs.RowViews.{source_lanes_view};
-ghost use Rattle.codespan_row_parts.specs.LineSources.{char_input};
+ghost use Rattle.codespan_row_parts.specs.LineCharacters.{char_input};
 ghost use Rattle.codespan_picture.specs.RowParts.{change, colored_text};
 ghost use Rattle.codespan_picture.specs.RowStreams.{source_row};
 
@@ -16,11 +16,11 @@ use codespan_base::term::config::writing::{put_all, put_spaces};
 use codespan_row_parts::char_cursor::CharCursor;
 use codespan_row_parts::lanes::{LaneRow, inner_gutter};
 use codespan_row_parts::line::{Line, RowContext};
-use codespan_row_parts::line_source::LineSource;
+use codespan_row_parts::line_characters::LineCharacters;
 use codespan_row_parts::parts::{
     border_left, change_style, outer_gutter_number, write_newline, write_space,
 };
-use codespan_row_parts::primary_lane_marks::PrimaryLaneMarks;
+use codespan_row_parts::primary_cover::PrimaryCover;
 use codespan_row_parts::text_styles::{is_plain, plain_from, text_style};
 
 /// Writes the text of a line, which has these characters, with tabs as spaces, and with style marks
@@ -38,7 +38,7 @@ fn write_colored_text<W: PutStyle, C: CharCursor>(
         result (W.sink w.new) }
 {
     let text = line.text.as_bytes();
-    let primary = PrimaryLaneMarks::of(line.lanes.marks);
+    let primary = PrimaryCover::of(line.lanes.marks);
     let plain = plain_from(line, primary);
     let mut previous = None;
     let mut start = 0;
@@ -66,13 +66,13 @@ fn write_colored_text<W: PutStyle, C: CharCursor>(
 }
 
 /// Writes the text of a line: at once where it is plain.
-fn write_text<W: PutStyle, S: LineSource>(
+fn write_text<W: PutStyle, S: LineCharacters>(
     w: &mut W,
     context: RowContext<'_>,
     line: Line<'_, '_>,
-    source: &S,
+    characters: &S,
 ) -> Result<(), W::Error>
-    requires input { S.input source.now ≡ char_input context line }
+    requires input { S.input characters.now ≡ char_input context line }
     ensures { Writes (W.sink w.old)
         (colored_text (context_view context.entry) (line_view line.entry))
         result (W.sink w.new) }
@@ -80,7 +80,7 @@ fn write_text<W: PutStyle, S: LineSource>(
     if is_plain(line) {
         put_all(w, line.text.as_bytes())?;
     } else {
-        write_colored_text(w, context, line, source.characters())?;
+        write_colored_text(w, context, line, characters.characters())?;
     }
     Ok(())
 }
@@ -124,19 +124,19 @@ fn write_source_lanes<W: PutStyle>(
 ///
 /// # Requires
 ///
-/// `source` has the context's tab width, and the text and labels of `line`.
-pub fn write_source_row<W: PutStyle, S: LineSource>(
+/// `characters` has the context's tab width, and the text and labels of `line`.
+pub fn write_source_row<W: PutStyle, S: LineCharacters>(
     w: &mut W,
     context: RowContext<'_>,
     line: Line<'_, '_>,
-    source: &S,
+    characters: &S,
 ) -> Result<(), W::Error>
-    requires input { S.input source.now ≡ char_input context line }
+    requires input { S.input characters.now ≡ char_input context line }
     ensures { Writes (W.sink w.old)
         (source_row (context_view context.entry) (line_view line.entry) ++ newline)
         result (W.sink w.new) }
 {
     write_source_lanes(w, context, line)?;
-    write_text(w, context, line, source)?;
+    write_text(w, context, line, characters)?;
     write_newline(w)
 }

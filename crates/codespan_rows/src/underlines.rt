@@ -8,7 +8,7 @@ ghost use Rattle.codespan_picture.specs.Arguments.{lane_mark_view, multi_label_v
 ghost use Rattle.codespan_row_parts.specs.LineViews.{context_view, line_view};
 ghost use Rattle.codespan_row_parts.specs.RowViews.{underline_lanes_view};
 ghost use Rattle.codespan_rows.specs.Underlines.{underline_by_width, underline_width};
-ghost use Rattle.codespan_row_parts.specs.LineSources.{char_input, characters_of};
+ghost use Rattle.codespan_row_parts.specs.LineCharacters.{char_input, characters_of};
 ghost use Rattle.codespan_picture.specs.Rows.{has_underline, underline_rows};
 ghost use Rattle.codespan_picture.specs.RowParts.{underline_message, start_caret, end_caret, metrics_before, metrics_up_to};
 ghost use Rattle.codespan_picture.specs.RowStreams.{underline_row, stream_of_rows};
@@ -20,7 +20,7 @@ use codespan_base::term::config::writing::{put_all, put_char};
 use codespan_picture::arguments::MultiLabel;
 use codespan_row_parts::lanes::{LaneRow, inner_gutter};
 use codespan_row_parts::line::{Line, RowContext};
-use codespan_row_parts::line_source::LineSource;
+use codespan_row_parts::line_characters::LineCharacters;
 use codespan_row_parts::parts::{border_left, outer_gutter, write_newline, write_space};
 use codespan_row_parts::runs::write_repeated;
 
@@ -57,15 +57,15 @@ fn write_underline_message<W: PutStyle>(w: &mut W, message: &str) -> Result<(), 
 }
 
 /// Returns how many cells an underline has between its corner and its caret.
-fn underline_width<S: LineSource>(source: &S, multi_label: MultiLabel<'_>) -> u128
+fn underline_width<S: LineCharacters>(characters: &S, multi_label: MultiLabel<'_>) -> u128
     ensures { result
-        ≡ underline_width (characters_of (S.input source.now))
+        ≡ underline_width (characters_of (S.input characters.now))
         (multi_label_view multi_label.entry) }
 {
     match multi_label {
-        MultiLabel::Top(start) => source.width_up_to(start),
+        MultiLabel::Top(start) => characters.width_up_to(start),
         MultiLabel::Left => 0,
-        MultiLabel::Bottom(end, _) => source.width_before(end),
+        MultiLabel::Bottom(end, _) => characters.width_before(end),
     }
 }
 
@@ -161,21 +161,21 @@ fn has_underline(leading: usize, multi_label: MultiLabel<'_>) -> bool
 ///
 /// # Requires
 ///
-/// `source` has the context's tab width, and the text and labels of `line`.
-pub fn write_underlines<W: PutStyle, S: LineSource>(
+/// `characters` has the context's tab width, and the text and labels of `line`.
+pub fn write_underlines<W: PutStyle, S: LineCharacters>(
     w: &mut W,
     context: RowContext<'_>,
     line: Line<'_, '_>,
-    source: &S,
+    characters: &S,
 ) -> Result<(), W::Error>
-    requires input { S.input source.now ≡ char_input context line }
+    requires input { S.input characters.now ≡ char_input context line }
     ensures { Writes (W.sink w.old)
         (stream_of_rows (context_view context.entry) (underline_rows (line_view line.entry)))
         result (W.sink w.new) }
 {
     for lane_mark in line.lanes.marks {
         if has_underline(line.leading, lane_mark.2) {
-            let width = underline_width(source, lane_mark.2);
+            let width = underline_width(characters, lane_mark.2);
             write_underline_row(w, context, line, *lane_mark, width)?;
         }
     }

@@ -1,16 +1,16 @@
--- Bytes of files have lines, for `SourceFile::location`.
+-- Bytes of files have lines, for `NativeFile::location`.
 use Rattle.std.proofs.Common.{◌≡◌, ◌<◌, ℕ, suc, length, None, refl, arith}
 use Rattle.std.proofs.lemmas.Bool.{le-leb}
 use Rattle.codespan_base.specs.FileModel.{line_of}
 use Rattle.codespan_base.specs.Lemmas.Lines.{line_of_below}
-use Rattle.codespan_sources.specs.declared.source_file.SourceFile.{SourceFile}
-use Rattle.codespan_sources.specs.Lemmas.SourceFiles.{text_is_lawful}
+use Rattle.codespan_sources.specs.declared.native_file.NativeFile.{NativeFile}
+use Rattle.codespan_sources.specs.Lemmas.NativeFiles.{text_is_lawful}
 use Rattle.codespan_sources.specs.SourceModel.{source_of}
 use Rattle.codespan_sources.specs.SourceTexts.{past_last}
 use Rattle.codespan_sources.specs.StatedLines.{location_at}
 
 -- the line of a byte is there
-pub byte_has_line : (f : SourceFile) (byte : ℕ)
+pub byte_has_line : (f : NativeFile) (byte : ℕ)
     → past_last (source_of f).cut.starts (line_of (source_of f).cut.starts byte) ≡ None
 byte_has_line f byte =
     let starts = (source_of f).cut.starts in

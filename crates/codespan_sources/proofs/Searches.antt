@@ -1,5 +1,5 @@
 -- What the binary searches of lines and locations find, for `StatedText::line_index` and
--- `SourceFile::stated_location`, and the locations of which `ascend` looks at one.
+-- `NativeFile::stated_location`, and the locations of which `ascend` looks at one.
 use Rattle.std.proofs.Common.{◌≡◌, ◌≢◌, ℕ, zero, suc, ◌+◌, ◌-◌, ◌<◌, ◌≤◌, Bool, true, false, List, [], ◌∷◌, length, Some, None, Result, Ok, Err, drop, get_or, refl, sym, ap, ◌∙◌, arith, inl, inr, lt-ltb, le-leb}
 use Rattle.std.specs.Prelude.{◌&&◌, ◌==◌, nat_lt, nat_le, slice_index, MatchResult}
 use Rattle.std.specs.Ordering.{nat_cmp, ordering_index}

@@ -1,4 +1,4 @@
--- Lemmas by which `SourceFiles` proves the law of `Files`. A reader may skip them: no clause names
+-- Lemmas by which `NativeFiles` proves the law of `Files`. A reader may skip them: no clause names
 -- what is defined here.
 pub mod CutTexts
-pub mod SourceFiles
+pub mod NativeFiles

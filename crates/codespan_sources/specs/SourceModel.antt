@@ -1,12 +1,12 @@
 -- What is seen of the Rust values of the files of C.
 use Rattle.std.specs.Prelude.{List, map}
 use Rattle.codespan_base.specs.DatabaseViews.{name_of, source_of as simple_source_of}
-use Rattle.codespan_sources.specs.declared.source_file.stated.StatedText.{StatedText}
-use Rattle.codespan_sources.specs.declared.source_file.newline.NewlineText.{NewlineText}
-use Rattle.codespan_sources.specs.declared.source_file.SourceFile.{SourceFile}
-use Rattle.codespan_sources.specs.declared.source_file.text.SourceText.{SourceText}
-use Rattle.codespan_sources.specs.declared.source_file.text.SourceText.TheVariants.{Newline, Stated}
-use Rattle.codespan_sources.specs.declared.source_files.SourceFiles.{SourceFiles}
+use Rattle.codespan_sources.specs.declared.native_file.stated.StatedText.{StatedText}
+use Rattle.codespan_sources.specs.declared.native_file.newline.NewlineText.{NewlineText}
+use Rattle.codespan_sources.specs.declared.native_file.NativeFile.{NativeFile}
+use Rattle.codespan_sources.specs.declared.native_file.text.SourceText.{SourceText}
+use Rattle.codespan_sources.specs.declared.native_file.text.SourceText.TheVariants.{Newline, Stated}
+use Rattle.codespan_sources.specs.declared.native_files.NativeFiles.{NativeFiles}
 use Rattle.codespan_sources.specs.StatedLines.{location_at}
 use Rattle.codespan_sources.specs.SourceTexts.{CutText, SourceView, stated_text, newline_text}
 
@@ -24,12 +24,12 @@ cut_of (Newline t) = newline_of t
 cut_of (Stated t) = stated_of t
 
 -- a file
-abbrev pub source_of : SourceFile → SourceView
+abbrev pub source_of : NativeFile → SourceView
 source_of f = record {
   cut = cut_of f.text;
   stated_location = location_at f.first_byte f.locations.now;
 }
 
 -- the files of a database
-abbrev pub sources_of : SourceFiles → List SourceView
+abbrev pub sources_of : NativeFiles → List SourceView
 sources_of files = map source_of files.files.items

@@ -44,7 +44,7 @@ fn lanes_in_order_test(rt: HostRuntime) {
     }
 }
 
-/// Renders a row without text, of this padding and so many lanes.
+/// Renders an empty row, of this padding and so many lanes.
 fn render_empty_row<W: WriteStyle>(w: &mut W, padding: usize, lanes: usize) -> Result<(), Error> {
     let config = Config::default();
     let mut renderer = Renderer::new(w, &config);

@@ -15,7 +15,7 @@ use Rattle.codespan_views.specs.declared.snippet.lines.Snippet.{Snippet}
 use Rattle.codespan_plan.specs.declared.plan.snippet_lines.SnippetLine.{SnippetLine as RustLine}
 use Rattle.codespan_views.specs.Private.LookupsWhileRendering.{WritesWithLookups}
 use Rattle.codespan_annotations.specs.SourceFiles.{failure_of, model_of}
-use Rattle.codespan_plan.specs.SnippetLineViews.{lookups_of_line, lookups_of_lines, line_view}
+use Rattle.codespan_plan.specs.SnippetLineViews.{lookups_of_line, lookups_of_lines, snippet_line_view}
 use Rattle.codespan_plan.specs.SnippetLines.{SnippetLine, Filled, Labeled, lane_marks_in, line_of_group, rows_of_line, rows_of_lines, single_labels_in}
 use Rattle.codespan_annotations.specs.Annotations.{Annotation}
 use Rattle.codespan_renderer.specs.declared.term.renderer.Renderer.{Renderer}
@@ -46,7 +46,7 @@ module _ {F Id Name Source : Type 0} (database : F → FileDatabase Id) (snippet
 
   -- the rows of these snippet lines
   abbrev rows : List (RustLine Id) → Stream
-  rows snippet_lines = stream_of_rows row_context (rows_of_lines f snippet.num_multi_labels (map line_view snippet_lines))
+  rows snippet_lines = stream_of_rows row_context (rows_of_lines f snippet.num_multi_labels (map snippet_line_view snippet_lines))
 
   -- what their lookups fail with
   abbrev lookups_all : List (RustLine Id) → Option Error
@@ -54,7 +54,7 @@ module _ {F Id Name Source : Type 0} (database : F → FileDatabase Id) (snippet
 
   -- the call renders a snippet line, with its lookups
   abbrev RendersOne : RustLine Id → Sink → Result (Unit {0}) Error → Sink → Type 0
-  RendersOne snippet_line old r new = WritesWithLookups (lookups (lookups_of_line snippet_line)) old (stream_of_rows row_context (rows_of_line f snippet.num_multi_labels (line_view snippet_line))) r new
+  RendersOne snippet_line old r new = WritesWithLookups (lookups (lookups_of_line snippet_line)) old (stream_of_rows row_context (rows_of_line f snippet.num_multi_labels (snippet_line_view snippet_line))) r new
 
   -- these snippet lines are rendered, with their lookups
   pub record RendersAll (snippet_lines : List (RustLine Id)) (old : Sink) (r : Result (Unit {0}) Error) (new : Sink) : Type 0 where
@@ -63,9 +63,9 @@ module _ {F Id Name Source : Type 0} (database : F → FileDatabase Id) (snippet
   -- the rows of snippet lines, one after another
   rows-append : (xs ys : List (RustLine Id)) → rows (xs ++ ys) ≡ rows xs ++ rows ys
   rows-append xs ys =
-      ap (λ (snippet_lines : List SnippetLine). stream_of_rows row_context (rows_of_lines f snippet.num_multi_labels snippet_lines)) (map-append line_view xs ys)
-      ∙ ap (stream_of_rows row_context) (flat_map-append (rows_of_line f snippet.num_multi_labels) (map line_view xs) (map line_view ys))
-      ∙ flat_map-append (λ (row : Row). stream_of row_context row ++ newline) (rows_of_lines f snippet.num_multi_labels (map line_view xs)) (rows_of_lines f snippet.num_multi_labels (map line_view ys))
+      ap (λ (snippet_lines : List SnippetLine). stream_of_rows row_context (rows_of_lines f snippet.num_multi_labels snippet_lines)) (map-append snippet_line_view xs ys)
+      ∙ ap (stream_of_rows row_context) (flat_map-append (rows_of_line f snippet.num_multi_labels) (map snippet_line_view xs) (map snippet_line_view ys))
+      ∙ flat_map-append (λ (row : Row). stream_of row_context row ++ newline) (rows_of_lines f snippet.num_multi_labels (map snippet_line_view xs)) (rows_of_lines f snippet.num_multi_labels (map snippet_line_view ys))
 
   -- the lookups of snippet lines, one after another
   lookups-append : (xs ys : List (RustLine Id)) → lookups_all (xs ++ ys) ≡ or_failure (lookups_all xs) (lookups_all ys)
@@ -84,7 +84,7 @@ module _ {F Id Name Source : Type 0} {database : F → FileDatabase Id} {snippet
   rendered-one {snippet_line} renders = record {
     rendered = run_as
         (ap (lookups database snippet config) (sym (append-nil (lookups_of_line snippet_line))))
-        (ap (stream_of_rows (row_context database snippet config)) (sym (append-nil (rows_of_line (f database snippet config) snippet.num_multi_labels (line_view snippet_line)))))
+        (ap (stream_of_rows (row_context database snippet config)) (sym (append-nil (rows_of_line (f database snippet config) snippet.num_multi_labels (snippet_line_view snippet_line)))))
         (record { renders = renders });
   }
 

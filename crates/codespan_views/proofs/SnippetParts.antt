@@ -14,7 +14,7 @@ use Rattle.codespan_plan.specs.declared.plan.snippet_plans.SnippetPlan.{SnippetP
 use Rattle.codespan_plan.specs.declared.plan.snippet_lines.SnippetLine.{SnippetLine}
 use Rattle.codespan_views.specs.Private.LookupsWhileRendering.{WroteStream, WritesWithLookups}
 use Rattle.codespan_views.specs.Private.SnippetRows.{start_rows}
-use Rattle.codespan_plan.specs.SnippetLineViews.{lookups_of_lines, line_view}
+use Rattle.codespan_plan.specs.SnippetLineViews.{lookups_of_lines, snippet_line_view}
 use Rattle.codespan_plan.specs.SnippetLines.{rows_of_lines}
 use Rattle.codespan_picture.specs.Lookups.{lookups_of_file, first_error}
 use Rattle.codespan_picture.specs.Picture.{context_of}
@@ -49,7 +49,7 @@ module _ {F Id : Type 0} {database : F → FileDatabase Id} {context : SnippetCo
 
   -- the rows of its lines
   abbrev line_rows : List Row
-  line_rows = rows_of_lines ((database context.files.now).file snippet_plan.file.now.id) snippet_plan.file.now.num_multi_labels (map line_view own)
+  line_rows = rows_of_lines ((database context.files.now).file snippet_plan.file.now.id) snippet_plan.file.now.num_multi_labels (map snippet_line_view own)
 
   -- the error of the lookups of these snippet lines
   abbrev lookups_failure : List (SnippetLine Id) → Option Error

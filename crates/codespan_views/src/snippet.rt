@@ -17,7 +17,7 @@ use std::convert::AsStr;
 pub mod line_buffers;
 pub mod lines;
 
-/// Renders the first rows of a snippet: its locus, and a row without source.
+/// Renders the first rows of a snippet: its locus, and an empty row.
 ///
 /// # Errors
 ///

@@ -8,7 +8,7 @@ ghost use Rattle.codespan_base.specs.declared.diagnostic.Severity.TheVariants.{B
 ghost use Rattle.codespan_base.specs.declared.diagnostic.LabelStyle.TheVariants.{Primary, Secondary};
 ghost use Rattle.codespan_worked.specs.Worked.{text_file, label, message_only, with_code, rich, rows, tabbed_file};
 
-/// Computes the output of a diagnostic without labels: the header and the closing line.
+/// Computes the output of a diagnostic without labels: the header and the final row.
 fn bare_bug()
     ensures { text_of (rich default_config (message_only Bug []) [] [])
         ≡ rows (codes "bug: "

@@ -17,6 +17,10 @@ port = 80
 ";
 
 /// Prints each error, and how many settings were read.
+///
+/// # Errors
+///
+/// `Io` where the output fails, and `OutOfMemory` where an allocation does.
 pub fn run(rt: &HostRuntime) -> Result<(), Error> {
     let alloc = rt.alloc();
     let file = SimpleFile::new(alloc, "server.conf", SETTINGS)?;

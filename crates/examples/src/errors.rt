@@ -15,6 +15,10 @@ port = 80
 ";
 
 /// Prints the diagnostic of each error.
+///
+/// # Errors
+///
+/// `Io` where the output fails, and `OutOfMemory` where an allocation does.
 pub fn run(rt: &HostRuntime) -> Result<(), Error> {
     let alloc = rt.alloc();
     let config = Config::default();

@@ -8,6 +8,10 @@ use codespan_reporting::files::Error;
 use codespan_reporting::term::{Config, emit_to_io_write};
 
 /// Prints the error.
+///
+/// # Errors
+///
+/// `Io` where the output fails, and `OutOfMemory` where an allocation does.
 pub fn run(rt: &HostRuntime) -> Result<(), Error> {
     let alloc = rt.alloc();
     let schema = "port: number\nhost: text\n";

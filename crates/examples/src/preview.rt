@@ -59,6 +59,10 @@ fn mismatched_units(
 type Sources = SimpleFiles<&'static str, &'static str>;
 
 /// Prints the error in each style.
+///
+/// # Errors
+///
+/// `Io` where the output fails, and `OutOfMemory` where an allocation does.
 pub fn run(rt: &HostRuntime) -> Result<(), Error> {
     let alloc = rt.alloc();
     let mut files = SimpleFiles::new(alloc);

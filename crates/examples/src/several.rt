@@ -8,6 +8,10 @@ use std::alloc::Global;
 use std::io::Write;
 
 /// Prints the text.
+///
+/// # Errors
+///
+/// `Io` where the output fails, and `OutOfMemory` where an allocation does.
 pub fn run(rt: &HostRuntime) -> Result<(), Error> {
     let alloc = rt.alloc();
     let mut files = SimpleFiles::new(alloc);

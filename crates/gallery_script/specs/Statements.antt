@@ -14,7 +14,7 @@ use Rattle.gallery_script.specs.declared.words.Word.{Word}
 use Rattle.gallery_script.specs.declared.words.Word.TheVariants.{Database, File, Source, Number, Style, Layout, Tab, Context, Characters, Colors, Severity, Code, Message, Primary, Secondary, Note}
 use Rattle.gallery_script.specs.Escapes.{Unescapes}
 use Rattle.script_words.specs.Fields.{field_of, past_space, is_ignored_text}
-use Rattle.script_words.specs.Names.{severity_named, style_named}
+use Rattle.script_words.specs.Names.{severity_named, display_style_named}
 use Rattle.gallery_script.specs.Numbers.{IsNumber, IsNoNumber}
 use Rattle.gallery_script.specs.Words.{characters_named, colors_named, database_kind_named}
 use Rattle.gallery_script.specs.Words.{layout_named, word_named}
@@ -62,7 +62,8 @@ Describes word rest (statements.Source text) =
     (word ≡ Some Source) × UnescapesTo rest (string_bytes text)
 Describes word rest (statements.Number line number) =
     (word ≡ Some Number) × IsNumber (field_of rest) line × IsNumber (past_space rest) number
-Describes word rest (statements.Style style) = (word ≡ Some Style) × (style_named rest ≡ Some style)
+Describes word rest (statements.Style style) =
+    (word ≡ Some Style) × (display_style_named rest ≡ Some style)
 Describes word rest (statements.Layout layout) =
     (word ≡ Some Layout) × (layout_named rest ≡ Some layout)
 Describes word rest (statements.Tab width) = (word ≡ Some Tab) × IsNumber rest width
@@ -97,7 +98,7 @@ ParsesTo line (Description statement) =
 -- the rest is none of the names that may follow its word
 abbrev pub HasUnknownName : List ℕ → Word → Type 0
 HasUnknownName rest Database = database_kind_named rest ≡ None
-HasUnknownName rest Style = style_named rest ≡ None
+HasUnknownName rest Style = display_style_named rest ≡ None
 HasUnknownName rest Layout = layout_named rest ≡ None
 HasUnknownName rest Characters = characters_named rest ≡ None
 HasUnknownName rest Colors = colors_named rest ≡ None

@@ -34,9 +34,9 @@ impl Format {
 pub enum Request<'args> {
     /// The output of every case.
     All,
-    /// `styles`: the style sheet of HTML documents.
+    /// `styles`: the style sheet of HTML elements.
     Styles,
-    /// `svg NAME`, `html NAME` or `terminal NAME`: a document of the case of this name.
+    /// `svg NAME`, `html NAME` or `terminal NAME`: the case of this name in a format.
     Document(Format, &'args str),
 }
 

@@ -16,7 +16,7 @@ use crate::words::{
 use codespan_base::diagnostic::{Label, LabelStyle, Severity};
 use codespan_base::term::{DisplayStyle, Layout};
 use script_words::fields::{cut, is_ignored};
-use script_words::names::{parse_severity, parse_style};
+use script_words::names::{parse_display_style, parse_severity};
 use std::alloc::Global;
 
 /// A parsed line.
@@ -113,7 +113,7 @@ fn parse_statement(alloc: Global, word: Word, rest: &str) -> Result<Statement, L
         Word::File => Ok(Statement::File(unescape(alloc, rest)?)),
         Word::Source => Ok(Statement::Source(unescape(alloc, rest)?)),
         Word::Number => parse_line_number(rest),
-        Word::Style => Ok(Statement::Style(or_unknown_name(parse_style(rest))?)),
+        Word::Style => Ok(Statement::Style(or_unknown_name(parse_display_style(rest))?)),
         Word::Layout => Ok(Statement::Layout(or_unknown_name(parse_layout(rest))?)),
         Word::Tab => Ok(Statement::Tab(parse_number(rest)?)),
         Word::Context => parse_context(rest),

@@ -6,7 +6,7 @@ use Rattle.report_runs.specs.declared.run_error.RunError.TheVariants.{WrongArgum
 use Rattle.report_runs.specs.RenderedTexts.{rendering_of}
 use Rattle.program_io.specs.Output.{AppendsPrefix}
 use Rattle.report_runs.specs.RunErrors.{ErrorMeans, IfBadScript, IsStatusOf, UnchangedUnlessRendered, failed_output_line}
-use Rattle.report_script.specs.Requests.{CommandView, WhereKnown, command_of}
+use Rattle.report_script.specs.Requests.{RequestView, WhereKnown, request_of}
 
 -- the status is one of four
 pub status_at_most : (outcome : Result (Unit {0}) RunError) (status : ℕ) → IsStatusOf outcome status → status ≤ 3
@@ -74,26 +74,26 @@ pub unchanged_at_not_utf8 : (words : List (List ℕ)) (bytes : Option (List ℕ)
     → IfErr outcome (λ error. error ≢ CannotWriteOutput → X)
     → WhereKnown words bytes (λ _ source. ¬ (IsUtf8 source) → X)
 unchanged_at_not_utf8 words bytes X (Ok done) utf8 reported unchanged =
-    known_weaker (command_of words) bytes (λ _ source. IsUtf8 source) (λ _ source. ¬ (IsUtf8 source) → X)
-    (λ command source is other. absurd (other is)) utf8
+    known_weaker (request_of words) bytes (λ _ source. IsUtf8 source) (λ _ source. ¬ (IsUtf8 source) → X)
+    (λ request source is other. absurd (other is)) utf8
 unchanged_at_not_utf8 words bytes X (Err error) utf8 reported unchanged =
-    known_weaker (command_of words) bytes (ErrorMeans error) (λ _ source. ¬ (IsUtf8 source) → X)
-    (λ command source are_known other. unchanged (λ output. let wrote : ErrorMeans CannotWriteOutput command source = subst (λ (f : RunError). ErrorMeans f command source) output are_known in other wrote.0)) reported
+    known_weaker (request_of words) bytes (ErrorMeans error) (λ _ source. ¬ (IsUtf8 source) → X)
+    (λ request source are_known other. unchanged (λ output. let wrote : ErrorMeans CannotWriteOutput request source = subst (λ (f : RunError). ErrorMeans f request source) output are_known in other wrote.0)) reported
 
 -- the script's error that was written is that of the request
 pub reported_at_bad_script : (words : List (List ℕ)) (bytes : Option (List ℕ)) (outcome : Result (Unit {0}) RunError) (status : ℕ) (Reported : List ℕ → Type 0)
     → IsStatusOf outcome status → status ≡ 3
     → IfErr outcome (λ error. WhereKnown words bytes (ErrorMeans error))
     → IfErr outcome (λ error. IfBadScript error (λ text. Reported (string_bytes text)))
-    → WhereKnown words bytes (λ command source. (text : List ℕ) × (rendering_of command source ≡ Err text) × Reported text)
+    → WhereKnown words bytes (λ request source. (text : List ℕ) × (rendering_of request source ≡ Err text) × Reported text)
 reported_at_bad_script words bytes (Ok done) status Reported is three are_known reported = absurd (omega arith)
 reported_at_bad_script words bytes (Err WrongArguments) status Reported is three are_known reported = absurd (omega arith)
 reported_at_bad_script words bytes (Err CannotReadInput) status Reported is three are_known reported = absurd (omega arith)
 reported_at_bad_script words bytes (Err NotUtf8) status Reported is three are_known reported = absurd (omega arith)
 reported_at_bad_script words bytes (Err (CannotRender error)) status Reported is three are_known reported = absurd (omega arith)
 reported_at_bad_script words bytes (Err (BadScript text)) status Reported is three are_known reported =
-    known_weaker (command_of words) bytes (ErrorMeans (BadScript text)) (λ command source. (p : List ℕ) × (rendering_of command source ≡ Err p) × Reported p)
-    (λ command source same. (string_bytes text, same, reported)) are_known
+    known_weaker (request_of words) bytes (ErrorMeans (BadScript text)) (λ request source. (p : List ℕ) × (rendering_of request source ≡ Err p) × Reported p)
+    (λ request source same. (string_bytes text, same, reported)) are_known
 reported_at_bad_script words bytes (Err CannotWriteOutput) status Reported is three are_known reported = absurd (omega arith)
 
 -- no rendering is both
@@ -101,30 +101,30 @@ not_both : (rendering : Result (List ℕ) (List ℕ)) (good bad : List ℕ) → 
 not_both rendering good bad is other = cc (is, other)
 
 -- the same of an error
-bad_script_error : (error : RunError) (status : ℕ) (X : Type 0) (command : CommandView) (source text : List ℕ) → IsStatusOf (Err error) status → ErrorMeans error command source
-    → (error ≢ CannotWriteOutput → X) → rendering_of command source ≡ Err text → ((status ≡ 3) ⊎ (status ≡ 1)) × X
-bad_script_error WrongArguments status X command source text is are_known unchanged bad = absurd are_known
-bad_script_error CannotReadInput status X command source text is are_known unchanged bad = (inr is, unchanged (λ output. cc output))
-bad_script_error NotUtf8 status X command source text is are_known unchanged bad = (inr is, unchanged (λ output. cc output))
-bad_script_error (CannotRender error) status X command source text is are_known unchanged bad = (inr is, unchanged (λ output. cc output))
-bad_script_error (BadScript reported) status X command source text is are_known unchanged bad = (is, unchanged (λ output. cc output))
-bad_script_error CannotWriteOutput status X command source text is are_known unchanged bad = absurd (not_both (rendering_of command source) are_known.1.0 text are_known.1.1 bad)
+bad_script_error : (error : RunError) (status : ℕ) (X : Type 0) (request : RequestView) (source text : List ℕ) → IsStatusOf (Err error) status → ErrorMeans error request source
+    → (error ≢ CannotWriteOutput → X) → rendering_of request source ≡ Err text → ((status ≡ 3) ⊎ (status ≡ 1)) × X
+bad_script_error WrongArguments status X request source text is are_known unchanged bad = absurd are_known
+bad_script_error CannotReadInput status X request source text is are_known unchanged bad = (inr is, unchanged (λ output. cc output))
+bad_script_error NotUtf8 status X request source text is are_known unchanged bad = (inr is, unchanged (λ output. cc output))
+bad_script_error (CannotRender error) status X request source text is are_known unchanged bad = (inr is, unchanged (λ output. cc output))
+bad_script_error (BadScript reported) status X request source text is are_known unchanged bad = (is, unchanged (λ output. cc output))
+bad_script_error CannotWriteOutput status X request source text is are_known unchanged bad = absurd (not_both (rendering_of request source) are_known.1.0 text are_known.1.1 bad)
 
 -- where the script has an error, that is written or not, and the output is unchanged
 pub bad_script_status : (words : List (List ℕ)) (bytes : Option (List ℕ)) (outcome : Result (Unit {0}) RunError) (status : ℕ) (X : Type 0) (Wrote : List ℕ → Type 0)
     → IsStatusOf outcome status
-    → OnOk outcome (WhereKnown words bytes (λ command source. (text : List ℕ) × (rendering_of command source ≡ Ok text) × Wrote text))
+    → OnOk outcome (WhereKnown words bytes (λ request source. (text : List ℕ) × (rendering_of request source ≡ Ok text) × Wrote text))
     → IfErr outcome (λ error. WhereKnown words bytes (ErrorMeans error))
     → IfErr outcome (λ error. error ≢ CannotWriteOutput → X)
-    → WhereKnown words bytes (λ command source. (text : List ℕ) → rendering_of command source ≡ Err text → ((status ≡ 3) ⊎ (status ≡ 1)) × X)
+    → WhereKnown words bytes (λ request source. (text : List ℕ) → rendering_of request source ≡ Err text → ((status ≡ 3) ⊎ (status ≡ 1)) × X)
 bad_script_status words bytes (Ok done) status X Wrote is rendered are_known unchanged =
-    known_weaker (command_of words) bytes (λ command source. (text : List ℕ) × (rendering_of command source ≡ Ok text) × Wrote text)
-    (λ command source. (text : List ℕ) → rendering_of command source ≡ Err text → ((status ≡ 3) ⊎ (status ≡ 1)) × X)
-    (λ command source good text bad. absurd (not_both (rendering_of command source) good.0 text good.1 bad)) rendered
+    known_weaker (request_of words) bytes (λ request source. (text : List ℕ) × (rendering_of request source ≡ Ok text) × Wrote text)
+    (λ request source. (text : List ℕ) → rendering_of request source ≡ Err text → ((status ≡ 3) ⊎ (status ≡ 1)) × X)
+    (λ request source good text bad. absurd (not_both (rendering_of request source) good.0 text good.1 bad)) rendered
 bad_script_status words bytes (Err error) status X Wrote is rendered are_known unchanged =
-    known_weaker (command_of words) bytes (ErrorMeans error)
-    (λ command source. (text : List ℕ) → rendering_of command source ≡ Err text → ((status ≡ 3) ⊎ (status ≡ 1)) × X)
-    (λ command source reported text bad. bad_script_error error status X command source text is reported unchanged bad) are_known
+    known_weaker (request_of words) bytes (ErrorMeans error)
+    (λ request source. (text : List ℕ) → rendering_of request source ≡ Err text → ((status ≡ 3) ⊎ (status ≡ 1)) × X)
+    (λ request source reported text bad. bad_script_error error status X request source text is reported unchanged bad) are_known
 
 -- the output is unchanged, or all of it was rendered
 pub unchanged_unless_rendered : (outcome : Result (Unit {0}) RunError) (status : ℕ) (X : Type 0) (old new : Option (List ℕ))
@@ -141,16 +141,16 @@ unchanged_unless_rendered (Err (BadScript text)) status X old new is line unchan
 unchanged_unless_rendered (Err CannotWriteOutput) status X old new is line unchanged = inr (inr (is, line refl))
 
 -- where the output changes, it has received a prefix of what was rendered
-pub prefix_written : (words : List (List ℕ)) (bytes : Option (List ℕ)) (outcome : Result (Unit {0}) RunError) (status : ℕ) (X : Type 0) (Wrote : CommandView → List ℕ → Type 0)
+pub prefix_written : (words : List (List ℕ)) (bytes : Option (List ℕ)) (outcome : Result (Unit {0}) RunError) (status : ℕ) (X : Type 0) (Wrote : RequestView → List ℕ → Type 0)
     → IsStatusOf outcome status → status ≡ 1
     → (IsErrOf outcome CannotWriteOutput → WhereKnown words bytes Wrote)
     → IfErr outcome (λ error. error ≢ CannotWriteOutput → X)
-    → WhereKnown words bytes (λ command source. X ⊎ Wrote command source)
+    → WhereKnown words bytes (λ request source. X ⊎ Wrote request source)
 prefix_written words bytes (Ok done) status X Wrote is one wrote unchanged = absurd (omega arith)
 prefix_written words bytes (Err WrongArguments) status X Wrote is one wrote unchanged = absurd (omega arith)
-prefix_written words bytes (Err CannotReadInput) status X Wrote is one wrote unchanged = is_unchanged (command_of words) bytes X Wrote (unchanged (λ output. cc output))
-prefix_written words bytes (Err NotUtf8) status X Wrote is one wrote unchanged = is_unchanged (command_of words) bytes X Wrote (unchanged (λ output. cc output))
-prefix_written words bytes (Err (CannotRender error)) status X Wrote is one wrote unchanged = is_unchanged (command_of words) bytes X Wrote (unchanged (λ output. cc output))
-prefix_written words bytes (Err (BadScript text)) status X Wrote is one wrote unchanged = is_unchanged (command_of words) bytes X Wrote (unchanged (λ output. cc output))
+prefix_written words bytes (Err CannotReadInput) status X Wrote is one wrote unchanged = is_unchanged (request_of words) bytes X Wrote (unchanged (λ output. cc output))
+prefix_written words bytes (Err NotUtf8) status X Wrote is one wrote unchanged = is_unchanged (request_of words) bytes X Wrote (unchanged (λ output. cc output))
+prefix_written words bytes (Err (CannotRender error)) status X Wrote is one wrote unchanged = is_unchanged (request_of words) bytes X Wrote (unchanged (λ output. cc output))
+prefix_written words bytes (Err (BadScript text)) status X Wrote is one wrote unchanged = is_unchanged (request_of words) bytes X Wrote (unchanged (λ output. cc output))
 prefix_written words bytes (Err CannotWriteOutput) status X Wrote is one wrote unchanged =
-    known_weaker (command_of words) bytes Wrote (λ command source. X ⊎ Wrote command source) (λ command source appended. inr appended) (wrote refl)
+    known_weaker (request_of words) bytes Wrote (λ request source. X ⊎ Wrote request source) (λ request source appended. inr appended) (wrote refl)

@@ -14,9 +14,9 @@ use Rattle.codespan_picture.specs.Snippets.{InFile, labeled_file_models}
 use Rattle.report_runs.specs.declared.run_error.RunError.{RunError}
 use Rattle.report_runs.specs.declared.run_error.RunError.TheVariants as run_error
 use Rattle.report_script.specs.declared.script.Fault.{Fault}
-use Rattle.report_script.specs.Requests.{CommandView}
+use Rattle.report_script.specs.Requests.{RequestView}
 use Rattle.report_script.specs.Messages.{request_diagnostic, fault_diagnostic}
-use Rattle.report_script.specs.Requests.CommandView.{OneLabel, OfScript}
+use Rattle.report_script.specs.Requests.RequestView.{OneLabel, OfScript}
 use Rattle.report_script.specs.Scripts.{ScriptView, read_script}
 
 -- ---- the output of a diagnostic
@@ -71,9 +71,9 @@ rendering_of_script style name input (Err fault) =
 
 -- what is rendered of an input: `Ok` what goes to the output, `Err` the diagnostic of a script's
 -- error
-abbrev pub rendering_of : CommandView → List ℕ → Result (List ℕ) (List ℕ)
-rendering_of (OneLabel request) input =
-    Ok (output_text request.style request.name input (request_diagnostic request))
+abbrev pub rendering_of : RequestView → List ℕ → Result (List ℕ) (List ℕ)
+rendering_of (OneLabel label_request) input =
+    Ok (output_text label_request.style label_request.name input (request_diagnostic label_request))
 rendering_of (OfScript style name) input = rendering_of_script style name input (read_script input)
 
 -- the error of rendering: it failed, or the script has the error of this diagnostic

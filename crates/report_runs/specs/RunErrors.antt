@@ -14,7 +14,7 @@ use Rattle.program_io.specs.declared.input.InputError.TheVariants as input
 use Rattle.report_runs.specs.declared.run_error.RunError.{RunError}
 use Rattle.report_runs.specs.declared.run_error.RunError.TheVariants.{WrongArguments, CannotReadInput, NotUtf8, CannotRender, BadScript, CannotWriteOutput}
 use Rattle.report_runs.specs.RenderedTexts.{rendering_of}
-use Rattle.report_script.specs.Requests.{CommandView}
+use Rattle.report_script.specs.Requests.{RequestView}
 
 -- the program's status: 0 without an error, 2 for wrong arguments, 3 or 1 for a script's error, and
 -- 1 for any other
@@ -49,14 +49,14 @@ input_error input.Unreadable = CannotReadInput
 input_error input.NotUtf8 = NotUtf8
 
 -- what an error says of the request and of the input
-abbrev pub ErrorMeans : RunError → CommandView → List ℕ → Type 0
-ErrorMeans WrongArguments command input = ⊥
-ErrorMeans CannotReadInput command input = Unit {0}
-ErrorMeans NotUtf8 command input = ¬ (IsUtf8 input)
-ErrorMeans (CannotRender error) command input = Unit {0}
-ErrorMeans (BadScript text) command input = rendering_of command input ≡ Err (string_bytes text)
-ErrorMeans CannotWriteOutput command input =
-    IsUtf8 input × ((text : List ℕ) × (rendering_of command input ≡ Ok text))
+abbrev pub ErrorMeans : RunError → RequestView → List ℕ → Type 0
+ErrorMeans WrongArguments request input = ⊥
+ErrorMeans CannotReadInput request input = Unit {0}
+ErrorMeans NotUtf8 request input = ¬ (IsUtf8 input)
+ErrorMeans (CannotRender error) request input = Unit {0}
+ErrorMeans (BadScript text) request input = rendering_of request input ≡ Err (string_bytes text)
+ErrorMeans CannotWriteOutput request input =
+    IsUtf8 input × ((text : List ℕ) × (rendering_of request input ≡ Ok text))
 
 -- the fact holds of the diagnostic, where the error is that of a script
 abbrev pub IfBadScript : RunError → (String Global → Type 0) → Type 0

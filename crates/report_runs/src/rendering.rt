@@ -4,7 +4,7 @@ ghost use Rattle.std.specs.Prelude.{◌≡◌, IfOk, IfErr, Ok, string_bytes};
 ghost use Rattle.codespan_base.specs.ConfigEquality.{IsEqualConfig};
 ghost use Rattle.codespan_base.specs.Diagnostics.{diagnostic_view};
 ghost use Rattle.report_runs.specs.RenderedTexts.{config_of, rendering_of, rendering_of_script, output_text, IsRenderFailure};
-ghost use Rattle.report_script.specs.Requests.{command_view};
+ghost use Rattle.report_script.specs.Requests.{request_view};
 ghost use Rattle.report_script.specs.Scripts.{read_script};
 
 use crate::run_error::RunError;
@@ -13,7 +13,7 @@ use codespan_base::files::{Error, SimpleFile};
 use codespan_base::term::{Config, DisplayStyle};
 use codespan_views::emitting::emit_into_string;
 use report_script::messages::{of_fault, of_request, of_script};
-use report_script::request::{Command, Request};
+use report_script::request::{LabelRequest, Request};
 use report_script::script::{ScriptError, parse_script};
 use std::alloc::Global;
 
@@ -24,28 +24,38 @@ use std::alloc::Global;
 /// - `BadScript` if a script is requested and the input is no script: the rendered diagnostic of
 ///   its first error.
 /// - `CannotRender` if rendering fails, or an allocation for the script.
-pub fn render(alloc: Global, command: &Command<'_>, input: &str) -> Result<String, RunError>
-    ensures text { IfOk result (λ text. rendering_of (command_view command.now) input.now
+pub fn render(alloc: Global, request: &Request<'_>, input: &str) -> Result<String, RunError>
+    ensures text { IfOk result (λ text. rendering_of (request_view request.now) input.now
         ≡ Ok (string_bytes text)) }
     ensures failed { IfErr result
-        (IsRenderFailure (rendering_of (command_view command.now) input.now)) }
+        (IsRenderFailure (rendering_of (request_view request.now) input.now)) }
 {
-    match command {
-        Command::OneLabel(request) => render_request(alloc, request, input),
-        Command::OfScript(style, name) => render_script(alloc, *style, name, input),
+    match request {
+        Request::OneLabel(label_request) => render_request(alloc, label_request, input),
+        Request::OfScript(style, name) => render_script(alloc, *style, name, input),
     }
 }
 
 /// Renders a request over the input.
-fn render_request(alloc: Global, request: &Request<'_>, input: &str) -> Result<String, RunError>
+fn render_request(
+    alloc: Global,
+    label_request: &LabelRequest<'_>,
+    input: &str,
+) -> Result<String, RunError>
     ensures text { IfOk result (λ text.
-        rendering_of (command_view (Command.OneLabel request.now)) input.now
+        rendering_of (request_view (Request.OneLabel label_request.now)) input.now
         ≡ Ok (string_bytes text)) }
     ensures failed { IfErr result (IsRenderFailure
-        (rendering_of (command_view (Command.OneLabel request.now)) input.now)) }
+        (rendering_of (request_view (Request.OneLabel label_request.now)) input.now)) }
 {
-    let diagnostic = of_request(alloc, request)?;
-    Ok(render_over(alloc, request.style, request.name, input, &diagnostic)?)
+    let diagnostic = of_request(alloc, label_request)?;
+    Ok(render_over(
+        alloc,
+        label_request.style,
+        label_request.name,
+        input,
+        &diagnostic,
+    )?)
 }
 
 /// Renders the diagnostic of a script over its source, or its first error over the whole input.

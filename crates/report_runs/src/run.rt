@@ -6,13 +6,13 @@ ghost use Rattle.std.specs.Str.{IsUtf8};
 ghost use Rattle.report_runs.specs.RenderedTexts.{rendering_of};
 ghost use Rattle.program_io.specs.Output.{AppendsPrefix};
 ghost use Rattle.report_runs.specs.RunErrors.{ErrorMeans, IfBadScript, IsStatusOf, UnchangedUnlessRendered, failed_output_line};
-ghost use Rattle.report_script.specs.Requests.{WhereKnown, command_of};
+ghost use Rattle.report_script.specs.Requests.{WhereKnown, request_of};
 
 use crate::rendering::render;
 use crate::run_error::RunError;
 use program_io::input::read_text;
 use program_io::output::write_and_flush;
-use report_script::request::Command;
+use report_script::request::Request;
 use std::alloc::Global;
 use std::io::{Read, Write};
 
@@ -34,31 +34,31 @@ pub fn run<R: Read, W: Write, E: Write>(
     error_output: &mut E,
 ) -> u8
     ensures status { result ≤ 3 }
-    ensures usage { (result ≡ 2) ↔ (command_of (map string_bytes args.now) ≡ None) }
+    ensures usage { (result ≡ 2) ↔ (request_of (map string_bytes args.now) ≡ None) }
     ensures unread { result ≡ 2 → input.new ≡ input.old }
     ensures no_error { result ≡ 0 → error_output.new ≡ error_output.old }
     ensures read { result ≡ 0 → IsAtEnd (R.remaining input.new) }
     ensures rendered { result ≡ 0 → WhereKnown (map string_bytes args.now) (R.remaining input.old)
-        (λ command source.
-        (text : List ℕ) × (rendering_of command source ≡ Ok text)
+        (λ request source.
+        (text : List ℕ) × (rendering_of request source ≡ Ok text)
         × Appends (W.contents output.old) (W.contents output.new) text) }
     ensures utf8 { result ≡ 0 → WhereKnown (map string_bytes args.now) (R.remaining input.old)
         (λ _ source. IsUtf8 source) }
     ensures unchanged { WhereKnown (map string_bytes args.now) (R.remaining input.old) (λ _ source.
         ¬ (IsUtf8 source) → output.new ≡ output.old) }
     ensures reported { result ≡ 3 → WhereKnown (map string_bytes args.now) (R.remaining input.old)
-        (λ command source.
-        (text : List ℕ) × (rendering_of command source ≡ Err text)
+        (λ request source.
+        (text : List ℕ) × (rendering_of request source ≡ Err text)
         × Appends (E.contents error_output.old) (E.contents error_output.new) text) }
     ensures bad_script { WhereKnown (map string_bytes args.now) (R.remaining input.old)
-        (λ command source.
-        (text : List ℕ) → rendering_of command source ≡ Err text → ((result ≡ 3) ⊎ (result ≡ 1))
+        (λ request source.
+        (text : List ℕ) → rendering_of request source ≡ Err text → ((result ≡ 3) ⊎ (result ≡ 1))
         × (output.new ≡ output.old)) }
     ensures unrendered { UnchangedUnlessRendered (output.new ≡ output.old) result
         (E.contents error_output.old) (E.contents error_output.new) }
     ensures prefix { result ≡ 1 → WhereKnown (map string_bytes args.now) (R.remaining input.old)
-        (λ command source. (output.new ≡ output.old)
-        ⊎ ((text : List ℕ) × (rendering_of command source ≡ Ok text)
+        (λ request source. (output.new ≡ output.old)
+        ⊎ ((text : List ℕ) × (rendering_of request source ≡ Ok text)
         × AppendsPrefix (W.contents output.old) (W.contents output.new) text)) }
 {
     let outcome = report(alloc, args, input, output);
@@ -105,12 +105,12 @@ fn report<R: Read, W: Write>(
     output: &mut W,
 ) -> Result<(), RunError>
     ensures usage { IsErrOf result RunError.WrongArguments
-        ↔ (command_of (map string_bytes args.now) ≡ None) }
+        ↔ (request_of (map string_bytes args.now) ≡ None) }
     ensures unread { IsErrOf result RunError.WrongArguments → input.new ≡ input.old }
     ensures read { OnOk result (IsAtEnd (R.remaining input.new)) }
     ensures rendered { OnOk result (WhereKnown (map string_bytes args.now) (R.remaining input.old)
-        (λ command source.
-        (text : List ℕ) × (rendering_of command source ≡ Ok text)
+        (λ request source.
+        (text : List ℕ) × (rendering_of request source ≡ Ok text)
         × Appends (W.contents output.old) (W.contents output.new) text)) }
     ensures utf8 { OnOk result (WhereKnown (map string_bytes args.now) (R.remaining input.old)
         (λ _ source. IsUtf8 source)) }
@@ -119,13 +119,13 @@ fn report<R: Read, W: Write>(
     ensures unchanged { IfErr result (λ error. error ≢ RunError.CannotWriteOutput
         → output.new ≡ output.old) }
     ensures prefix { IsErrOf result RunError.CannotWriteOutput
-        → WhereKnown (map string_bytes args.now) (R.remaining input.old) (λ command source.
-        (text : List ℕ) × (rendering_of command source ≡ Ok text)
+        → WhereKnown (map string_bytes args.now) (R.remaining input.old) (λ request source.
+        (text : List ℕ) × (rendering_of request source ≡ Ok text)
         × AppendsPrefix (W.contents output.old) (W.contents output.new) text) }
 {
-    let command = Command::from_arguments(args).ok_or(RunError::WrongArguments)?;
+    let request = Request::from_arguments(args).ok_or(RunError::WrongArguments)?;
     let source = read_text(alloc, input)?;
-    let text = render(alloc, &command, source.as_str())?;
+    let text = render(alloc, &request, source.as_str())?;
     write_text(output, text.as_str())
 }
 

@@ -1,11 +1,11 @@
--- For the clauses of `Request::from_arguments` and `Command::from_arguments`: what the arguments
+-- For the clauses of `LabelRequest::from_arguments` and `Request::from_arguments`: what the arguments
 -- request, word by word.
 use Rattle.std.proofs.Common.{◌≡◌, ℕ, ◌<◌, ◌≤◌, ◌⊎◌, inl, inr, List, [], ◌∷◌, length, get_or, map, Option, None, refl, ap, sym, ◌∙◌, arith}
 use Rattle.codespan_base.specs.declared.term.config.DisplayStyle.{DisplayStyle}
 use Rattle.std.specs.Option.{option_map}
-use Rattle.script_words.specs.Names.{style_named}
-use Rattle.report_script.specs.Requests.{command_of, number_of, request_of, with_parts}
-use Rattle.report_script.specs.Requests.CommandView.{OneLabel, OfScript}
+use Rattle.script_words.specs.Names.{display_style_named}
+use Rattle.report_script.specs.Requests.{request_of, number_of, label_request_of, with_parts}
+use Rattle.report_script.specs.Requests.RequestView.{OneLabel, OfScript}
 
 -- five words by their indices
 five_words : {A : Type 0} (xs : List A) (a b c d e : A) → 5 ≤ length xs → length xs < 6
@@ -20,8 +20,8 @@ five_words (v ∷ w ∷ x ∷ y ∷ z ∷ []) a b c d e least most p q r s t = c
 five_words (v ∷ w ∷ x ∷ y ∷ z ∷ u ∷ more) a b c d e least most p q r s t = absurd (omega arith)
 
 -- another number of words is no request
-pub other_words : {A : Type 0} (text : A → List ℕ) (xs : List A) → (length xs < 5) ⊎ (6 ≤ length xs) → None ≡ request_of (map text xs)
-unfolding request_of
+pub other_words : {A : Type 0} (text : A → List ℕ) (xs : List A) → (length xs < 5) ⊎ (6 ≤ length xs) → None ≡ label_request_of (map text xs)
+unfolding label_request_of
 other_words text [] others = refl
 other_words text (v ∷ []) others = refl
 other_words text (v ∷ w ∷ []) others = refl
@@ -34,15 +34,15 @@ other_words text (v ∷ w ∷ x ∷ y ∷ z ∷ u ∷ more) others = refl
 pub five_arguments : {A : Type 0} (text : A → List ℕ) (xs : List A) (style name start end message : A) → 5 ≤ length xs → length xs < 6
     → style ≡ get_or xs 0 style → name ≡ get_or xs 1 name → start ≡ get_or xs 2 start → end ≡ get_or xs 3 end → message ≡ get_or xs 4 message
     → (named : Option DisplayStyle) (first last : Option ℕ)
-    → named ≡ style_named (text style) → first ≡ number_of (text start) → last ≡ number_of (text end)
-    → with_parts (text name) (text message) named first last ≡ request_of (map text xs)
-unfolding request_of
+    → named ≡ display_style_named (text style) → first ≡ number_of (text start) → last ≡ number_of (text end)
+    → with_parts (text name) (text message) named first last ≡ label_request_of (map text xs)
+unfolding label_request_of
 five_arguments text xs style name start end message least most p q r s t named first last x y z =
     let five = five_words xs style name start end message least most p q r s t in
-    let command : with_parts (text name) (text message) named first last
-    ≡ request_of (text style ∷ text name ∷ text start ∷ text end ∷ text message ∷ []) =
+    let request : with_parts (text name) (text message) named first last
+    ≡ label_request_of (text style ∷ text name ∷ text start ∷ text end ∷ text message ∷ []) =
     rw (x, y, z) refl in
-    command ∙ ap (λ l. request_of (map text l)) (sym five)
+    request ∙ ap (λ l. label_request_of (map text l)) (sym five)
 
 -- two words by their indices
 two_words : {A : Type 0} (xs : List A) (a b : A) → 2 ≤ length xs → length xs < 3 → a ≡ get_or xs 0 a → b ≡ get_or xs 1 b → xs ≡ a ∷ b ∷ []
@@ -53,15 +53,15 @@ two_words (v ∷ w ∷ x ∷ more) a b least most p q = absurd (omega arith)
 
 -- the request of two words
 pub two_arguments : {A : Type 0} (text : A → List ℕ) (xs : List A) (style name : A) → 2 ≤ length xs → length xs < 3
-    → style ≡ get_or xs 0 style → name ≡ get_or xs 1 name → (named : Option DisplayStyle) → named ≡ style_named (text style)
-    → option_map (λ s. OfScript s (text name)) named ≡ command_of (map text xs)
-unfolding command_of
+    → style ≡ get_or xs 0 style → name ≡ get_or xs 1 name → (named : Option DisplayStyle) → named ≡ display_style_named (text style)
+    → option_map (λ s. OfScript s (text name)) named ≡ request_of (map text xs)
+unfolding request_of
 two_arguments text xs style name least most p q named x =
-    ap (option_map (λ s. OfScript s (text name))) x ∙ ap (λ l. command_of (map text l)) (sym (two_words xs style name least most p q))
+    ap (option_map (λ s. OfScript s (text name))) x ∙ ap (λ l. request_of (map text l)) (sym (two_words xs style name least most p q))
 
 -- what another number of words requests
-pub other_arguments : {A : Type 0} (text : A → List ℕ) (xs : List A) → (length xs < 2) ⊎ (3 ≤ length xs) → command_of (map text xs) ≡ option_map OneLabel (request_of (map text xs))
-unfolding command_of
+pub other_arguments : {A : Type 0} (text : A → List ℕ) (xs : List A) → (length xs < 2) ⊎ (3 ≤ length xs) → request_of (map text xs) ≡ option_map OneLabel (label_request_of (map text xs))
+unfolding request_of
 other_arguments text [] others = refl
 other_arguments text (v ∷ []) others = refl
 other_arguments text (v ∷ w ∷ []) others = absurd (elim others [ inl few ↦ omega arith | inr many ↦ omega arith ])

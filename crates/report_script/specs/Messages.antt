@@ -7,19 +7,19 @@ use Rattle.codespan_base.specs.Diagnostics.{DiagnosticView, LabelView}
 use Rattle.report_script.specs.declared.script.Fault.{Fault}
 use Rattle.report_script.specs.declared.script.FaultNumber.{FaultNumber}
 use Rattle.report_script.specs.declared.script.FaultNumber.TheVariants.{UnknownWord, UnknownSeverity, BadNumber, RepeatedWord, MissingEnd}
-use Rattle.report_script.specs.Requests.{RequestView}
+use Rattle.report_script.specs.Requests.{LabelRequestView}
 
 -- the diagnostic of a request: an error with its message, and one primary label with the same
-abbrev pub request_diagnostic : RequestView → DiagnosticView (Unit {0})
-request_diagnostic request = record {
+abbrev pub request_diagnostic : LabelRequestView → DiagnosticView (Unit {0})
+request_diagnostic label_request = record {
   severity = severities.Error;
   code = None;
-  message = request.message;
+  message = label_request.message;
   labels = record {
     style = Primary;
     file_id = tt;
-    range = record { start = request.start; end = request.end };
-    message = request.message;
+    range = record { start = label_request.start; end = label_request.end };
+    message = label_request.message;
   } ∷ [];
   notes = [];
 }

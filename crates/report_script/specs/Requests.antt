@@ -4,13 +4,13 @@ use Rattle.std.specs.Str.{all_ascii_digits, bytes_eq}
 use Rattle.std.specs.Str.Parse.{digits_value}
 use Rattle.codespan_base.specs.declared.term.config.DisplayStyle.{DisplayStyle}
 use Rattle.std.specs.Option.{option_map}
-use Rattle.script_words.specs.Names.{style_named}
-use Rattle.report_script.specs.declared.request.Command.{Command}
-use Rattle.report_script.specs.declared.request.Command.TheVariants as variants
+use Rattle.script_words.specs.Names.{display_style_named}
 use Rattle.report_script.specs.declared.request.Request.{Request}
+use Rattle.report_script.specs.declared.request.Request.TheVariants as variants
+use Rattle.report_script.specs.declared.request.LabelRequest.{LabelRequest}
 
 -- a request by its fields, its texts as bytes
-pub record RequestView : Type 0 where
+pub record LabelRequestView : Type 0 where
   pub style : DisplayStyle
   pub name : List ℕ
   pub start : ℕ
@@ -18,13 +18,13 @@ pub record RequestView : Type 0 where
   pub message : List ℕ
 
 -- a request by its fields
-abbrev pub request_view : Request → RequestView
-request_view request = record {
-  style = request.style;
-  name = request.name.now;
-  start = request.start;
-  end = request.end;
-  message = request.message.now;
+abbrev pub label_request_view : LabelRequest → LabelRequestView
+label_request_view label_request = record {
+  style = label_request.style;
+  name = label_request.name.now;
+  start = label_request.start;
+  end = label_request.end;
+  message = label_request.message.now;
 }
 
 -- the number that one or more ASCII digits write, where a usize holds it
@@ -36,7 +36,7 @@ number_of (d ∷ ds) =
 
 -- the request of a name and a message, where the style is one and both ends are numbers
 abbrev pub with_parts : List ℕ → List ℕ → Option DisplayStyle → Option ℕ → Option ℕ
-    → Option RequestView
+    → Option LabelRequestView
 with_parts name message (Some style) (Some start) (Some end) =
     Some (record { style = style; name = name; start = start; end = end; message = message })
 with_parts name message (Some style) (Some start) None = None
@@ -44,28 +44,28 @@ with_parts name message (Some style) None end = None
 with_parts name message None start end = None
 
 -- the request of the arguments: a style, a name, two numbers and a message
-unfoldable pub request_of : List (List ℕ) → Option RequestView
-request_of (style ∷ name ∷ start ∷ end ∷ message ∷ []) =
-    with_parts name message (style_named style) (number_of start) (number_of end)
-request_of _ = None
+unfoldable pub label_request_of : List (List ℕ) → Option LabelRequestView
+label_request_of (style ∷ name ∷ start ∷ end ∷ message ∷ []) =
+    with_parts name message (display_style_named style) (number_of start) (number_of end)
+label_request_of _ = None
 
 -- what a run renders: an error with one label over the input, or the script at the input's start,
 -- in a style, over a file of a name
-pub data CommandView : Type 0 where
-  OneLabel : RequestView → CommandView
-  OfScript : DisplayStyle → List ℕ → CommandView
+pub data RequestView : Type 0 where
+  OneLabel : LabelRequestView → RequestView
+  OfScript : DisplayStyle → List ℕ → RequestView
 
 -- the same, of the program's value
-abbrev pub command_view : Command → CommandView
-command_view (variants.OneLabel request) = OneLabel (request_view request)
-command_view (variants.OfScript style name) = OfScript style name.now
+abbrev pub request_view : Request → RequestView
+request_view (variants.OneLabel label_request) = OneLabel (label_request_view label_request)
+request_view (variants.OfScript style name) = OfScript style name.now
 
 -- what the arguments request: two of them a script, others an error with one label
-unfoldable pub command_of : List (List ℕ) → Option CommandView
-command_of (style ∷ name ∷ []) = option_map (λ s. OfScript s name) (style_named style)
-command_of words = option_map OneLabel (request_of words)
+unfoldable pub request_of : List (List ℕ) → Option RequestView
+request_of (style ∷ name ∷ []) = option_map (λ s. OfScript s name) (display_style_named style)
+request_of words = option_map OneLabel (label_request_of words)
 
 -- the fact holds of what the words request and of the bytes that the reader has, where both are
 -- known
-abbrev pub WhereKnown : List (List ℕ) → Option (List ℕ) → (CommandView → List ℕ → Type 0) → Type 0
-WhereKnown words bytes P = IfSome (command_of words) (λ command. IfSome bytes (P command))
+abbrev pub WhereKnown : List (List ℕ) → Option (List ℕ) → (RequestView → List ℕ → Type 0) → Type 0
+WhereKnown words bytes P = IfSome (request_of words) (λ request. IfSome bytes (P request))

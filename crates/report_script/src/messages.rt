@@ -3,10 +3,10 @@
 ghost use Rattle.std.specs.Prelude.{◌≡◌, IfOk, map, string_bytes};
 ghost use Rattle.codespan_base.specs.Diagnostics.{diagnostic_view, label_view};
 ghost use Rattle.report_script.specs.Messages.{request_diagnostic, fault_diagnostic};
-ghost use Rattle.report_script.specs.Requests.{request_view};
+ghost use Rattle.report_script.specs.Requests.{label_request_view};
 ghost use Rattle.report_script.specs.Scripts.{script_label_view, script_view};
 
-use crate::request::Request;
+use crate::request::LabelRequest;
 use crate::script;
 use crate::script::{Script, ScriptLabel};
 use codespan_base::diagnostic::{Diagnostic, Label};
@@ -18,13 +18,14 @@ use std::alloc::Global;
 /// # Errors
 ///
 /// `OutOfMemory` if an allocation fails.
-pub fn of_request(alloc: Global, request: &Request<'_>) -> Result<Diagnostic<()>, Error>
-    ensures { IfOk result (λ d. diagnostic_view d ≡ request_diagnostic (request_view request.now)) }
+pub fn of_request(alloc: Global, label_request: &LabelRequest<'_>) -> Result<Diagnostic<()>, Error>
+    ensures { IfOk result (λ d. diagnostic_view d
+        ≡ request_diagnostic (label_request_view label_request.now)) }
 {
-    let label = Label::primary(alloc, (), request.start..request.end).with_message(
-        request.message,
+    let label = Label::primary(alloc, (), label_request.start..label_request.end).with_message(
+        label_request.message,
     )?;
-    let error = Diagnostic::error(alloc).with_message(request.message)?;
+    let error = Diagnostic::error(alloc).with_message(label_request.message)?;
     error.with_label(label)
 }
 

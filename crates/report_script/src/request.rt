@@ -5,11 +5,11 @@ ghost use Rattle.std.specs.Option.{option_map};
 ghost use Rattle.report_script.specs.Requests.{number_of};
 
 use codespan_base::term::DisplayStyle;
-use script_words::names::parse_style;
+use script_words::names::parse_display_style;
 
 /// A request for an error with one label over the input.
 #[derive(Clone, Copy)]
-pub struct Request<'args> {
+pub struct LabelRequest<'args> {
     /// The display style.
     pub style: DisplayStyle,
     /// The name of the file.
@@ -22,19 +22,20 @@ pub struct Request<'args> {
     pub message: &'args str,
 }
 
-impl<'args> Request<'args> {
-    ghost use Rattle.report_script.specs.Requests.{request_view, request_of};
+impl<'args> LabelRequest<'args> {
+    ghost use Rattle.report_script.specs.Requests.{label_request_view, label_request_of};
 
     /// Parses the arguments `STYLE NAME START END MESSAGE`; `None` if their number or form is
     /// another.
-    pub fn from_arguments(args: &'args [String]) -> Option<Request<'args>>
-        ensures { option_map request_view result ≡ request_of (map string_bytes args.now) }
+    pub fn from_arguments(args: &'args [String]) -> Option<LabelRequest<'args>>
+        ensures { option_map label_request_view result
+            ≡ label_request_of (map string_bytes args.now) }
     {
         let [style, name, start, end, message] = args else {
             return None;
         };
-        Some(Request {
-            style: parse_style(style.as_str())?,
+        Some(LabelRequest {
+            style: parse_display_style(style.as_str())?,
             name: name.as_str(),
             start: parse_number(start.as_str())?,
             end: parse_number(end.as_str())?,
@@ -45,25 +46,28 @@ impl<'args> Request<'args> {
 
 /// What the arguments request.
 #[derive(Clone, Copy)]
-pub enum Command<'args> {
+pub enum Request<'args> {
     /// An error with one label over the input.
-    OneLabel(Request<'args>),
+    OneLabel(LabelRequest<'args>),
     /// The script at the input's start, in this display style; the file has this name, and its
     /// source follows the script.
     OfScript(DisplayStyle, &'args str),
 }
 
-impl<'args> Command<'args> {
-    ghost use Rattle.report_script.specs.Requests.{command_of, command_view};
+impl<'args> Request<'args> {
+    ghost use Rattle.report_script.specs.Requests.{request_of, request_view};
 
-    /// Parses the arguments `STYLE NAME`, or those of a [`Request`]; `None` if their number or form
+    /// Parses the arguments `STYLE NAME`, or those of a [`LabelRequest`]; `None` if their number or form
     /// is another.
-    pub fn from_arguments(args: &'args [String]) -> Option<Command<'args>>
-        ensures { option_map command_view result ≡ command_of (map string_bytes args.now) }
+    pub fn from_arguments(args: &'args [String]) -> Option<Request<'args>>
+        ensures { option_map request_view result ≡ request_of (map string_bytes args.now) }
     {
         match args {
-            [style, name] => Some(Command::OfScript(parse_style(style.as_str())?, name.as_str())),
-            _ => Some(Command::OneLabel(Request::from_arguments(args)?)),
+            [style, name] => Some(Request::OfScript(
+                parse_display_style(style.as_str())?,
+                name.as_str(),
+            )),
+            _ => Some(Request::OneLabel(LabelRequest::from_arguments(args)?)),
         }
     }
 }

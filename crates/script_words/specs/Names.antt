@@ -8,8 +8,8 @@ use Rattle.codespan_base.specs.declared.term.config.DisplayStyle.{DisplayStyle}
 use Rattle.codespan_base.specs.declared.term.config.DisplayStyle.TheVariants.{Rich, Medium, Short}
 
 -- the style of this name
-unfoldable pub style_named : List ℕ → Option DisplayStyle
-style_named text =
+unfoldable pub display_style_named : List ℕ → Option DisplayStyle
+display_style_named text =
     if bytes_eq text (codes "rich") then Some Rich
     else if bytes_eq text (codes "medium") then Some Medium
     else if bytes_eq text (codes "short") then Some Short

@@ -26,13 +26,13 @@ pub enum Ending {
 pub enum Failure {
     /// A call or an allocation failed, although no writer stops.
     Failed(Error),
-    /// The text differs from the one that is stated.
-    OtherStatedText,
+    /// The text differs from the one that is expected.
+    OtherText,
     /// A string to which the text was appended is not its old text followed by the new one.
     OtherString,
     /// The bytes written by way of a writer of styles differ from the text.
     OtherText(StyleWriterKind),
-    /// The text in escape sequences differs from what is stated.
+    /// The text in escape sequences differs from what is expected.
     OtherColors,
     /// By way of a writer of styles, with a writer that stops in this way after this many writes or
     /// style marks: the result is not the expected one (`Io` if the writer stopped, and else `Ok`),
@@ -111,10 +111,10 @@ impl fmt::Display for Failure {
     fn fmt<W: Write>(&self, f: &mut fmt::Formatter<W>) -> fmt::Result {
         match self {
             Failure::Failed(error) => write!(f, "error: {error}"),
-            Failure::OtherStatedText => f.write_str("another text than stated"),
+            Failure::OtherText => f.write_str("another text than expected"),
             Failure::OtherString => f.write_str("another string"),
             Failure::OtherText(style_writer) => write!(f, "by {style_writer}: another text"),
-            Failure::OtherColors => f.write_str("other colors than stated"),
+            Failure::OtherColors => f.write_str("other colors than expected"),
             Failure::Stopped(style_writer, ending, after) => {
                 write!(
                     f,

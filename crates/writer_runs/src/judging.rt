@@ -80,7 +80,7 @@ fn judge_input(
     judge_calls(alloc, input, text.as_str(), worked.colors(style))
 }
 
-/// Makes all runs in a style, from the plain text and what is stated of the text in escape
+/// Makes all runs in a style, from the plain text and what is expected of the text in escape
 /// sequences.
 fn judge_calls(
     alloc: Global,
@@ -131,7 +131,7 @@ fn at<T: Drop>(
 const OLD_TEXT: &str = "kept";
 
 /// Returns the plain text in the style of a configuration. It is compared with the one that is
-/// stated, if any, and with what is appended to a string.
+/// expected, if any, and with what is appended to a string.
 fn text_of(
     alloc: Global,
     worked: &WorkedOutput<'_>,
@@ -139,7 +139,7 @@ fn text_of(
 ) -> Result<String, Failure> {
     let text = rendered_text(alloc, input)?;
     match worked.plain_text(input.config.display_style) {
-        Some(want) if text.as_str() != want => Err(Failure::OtherStatedText),
+        Some(want) if text.as_str() != want => Err(Failure::OtherText),
         _ => Ok(text),
     }
 }
@@ -200,7 +200,7 @@ fn judge_call<D: Render>(
     Ok(runs)
 }
 
-/// Compares the text in escape sequences with what is stated, if the call writes style marks.
+/// Compares the text in escape sequences with what is expected, if the call writes style marks.
 /// This is no run of its own.
 fn judge_colors<D: Render>(
     output: &D,

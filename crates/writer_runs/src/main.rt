@@ -7,7 +7,7 @@
 //! writers of bytes below, each stopped at each write that rendering makes, or at each style mark
 //! ([`stops`]). Of each run it checks the result, and that the writer holds exactly the prefix of
 //! the output that it accepted. The output is known: its text is what `emit_into_string` returns,
-//! which is compared with the text that is stated, and in colors it is the same text once the
+//! which is compared with the text that is expected, and in colors it is the same text once the
 //! escape sequences are removed.
 //!
 //! A line for each worked output and each direct call states by how many calls and into how many

@@ -48,9 +48,17 @@ impl fmt::Display for RenderCall {
 /// What can be rendered to a writer.
 pub trait Render {
     /// Writes to a writer of styles.
+    ///
+    /// # Errors
+    ///
+    /// That of the call: `Io` where the writer fails, `OutOfMemory` where an allocation does.
     fn render<W: WriteStyle>(&self, writer: &mut W) -> Result<(), Error>;
 
     /// Writes to a writer of bytes, as plain text.
+    ///
+    /// # Errors
+    ///
+    /// As [`Render::render`].
     fn render_plain<W: Write>(&self, writer: &mut W) -> Result<(), Error>;
 
     /// Returns whether style marks are written.

@@ -48,7 +48,7 @@ fn write_counts<E: Write>(
     writeln!(error_output, "writer_runs: {texts} texts, {runs} runs")
 }
 
-/// How many stated texts and runs there were so far, and whether one was wrong.
+/// How many expected texts and runs there were so far, and whether one was wrong.
 #[derive(Clone, Copy, Default)]
 struct Sum {
     texts: usize,

@@ -15,9 +15,9 @@ pub enum TextKind {
     Medium,
     /// The text in short style.
     Short,
-    /// The text in escape sequences, in each style whose text is stated.
+    /// The text in escape sequences, in each style whose text is expected.
     Ansi,
-    /// The end of the text in escape sequences, in each style whose text is stated.
+    /// The end of the text in escape sequences, in each style whose text is expected.
     AnsiEnd,
 }
 
@@ -44,7 +44,7 @@ impl TextKind {
     }
 }
 
-/// What is stated of a text in escape sequences.
+/// What is expected of a text in escape sequences.
 #[derive(Clone, Copy)]
 pub enum ExpectedColors<'text> {
     /// The end of the text.
@@ -54,7 +54,7 @@ pub enum ExpectedColors<'text> {
 }
 
 impl ExpectedColors<'_> {
-    /// Returns whether a text is as stated.
+    /// Returns whether a text is as expected.
     pub fn is_met_by(self, text: &[u8]) -> bool {
         match self {
             ExpectedColors::End(end) => text.ends_with(end.as_bytes()),
@@ -87,15 +87,15 @@ impl<'input> WorkedOutput<'input> {
         }
     }
 
-    /// Adds a text, or appends it to the text of its kind if one is stated.
+    /// Adds a text, or appends it to the text of its kind if one is expected.
     ///
     /// # Errors
     ///
     /// `OutOfMemory` if an allocation fails.
     pub fn add_text(&mut self, kind: TextKind, text: String) -> Result<(), LineError> {
         if let Some(index) = self.index_of(kind) {
-            if let Some(stated) = self.texts.get_mut(index) {
-                stated.text.push_str(text.as_str())?;
+            if let Some(expected) = self.texts.get_mut(index) {
+                expected.text.push_str(text.as_str())?;
                 return Ok(());
             }
         }
@@ -103,33 +103,33 @@ impl<'input> WorkedOutput<'input> {
         Ok(())
     }
 
-    /// Returns the index of the text of a kind, if stated.
+    /// Returns the index of the text of a kind, if expected.
     fn index_of(&self, kind: TextKind) -> Option<usize> {
-        for (index, stated) in self.texts.iter().enumerate() {
-            if stated.kind == kind {
+        for (index, expected) in self.texts.iter().enumerate() {
+            if expected.kind == kind {
                 return Some(index);
             }
         }
         None
     }
 
-    /// Returns the text of a kind, if stated.
+    /// Returns the text of a kind, if expected.
     fn text(&self, kind: TextKind) -> Option<&str> {
-        for stated in self.texts.as_slice() {
-            if stated.kind == kind {
-                return Some(stated.text.as_str());
+        for expected in self.texts.as_slice() {
+            if expected.kind == kind {
+                return Some(expected.text.as_str());
             }
         }
         None
     }
 
-    /// Returns the plain text in a style, if stated.
+    /// Returns the plain text in a style, if expected.
     pub fn plain_text(&self, style: DisplayStyle) -> Option<&str> {
         self.text(TextKind::plain(style))
     }
 
-    /// Returns what is stated of the text in escape sequences in a style: nothing if the plain text
-    /// of the style is not stated.
+    /// Returns what is expected of the text in escape sequences in a style: nothing if the plain text
+    /// of the style is not expected.
     pub fn colors(&self, style: DisplayStyle) -> ExpectedColors<'_> {
         if self.plain_text(style).is_none() {
             return ExpectedColors::End("");

@@ -6,7 +6,7 @@
 //! | line | meaning |
 //! |---|---|
 //! | `rich TEXT`, `medium TEXT`, `short TEXT` | the expected text in this style |
-//! | `ansi TEXT` | the expected text in escape sequences, in each style whose text is stated |
+//! | `ansi TEXT` | the expected text in escape sequences, in each style whose text is expected |
 //! | `ansi-end TEXT` | the expected end of that text |
 //! | `character FIELD C` | this field of [`Chars`] is this character |
 //!

@@ -1,6 +1,6 @@
 //! Annotations brought into the order of their lines, before they are sorted.
 //!
-//! Labels that cross each other, or that return to the same lines in turn, leave many short runs of
+//! Labels that overlap, or that return to the same lines in turn, leave many short runs of
 //! annotations. Once each annotation is moved to its line, the sort meets one run, or nearly so,
 //! and takes time in proportion to it.
 

@@ -17,7 +17,7 @@ pub fn shows_line<FileId>(annotation: &Annotation<'_, FileId>) -> bool
 }
 
 /// Returns how many annotations at the start are of the line.
-pub fn line_len<FileId>(annotations: &[Annotation<'_, FileId>], line: usize) -> usize
+pub fn count_on_line<FileId>(annotations: &[Annotation<'_, FileId>], line: usize) -> usize
     ensures value { result ≡ prefix_len (λ e. is_on_line line (annotation_view e)) annotations.now }
     ensures within { result ≤ length annotations.now }
 {
@@ -33,7 +33,7 @@ pub fn line_len<FileId>(annotations: &[Annotation<'_, FileId>], line: usize) -> 
 /// # Requires
 ///
 /// The annotations are in order.
-pub fn file_len<FileId>(annotations: &[Annotation<'_, FileId>], file: usize) -> usize
+pub fn count_in_file<FileId>(annotations: &[Annotation<'_, FileId>], file: usize) -> usize
     requires { IsSortedWithin (λ x y. is_before (annotation_view x) (annotation_view y))
         annotations.now 0 (length annotations.now) }
     ensures value { result ≡ prefix_len (λ e. is_of_file file (annotation_view e)) annotations.now }

@@ -8,7 +8,7 @@ ghost use Rattle.codespan_plan.specs.SnippetLines.{fills_of, lines_of, lines_to}
 ghost use Rattle.codespan_plan.specs.LinePlanners.{AddsPlanned, numbers_failure};
 ghost use Rattle.codespan_annotations.specs.SourceFiles.{model_of};
 
-use codespan_annotations::annotation::groups::{line_len, shows_line};
+use codespan_annotations::annotation::groups::{count_on_line, shows_line};
 use codespan_annotations::annotation::{Annotation, LineInfo};
 use codespan_annotations::source_file::SourceFile;
 use codespan_base::files::{Error, Files};
@@ -202,7 +202,7 @@ impl<'files, F: Files<'files>> LinePlanner<'files, F> {
         let mut at = 0;
         while at < annotations.len() {
             let line = annotations[at].line;
-            let end = at + line_len(&annotations[at..], line.index);
+            let end = at + count_on_line(&annotations[at..], line.index);
             if shows_line(&annotations[at]) {
                 self.push_shown(
                     previous,

@@ -18,7 +18,7 @@ ghost use Rattle.codespan_annotations.specs.TextLoci.{IsTextLocus};
 
 use crate::plan::snippet_lines::{LinePlanner, SnippetLine};
 use codespan_annotations::annotation::Annotation;
-use codespan_annotations::annotation::groups::file_len;
+use codespan_annotations::annotation::groups::count_in_file;
 use codespan_annotations::labeled_files::LabeledFile;
 use codespan_annotations::source_file::SourceFile;
 use codespan_base::files::{Error, Files};
@@ -32,7 +32,7 @@ use std::alloc::Global;
 pub struct SnippetPlan<'e, FileId> {
     /// The file.
     pub file: &'e LabeledFile<FileId>,
-    /// The locus at which the snippet starts.
+    /// The locus that the snippet begins with.
     pub locus: Locus,
     /// The number of the snippet's lines.
     pub line_total: usize,
@@ -72,7 +72,7 @@ fn push_snippet<'files, 'e, 'd, F: Files<'files>>(
 }
 
 /// Returns the plan of a file's snippet of `line_total` lines: looks up the name of the file, and
-/// the location at which the snippet starts.
+/// the location of its locus.
 ///
 /// # Errors
 ///
@@ -146,7 +146,7 @@ pub fn plan_snippets<'files, 'e, 'd, F: Files<'files>>(
     let mut located = Ok(());
     let mut start = 0;
     for (index, file) in collected.files.iter().enumerate() {
-        let len = file_len(&collected.annotations[start..], index);
+        let len = count_in_file(&collected.annotations[start..], index);
         let own = &collected.annotations[start..start + len];
         let line_total = push_snippet(files, file.id, layout, own, snippet_lines)?;
         start += len;

@@ -40,13 +40,13 @@ spaced context edge column (p ∷ ps) =
     ++ spaced context edge p.after ps
 
 -- the labels that a cursor has not passed
-abbrev pub starts_left : StartCursor → List LabelModel
-starts_left s = single_label_views (drop s.next s.labels.now)
+abbrev pub label_starts_left : StartCursor → List LabelModel
+label_starts_left s = single_label_views (drop s.next s.labels.now)
 
 -- the cursor has passed the labels that start before this byte index: none of them starts in a
 -- later character
 pub record HasPassedStarts (byte_index : ℕ) (s : StartCursor) : Type 0 where
   pub is : (c : Metrics) (found : Option LabelStyle) → byte_index ≤ c.byte_index
       → best_from (starts_in c) found (filter has_message (single_label_views s.labels.now))
-      ≡ best_from (starts_in c) found (filter has_message (starts_left s))
-  pub ordered : starts_from byte_index (starts_left s) ≡ true
+      ≡ best_from (starts_in c) found (filter has_message (label_starts_left s))
+  pub ordered : starts_from byte_index (label_starts_left s) ≡ true

@@ -19,7 +19,7 @@ pub use codespan_row_parts::line::{Lanes, Line};
 use codespan_row_parts::parts::write_newline;
 use codespan_rows::header::{write_header, write_snippet_start};
 use codespan_rows::line_rows::write_line;
-use codespan_rows::notes::{write_break, write_empty, write_note};
+use codespan_rows::notes::{write_break, write_note, write_snippet_empty};
 use row_writer::{RowWriter, with_error, write_zero_error};
 use scanned_line::ScannedLine;
 use std::cell::Cell;
@@ -66,7 +66,7 @@ impl<'writer, 'config, W: WriteStyle> Renderer<'writer, 'config, W> {
     ghost use Rattle.codespan_row_parts.specs.LineViews.{context_view};
     ghost use Rattle.codespan_picture.specs.Picture.{context_of};
     ghost use Rattle.codespan_renderer.specs.Renderers.{writer_of, reference_of, config_of, Renders};
-    ghost use Rattle.codespan_row_parts.specs.RenderedRows.{rendered_header, rendered_start, rendered_empty};
+    ghost use Rattle.codespan_row_parts.specs.RenderedRows.{rendered_header, rendered_start, rendered_snippet_empty};
     ghost use Rattle.codespan_row_parts.specs.RenderedRows.{rendered_break, rendered_note};
     ghost use Rattle.codespan_row_parts.specs.RenderedRows.{rendered_source, source_line};
 
@@ -215,7 +215,7 @@ impl<'writer, 'config, W: WriteStyle> Renderer<'writer, 'config, W> {
         multi_labels: &[(usize, LabelStyle, MultiLabel<'_>)],
     ) -> Result<(), Error>
         requires { IsTrue (lanes_in_order num_multi_labels multi_labels.now) }
-        ensures { Renders W.sink (rendered_empty (config_of self.old) severity outer_padding
+        ensures { Renders W.sink (rendered_snippet_empty (config_of self.old) severity outer_padding
             num_multi_labels multi_labels.now) self.old result self.new }
     {
         let context = self.context(severity, outer_padding);
@@ -224,7 +224,7 @@ impl<'writer, 'config, W: WriteStyle> Renderer<'writer, 'config, W> {
             marks: multi_labels,
         };
         let mut rows = RowWriter::new(self.writer, &self.saved);
-        let written = write_empty(&mut rows, context, lanes);
+        let written = write_snippet_empty(&mut rows, context, lanes);
         with_error(written, &self.saved)
     }
 

@@ -8,8 +8,8 @@ ghost use Rattle.codespan_structs.specs.ValidParts.{IsValidFile};
 use crate::convert::text::text_of;
 use crate::error::OutOfMemory;
 use crate::raw::RawFile;
-use codespan_sources::source_file::{NewlineText, SourceFile, SourceText, StatedText};
-use codespan_sources::source_files::SourceFiles;
+use codespan_sources::native_file::{NativeFile, NewlineText, SourceText, StatedText};
+use codespan_sources::native_files::NativeFiles;
 use std::alloc::Global;
 
 /// Returns the file database of these files.
@@ -21,11 +21,11 @@ use std::alloc::Global;
 /// # Requires
 ///
 /// [`first_invalid`](crate::validate::first_invalid) has found nothing.
-pub fn convert_files<'a>(alloc: Global, raw: &[RawFile<'a>]) -> Result<SourceFiles<'a>, OutOfMemory>
+pub fn convert_files<'a>(alloc: Global, raw: &[RawFile<'a>]) -> Result<NativeFiles<'a>, OutOfMemory>
     requires { All IsValidFile raw.now }
     ensures { IfOk result (λ files. sources_of files ≡ map source_in raw.now) }
 {
-    let mut files = SourceFiles::new(alloc);
+    let mut files = NativeFiles::new(alloc);
     for file in raw {
         files.add(file_of(alloc, file)?)?;
     }
@@ -33,12 +33,12 @@ pub fn convert_files<'a>(alloc: Global, raw: &[RawFile<'a>]) -> Result<SourceFil
 }
 
 /// Returns a file.
-fn file_of<'a>(alloc: Global, raw: &RawFile<'a>) -> Result<SourceFile<'a>, OutOfMemory>
+fn file_of<'a>(alloc: Global, raw: &RawFile<'a>) -> Result<NativeFile<'a>, OutOfMemory>
     requires { IsValidFile raw.now }
     ensures { IfOk result (λ file. source_of file ≡ source_in raw.now) }
 {
     let text = source_text_of(alloc, raw)?;
-    Ok(SourceFile::new(text, raw.first_byte, raw.locations))
+    Ok(NativeFile::new(text, raw.first_byte, raw.locations))
 }
 
 /// Returns the text of a file, cut into lines.

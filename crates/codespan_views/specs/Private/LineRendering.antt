@@ -9,15 +9,15 @@ use Rattle.codespan_renderer.specs.declared.term.renderer.Renderer.{Renderer}
 use Rattle.codespan_views.specs.declared.snippet.lines.Snippet.{Snippet}
 use Rattle.codespan_plan.specs.declared.plan.snippet_lines.SnippetLine.{SnippetLine as RustLine}
 use Rattle.codespan_annotations.specs.SourceFiles.{failure_of, model_of}
-use Rattle.codespan_plan.specs.SnippetLineViews.{IsSnippetLineOf, lookups_of_lines, line_view}
+use Rattle.codespan_plan.specs.SnippetLineViews.{IsSnippetLineOf, lookups_of_lines, snippet_line_view}
 use Rattle.codespan_views.specs.Private.Rendering.{RendersRowsWithLookups}
-use Rattle.codespan_plan.specs.SnippetLines.{SnippetLine, does_line_fit, rows_of_line, rows_of_lines, DoFit}
+use Rattle.codespan_plan.specs.SnippetLines.{SnippetLine, is_line_in_order, rows_of_line, rows_of_lines, AreInOrder}
 
 -- these are lines of the file, and they fit in so many lanes
 pub record AreLinesOf {Id : Type 0} (f : FileModel) (num_multi_labels : ℕ)
     (snippet_lines : List (RustLine Id)) : Type 0 where
   pub each : AllByRecursion (IsSnippetLineOf f) snippet_lines
-  pub fit : DoFit num_multi_labels (map line_view snippet_lines)
+  pub fit : AreInOrder num_multi_labels (map snippet_line_view snippet_lines)
 
 -- the snippet has the text of its file, and these are lines of it
 pub record HasLines {F Id Name Source : Type 0} (database : F → FileDatabase Id)
@@ -30,7 +30,7 @@ pub record HasLine {F Id Name Source : Type 0} (database : F → FileDatabase Id
     (snippet : Snippet F Id Name Source) (snippet_line : RustLine Id) : Type 0 where
   pub text : snippet.text.now ≡ (model_of database snippet.file).text
   pub is : IsSnippetLineOf (model_of database snippet.file) snippet_line
-  pub fits : IsTrue (does_line_fit snippet.num_multi_labels (line_view snippet_line))
+  pub fits : IsTrue (is_line_in_order snippet.num_multi_labels (snippet_line_view snippet_line))
 
 module _ {W F Id Name Source : Type 0} (sink : W → Sink) (database : F → FileDatabase Id)
     (snippet : Snippet F Id Name Source) where
@@ -54,4 +54,4 @@ module _ {W F Id Name Source : Type 0} (sink : W → Sink) (database : F → Fil
       → Type 0
   RendersLines snippet_lines =
       RendersFileRows (lookups_of_lines snippet_lines)
-      (λ f. rows_of_lines f snippet.num_multi_labels (map line_view snippet_lines))
+      (λ f. rows_of_lines f snippet.num_multi_labels (map snippet_line_view snippet_lines))

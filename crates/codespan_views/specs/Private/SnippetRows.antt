@@ -11,28 +11,30 @@ use Rattle.codespan_views.specs.declared.snippet.lines.SnippetContext.{SnippetCo
 use Rattle.codespan_plan.specs.declared.plan.snippet_plans.SnippetPlan.{SnippetPlan}
 use Rattle.codespan_plan.specs.declared.plan.snippet_lines.SnippetLine.{SnippetLine as RustLine}
 use Rattle.codespan_annotations.specs.FileLookups.{failure_in}
-use Rattle.codespan_plan.specs.SnippetLineViews.{lookups_of_lines, line_view}
+use Rattle.codespan_plan.specs.SnippetLineViews.{lookups_of_lines, snippet_line_view}
 use Rattle.codespan_views.specs.Private.Rendering.{RendersRowsWithLookups}
 use Rattle.codespan_plan.specs.SnippetLines.{rows_of_lines}
 
 module _ {Id : Type 0} (snippet_plan : SnippetPlan Id) where
   -- a row with its lanes and nothing else
-  abbrev pub empty_row : Row
-  empty_row = EmptyRow (record { count = snippet_plan.file.now.num_multi_labels; marks = [] })
+  abbrev pub snippet_empty_row : Row
+  snippet_empty_row =
+      EmptyRow (record { count = snippet_plan.file.now.num_multi_labels; marks = [] })
 
   -- its first rows
   abbrev pub start_rows : List Row
-  start_rows = SnippetStartRow (locus_view snippet_plan.locus) ∷ empty_row ∷ []
+  start_rows = SnippetStartRow (locus_view snippet_plan.locus) ∷ snippet_empty_row ∷ []
 
   -- the row after it, where something follows
   abbrev pub trailing_border_rows : Bool → List Row
-  trailing_border_rows is_followed = if is_followed then empty_row ∷ [] else []
+  trailing_border_rows is_followed = if is_followed then snippet_empty_row ∷ [] else []
 
   -- its rows before that one, where these are its lines
   abbrev pub rows_in : FileModel → List (RustLine Id) → List Row
   rows_in f snippet_lines =
       start_rows
-      ++ rows_of_lines f snippet_plan.file.now.num_multi_labels (map line_view snippet_lines)
+      ++ rows_of_lines f snippet_plan.file.now.num_multi_labels
+      (map snippet_line_view snippet_lines)
 
 -- the lookups of a snippet of these lines
 abbrev pub lookups_with : {Id : Type 0} → List (RustLine Id) → List Lookup

@@ -2,10 +2,10 @@
 
 ghost use Rattle.std.specs.Prelude.{◌≡◌, [], IsTrue, map};
 ghost use Rattle.codespan_annotations.specs.AnnotationViews.{IsLineOf, annotation_view};
-ghost use Rattle.codespan_plan.specs.SnippetLineViews.{lookups_of_line, line_view};
+ghost use Rattle.codespan_plan.specs.SnippetLineViews.{lookups_of_line, snippet_line_view};
 ghost use Rattle.codespan_views.specs.Private.LineRendering.{HasLine, HasLines, RendersLine, RendersLines};
 ghost use Rattle.codespan_annotations.specs.SourceFiles.{model_of};
-ghost use Rattle.codespan_plan.specs.SnippetLines.{Labeled, Break, do_annotations_fit, do_lane_marks_fit};
+ghost use Rattle.codespan_plan.specs.SnippetLines.{Labeled, Break, are_annotations_in_order, are_lane_marks_in_order};
 
 use crate::snippet::line_buffers::{LineBuffers, fill_multi_labels};
 use codespan_annotations::annotation::{Annotation, LineInfo};
@@ -90,7 +90,7 @@ impl<'context, 'files, F: Files<'files>> Snippet<'context, 'files, F> {
     ) -> Result<(), Error>
         requires { HasLine F.database self.now snippet_line.now }
         ensures { RendersLine W.sink F.database self.now (lookups_of_line snippet_line.now)
-            (line_view snippet_line.now)
+            (snippet_line_view snippet_line.now)
             renderer.old result renderer.new }
     {
         match snippet_line {
@@ -135,7 +135,8 @@ impl<'context, 'files, F: Files<'files>> Snippet<'context, 'files, F> {
             ≡ (model_of F.database self.now.file).text }
         requires line { IsLineOf (model_of F.database self.now.file) line }
         requires fits { IsTrue
-            (do_annotations_fit self.now.num_multi_labels (map annotation_view annotations.now)) }
+            (are_annotations_in_order self.now.num_multi_labels
+            (map annotation_view annotations.now)) }
         ensures { RendersLine W.sink F.database self.now []
             (Labeled line.index (map annotation_view annotations.now)) renderer.old result
             renderer.new }
@@ -167,7 +168,7 @@ impl<'context, 'files, F: Files<'files>> Snippet<'context, 'files, F> {
         labels: &mut LineBuffers<'d>,
         next: &[Annotation<'d, F::FileId>],
     ) -> Result<(), Error>
-        requires fits { IsTrue (do_lane_marks_fit self.now.num_multi_labels
+        requires fits { IsTrue (are_lane_marks_in_order self.now.num_multi_labels
             (map annotation_view next.now)) }
         ensures { RendersLine W.sink F.database self.now []
             (Break (map annotation_view next.now))

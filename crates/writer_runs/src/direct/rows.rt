@@ -313,7 +313,5 @@ static COLORED: [DirectRow<'static>; 2] = [
 
 /// Returns the rows.
 pub fn rows() -> [&'static [DirectRow<'static>]; 7] {
-    [
-        &HEADERS, &LABELS, &TABS, &LANES, &BREAKS, &NOTES, &COLORED,
-    ]
+    [&HEADERS, &LABELS, &TABS, &LANES, &BREAKS, &NOTES, &COLORED]
 }

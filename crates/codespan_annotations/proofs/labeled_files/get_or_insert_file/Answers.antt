@@ -1,5 +1,5 @@
 use Rattle.std.proofs.Common.{◌≡◌, List, [], ◌∷◌, ◌++◌, sym, ap, ◌∙◌}
-use Rattle.codespan_annotations.specs.LabeledFiles.{ids_view, lanes_view, starts_view, with_file}
+use Rattle.codespan_annotations.specs.LabeledFiles.{ids_view, lane_counts, starts_view, with_file}
 use Rattle.codespan_annotations.specs.FileStarts.{no_start}
 use Rattle.codespan_annotations.specs.FileIndices.{index_of_file}
 use Rattle.codespan_annotations.proofs.FileSearch.{file-added, file-unchanged}
@@ -29,7 +29,7 @@ pub returns-in_ok-push_file-clause-starts : goal.returns-in_ok-push_file-clause-
 returns-in_ok-push_file-clause-starts g c = c.in_ok-push_file.ensures.starts ∙ added g c (starts_view c.args.files.now.items) no_start
 
 pub returns-in_ok-push_file-clause-lanes : goal.returns-in_ok-push_file-clause-lanes
-returns-in_ok-push_file-clause-lanes g c = c.in_ok-push_file.ensures.lanes ∙ added g c (lanes_view c.args.files.now.items) 0
+returns-in_ok-push_file-clause-lanes g c = c.in_ok-push_file.ensures.lanes ∙ added g c (lane_counts c.args.files.now.items) 0
 
 pub returns-else-index-len-clause-ids : goal.returns-else-index-len-clause-ids
 returns-else-index-len-clause-ids g c = unchanged g c (ids_view c.args.files.now.items) c.args.id
@@ -38,7 +38,7 @@ pub returns-else-index-len-clause-starts : goal.returns-else-index-len-clause-st
 returns-else-index-len-clause-starts g c = unchanged g c (starts_view c.args.files.now.items) no_start
 
 pub returns-else-index-len-clause-lanes : goal.returns-else-index-len-clause-lanes
-returns-else-index-len-clause-lanes g c = unchanged g c (lanes_view c.args.files.now.items) 0
+returns-else-index-len-clause-lanes g c = unchanged g c (lane_counts c.args.files.now.items) 0
 
 pub returns-else-index-len-clause-index : goal.returns-else-index-len-clause-index
 returns-else-index-len-clause-index g c =

@@ -5,7 +5,7 @@ use Rattle.std.proofs.lemmas.Result.{err_from_is_err_and}
 use Rattle.codespan_annotations.specs.declared.labeled_files.LabeledFile.{LabeledFile as RustFile}
 use Rattle.codespan_collect.specs.CollectedLabels.{FindsLines, collected_label}
 use Rattle.codespan_annotations.specs.AnnotationViews.{Adds, IsOfFiles}
-use Rattle.codespan_annotations.specs.LabeledFiles.{ids_view, lanes_view, num_multi_labels_of, lanes_with_label}
+use Rattle.codespan_annotations.specs.LabeledFiles.{ids_view, lane_counts, num_multi_labels_of, lanes_with_label}
 use Rattle.codespan_annotations.specs.FileStarts.{file_start}
 use Rattle.codespan_picture.specs.Picture.{label_of}
 use Rattle.codespan_picture.specs.Snippets.{file_ids}
@@ -84,7 +84,7 @@ index-requires g c =
 -- the lane that the label is given is the number of those of its file
 lane_there : (g : Over) (c : After-index g)
     → c.in_ok-file.file < length c.get_or_insert_file.new.files.items
-    → c.index.result.now.num_multi_labels ≡ get_or (lanes_view c.get_or_insert_file.new.files.items)
+    → c.index.result.now.num_multi_labels ≡ get_or (lane_counts c.get_or_insert_file.new.files.items)
     c.in_ok-file.file 0
 lane_there g c inside =
     let lanes : RustFile g.row.F-FileId.Denot → ℕ = λ f. f.num_multi_labels in
@@ -121,7 +121,7 @@ loop-index-preserved g c =
     }) (record {
       ids = known.ids;
       starts = known.starts;
-      lanes = known.lanes ∙ ap (lanes_with_label (lanes_view c.get_or_insert_file.new.files.items) c.in_ok-file.file) own;
+      lanes = known.lanes ∙ ap (lanes_with_label (lane_counts c.get_or_insert_file.new.files.items) c.in_ok-file.file) own;
     })
 
 pub returns-clause-collected : goal.returns-clause-collected

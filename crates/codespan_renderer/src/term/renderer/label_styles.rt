@@ -70,7 +70,7 @@ fn starts_in(metrics: Metrics, label: &SingleLabel<'_>) -> bool
 
 /// Returns which style takes precedence: of the one found so far and those of the labels with a
 /// message that start in the character.
-fn best_start(
+fn start_style(
     found: Option<LabelStyle>,
     labels: &[SingleLabel<'_>],
     metrics: Metrics,
@@ -102,8 +102,8 @@ pub fn pointer_in(
     requires { AreHanging labels.now messages.before.now messages.after.now }
     ensures { result ≡ pointer_found (hanging_labels (single_label_views labels.now)) metrics }
 {
-    best_start(
-        best_start(None, messages.before, metrics),
+    start_style(
+        start_style(None, messages.before, metrics),
         messages.after,
         metrics,
     )

@@ -13,7 +13,7 @@ use codespan_base::diagnostic::LabelStyle;
 use codespan_base::term::config::put_style::PutStyle;
 use codespan_row_parts::char_cursor::CharCursor;
 use codespan_row_parts::line::{Line, RowContext};
-use codespan_row_parts::line_source::LineSource;
+use codespan_row_parts::line_characters::LineCharacters;
 use codespan_row_parts::messages::Messages;
 use codespan_row_parts::runs::write_spaces;
 use codespan_rows::pointers::{caret_pointer, max_label_start};
@@ -63,7 +63,7 @@ pub struct ScannedLine<'row, 'd> {
     pub labels: &'row [SingleLabel<'d>],
 }
 
-impl<'row, 'd> LineSource for ScannedLine<'row, 'd> {
+impl<'row, 'd> LineCharacters for ScannedLine<'row, 'd> {
     type Cursor = ScanCursor<'row, 'd>;
 
     ghost input = { λ s.

@@ -11,7 +11,7 @@ use Rattle.codespan_row_parts.specs.Runs.{caret_run}
 use Rattle.codespan_row_parts.proofs.CaretRuns.{caret_count, carets_left, carets-same, carets-turn, carets-end, carets-past, counts-all}
 use Rattle.codespan_row_parts.proofs.ScanState.{ScanState, consecutive_within-follow, scan_state-fits, scan_state-to_end, scan_state-more}
 use Rattle.codespan_row_parts.proofs.SkippedCells.{carets-prefix, scan_state-left}
-use Rattle.codespan_row_parts.specs.LineSources.{CharInput}
+use Rattle.codespan_row_parts.specs.LineCharacters.{CharInput}
 use Rattle.codespan_row_parts.proofs.carets.write_carets.Goals.{then-ne+in_ok-end_caret_run, else-ne, in_default, in-Some+then-metrics-end}
 use Rattle.codespan_row_parts.specs.CharCursors.{Follow}
 use Rattle.codespan_row_parts.proofs.carets.write_carets.Given.{Over}
@@ -77,13 +77,13 @@ returns g c =
     let at = c.loop-metrics in
     let context = context_view c.args.context in
     let labels = single_label_views c.args.line.labels.now in
-    let end : caret_run context.chars at.previous at.run ++ change context.severity at.previous None ≡ carets_left context labels at.previous at.run (g.S.Cursor.CharCursor.left at.characters) =
+    let end : caret_run context.chars at.previous at.run ++ change context.severity at.previous None ≡ carets_left context labels at.previous at.run (g.S.Cursor.CharCursor.left at.cursor) =
     elim c.match-next_metrics.branch [
       | in_default w ↦ carets-end context labels at.previous at.run _ w.in_default.ensures.next.0
       | in-Some+then-metrics-end w ↦
           let scan_state = at.invariant.scan_state in
           let follow = consecutive_within-follow _ scan_state.byte_index scan_state.column _ scan_state.consecutive_within in
           let here : Follow scan_state.byte_index (w.in-Some.metrics ∷ g.S.Cursor.CharCursor.left c.next_metrics.new.self) = rw w.in-Some.ensures.next at follow in
-          carets-past context labels at.previous at.run scan_state.byte_index (g.S.Cursor.CharCursor.left at.characters) follow (omega (arith, here.0, w.if-metrics-end.true, c.max_label_end-end.ensures))
+          carets-past context labels at.previous at.run scan_state.byte_index (g.S.Cursor.CharCursor.left at.cursor) follow (omega (arith, here.0, w.if-metrics-end.true, c.max_label_end-end.ensures))
     ] in
     StillToWrite-last _ _ _ _ _ _ at.invariant.written_so_far (rw end at c.end_caret_run-2.ensures)

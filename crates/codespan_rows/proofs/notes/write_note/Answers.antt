@@ -12,11 +12,11 @@ returns-in_default g c =
     let none = lines-none _ _ _ all c.in_default.ensures.steps in
     StillToWrite-end _ _ _ _ (StillToWrite-start _ _ _ refl) (ap (note_stream c.args.chars.now c.args.padding) none)
 
-pub returns-in_err-write_first_piece : goal.returns-in_err-write_first_piece
-returns-in_err-write_first_piece g c = let p = err_from_is_err_and c.from_residual.result c.from_residual.ensures.1 in
+pub returns-in_err-write_first_note_line : goal.returns-in_err-write_first_note_line
+returns-in_err-write_first_note_line g c = let p = err_from_is_err_and c.from_residual.result c.from_residual.ensures.1 in
     let all = YieldsList-from_lines {s = c.lines-pieces.result} c.args.message.now c.lines-pieces.ensures.rest in
     let next = lines-next c.lines-pieces.result c.in-Some.first c.next.new.self _ all c.in-Some.ensures.steps in
-    rw p.1 (StillToWrite-failed _ _ _ _ _ _ _ (StillToWrite-start _ _ _ refl) c.in_err-write_first_piece.ensures (ap (note_stream c.args.chars.now c.args.padding) next.is))
+    rw p.1 (StillToWrite-failed _ _ _ _ _ _ _ (StillToWrite-start _ _ _ refl) c.in_err-write_first_note_line.ensures (ap (note_stream c.args.chars.now c.args.padding) next.is))
 
 pub loop-piece-init : goal.loop-piece-init
 loop-piece-init g c =
@@ -25,7 +25,7 @@ loop-piece-init g c =
     rw c.into_iter-piece-iterator.ensures.into_iter_gives record {
       pieces = next.after;
       yields = next.yields;
-      written_so_far = StillToWrite-more _ _ _ _ _ _ _ (StillToWrite-start _ _ _ refl) c.in_ok-write_first_piece.ensures (ap (note_stream c.args.chars.now c.args.padding) next.is);
+      written_so_far = StillToWrite-more _ _ _ _ _ _ _ (StillToWrite-start _ _ _ refl) c.in_ok-write_first_note_line.ensures (ap (note_stream c.args.chars.now c.args.padding) next.is);
     }
 
 pub loop-piece-preserved : goal.loop-piece-preserved
@@ -35,14 +35,14 @@ loop-piece-preserved g c =
     record {
       pieces = next.after;
       yields = next.yields;
-      written_so_far = StillToWrite-more _ _ _ _ _ _ _ i.written_so_far c.in_ok-write_later_piece.ensures (ap (later_note_rows c.args.padding) next.is);
+      written_so_far = StillToWrite-more _ _ _ _ _ _ _ i.written_so_far c.in_ok-write_later_note_line.ensures (ap (later_note_rows c.args.padding) next.is);
     }
 
-pub returns-in_err-write_later_piece : goal.returns-in_err-write_later_piece
-returns-in_err-write_later_piece g c = let p = err_from_is_err_and c.from_residual-in_err-write_later_piece.result c.from_residual-in_err-write_later_piece.ensures.1 in
+pub returns-in_err-write_later_note_line : goal.returns-in_err-write_later_note_line
+returns-in_err-write_later_note_line g c = let p = err_from_is_err_and c.from_residual-in_err-write_later_note_line.result c.from_residual-in_err-write_later_note_line.ensures.1 in
     let i = c.loop-piece.invariant in
     let next = lines-next c.loop-piece.piece-iterator c.in-Some-piece.piece c.next-in-loop-piece.new.self _ i.yields c.in-Some-piece.ensures.steps in
-    rw p.1 (StillToWrite-failed _ _ _ _ _ _ _ i.written_so_far c.in_err-write_later_piece.ensures (ap (later_note_rows c.args.padding) next.is))
+    rw p.1 (StillToWrite-failed _ _ _ _ _ _ _ i.written_so_far c.in_err-write_later_note_line.ensures (ap (later_note_rows c.args.padding) next.is))
 
 pub returns : goal.returns
 returns g c =

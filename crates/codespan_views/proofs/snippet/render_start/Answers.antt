@@ -2,7 +2,7 @@ use Rattle.std.proofs.Common.{Err, [], ◌++◌, append-nil, sym, ap, ◌∙◌}
 use Rattle.std.proofs.lemmas.Result.{err_from_is_err_and}
 use Rattle.codespan_base.specs.declared.term.config.Config.{Config}
 use Rattle.codespan_renderer.specs.Renderers.{config_of}
-use Rattle.codespan_row_parts.specs.RenderedRows.{rendered_empty, rendered_start}
+use Rattle.codespan_row_parts.specs.RenderedRows.{rendered_snippet_empty, rendered_start}
 use Rattle.codespan_views.proofs.RendererRuns.{renders_as, renders_cut, renders_then}
 use Rattle.codespan_views.proofs.snippet.render_start.Goals as goal
 
@@ -16,5 +16,5 @@ returns g c =
     let context = c.args.context.now in
     let snippet_plan = c.args.snippet_plan.now in
     let start = rendered_start (config_of c.args.renderer.now) context.padding snippet_plan.locus in
-    let empty = λ (k : Config). rendered_empty k context.severity context.padding snippet_plan.file.now.num_multi_labels [] in
+    let empty = λ (k : Config). rendered_snippet_empty k context.severity context.padding snippet_plan.file.now.num_multi_labels [] in
     renders_as (ap (λ s. start ++ s) (sym (append-nil (empty (config_of c.args.renderer.now))))) (renders_then empty c.in_ok-render_snippet_start.ensures c.render_snippet_empty.ensures)

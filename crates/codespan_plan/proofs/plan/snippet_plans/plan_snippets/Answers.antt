@@ -7,7 +7,7 @@ use Rattle.codespan_annotations.proofs.FileLengths.{rest-sorted}
 use Rattle.codespan_plan.proofs.FileSlices.{from_file-first}
 use Rattle.codespan_plan.proofs.PlansFound.{IsAtFile, next_inside, next_left, own_lookups, own_lines, plan_found, planned-more, planned-fails, planned-unlocated, plans-add, plans-all}
 use Rattle.codespan_plan.proofs.plan.snippet_plans.plan_snippets.Given.{Over}
-use Rattle.codespan_plan.proofs.plan.snippet_plans.plan_snippets.Goals.{After-branch-located, After-file_len-len, in-Err, in-Ok+in_ok-push-in-Ok}
+use Rattle.codespan_plan.proofs.plan.snippet_plans.plan_snippets.Goals.{After-branch-located, After-count_in_file-len, in-Err, in-Ok+in_ok-push-in-Ok}
 use Rattle.codespan_plan.proofs.plan.snippet_plans.plan_snippets.Goals as goal
 
 pub loop-index-init : goal.loop-index-init
@@ -24,8 +24,8 @@ loop-index-init g c = record {
 }
 
 -- the loop is at a file, whose annotations are counted
-turn : (g : Over) (c : After-file_len-len g)
-    → IsAtFile c.args.collected.now.files.items c.args.collected.now.annotations.items c.loop-index.start c.file_len-len.result c.loop-index.index c.file-item.result
+turn : (g : Over) (c : After-count_in_file-len g)
+    → IsAtFile c.args.collected.now.files.items c.args.collected.now.annotations.items c.loop-index.start c.count_in_file-len.result c.loop-index.index c.file-item.result
 turn g c =
     let own = c.file-item.result in
     let k = c.loop-index.index in
@@ -33,28 +33,28 @@ turn g c =
       up = c.requires.sorted;
       inside = c.loop-index.invariant.inside;
       left = c.loop-index.invariant.left;
-      counted = rw c.deref.ensures.value at c.file_len-len.ensures.value;
-      within = rw c.deref.ensures.value at c.file_len-len.ensures.within;
+      counted = rw c.deref.ensures.value at c.count_in_file-len.ensures.value;
+      within = rw c.deref.ensures.value at c.count_in_file-len.ensures.within;
       here = record {
         inside = subst (λ fs. k < length fs) c.deref-file-items.ensures.value c.loop-index-test.true;
         is = c.file-item.is ∙ ap (λ fs. get_or fs k own) c.deref-file-items.ensures.value;
       };
     }
 
-pub file_len-len-requires : goal.file_len-len-requires
-file_len-len-requires g c = rw c.deref.ensures.value (rest-sorted c.args.collected.now.annotations.items c.loop-index.start c.requires.sorted)
+pub count_in_file-len-requires : goal.count_in_file-len-requires
+count_in_file-len-requires g c = rw c.deref.ensures.value (rest-sorted c.args.collected.now.annotations.items c.loop-index.start c.requires.sorted)
 
 pub push_snippet-requires : goal.push_snippet-requires
 push_snippet-requires g c κs = (
   (refl, tt),
-  own_lines (turn g (goal.at.push_snippet-requires g c).After-file_len-len)
+  own_lines (turn g (goal.at.push_snippet-requires g c).After-count_in_file-len)
       c.deref-in-loop-index.ensures.value (((g.F.Files.database c.args.files.now).file))
       c.requires.lines,
 )
 
 pub returns-in_err-line_total-clause-failed : goal.returns-in_err-line_total-clause-failed
 returns-in_err-line_total-clause-failed g c =
-    let at = turn g (goal.at.returns-in_err-line_total-clause-failed g c).After-file_len-len in
+    let at = turn g (goal.at.returns-in_err-line_total-clause-failed g c).After-count_in_file-len in
     let lookups = own_lookups at c.deref-in-loop-index.ensures.value c.args.layout (((g.F.Files.database c.args.files.now).failure)) in
     let p = err_from_is_err_and c.from_residual-in_err-line_total.result c.from_residual-in_err-line_total.ensures.1 in
     rw (p.1 ∙ ap Err p.2) (λ memory display. planned-fails at.here c.loop-index.invariant.planned (sym lookups ∙ c.in_err-line_total.ensures.failed memory))
@@ -62,7 +62,7 @@ returns-in_err-line_total-clause-failed g c =
 pub loop-index-preserved : goal.loop-index-preserved
 loop-index-preserved g c =
     let failure = ((g.F.Files.database c.args.files.now).failure) in
-    let at = turn g (goal.at.loop-index-preserved g c).After-file_len-len in
+    let at = turn g (goal.at.loop-index-preserved g c).After-count_in_file-len in
     let before = c.loop-index.invariant.planned in
     let zs_are = c.deref-in-loop-index.ensures.value in
     let numbers = sym (own_lookups at zs_are c.args.layout failure) ∙ c.in_ok-line_total.ensures.failed in

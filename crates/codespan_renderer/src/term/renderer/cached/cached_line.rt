@@ -9,7 +9,7 @@ ghost use Rattle.codespan_picture.specs.Rows.{hanging_labels};
 ghost use Rattle.codespan_renderer.specs.Private.MetricsLeft.{after_last};
 ghost use Rattle.codespan_renderer.specs.Private.CursorStates.{IsBefore, HasReturned};
 ghost use Rattle.codespan_renderer.specs.Private.CachedMetrics.{AreCached, ReachesPast, cached_left, reach_of};
-ghost use Rattle.codespan_row_parts.specs.LineSources.{EndBy};
+ghost use Rattle.codespan_row_parts.specs.LineCharacters.{EndBy};
 ghost use Rattle.codespan_renderer.specs.Private.PointerLists.{pointers_in};
 ghost use Rattle.codespan_row_parts.specs.Runs.{least_start};
 
@@ -25,7 +25,7 @@ use codespan_base::term::WriteStyle;
 use codespan_base::term::config::put_style::PutStyle;
 use codespan_row_parts::char_cursor::CharCursor;
 use codespan_row_parts::line::{Line, RowContext};
-use codespan_row_parts::line_source::LineSource;
+use codespan_row_parts::line_characters::LineCharacters;
 use codespan_row_parts::messages::Messages;
 use codespan_rows::line_rows::write_line;
 use codespan_rows::pointers::max_label_start;
@@ -159,7 +159,7 @@ impl<'cache, 'row, 'd> CachedLine<'cache, 'row, 'd> {
     }
 }
 
-impl<'cache, 'row, 'd> LineSource for CachedLine<'cache, 'row, 'd> {
+impl<'cache, 'row, 'd> LineCharacters for CachedLine<'cache, 'row, 'd> {
     type Cursor = CachedCursor<'cache, 'row, 'd>;
 
     ghost input = { λ s. record {

@@ -159,7 +159,7 @@ impl<'row, 'd> StartCursor<'row, 'd> {
     /// # Requires
     ///
     /// The character has a byte, and the cursor has passed the labels that start before it.
-    pub fn best_start(&mut self, found: Option<LabelStyle>, metrics: Metrics) -> Option<LabelStyle>
+    pub fn start_style(&mut self, found: Option<LabelStyle>, metrics: Metrics) -> Option<LabelStyle>
         requires some { 1 ≤ metrics.bytes }
         requires passed { HasPassedStarts metrics.byte_index self.old }
         ensures passed { HasPassedStarts (metrics.byte_index + metrics.bytes) self.new }

@@ -103,8 +103,8 @@ pub fn find_pointers(
         if metrics.byte_index > last {
             return Ok(());
         }
-        let early = before.best_start(None, metrics);
-        if let Some(style) = after.best_start(early, metrics) {
+        let early = before.start_style(None, metrics);
+        if let Some(style) = after.start_style(early, metrics) {
             pointers.push(pointer_under(metrics, style))?;
         }
     }

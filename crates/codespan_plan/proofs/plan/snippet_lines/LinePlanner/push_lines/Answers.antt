@@ -10,8 +10,8 @@ use Rattle.codespan_plan.proofs.plan.snippet_lines.LinePlanner.push_lines.Goals.
 use Rattle.codespan_plan.proofs.plan.snippet_lines.LinePlanner.push_lines.Goals as goal
 
 -- the annotations of a line are counted
-counted : (g : Over) (c : After-shows_line g) → IsCounted c.args.annotations.now c.loop-at.at c.line_len.result c.index-annotations-at.result
-counted g c = record { inside = c.loop-at-test.true; is = c.line_len.ensures.value; within = c.line_len.ensures.within }
+counted : (g : Over) (c : After-shows_line g) → IsCounted c.args.annotations.now c.loop-at.at c.count_on_line.result c.index-annotations-at.result
+counted g c = record { inside = c.loop-at-test.true; is = c.count_on_line.ensures.value; within = c.count_on_line.ensures.within }
 
 -- the first of them determines whether the line is shown
 is_shown : (g : Over) (c : After-shows_line g) {b : Bool} → shows_line (annotation_view c.index-annotations-at-in-loop-at.result) ≡ b
@@ -27,29 +27,29 @@ pub returns-in_err-push_shown-clause-failed : goal.returns-in_err-push_shown-cla
 returns-in_err-push_shown-clause-failed g c =
     let xs = c.args.annotations.now in
     let line = counted g (goal.at.returns-in_err-push_shown-clause-failed g c).After-shows_line in
-    let opens = views_of-shown xs c.loop-at.hidden c.loop-at.at c.line_len.result
+    let opens = views_of-shown xs c.loop-at.hidden c.loop-at.at c.count_on_line.result
     c.index-annotations-at.result c.loop-at.previous line
     (is_shown g (goal.at.returns-in_err-push_shown-clause-failed g c).After-shows_line
     (sym c.if-shows_line.ensures)) in
-    let snippet_lines = lines_to_shown xs c.loop-at.hidden c.loop-at.at c.line_len.result c.index-annotations-at.result c.loop-at.previous in
+    let snippet_lines = lines_to_shown xs c.loop-at.hidden c.loop-at.at c.count_on_line.result c.index-annotations-at.result c.loop-at.previous in
     let p = err_from_is_err_and c.from_residual.result c.from_residual.ensures.1 in
     rw (p.1 ∙ ap Err p.2) (λ known. left_failed c.loop-at.invariant.left snippet_lines _ opens (c.in_err-push_shown.ensures.failed known))
 
 pub loop-at-smaller-in_ok-push_shown : goal.loop-at-smaller-in_ok-push_shown
 loop-at-smaller-in_ok-push_shown g c =
     let line = counted g (goal.at.loop-at-smaller-in_ok-push_shown g c).After-shows_line in
-    let size = group_of_views-len c.args.annotations.now c.loop-at.at c.line_len.result c.index-annotations-at.result line in
+    let size = group_of_views-len c.args.annotations.now c.loop-at.at c.count_on_line.result c.index-annotations-at.result line in
     omega (arith, size.0, size.1)
 
 pub loop-at-preserved-in_ok-push_shown : goal.loop-at-preserved-in_ok-push_shown
 loop-at-preserved-in_ok-push_shown g c =
     let xs = c.args.annotations.now in
     let line = counted g (goal.at.loop-at-preserved-in_ok-push_shown g c).After-shows_line in
-    let opens = views_of-shown xs c.loop-at.hidden c.loop-at.at c.line_len.result
+    let opens = views_of-shown xs c.loop-at.hidden c.loop-at.at c.count_on_line.result
     c.index-annotations-at.result c.loop-at.previous line
     (is_shown g (goal.at.loop-at-preserved-in_ok-push_shown g c).After-shows_line
     (sym c.if-shows_line.ensures)) in
-    let size = group_of_views-len xs c.loop-at.at c.line_len.result c.index-annotations-at.result line in
+    let size = group_of_views-len xs c.loop-at.at c.count_on_line.result c.index-annotations-at.result line in
     record {
       within = size.1;
       hidden_within = omega arith;
@@ -60,12 +60,12 @@ pub loop-at-preserved : goal.loop-at-preserved
 loop-at-preserved g c =
     let xs = c.args.annotations.now in
     let line = counted g (goal.at.loop-at-preserved g c).After-shows_line in
-    let size = group_of_views-len xs c.loop-at.at c.line_len.result c.index-annotations-at.result line in
+    let size = group_of_views-len xs c.loop-at.at c.count_on_line.result c.index-annotations-at.result line in
     let planner = c.args.self.now in
     record {
       within = size.1;
       hidden_within = omega arith;
-      left = rw (sym (views_of-hidden xs c.loop-at.hidden c.loop-at.at c.line_len.result
+      left = rw (sym (views_of-hidden xs c.loop-at.hidden c.loop-at.at c.count_on_line.result
           c.index-annotations-at.result c.loop-at.previous line
           (is_shown g (goal.at.loop-at-preserved g c).After-shows_line
           (sym c.if-shows_line.ensures)))) c.loop-at.invariant.left;

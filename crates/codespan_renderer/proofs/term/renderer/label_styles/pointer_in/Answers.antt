@@ -4,5 +4,5 @@ use Rattle.codespan_renderer.proofs.term.renderer.label_styles.pointer_in.Goals 
 
 pub returns : goal.returns
 returns c =
-    let first = c.best_start.ensures in
-    c.best_start-2.ensures ∙ rw first (pointer_is c.args.labels.now c.args.messages.before.now c.args.messages.after.now c.args.metrics c.requires)
+    let first = c.start_style.ensures in
+    c.start_style-2.ensures ∙ rw first (pointer_is c.args.labels.now c.args.messages.before.now c.args.messages.after.now c.args.metrics c.requires)

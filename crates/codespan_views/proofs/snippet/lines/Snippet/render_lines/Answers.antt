@@ -2,8 +2,8 @@ use Rattle.std.proofs.Common.{◌≡◌, ◌+◌, ◌≤◌, true, length, Err, 
 use Rattle.std.proofs.lemmas.List.Elements.{All-from_recursion}
 use Rattle.std.proofs.lemmas.Result.{err_from_is_err_and}
 use Rattle.codespan_laws.proofs.ListElements.{all-mapped}
-use Rattle.codespan_plan.specs.SnippetLineViews.{IsSnippetLineOf, line_view}
-use Rattle.codespan_plan.specs.SnippetLines.{does_line_fit}
+use Rattle.codespan_plan.specs.SnippetLineViews.{IsSnippetLineOf, snippet_line_view}
+use Rattle.codespan_plan.specs.SnippetLines.{is_line_in_order}
 use Rattle.codespan_annotations.specs.SourceFiles.{model_of}
 use Rattle.codespan_annotations.proofs.IndexedElements.{IsElementAt}
 use Rattle.codespan_views.proofs.LinesRendered.{rendered-all, rendered-cut, rendered-next, rendered-nothing}
@@ -32,9 +32,9 @@ render_snippet_line-requires g c κs =
       record {
         text = c.requires.text;
         is = subst (IsSnippetLineOf f) (sym c.snippet_line-item.is) (All-from_recursion (IsSnippetLineOf f) snippet_lines c.requires.are.each i _ c.loop-snippet_line-test.true);
-        fits = ap (λ snippet_line. does_line_fit snippet.num_multi_labels (line_view snippet_line)) c.snippet_line-item.is
-            ∙ All-from_recursion (λ snippet_line. does_line_fit snippet.num_multi_labels (line_view snippet_line) ≡ true) snippet_lines
-            (all-mapped line_view (λ snippet_line. does_line_fit snippet.num_multi_labels snippet_line ≡ true) snippet_lines c.requires.are.fit) i _ c.loop-snippet_line-test.true;
+        fits = ap (λ snippet_line. is_line_in_order snippet.num_multi_labels (snippet_line_view snippet_line)) c.snippet_line-item.is
+            ∙ All-from_recursion (λ snippet_line. is_line_in_order snippet.num_multi_labels (snippet_line_view snippet_line) ≡ true) snippet_lines
+            (all-mapped snippet_line_view (λ snippet_line. is_line_in_order snippet.num_multi_labels snippet_line ≡ true) snippet_lines c.requires.are.fit) i _ c.loop-snippet_line-test.true;
       },
     )
 

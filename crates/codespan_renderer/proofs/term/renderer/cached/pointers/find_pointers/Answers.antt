@@ -36,22 +36,22 @@ pub loop-metrics-preserved-in-Continue-1 : goal.loop-metrics-preserved-in-Contin
 loop-metrics-preserved-in-Continue-1 c =
     let i = c.loop-metrics.invariant in
     let step = c.in-Some.ensures.steps in
-    let early = c.best_start-early.ensures in
-    let late = c.best_start.ensures in
+    let early = c.start_style-early.ensures in
+    let late = c.start_style.ensures in
     let style = found-style c.args.line.labels.now _ _ _ _ c.in-Some.metrics _ _ c.requires.hanging_labels i.cursor.same_early i.cursor.same_late early.best late.best in
     record {
       cursor = passing-more _ _ _ _ _ _ _ _ (passing-at _ _ _ _ _ _ c.in-Some.metrics step i.cursor) early.passed late.passed early.labels late.labels;
       scan_state = scan_state-more _ _ _ c.in-Some.metrics _ (omega arith) (omega arith) (rw step at i.scan_state);
       found = rw (c.in_ok-push.ensures.items, c.pointer_under.ensures)
-          (found-some (single_label_views c.args.line.labels.now) c.loop-metrics.pointers.items _ _ c.in-Some.metrics _ step (sym style ∙ c.in-Some-best_start.is) ∙ i.found);
+          (found-some (single_label_views c.args.line.labels.now) c.loop-metrics.pointers.items _ _ c.in-Some.metrics _ step (sym style ∙ c.in-Some-start_style.is) ∙ i.found);
     }
 
 pub loop-metrics-preserved : goal.loop-metrics-preserved
 loop-metrics-preserved c =
     let i = c.loop-metrics.invariant in
     let step = c.in-Some.ensures.steps in
-    let early = c.best_start-early.ensures in
-    let late = c.best_start.ensures in
+    let early = c.start_style-early.ensures in
+    let late = c.start_style.ensures in
     let style = found-style c.args.line.labels.now _ _ _ _ c.in-Some.metrics _ _ c.requires.hanging_labels i.cursor.same_early i.cursor.same_late early.best late.best in
     record {
       cursor = passing-more _ _ _ _ _ _ _ _ (passing-at _ _ _ _ _ _ c.in-Some.metrics step i.cursor) early.passed late.passed early.labels late.labels;

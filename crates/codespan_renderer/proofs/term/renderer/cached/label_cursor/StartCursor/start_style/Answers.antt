@@ -1,0 +1,33 @@
+use Rattle.std.proofs.Common.{◌+◌, sym, ◌∙◌, arith}
+use Rattle.codespan_renderer.proofs.LabelCursorSteps.{starts-rest, starts-first, starts-past}
+use Rattle.codespan_renderer.proofs.StartsPassed.{start-here, start-before, none-start, prefix-start}
+use Rattle.codespan_renderer.proofs.term.renderer.cached.label_cursor.StartCursor.start_style.Goals.{then-not-is_empty, else-not-is_empty}
+use Rattle.codespan_renderer.proofs.term.renderer.cached.label_cursor.StartCursor.start_style.Goals as goal
+
+pub loop-self-preserved : goal.loop-self-preserved
+loop-self-preserved c =
+    let i = c.loop-self.invariant in
+    let prefix = prefix-start c.args.self.now.labels.now c.loop-self.self.next _ (c.args.metrics.byte_index + c.args.metrics.bytes) (sym c.begins_by.ensures ∙ c.if-begins_by.true) in
+    let low = starts-first c.args.metrics.byte_index _ c.args.self.now.labels.now c.loop-self.self.next _ i.same c.loop-self-test.true i.ordered in
+    record {
+      here = elim c.if-not-is_empty.branch [
+        | then-not-is_empty w ↦
+            let some = w.if-not-is_empty.true in
+            start-here c.args.metrics c.loop-self.best c.if-not-is_empty.best _ c.args.self.now.labels.now c.loop-self.self.next _ _ i.same c.loop-self-test.true c.is_empty.ensures low prefix
+            (rw some (w.best-is ∙ w.primary_first-best.ensures)) ∙ i.here
+        | else-not-is_empty w ↦
+            let none = w.if-not-is_empty.false in
+            start-here c.args.metrics c.loop-self.best c.if-not-is_empty.best _ c.args.self.now.labels.now c.loop-self.self.next _ _ i.same c.loop-self-test.true c.is_empty.ensures low prefix
+            (rw none w.best-is) ∙ i.here
+      ];
+      later = λ d found past. i.later d found past ∙ start-before d found _ c.args.self.now.labels.now c.loop-self.self.next _ _ i.same c.loop-self-test.true prefix past;
+      ordered = starts-rest c.args.metrics.byte_index _ c.args.self.now.labels.now c.loop-self.self.next _ _ i.same c.loop-self-test.true prefix i.ordered;
+      same = i.same;
+    }
+
+pub returns-else-begins_by-clause-best : goal.returns-else-begins_by-clause-best
+returns-else-begins_by-clause-best c =
+    let i = c.loop-self.invariant in
+    let late = sym c.begins_by.ensures ∙ c.if-begins_by.false in
+    let past = starts-past c.args.metrics.byte_index _ c.args.self.now.labels.now c.loop-self.self.next (c.args.metrics.byte_index + c.args.metrics.bytes) _ i.same c.loop-self-test.true late i.ordered in
+    sym (none-start c.args.metrics c.loop-self.best (c.args.metrics.byte_index + c.args.metrics.bytes) _ past (omega arith)) ∙ i.here

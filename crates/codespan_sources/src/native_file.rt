@@ -1,0 +1,154 @@
+//! A file of C: a text cut into lines, with locations of the caller.
+
+ghost use Rattle.std.specs.Prelude.{◌≡◌, true, IfOk, None};
+ghost use Rattle.codespan_base.specs.FileModel.{line_of};
+ghost use Rattle.codespan_base.specs.LawfulFiles.{FailsBy};
+ghost use Rattle.codespan_sources.specs.StatedLines.{ascends, location_at};
+ghost use Rattle.codespan_sources.specs.SourceTexts.{IsRangeIn, cut_column, file_of, past_last};
+
+mod newline;
+mod stated;
+mod text;
+
+use crate::raw::RawLocation;
+use codespan_base::files::{Error, Location, column_index};
+pub use newline::NewlineText;
+pub use stated::StatedText;
+use std::ops::Range;
+pub use text::SourceText;
+
+/// A file: a text cut into lines, and locations of the caller.
+#[derive(Drop)]
+pub struct NativeFile<'a> {
+    /// The text, with its name and its lines.
+    text: SourceText<'a>,
+    /// Byte index in the file of the first byte of the text.
+    first_byte: usize,
+    /// The locations of the caller, in ascending order of their bytes.
+    locations: &'a [RawLocation],
+    ghost ascending: { ascends first_byte locations.now ≡ true },
+}
+
+impl<'a> NativeFile<'a> {
+    ghost use Rattle.codespan_sources.specs.SourceModel.{cut_of, source_of};
+
+    /// Returns the file of a text, which starts at the byte `first_byte` of the file, with these
+    /// locations.
+    ///
+    /// # Requires
+    ///
+    /// The bytes of the locations ascend strictly. One before `first_byte` counts as `first_byte`.
+    pub fn new(
+        text: SourceText<'a>,
+        first_byte: usize,
+        locations: &'a [RawLocation],
+    ) -> NativeFile<'a>
+        requires { ascends first_byte locations.now ≡ true }
+        ensures cut { (source_of result).cut ≡ cut_of text.entry }
+        ensures stated { (source_of result).stated_location ≡ location_at first_byte locations.now }
+    {
+        NativeFile {
+            text,
+            first_byte,
+            locations,
+        }
+    }
+
+    /// Returns the name.
+    pub fn name(&self) -> &'a str
+        ensures { result.now ≡ (source_of self.now).cut.name }
+    {
+        self.text.name()
+    }
+
+    /// Returns the source.
+    pub fn source(&self) -> &'a str
+        ensures { result.now ≡ (source_of self.now).cut.text }
+    {
+        self.text.source()
+    }
+
+    /// Returns the index of the byte's line.
+    pub fn line_index(&self, byte_index: usize) -> usize
+        ensures { result ≡ line_of (source_of self.now).cut.starts byte_index }
+    {
+        self.text.line_index(byte_index)
+    }
+
+    /// Returns the number of the line of this index.
+    pub fn line_number(&self, line_index: usize) -> usize
+        ensures { result ≡ (source_of self.now).cut.number line_index }
+    {
+        self.text.line_number(line_index)
+    }
+
+    /// Returns the bytes of the line of this index.
+    ///
+    /// # Errors
+    ///
+    /// [`Error::LineTooLarge`] where there is no such line.
+    pub fn line_range(&self, line_index: usize) -> Result<Range<usize>, Error>
+        ensures value { IfOk result (IsRangeIn (source_of self.now).cut line_index) }
+        ensures failed { FailsBy (past_last (source_of self.now).cut.starts line_index) result }
+    {
+        self.text.line_range(line_index)
+    }
+
+    /// Returns the column number of a byte on the line of this index, in characters from 1.
+    ///
+    /// # Errors
+    ///
+    /// [`Error::LineTooLarge`] where there is no such line.
+    pub fn column_number(&self, line_index: usize, byte_index: usize) -> Result<usize, Error>
+        ensures value { IfOk result (λ column.
+            column ≡ cut_column (source_of self.now).cut line_index byte_index) }
+        ensures failed { FailsBy (past_last (source_of self.now).cut.starts line_index) result }
+    {
+        let range = self.line_range(line_index)?;
+        Ok(column_index(self.source(), range, byte_index) + 1)
+    }
+
+    /// Returns the caller's location of a byte, by binary search.
+    fn stated_location(&self, byte_index: usize) -> Option<Location>
+        ensures { result ≡ (source_of self.now).stated_location byte_index }
+    {
+        let first_byte = self.first_byte;
+        match self.locations.binary_search_by_key(
+            &byte_index,
+            |location| location.byte.saturating_sub(first_byte),
+        ) {
+            Ok(index) => {
+                let location = &self.locations[index];
+                Some(Location {
+                    line_number: location.line_number,
+                    column_number: location.column_number,
+                })
+            }
+            Err(_) => None,
+        }
+    }
+
+    /// Returns the location of a byte: that of the caller, or else the computed one.
+    ///
+    /// # Errors
+    ///
+    /// None but [`Error::OutOfMemory`], by the contract: the line of a byte is there. Nothing is
+    /// allocated, so that neither occurs.
+    #[tactic(auto, using(crate::proofs::FileLines::byte_has_line))]
+    pub fn location(&self, byte_index: usize) -> Result<Location, Error>
+        ensures value { IfOk result (λ location.
+            location ≡ (file_of (source_of self.now)).location byte_index) }
+        ensures failed { FailsBy None result }
+    {
+        match self.stated_location(byte_index) {
+            Some(location) => Ok(location),
+            None => {
+                let line_index = self.line_index(byte_index);
+                Ok(Location {
+                    line_number: self.line_number(line_index),
+                    column_number: self.column_number(line_index, byte_index)?,
+                })
+            }
+        }
+    }
+}

@@ -1,0 +1,78 @@
+//! Texts cut into lines.
+
+ghost use Rattle.std.specs.Prelude.{◌≡◌, IfOk};
+ghost use Rattle.codespan_base.specs.FileModel.{line_of};
+ghost use Rattle.codespan_base.specs.LawfulFiles.{FailsBy};
+ghost use Rattle.codespan_sources.specs.SourceTexts.{IsRangeIn, past_last};
+
+use crate::native_file::{NewlineText, StatedText};
+use codespan_base::files::Error;
+use std::ops::Range;
+
+/// A text cut into lines.
+#[derive(Drop)]
+pub enum SourceText<'a> {
+    /// Cut at newlines.
+    Newline(NewlineText<'a>),
+    /// Cut into lines that the caller states.
+    Stated(StatedText<'a>),
+}
+
+impl<'a> SourceText<'a> {
+    ghost use Rattle.codespan_sources.specs.SourceModel.{cut_of};
+
+    /// Returns the name.
+    pub fn name(&self) -> &'a str
+        ensures { result.now ≡ (cut_of self.now).name }
+    {
+        match self {
+            SourceText::Newline(text) => text.name(),
+            SourceText::Stated(text) => text.name(),
+        }
+    }
+
+    /// Returns the source.
+    pub fn source(&self) -> &'a str
+        ensures { result.now ≡ (cut_of self.now).text }
+    {
+        match self {
+            SourceText::Newline(text) => text.source(),
+            SourceText::Stated(text) => text.source(),
+        }
+    }
+
+    /// Returns the index of the byte's line.
+    pub fn line_index(&self, byte_index: usize) -> usize
+        ensures { result ≡ line_of (cut_of self.now).starts byte_index }
+    {
+        match self {
+            SourceText::Newline(text) => text.line_index(byte_index),
+            SourceText::Stated(text) => text.line_index(byte_index),
+        }
+    }
+
+    /// Returns the number of the line of this index.
+    pub fn line_number(&self, line_index: usize) -> usize
+        ensures { result ≡ (cut_of self.now).number line_index }
+    {
+        match self {
+            SourceText::Newline(text) => text.line_number(line_index),
+            SourceText::Stated(text) => text.line_number(line_index),
+        }
+    }
+
+    /// Returns the bytes of the line of this index.
+    ///
+    /// # Errors
+    ///
+    /// [`Error::LineTooLarge`] where there is no such line.
+    pub fn line_range(&self, line_index: usize) -> Result<Range<usize>, Error>
+        ensures value { IfOk result (IsRangeIn (cut_of self.now) line_index) }
+        ensures failed { FailsBy (past_last (cut_of self.now).starts line_index) result }
+    {
+        match self {
+            SourceText::Newline(text) => text.line_range(line_index),
+            SourceText::Stated(text) => text.line_range(line_index),
+        }
+    }
+}

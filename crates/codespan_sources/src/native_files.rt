@@ -1,0 +1,127 @@
+//! The files of C as a file database.
+
+ghost use Rattle.std.specs.Prelude.{◌≡◌, [], ◌∷◌, ◌++◌, OnOk, IfOk, IfErr, refl, slice_get, Some, None, length};
+ghost use Rattle.codespan_base.specs.declared.files.Error.TheVariants.{FileMissing};
+
+use crate::error::OutOfMemory;
+use crate::native_file::NativeFile;
+use codespan_base::files::{Error, Files, Location};
+use std::alloc::Global;
+use std::ops::Range;
+
+/// The files that are passed to the call. Ids are their indices.
+#[derive(Drop)]
+pub struct NativeFiles<'a> {
+    /// The files, each at the index that is its id.
+    files: Vec<NativeFile<'a>>,
+}
+
+impl<'a> NativeFiles<'a> {
+    ghost use Rattle.codespan_sources.specs.SourceModel.{source_of, sources_of};
+
+    /// Returns a database without files.
+    pub fn new(alloc: Global) -> NativeFiles<'a>
+        ensures { sources_of result ≡ [] }
+    {
+        NativeFiles {
+            files: Vec::new(alloc),
+        }
+    }
+
+    /// Returns the number of files.
+    pub fn len(&self) -> usize
+        ensures { result ≡ length (sources_of self.now) }
+    {
+        self.files.len()
+    }
+
+    /// Adds a file at the end.
+    ///
+    /// # Errors
+    ///
+    /// [`OutOfMemory`] where an allocation fails.
+    pub fn add(&mut self, file: NativeFile<'a>) -> Result<(), OutOfMemory>
+        ensures { OnOk result
+            (sources_of self.new ≡ sources_of self.old ++ source_of file.entry ∷ []) }
+    {
+        self.files.push(file)?;
+        Ok(())
+    }
+
+    /// Returns the file of an id.
+    ///
+    /// # Errors
+    ///
+    /// [`Error::FileMissing`] exactly where the id is not below the number of files.
+    fn get(&self, id: usize) -> Result<&NativeFile<'a>, Error>
+        ensures found { IfOk result (λ file.
+            slice_get (sources_of self.now) id ≡ Some (source_of file.now)) }
+        ensures missing { IfErr result (λ e.
+            (slice_get (sources_of self.now) id ≡ None) × (e ≡ FileMissing)) }
+    {
+        match self.files.get(id) {
+            Some(file) => Ok(file),
+            None => Err(Error::FileMissing),
+        }
+    }
+}
+
+impl<'files, 'a: 'files> Files<'files> for NativeFiles<'a> {
+    ghost use Rattle.codespan_base.specs.Lemmas.Missing.{same_at};
+    ghost use Rattle.codespan_sources.specs.Lemmas.NativeFiles.{database_is_lawful, database_fails_past_end};
+    ghost use Rattle.codespan_sources.specs.SourceModel.{sources_of};
+    ghost use Rattle.codespan_sources.specs.SourceTexts.{database_of};
+
+    /// The index of a file.
+    type FileId = usize;
+
+    /// The borrowed name.
+    type Name = &'a str;
+
+    /// The borrowed source.
+    type Source = &'a str;
+
+    ghost database = { λ s. database_of (sources_of s) };
+
+    ghost lawful = { λ s id. database_is_lawful s id };
+
+    ghost same_file = { λ s i j e.
+        let files = database_of (sources_of s) in same_at files.file files.failure i j e };
+
+    ghost same_is = { λ s. refl };
+
+    ghost past_end = { λ s id i. database_fails_past_end (sources_of s) id i };
+
+    fn name(&'files self, id: usize) -> Result<&'a str, Error> {
+        Ok(self.get(id)?.name())
+    }
+
+    fn source(&'files self, id: usize) -> Result<&'a str, Error> {
+        Ok(self.get(id)?.source())
+    }
+
+    fn line_index(&'files self, id: usize, byte_index: usize) -> Result<usize, Error> {
+        Ok(self.get(id)?.line_index(byte_index))
+    }
+
+    fn line_number(&'files self, id: usize, line_index: usize) -> Result<usize, Error> {
+        Ok(self.get(id)?.line_number(line_index))
+    }
+
+    fn column_number(
+        &'files self,
+        id: usize,
+        line_index: usize,
+        byte_index: usize,
+    ) -> Result<usize, Error> {
+        self.get(id)?.column_number(line_index, byte_index)
+    }
+
+    fn location(&'files self, id: usize, byte_index: usize) -> Result<Location, Error> {
+        self.get(id)?.location(byte_index)
+    }
+
+    fn line_range(&'files self, id: usize, line_index: usize) -> Result<Range<usize>, Error> {
+        self.get(id)?.line_range(line_index)
+    }
+}
