@@ -27,7 +27,7 @@ pub enum Failure {
     /// A call or an allocation failed, although no writer stops.
     Failed(Error),
     /// The text differs from the one that is expected.
-    OtherText,
+    UnexpectedText,
     /// A string to which the text was appended is not its old text followed by the new one.
     OtherString,
     /// The bytes written by way of a writer of styles differ from the text.
@@ -111,7 +111,7 @@ impl fmt::Display for Failure {
     fn fmt<W: Write>(&self, f: &mut fmt::Formatter<W>) -> fmt::Result {
         match self {
             Failure::Failed(error) => write!(f, "error: {error}"),
-            Failure::OtherText => f.write_str("another text than expected"),
+            Failure::UnexpectedText => f.write_str("another text than expected"),
             Failure::OtherString => f.write_str("another string"),
             Failure::OtherText(style_writer) => write!(f, "by {style_writer}: another text"),
             Failure::OtherColors => f.write_str("other colors than expected"),

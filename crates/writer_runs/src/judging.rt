@@ -139,7 +139,7 @@ fn text_of(
 ) -> Result<String, Failure> {
     let text = rendered_text(alloc, input)?;
     match worked.plain_text(input.config.display_style) {
-        Some(want) if text.as_str() != want => Err(Failure::OtherText),
+        Some(want) if text.as_str() != want => Err(Failure::UnexpectedText),
         _ => Ok(text),
     }
 }
