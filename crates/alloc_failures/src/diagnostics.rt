@@ -16,7 +16,7 @@ pub fn diagnostic_of<FileId: Copy + Drop>(
     case: &Case<'_>,
     ids: &[FileId],
 ) -> Result<Diagnostic<FileId>, Error> {
-    let mut diagnostic = headline_of(alloc, case)?;
+    let mut diagnostic = header_of(alloc, case)?;
     for (style, file, range, message) in case.labels {
         let id = ids.get(*file).ok_or(Error::FileMissing)?;
         let label = Label::new(alloc, *style, *id, range.start..range.end);
@@ -26,7 +26,7 @@ pub fn diagnostic_of<FileId: Copy + Drop>(
 }
 
 /// Returns the diagnostic without its labels and notes.
-fn headline_of<FileId: Drop>(alloc: Global, case: &Case<'_>) -> Result<Diagnostic<FileId>, Error> {
+fn header_of<FileId: Drop>(alloc: Global, case: &Case<'_>) -> Result<Diagnostic<FileId>, Error> {
     let diagnostic = Diagnostic::error(alloc).with_message(case.message)?;
     match case.code {
         Some(code) => diagnostic.with_code(code),

@@ -15,7 +15,7 @@ use Rattle.codespan_base.specs.declared.diagnostic.Severity.TheVariants.{Bug, Er
 use Rattle.codespan_documents.specs.declared.style.Style.{Style}
 use Rattle.codespan_documents.specs.declared.style.Style.TheVariants.{Plain, Header, HeaderMessage, LineNumber, NoteBullet, SourceBorder, Label}
 use Rattle.codespan_documents.specs.declared.text.Run.{Run}
-use Rattle.codespan_documents.specs.Html.{html_character, html_document, html_run, html_text, is_forbidden_control, is_noncharacter, shown, shown_text, span_tag_content}
+use Rattle.codespan_documents.specs.Html.{html_character, html_document, html_run, html_text, is_forbidden_control, is_noncharacter, replaced_character, shown_text, span_tag_content}
 use Rattle.codespan_documents.specs.HtmlReading.{InEntity, InTag, InText, Token, Tag, TextByte, document_tokens, html_tokens, tokens_from, run_tokens, text_of_html, text_of_tokens, text_tokens, without_newline}
 use Rattle.codespan_documents.specs.Runs.{StyledRun, is_plain, joined, run_view}
 
@@ -55,8 +55,8 @@ character-bytes c h =
     (λ _. (outside-ascii _ (omega arith), (second, (middle, (last, tt)))))))
 
 -- it is shown as such a character
-shown-text : (c : ℕ) → IsTextByte c → IsTextByte (shown c)
-shown-text c h = cond_both (is_forbidden_control c || is_noncharacter c) 65533 c IsTextByte (λ _. (refl, refl)) (λ _. h)
+replaced_character-text : (c : ℕ) → IsTextByte c → IsTextByte (replaced_character c)
+replaced_character-text c h = cond_both (is_forbidden_control c || is_noncharacter c) 65533 c IsTextByte (λ _. (refl, refl)) (λ _. h)
 
 -- ---- characters
 
@@ -66,11 +66,11 @@ is_code c n t = grind (arith, nat_tests)
 module _ (c : ℕ) (rest : List ℕ) where
   -- bytes read as the character
   abbrev ReadsAs : List ℕ → Type 0
-  ReadsAs bs = tokens_from InText (bs ++ rest) ≡ map TextByte (encode_utf8 (shown c)) ++ tokens_from InText rest
+  ReadsAs bs = tokens_from InText (bs ++ rest) ≡ map TextByte (encode_utf8 (replaced_character c)) ++ tokens_from InText rest
 
   -- bytes read as the character of this code
-  by_code : (n : ℕ) (bs : List ℕ) → tokens_from InText (bs ++ rest) ≡ map TextByte (encode_utf8 (shown n)) ++ tokens_from InText rest → (c == n) ≡ true → ReadsAs bs
-  by_code n bs is t = subst (λ k. tokens_from InText (bs ++ rest) ≡ map TextByte (encode_utf8 (shown k)) ++ tokens_from InText rest) (sym (is_code c n t)) is
+  by_code : (n : ℕ) (bs : List ℕ) → tokens_from InText (bs ++ rest) ≡ map TextByte (encode_utf8 (replaced_character n)) ++ tokens_from InText rest → (c == n) ≡ true → ReadsAs bs
+  by_code n bs is t = subst (λ k. tokens_from InText (bs ++ rest) ≡ map TextByte (encode_utf8 (replaced_character k)) ++ tokens_from InText rest) (sym (is_code c n t)) is
 
   character-read : ReadsAs (html_character c)
   unfolding encode_utf8
@@ -80,14 +80,14 @@ module _ (c : ℕ) (rest : List ℕ) where
       (λ lt. cond_both (c == 62) _ _ ReadsAs (by_code 62 (codes "&gt;") refl)
       (λ gt. cond_both (c == 34) _ _ ReadsAs (by_code 34 (codes "&quot;") refl)
       (λ quot. cond_both (c == 39) _ _ ReadsAs (by_code 39 (codes "&#39;") refl)
-      (λ apos. bytes-read (encode_utf8 (shown c)) rest (character-bytes (shown c) (shown-text c (lt, amp))))))))
+      (λ apos. bytes-read (encode_utf8 (replaced_character c)) rest (character-bytes (replaced_character c) (replaced_character-text c (lt, amp))))))))
 
 -- characters
-characters-read : (cs rest : List ℕ) → tokens_from InText (flat_map html_character cs ++ rest) ≡ map TextByte (flat_map (λ c. encode_utf8 (shown c)) cs) ++ tokens_from InText rest
+characters-read : (cs rest : List ℕ) → tokens_from InText (flat_map html_character cs ++ rest) ≡ map TextByte (flat_map (λ c. encode_utf8 (replaced_character c)) cs) ++ tokens_from InText rest
 characters-read [] rest = refl
 characters-read (c ∷ cs) rest =
-    let first = encode_utf8 (shown c) in
-    let others = flat_map (λ c. encode_utf8 (shown c)) cs in
+    let first = encode_utf8 (replaced_character c) in
+    let others = flat_map (λ c. encode_utf8 (replaced_character c)) cs in
     ap (tokens_from InText) (append_assoc (html_character c) (flat_map html_character cs) rest)
     ∙ character-read c (flat_map html_character cs ++ rest)
     ∙ ap (λ (tokens : List Token). map TextByte first ++ tokens) (characters-read cs rest)
@@ -175,9 +175,9 @@ chars-append a b u v =
     subst (λ x. chars (x ++ b) ≡ chars x ++ chars b) u.1.1
     (chars-after u.0 b u.1.0 v ∙ ap (λ cs. cs ++ chars b) (sym (chars-encodes u.0 u.1.0)))
 
-shown-append : (a b : List ℕ) → IsUtf8 a → IsUtf8 b → shown_text (a ++ b) ≡ shown_text a ++ shown_text b
-shown-append a b u v =
-    ap (λ cs. flat_map (λ c. encode_utf8 (shown c)) cs) (chars-append a b u v) ∙ flat_map-append (λ c. encode_utf8 (shown c)) (chars a) (chars b)
+replaced_character-append : (a b : List ℕ) → IsUtf8 a → IsUtf8 b → shown_text (a ++ b) ≡ shown_text a ++ shown_text b
+replaced_character-append a b u v =
+    ap (λ cs. flat_map (λ c. encode_utf8 (replaced_character c)) cs) (chars-append a b u v) ∙ flat_map-append (λ c. encode_utf8 (replaced_character c)) (chars a) (chars b)
 
 -- the texts of runs are UTF-8
 joined-utf8 : (runs : List Run) → IsUtf8 (joined (map run_view runs))
@@ -186,13 +186,13 @@ joined-utf8 (run ∷ runs) =
     IsUtf8-append (string_bytes run.text) (joined (map run_view runs)) (IsUtf8-string_bytes run.text) (joined-utf8 runs)
 
 runs-text : (runs : List Run) → text_of_tokens (flat_map run_tokens (map run_view runs)) ≡ shown_text (joined (map run_view runs))
-runs-text [] = ap (λ cs. flat_map (λ c. encode_utf8 (shown c)) cs) (sym chars-nil)
+runs-text [] = ap (λ cs. flat_map (λ c. encode_utf8 (replaced_character c)) cs) (sym chars-nil)
 runs-text (run ∷ runs) =
     let rest = joined (map run_view runs) in
     text_of-append (run_tokens (run_view run)) (flat_map run_tokens (map run_view runs))
     ∙ ap (λ bs. bs ++ text_of_tokens (flat_map run_tokens (map run_view runs))) (run-text (run_view run))
     ∙ ap (λ bs. shown_text (string_bytes run.text) ++ bs) (runs-text runs)
-    ∙ sym (shown-append (string_bytes run.text) rest (IsUtf8-string_bytes run.text) (joined-utf8 runs))
+    ∙ sym (replaced_character-append (string_bytes run.text) rest (IsUtf8-string_bytes run.text) (joined-utf8 runs))
 
 -- the text of a document is that of its runs
 pub document-text : (runs : List Run) → text_of_html (html_document (map run_view runs)) ≡ shown_text (joined (map run_view runs))

@@ -10,11 +10,11 @@ use Rattle.codespan_documents.specs.declared.svg.glyph.Glyph.{Glyph}
 use Rattle.codespan_documents.specs.declared.svg.ink.Ink.{Ink}
 use Rattle.codespan_documents.specs.declared.svg.position.CellPosition.{CellPosition}
 use Rattle.codespan_documents.specs.declared.svg.Pen.{Pen}
-use Rattle.codespan_documents.specs.Glyphs.{cells_of, follows, goes_on, is_narrow, is_newline, joined_cells, joins, start}
+use Rattle.codespan_documents.specs.Glyphs.{cells_of, follows, goes_on, is_narrow, is_newline_glyph, joined_cells, joins, start}
 use Rattle.codespan_documents.specs.HtmlReading.{Token, Tag, TextByte}
 use Rattle.codespan_documents.specs.Inks.{optional_color_number, same_ink}
 use Rattle.codespan_documents.specs.Svg.{first_pen, next_pen, text_tag_content}
-use Rattle.codespan_documents.specs.SvgReading.{InCell, Piece, RowEnd, Text, cells_in, cells_of_piece, joined_glyphs, piece_tokens, pieces_from, shown_cells, shown_glyphs, svg_shown, width_of}
+use Rattle.codespan_documents.specs.SvgReading.{InCell, Piece, RowEnd, Text, cells_in, cells_of_piece, joined_glyphs, piece_tokens, pieces_from, shown_cells, shown_glyphs, svg_shown, text_width}
 use Rattle.codespan_documents.proofs.HtmlReading.{and_true, is_code}
 
 -- ---- glyph by glyph
@@ -26,7 +26,7 @@ end_tag = Tag (codes "/text") ∷ []
 -- the tokens of a glyph before others
 abbrev pub glyph_tokens : Pen → Glyph → List Glyph → List Token
 glyph_tokens pen glyph others =
-    if is_newline glyph then TextByte 10 ∷ []
+    if is_newline_glyph glyph then TextByte 10 ∷ []
     else (if follows pen.before glyph then [] else Tag (text_tag_content pen.position (cells_of glyph + joined_cells glyph others) glyph.ink) ∷ [])
     ++ map TextByte (svg_shown glyph.character) ++ (if goes_on glyph others then [] else end_tag)
 
@@ -49,26 +49,26 @@ three_ifs false x y u v k l P t f = f refl
 -- ---- joined glyphs
 
 -- a newline joins nothing
-newline_joins : (glyph next : Glyph) → is_newline glyph ≡ true → joins glyph next ≡ false
+newline_joins : (glyph next : Glyph) → is_newline_glyph glyph ≡ true → joins glyph next ≡ false
 newline_joins glyph next e = ap (λ t. (not t && nat_le (cells_of glyph) 1) && is_narrow next && same_ink glyph.ink next.ink) e
 
 -- and follows nothing
-joins_newline : (glyph next : Glyph) → is_newline next ≡ true → joins glyph next ≡ false
+joins_newline : (glyph next : Glyph) → is_newline_glyph next ≡ true → joins glyph next ≡ false
 joins_newline glyph next e = at (is_narrow glyph)
   where
     at : (n : Bool) → n && is_narrow next && same_ink glyph.ink next.ink ≡ false
     at true = ap (λ t. (not t && nat_le (cells_of next) 1) && same_ink glyph.ink next.ink) e
     at false = refl
 
-follows_newline : (before : Option Glyph) (glyph : Glyph) → is_newline glyph ≡ true → follows before glyph ≡ false
+follows_newline : (before : Option Glyph) (glyph : Glyph) → is_newline_glyph glyph ≡ true → follows before glyph ≡ false
 follows_newline None glyph e = refl
 follows_newline (Some before) glyph e = joins_newline before glyph e
 
 -- the cells of the glyphs that follow
-joined_width : (glyph : Glyph) (others : List Glyph) → joined_cells glyph others ≡ width_of (joined_glyphs glyph others)
+joined_width : (glyph : Glyph) (others : List Glyph) → joined_cells glyph others ≡ text_width (joined_glyphs glyph others)
 joined_width glyph [] = refl
 joined_width glyph (next ∷ others) =
-    two_ifs (joins glyph next) (cells_of next + joined_cells next others) 0 (next ∷ joined_glyphs next others) [] (λ cells glyphs. cells ≡ width_of glyphs)
+    two_ifs (joins glyph next) (cells_of next + joined_cells next others) 0 (next ∷ joined_glyphs next others) [] (λ cells glyphs. cells ≡ text_width glyphs)
     (λ _. ap (λ n. cells_of next + n) (joined_width next others)) (λ _. refl)
 
 -- ---- tokens
@@ -147,18 +147,18 @@ tokens_by_pieces pen (glyph ∷ glyphs) = all (tokens_by_pieces (next_pen pen gl
         (λ _. ap (λ (ps : List Token). tag (cells_of glyph + joined_cells glyph glyphs) ++ ps) (whole is)
         ∙ ap (λ cells. tag (cells_of glyph + cells) ++ (text_tokens glyph (joined_glyphs glyph glyphs) ++ tokens)) (joined_width glyph glyphs))
 
-    none_left : (others : List Glyph) → is_newline glyph ≡ true → tokens_left (Some glyph) others ≡ []
+    none_left : (others : List Glyph) → is_newline_glyph glyph ≡ true → tokens_left (Some glyph) others ≡ []
     none_left [] e = refl
     none_left (other ∷ others) e = ap (λ t. if t then text_tokens other (joined_glyphs other others) else []) (newline_joins glyph other e)
 
-    newline : Rest → is_newline glyph ≡ true → Goal (TextByte 10 ∷ []) (if follows pen.before glyph then text_tokens glyph (joined_glyphs glyph glyphs) else []) (RowEnd ∷ rest)
+    newline : Rest → is_newline_glyph glyph ≡ true → Goal (TextByte 10 ∷ []) (if follows pen.before glyph then text_tokens glyph (joined_glyphs glyph glyphs) else []) (RowEnd ∷ rest)
     newline is e =
         ap (λ (ps : List Token). TextByte 10 ∷ ps) (is ∙ ap (λ (ps : List Token). ps ++ tokens) (none_left glyphs e))
         ∙ ap (λ t. (if t then text_tokens glyph (joined_glyphs glyph glyphs) else []) ++ (TextByte 10 ∷ tokens)) (sym (follows_newline pen.before glyph e))
 
     all : Rest → tokens_of_glyphs pen (glyph ∷ glyphs) ≡ tokens_left pen.before (glyph ∷ glyphs) ++ flat_map piece_tokens (pieces_from pen (glyph ∷ glyphs))
     all is =
-        two_ifs (is_newline glyph) (TextByte 10 ∷ [])
+        two_ifs (is_newline_glyph glyph) (TextByte 10 ∷ [])
         ((if follows pen.before glyph then [] else tag (cells_of glyph + joined_cells glyph glyphs)) ++ shown ++ ended)
         (RowEnd ∷ rest) (if follows pen.before glyph then rest else piece ∷ rest)
         (λ (first : List Token) (pieces : List Piece). Goal first (if follows pen.before glyph then text_tokens glyph (joined_glyphs glyph glyphs) else []) pieces)
@@ -264,18 +264,18 @@ cells_by_pieces pen (glyph ∷ glyphs) = all (cells_by_pieces (next_pen pen glyp
         two_ifs (follows pen.before glyph) own [] rest (piece ∷ rest) (λ (left : List InCell) (pieces : List Piece). first ∷ shown_cells next.position glyphs ≡ left ++ flat_map cells_of_piece pieces)
         (λ _. whole is) (λ _. whole is)
 
-    none_left : (others : List Glyph) → is_newline glyph ≡ true → cells_left (Some glyph) next.position others ≡ []
+    none_left : (others : List Glyph) → is_newline_glyph glyph ≡ true → cells_left (Some glyph) next.position others ≡ []
     none_left [] e = refl
     none_left (other ∷ others) e = ap (λ t. if t then cells_in other.ink next.position (other ∷ joined_glyphs other others) else []) (newline_joins glyph other e)
 
-    newline : Rest → is_newline glyph ≡ true → shown_cells next.position glyphs ≡ (if follows pen.before glyph then own else []) ++ cells
+    newline : Rest → is_newline_glyph glyph ≡ true → shown_cells next.position glyphs ≡ (if follows pen.before glyph then own else []) ++ cells
     newline is e =
         is ∙ ap (λ (cs : List InCell). cs ++ cells) (none_left glyphs e)
         ∙ ap (λ t. (if t then own else []) ++ cells) (sym (follows_newline pen.before glyph e))
 
     all : Rest → shown_cells pen.position (glyph ∷ glyphs) ≡ cells_left pen.before pen.position (glyph ∷ glyphs) ++ flat_map cells_of_piece (pieces_from pen (glyph ∷ glyphs))
     all is =
-        two_ifs (is_newline glyph) (shown_cells next.position glyphs) (first ∷ shown_cells next.position glyphs)
+        two_ifs (is_newline_glyph glyph) (shown_cells next.position glyphs) (first ∷ shown_cells next.position glyphs)
         (RowEnd ∷ rest) (if follows pen.before glyph then rest else piece ∷ rest)
         (λ (cs : List InCell) (pieces : List Piece). cs ≡ (if follows pen.before glyph then own else []) ++ flat_map cells_of_piece pieces)
         (newline is) (λ _. character is)

@@ -16,9 +16,9 @@ use Rattle.codespan_documents.specs.declared.svg.glyph.Glyph.{Glyph}
 use Rattle.codespan_documents.specs.declared.svg.ink.Ink.{Ink}
 use Rattle.codespan_documents.specs.declared.svg.position.CellPosition.{CellPosition}
 use Rattle.codespan_documents.specs.declared.svg.Pen.{Pen}
-use Rattle.codespan_documents.specs.Glyphs.{cells_of, extent_from, follows, glyphs_of, glyphs_of_run, goes_on, is_newline, joined_cells, start}
+use Rattle.codespan_documents.specs.Glyphs.{cells_of, extent_from, follows, glyphs_of, glyphs_of_run, goes_on, is_newline_glyph, joined_cells, start}
 use Rattle.codespan_documents.specs.HtmlReading.{InTag, InText, Token, Tag, TextByte, html_tokens, tokens_from, text_of_tokens}
-use Rattle.codespan_documents.specs.Runs.{StyledRun, characters_of}
+use Rattle.codespan_documents.specs.Runs.{StyledRun, run_characters}
 use Rattle.codespan_documents.specs.Svg.{y_of, color_attribute, first_pen, font_attributes, glyph_text, background_tag_content, height, is_forbidden_in_xml, x_of, next_pen, svg_tag_start, svg_document, svg_tag_content, text_tag_content, text_tag, texts_from, weight_attribute, width, xml_character}
 use Rattle.codespan_documents.specs.SvgReading.{piece_tokens, pieces_from, svg_tokens, svg_shown, svg_text}
 use Rattle.codespan_documents.proofs.HtmlReading.{IsTextByte, and_true, bytes-read, character-bytes, is_code, text_of-append, text_of-bytes}
@@ -191,7 +191,7 @@ prefix-read true element rest h = refl
 prefix-read false element rest h = element-read element rest h
 
 -- a glyph that is no newline
-character-glyph : (pen : Pen) (glyph : Glyph) (others : List Glyph) (rest : List ℕ) → is_newline glyph ≡ false
+character-glyph : (pen : Pen) (glyph : Glyph) (others : List Glyph) (rest : List ℕ) → is_newline_glyph glyph ≡ false
     → tokens_from InText (((if follows pen.before glyph then [] else text_tag pen.position (cells_of glyph + joined_cells glyph others) glyph.ink) ++ xml_character glyph.character ++ (if goes_on glyph others then [] else codes "</text>")) ++ rest)
     ≡ ((if follows pen.before glyph then [] else Tag (text_tag_content pen.position (cells_of glyph + joined_cells glyph others) glyph.ink) ∷ []) ++ map TextByte (svg_shown glyph.character) ++ (if goes_on glyph others then [] else Tag (codes "/text") ∷ []))
     ++ tokens_from InText rest
@@ -210,7 +210,7 @@ character-glyph pen glyph others rest ends =
 
 glyph-read : (pen : Pen) (glyph : Glyph) (others : List Glyph) (rest : List ℕ) → tokens_from InText (glyph_text pen glyph others ++ rest) ≡ glyph_tokens pen glyph others ++ tokens_from InText rest
 glyph-read pen glyph others rest =
-    two_ifs (is_newline glyph) (codes "\n")
+    two_ifs (is_newline_glyph glyph) (codes "\n")
     ((if follows pen.before glyph then [] else text_tag pen.position (cells_of glyph + joined_cells glyph others) glyph.ink) ++ xml_character glyph.character ++ (if goes_on glyph others then [] else codes "</text>"))
     (TextByte 10 ∷ [])
     ((if follows pen.before glyph then [] else Tag (text_tag_content pen.position (cells_of glyph + joined_cells glyph others) glyph.ink) ∷ []) ++ map TextByte (svg_shown glyph.character) ++ (if goes_on glyph others then [] else Tag (codes "/text") ∷ []))
@@ -249,7 +249,7 @@ svg-read glyphs =
 
 -- the text of the tokens of a glyph
 glyph-text : (pen : Pen) (glyph : Glyph) (others : List Glyph) → text_of_tokens (glyph_tokens pen glyph others) ≡ svg_shown glyph.character
-glyph-text pen glyph others = at (is_newline glyph) refl
+glyph-text pen glyph others = at (is_newline_glyph glyph) refl
   where
     prefix : Bool → List Token
     prefix t = if t then [] else Tag (text_tag_content pen.position (cells_of glyph + joined_cells glyph others) glyph.ink) ∷ []
@@ -263,7 +263,7 @@ glyph-text pen glyph others = at (is_newline glyph) refl
     between false true = ap text_of_tokens (append-nil (map TextByte (svg_shown glyph.character))) ∙ text_of-bytes (svg_shown glyph.character)
     between false false = text_of-append (map TextByte (svg_shown glyph.character)) (Tag (codes "/text") ∷ []) ∙ append-nil _ ∙ text_of-bytes (svg_shown glyph.character)
 
-    at : (n : Bool) → is_newline glyph ≡ n → text_of_tokens (glyph_tokens pen glyph others) ≡ svg_shown glyph.character
+    at : (n : Bool) → is_newline_glyph glyph ≡ n → text_of_tokens (glyph_tokens pen glyph others) ≡ svg_shown glyph.character
     at true e = rw e refl
     at false e =
         ap (λ t. text_of_tokens (if t then TextByte 10 ∷ [] else prefix (follows pen.before glyph) ++ map TextByte (svg_shown glyph.character) ++ ended (goes_on glyph others))) e
@@ -281,7 +281,7 @@ run-characters : (ink : Ink) (cs : List ℕ) → map (λ (glyph : Glyph). glyph.
 run-characters ink [] = refl
 run-characters ink (c ∷ cs) = ap (λ ds. c ∷ ds) (run-characters ink cs)
 
-characters-are : (styles : Styles) (runs : List StyledRun) → map (λ (glyph : Glyph). glyph.character) (glyphs_of styles runs) ≡ characters_of runs
+characters-are : (styles : Styles) (runs : List StyledRun) → map (λ (glyph : Glyph). glyph.character) (glyphs_of styles runs) ≡ run_characters runs
 characters-are styles [] = refl
 characters-are styles (run ∷ runs) =
     map-append (λ (glyph : Glyph). glyph.character) (glyphs_of_run styles run) (glyphs_of styles runs)

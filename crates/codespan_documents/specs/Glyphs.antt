@@ -26,8 +26,8 @@ abbrev pub cells_of : Glyph → ℕ
 cells_of glyph = unwrap_or (char_width false glyph.character) 0
 
 -- the glyph is a newline
-abbrev pub is_newline : Glyph → Bool
-is_newline glyph = glyph.character == 10
+abbrev pub is_newline_glyph : Glyph → Bool
+is_newline_glyph glyph = glyph.character == 10
 
 -- ---- positions
 
@@ -39,7 +39,7 @@ start = record { row = 0; column = 0 }
 -- cells
 abbrev pub after_glyph : CellPosition → Glyph → CellPosition
 after_glyph position glyph =
-    if is_newline glyph
+    if is_newline_glyph glyph
     then record { row = position.row + 1; column = 0 }
     else record { row = position.row; column = position.column + cells_of glyph }
 
@@ -55,7 +55,7 @@ extent_from position (glyph ∷ glyphs) =
 
 -- the glyph occupies at most one cell and is no newline
 abbrev pub is_narrow : Glyph → Bool
-is_narrow glyph = not (is_newline glyph) && nat_le (cells_of glyph) 1
+is_narrow glyph = not (is_newline_glyph glyph) && nat_le (cells_of glyph) 1
 
 -- the glyph belongs to the text of the one before it: both are narrow, in one ink
 abbrev pub joins : Glyph → Glyph → Bool

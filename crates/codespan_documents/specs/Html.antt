@@ -22,12 +22,12 @@ abbrev pub is_noncharacter : ℕ → Bool
 is_noncharacter c = (nat_le 64976 c && nat_le c 65007) || nat_le 65534 (c % 65536)
 
 -- a character as a document shows it: U+FFFD for one that HTML text can not hold
-abbrev pub shown : ℕ → ℕ
-shown c = if is_forbidden_control c || is_noncharacter c then 65533 else c
+abbrev pub replaced_character : ℕ → ℕ
+replaced_character c = if is_forbidden_control c || is_noncharacter c then 65533 else c
 
 -- a text as a document shows it
 abbrev pub shown_text : List ℕ → List ℕ
-shown_text text = flat_map (λ c. encode_utf8 (shown c)) (chars text)
+shown_text text = flat_map (λ c. encode_utf8 (replaced_character c)) (chars text)
 
 -- a character in a document: those that can begin or end a tag, an attribute or an entity are
 -- entities
@@ -38,7 +38,7 @@ html_character c =
     else if c == 62 then codes "&gt;"
     else if c == 34 then codes "&quot;"
     else if c == 39 then codes "&#39;"
-    else encode_utf8 (shown c)
+    else encode_utf8 (replaced_character c)
 
 -- a text in a document
 abbrev pub html_text : List ℕ → List ℕ

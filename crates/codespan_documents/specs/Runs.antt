@@ -47,8 +47,8 @@ abbrev pub joined : List StyledRun → List ℕ
 joined runs = flat_map (λ (run : StyledRun). run.text) runs
 
 -- the characters of the runs
-abbrev pub characters_of : List StyledRun → List ℕ
-characters_of runs = flat_map (λ (run : StyledRun). chars run.text) runs
+abbrev pub run_characters : List StyledRun → List ℕ
+run_characters runs = flat_map (λ (run : StyledRun). chars run.text) runs
 
 -- the text of each run is UTF-8
 abbrev pub AreTexts : List StyledRun → Type 0

@@ -6,7 +6,7 @@ use Rattle.codespan_documents.specs.declared.svg.glyph.Glyph.{Glyph}
 use Rattle.codespan_documents.specs.declared.svg.ink.Ink.{Ink}
 use Rattle.codespan_documents.specs.declared.svg.position.CellPosition.{CellPosition}
 use Rattle.codespan_documents.specs.declared.svg.Pen.{Pen}
-use Rattle.codespan_documents.specs.Glyphs.{after_glyph, cells_of, extent_from, follows, goes_on, is_newline, joined_cells, start}
+use Rattle.codespan_documents.specs.Glyphs.{after_glyph, cells_of, extent_from, follows, goes_on, is_newline_glyph, joined_cells, start}
 
 -- ---- characters
 
@@ -15,7 +15,7 @@ use Rattle.codespan_documents.specs.Glyphs.{after_glyph, cells_of, extent_from, 
 abbrev pub is_forbidden_in_xml : ℕ → Bool
 is_forbidden_in_xml c = nat_lt c 32 || (c == 65534) || (c == 65535)
 
--- a character as XML spells it: one that begins a tag or an entity as an entity; the escape
+-- a character as XML escapes it: one that begins a tag or an entity as an entity; the escape
 -- character, the character of the number 0, the carriage return and the tab by a backslash; any
 -- other that can not be in a document as the replacement character
 abbrev pub xml_character : ℕ → List ℕ
@@ -87,7 +87,7 @@ next_pen pen glyph = record { position = after_glyph pen.position glyph; before 
 -- joins, between the tags of the text
 abbrev pub glyph_text : Pen → Glyph → List Glyph → List ℕ
 glyph_text pen glyph others =
-    if is_newline glyph then codes "\n"
+    if is_newline_glyph glyph then codes "\n"
     else (if follows pen.before glyph
     then []
     else text_tag pen.position (cells_of glyph + joined_cells glyph others) glyph.ink)

@@ -6,9 +6,9 @@ use Rattle.codespan_documents.specs.declared.svg.glyph.Glyph.{Glyph}
 use Rattle.codespan_documents.specs.declared.svg.ink.Ink.{Ink}
 use Rattle.codespan_documents.specs.declared.svg.position.CellPosition.{CellPosition}
 use Rattle.codespan_documents.specs.declared.svg.Pen.{Pen}
-use Rattle.codespan_documents.specs.Glyphs.{after_glyph, cells_of, extent_from, follows, is_newline, joins, start}
+use Rattle.codespan_documents.specs.Glyphs.{after_glyph, cells_of, extent_from, follows, is_newline_glyph, joins, start}
 use Rattle.codespan_documents.specs.HtmlReading.{Token, Tag, TextByte}
-use Rattle.codespan_documents.specs.Runs.{StyledRun, characters_of}
+use Rattle.codespan_documents.specs.Runs.{StyledRun, run_characters}
 use Rattle.codespan_documents.specs.Svg.{first_pen, background_tag_content, is_forbidden_in_xml, next_pen, svg_tag_content, text_tag_content}
 
 -- ---- characters
@@ -31,7 +31,7 @@ shown_glyphs glyphs = flat_map (λ (glyph : Glyph). svg_shown glyph.character) g
 
 -- the text of a document of runs: theirs, after two line ends of its head and before one
 abbrev pub svg_text : List StyledRun → List ℕ
-svg_text runs = 10 ∷ 10 ∷ flat_map svg_shown (characters_of runs) ++ 10 ∷ []
+svg_text runs = 10 ∷ 10 ∷ flat_map svg_shown (run_characters runs) ++ 10 ∷ []
 
 -- ---- pieces
 
@@ -48,9 +48,9 @@ joined_glyphs before (glyph ∷ glyphs) =
     if joins before glyph then glyph ∷ joined_glyphs glyph glyphs else []
 
 -- the cells of glyphs
-abbrev pub width_of : List Glyph → ℕ
-width_of [] = 0
-width_of (glyph ∷ glyphs) = cells_of glyph + width_of glyphs
+abbrev pub text_width : List Glyph → ℕ
+text_width [] = 0
+text_width (glyph ∷ glyphs) = cells_of glyph + text_width glyphs
 
 -- the pieces of glyphs: a newline ends a row, and any other that does not follow the one before it
 -- begins a text
@@ -58,7 +58,7 @@ abbrev pub pieces_from : Pen → List Glyph → List Piece
 pieces_from pen [] = []
 pieces_from pen (glyph ∷ glyphs) =
     let rest = pieces_from (next_pen pen glyph) glyphs in
-    if is_newline glyph then RowEnd ∷ rest
+    if is_newline_glyph glyph then RowEnd ∷ rest
     else if follows pen.before glyph then rest
     else Text pen.position glyph (joined_glyphs glyph glyphs) ∷ rest
 
@@ -68,7 +68,7 @@ pieces_from pen (glyph ∷ glyphs) =
 abbrev pub piece_tokens : Piece → List Token
 piece_tokens RowEnd = TextByte 10 ∷ []
 piece_tokens (Text position first others) =
-    Tag (text_tag_content position (width_of (first ∷ others)) first.ink)
+    Tag (text_tag_content position (text_width (first ∷ others)) first.ink)
     ∷ map TextByte (shown_glyphs (first ∷ others)) ++ Tag (codes "/text") ∷ []
 
 -- all of a document: no other tag, and no other text
@@ -103,5 +103,5 @@ abbrev pub shown_cells : CellPosition → List Glyph → List InCell
 shown_cells position [] = []
 shown_cells position (glyph ∷ glyphs) =
     let rest = shown_cells (after_glyph position glyph) glyphs in
-    if is_newline glyph then rest
+    if is_newline_glyph glyph then rest
     else record { character = glyph.character; ink = glyph.ink; position = position } ∷ rest

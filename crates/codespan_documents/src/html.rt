@@ -1,7 +1,7 @@
 //! Styled text as an HTML document.
 
 ghost use Rattle.std.specs.Prelude.{◌≡◌, ◌++◌, IfErr, IfOk, OnOk, flat_map, map, string_bytes};
-ghost use Rattle.codespan_documents.specs.Html.{html_character, html_document, html_run, html_text, is_forbidden_control, is_noncharacter, shown, shown_text, style_class};
+ghost use Rattle.codespan_documents.specs.Html.{html_character, html_document, html_run, html_text, is_forbidden_control, is_noncharacter, replaced_character, shown_text, style_class};
 ghost use Rattle.codespan_documents.specs.HtmlReading.{document_tokens, html_tokens, text_of_html};
 ghost use Rattle.codespan_documents.specs.Runs.{joined, run_view, styled_runs};
 
@@ -96,13 +96,13 @@ fn push_character(html: &mut String, c: char) -> Result<(), AllocError>
         '>' => html.push_str("&gt;"),
         '"' => html.push_str("&quot;"),
         '\'' => html.push_str("&#39;"),
-        other => html.push(shown(other)),
+        other => html.push(replaced_character(other)),
     }
 }
 
 /// Returns the character that a document shows.
-fn shown(c: char) -> char
-    ensures { result ≡ shown c }
+fn replaced_character(c: char) -> char
+    ensures { result ≡ replaced_character c }
 {
     if is_forbidden_control(c) || is_noncharacter(c) {
         char::REPLACEMENT_CHARACTER

@@ -227,7 +227,7 @@ fn shade(color: Color) -> &'static str
     }
 }
 
-/// Appends a character as XML spells it.
+/// Appends a character as XML escapes it.
 fn push_character(document: &mut String, character: char) -> Result<(), AllocError>
     ensures { OnOk result (string_bytes document.new ≡ string_bytes document.old
         ++ xml_character character) }

@@ -21,10 +21,10 @@ use Rattle.codespan_structs.specs.declared.raw.RawDiagnostic.{RawDiagnostic}
 use Rattle.codespan_structs.specs.declared.raw.RawFile.{RawFile}
 use Rattle.codespan_structs.specs.declared.raw.RawLabel.{RawLabel}
 use Rattle.codespan_native.specs.Meaning.{NoLookupFails, label_in}
-use Rattle.codespan_structs.specs.Converted.{label_of, source_in}
+use Rattle.codespan_structs.specs.Converted.{converted_label, source_in}
 use Rattle.codespan_structs.specs.Validity.{AreValid}
 use Rattle.codespan_native.proofs.Rendered.{labels_equal}
-use Rattle.codespan_sources.specs.SourceTexts.{SourceView, database_of, failure_of, file_of}
+use Rattle.codespan_sources.specs.SourceTexts.{SourceView, database_of, native_failure, native_file_model}
 
 -- ---- facts of each element of a list
 
@@ -85,7 +85,7 @@ record LookupsSucceed (failure : Lookup → Option Error) (f : FileModel) : Type
   pub line_number : (i : ℕ) → failure (LineNumber i) ≡ None
   pub location : (byte : ℕ) → failure (LocationAt byte) ≡ None
 
-lookups_succeed_of : (s : SourceView) → LookupsSucceed (failure_of s) (file_of s)
+lookups_succeed_of : (s : SourceView) → LookupsSucceed (native_failure s) (native_file_model s)
 lookups_succeed_of s = record {
   line_range = λ i h. rw (le-leb (suc i) (length s.cut.starts) (omega (arith, h))) refl;
   past_end = rw (lt-leb (suc (length s.cut.starts)) (length s.cut.starts) (omega arith)) refl;
@@ -140,7 +140,7 @@ module _ (ss : List SourceView) where
 
   -- those of the file that is found, if any
   abbrev LookupsSucceedIf : Option SourceView → Type 0
-  LookupsSucceedIf o = LookupsSucceed (λ lookup. option_map_or (λ s. failure_of s lookup) o (Some FileMissing)) (option_map_or file_of o missing_file)
+  LookupsSucceedIf o = LookupsSucceed (λ lookup. option_map_or (λ s. native_failure s lookup) o (Some FileMissing)) (option_map_or native_file_model o missing_file)
 
   lookups_succeed_if : (o : Option SourceView) → IsSome o → LookupsSucceedIf o
   lookups_succeed_if None is = absurd (cc)
@@ -237,7 +237,7 @@ pub none_fails : (files : List RawFile) (diagnostic : RawDiagnostic) (raw : RawC
     → AreValid files diagnostic raw → NoLookupFails files diagnostic
 none_fails files diagnostic raw valid d config viewed =
     let ss = map source_in files in
-    let same : map label_in (map (label_of files) diagnostic.labels.now) ≡ labels_of d =
+    let same : map label_in (map (converted_label files) diagnostic.labels.now) ≡ labels_of d =
     ap (λ (v : DiagnosticView ℕ). map label_in v.labels) (sym viewed) ∙ sym (labels_equal d.labels.items) in
     let count : length files ≡ length ss = sym (length-map files source_in) in
     let known : Each (λ (l : RawLabel). l.file < length ss) diagnostic.labels.now =
@@ -246,6 +246,6 @@ none_fails files diagnostic raw valid d config viewed =
     all_succeed ss config.display_style config d
     (subst (Each (InKnown ss)) same
     (each_map label_in (InKnown ss) (λ (v : LabelView ℕ). v.file_id < length ss)
-    (map (label_of files) diagnostic.labels.now) (λ v h. h)
-    (each_map (label_of files) (λ (v : LabelView ℕ). v.file_id < length ss)
+    (map (converted_label files) diagnostic.labels.now) (λ v h. h)
+    (each_map (converted_label files) (λ (v : LabelView ℕ). v.file_id < length ss)
     (λ (l : RawLabel). l.file < length ss) diagnostic.labels.now (λ l h. h) known)))

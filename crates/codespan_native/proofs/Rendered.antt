@@ -28,8 +28,8 @@ use Rattle.codespan_structs.specs.declared.raw.RawConfig.{RawConfig}
 use Rattle.codespan_structs.specs.declared.raw.RawDiagnostic.{RawDiagnostic}
 use Rattle.codespan_structs.specs.declared.raw.RawFile.{RawFile}
 use Rattle.codespan_native.specs.Meaning.{Means, label_in, output_bytes, output_in}
-use Rattle.codespan_structs.specs.Converted.{config_of, display_style_of, source_in, spelling_of, view_of}
-use Rattle.codespan_sources.specs.SourceTexts.{SourceView, database_of, file_of}
+use Rattle.codespan_structs.specs.Converted.{converted_config, display_style_of, source_in, spelling_of, view_of}
+use Rattle.codespan_sources.specs.SourceTexts.{SourceView, database_of, native_file_model}
 use Rattle.codespan_native.specs.RenderedStreams.{stream_of_output}
 
 -- the names of the files are stated
@@ -38,7 +38,7 @@ stated ss d x contains = named x.id
   where
     named : (id : ℕ) → IsSome ((database_of ss).file id).name
     named id =
-        elim (slice_get ss id) as (λ found. IsSome (option_map_or file_of found missing_file).name)
+        elim (slice_get ss id) as (λ found. IsSome (option_map_or native_file_model found missing_file).name)
         [ None ↦ refl | Some s ↦ refl ]
 
 -- a call that writes writes the output with these names
@@ -101,21 +101,21 @@ output_is expected config ss ts d v alike same viewed =
 pub bytes_are : (spelling : Spelling) (config : Config) (ss : List SourceView) (d : Diagnostic ℕ)
     (files : List RawFile) (diagnostic : RawDiagnostic) (raw : RawConfig) (bytes : List ℕ)
     → bytes ≡ spelled spelling (stream_of_output config ss d) → spelling ≡ spelling_of raw
-    → IsEqualConfig (config_of raw) config → ss ≡ map source_in files
+    → IsEqualConfig (converted_config raw) config → ss ≡ map source_in files
     → diagnostic_view d ≡ view_of files diagnostic → bytes ≡ output_bytes files diagnostic raw
 unfolding output_bytes
 bytes_are spelling config ss d files diagnostic raw bytes are spells alike same viewed =
     are
     ∙ ap (λ s. spelled s (stream_of_output config ss d)) spells
     ∙ ap (λ stream. spelled (spelling_of raw) stream)
-    (output_is (config_of raw) config ss (map source_in files) d (view_of files diagnostic) alike same viewed)
+    (output_is (converted_config raw) config ss (map source_in files) d (view_of files diagnostic) alike same viewed)
 
 -- the same of a call that returns the bytes
 pub result_is : (spelling : Spelling) (config : Config) (ss : List SourceView) (d : Diagnostic ℕ)
     (files : List RawFile) (diagnostic : RawDiagnostic) (raw : RawConfig)
     (r : Result (Vec ℕ Global) OutOfMemory)
     → IfOk r (λ output. output.items ≡ spelled spelling (stream_of_output config ss d))
-    → spelling ≡ spelling_of raw → IsEqualConfig (config_of raw) config → ss ≡ map source_in files
+    → spelling ≡ spelling_of raw → IsEqualConfig (converted_config raw) config → ss ≡ map source_in files
     → diagnostic_view d ≡ view_of files diagnostic
     → IfOk r (λ output. output.items ≡ output_bytes files diagnostic raw)
 result_is spelling config ss d files diagnostic raw (Ok output) are spells alike same viewed =
@@ -126,7 +126,7 @@ result_is spelling config ss d files diagnostic raw (Err e) are spells alike sam
 pub means_is : {T : Type 0} (config : Config) (ss : List SourceView) (d : Diagnostic ℕ)
     (files : List RawFile) (diagnostic : RawDiagnostic) (raw : RawConfig) (r : Result T OutOfMemory)
     → IfOk r (λ _. config.display_style ≡ Rich → MeansLabels config config (database_of ss) d)
-    → IsEqualConfig (config_of raw) config → ss ≡ map source_in files
+    → IsEqualConfig (converted_config raw) config → ss ≡ map source_in files
     → diagnostic_view d ≡ view_of files diagnostic
     → IfOk r (λ _. raw.display_style ≡ 0 → Means files diagnostic raw)
 means_is config ss d files diagnostic raw (Ok output) means alike same viewed = λ zero_style.

@@ -15,7 +15,7 @@ use Rattle.codespan_picture.specs.StatedPicture.{stated_locus}
 use Rattle.codespan_structs.specs.declared.raw.RawConfig.{RawConfig}
 use Rattle.codespan_structs.specs.declared.raw.RawDiagnostic.{RawDiagnostic}
 use Rattle.codespan_structs.specs.declared.raw.RawFile.{RawFile}
-use Rattle.codespan_structs.specs.Converted.{view_of, config_of, spelling_of, files_of}
+use Rattle.codespan_structs.specs.Converted.{view_of, converted_config, spelling_of, converted_files}
 
 -- the code and the message, as outputs read them
 abbrev pub header_text_in : DiagnosticView ℕ → HeaderText
@@ -48,7 +48,7 @@ output_in config files d =
 unfoldable pub output_bytes : List RawFile → RawDiagnostic → RawConfig → List ℕ
 output_bytes files diagnostic config =
     spelled (spelling_of config)
-    (output_in (config_of config) (files_of files) (view_of files diagnostic))
+    (output_in (converted_config config) (converted_files files) (view_of files diagnostic))
 
 -- the output of the structs means their labels, as `MeansLabels` says
 pub record Means (files : List RawFile) (diagnostic : RawDiagnostic) (config : RawConfig)
@@ -56,13 +56,13 @@ pub record Means (files : List RawFile) (diagnostic : RawDiagnostic) (config : R
   pub d : Diagnostic ℕ
   pub c : Config
   pub is_diagnostic : diagnostic_view d ≡ view_of files diagnostic
-  pub is_config : IsEqualConfig (config_of config) c
-  pub means : MeansLabels c c (files_of files) d
+  pub is_config : IsEqualConfig (converted_config config) c
+  pub means : MeansLabels c c (converted_files files) d
 
 -- no lookup of an output of the structs fails: whatever the configuration is, and whichever
 -- diagnostic of Rust the struct stands for
 abbrev pub NoLookupFails : List RawFile → RawDiagnostic → Type 0
 NoLookupFails files diagnostic =
     (d : Diagnostic ℕ) (config : Config) → diagnostic_view d ≡ view_of files diagnostic
-    → AllSucceed (files_of files).failure
-    (lookups_in config.display_style config (files_of files) d)
+    → AllSucceed (converted_files files).failure
+    (lookups_in config.display_style config (converted_files files) d)

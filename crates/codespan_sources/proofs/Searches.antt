@@ -18,7 +18,7 @@ use Rattle.codespan_base.specs.Lemmas.Lines.{count_split}
 use Rattle.codespan_sources.specs.declared.raw.RawLine.{RawLine}
 use Rattle.codespan_sources.specs.declared.raw.RawLocation.{RawLocation}
 use Rattle.codespan_base.specs.Lines.{is_char_boundary}
-use Rattle.codespan_sources.specs.StatedLines.{ascend_from, ascends, follow, location_at, starts_of}
+use Rattle.codespan_sources.specs.StatedLines.{bytes_ascend_from, ascends, follow, location_at, starts_of}
 
 -- ---- lines
 
@@ -104,7 +104,7 @@ module _ (first : ℕ) where
   both false b e = absurd (cc)
 
   -- locations that ascend from a byte on lie after it, and ascend
-  after : (byte : ℕ) (ls : List RawLocation) → ascend_from first byte ls ≡ true
+  after : (byte : ℕ) (ls : List RawLocation) → bytes_ascend_from first byte ls ≡ true
       → (k : ℕ) → k < length ls → byte < byte_at ls k
   after byte [] e k h = absurd (omega (arith, h))
   after byte (l ∷ ls) e zero h =
@@ -115,7 +115,7 @@ module _ (first : ℕ) where
       let later = after (l.byte - first) ls a.1 k (omega (arith, h)) in
       omega (arith, here, later)
 
-  rest_ascends : (byte : ℕ) (ls : List RawLocation) → ascend_from first byte ls ≡ true
+  rest_ascends : (byte : ℕ) (ls : List RawLocation) → bytes_ascend_from first byte ls ≡ true
       → ascends first ls ≡ true
   rest_ascends byte [] e = refl
   rest_ascends byte (l ∷ ls) e = (both (nat_lt byte (l.byte - first)) _ e).1
@@ -172,11 +172,11 @@ module _ (first : ℕ) where
 
 -- a location after the last one, so that the others decide
 pub ascend-more : (first : ℕ) (locations : List RawLocation) (i : ℕ) (d : RawLocation) (byte next : ℕ) (whole : Bool) → i < length locations → next ≡ (get_or locations i d).byte - first → byte < next
-    → ascend_from first byte (drop i locations) ≡ whole → ascend_from first next (drop (i + 1) locations) ≡ whole
+    → bytes_ascend_from first byte (drop i locations) ≡ whole → bytes_ascend_from first next (drop (i + 1) locations) ≡ whole
 ascend-more first locations i d byte next whole inside is later before =
     let test : nat_lt byte next ≡ true = grind (arith, nat_tests) in
-    let more = λ (n : ℕ). nat_lt byte n && ascend_from first n (drop (i + 1) locations) in
-    ap (λ (t : Bool). t && ascend_from first next (drop (i + 1) locations)) (sym test) ∙ ap more is ∙ ap (ascend_from first byte) (sym (drop_more locations i d inside)) ∙ before
+    let more = λ (n : ℕ). nat_lt byte n && bytes_ascend_from first n (drop (i + 1) locations) in
+    ap (λ (t : Bool). t && bytes_ascend_from first next (drop (i + 1) locations)) (sym test) ∙ ap more is ∙ ap (bytes_ascend_from first byte) (sym (drop_more locations i d inside)) ∙ before
 
 -- a line that follows the last one, so that the others decide
 pub follow-more : (text : List ℕ) (first : ℕ) (lines : List RawLine) (i : ℕ) (d : RawLine)

@@ -24,12 +24,12 @@ cut_of (Newline t) = newline_of t
 cut_of (Stated t) = stated_of t
 
 -- a file
-abbrev pub source_of : NativeFile → SourceView
-source_of f = record {
+abbrev pub source_view : NativeFile → SourceView
+source_view f = record {
   cut = cut_of f.text;
   stated_location = location_at f.first_byte f.locations.now;
 }
 
 -- the files of a database
 abbrev pub sources_of : NativeFiles → List SourceView
-sources_of files = map source_of files.files.items
+sources_of files = map source_view files.files.items

@@ -63,8 +63,8 @@ pub record SourceView : Type 0 where
   pub stated_location : ℕ → Option Location
 
 -- the file of it; a location that is stated comes before the computed one
-abbrev pub file_of : SourceView → FileModel
-file_of s = record {
+abbrev pub native_file_model : SourceView → FileModel
+native_file_model s = record {
   exists = true;
   name = Some s.cut.name;
   text = s.cut.text;
@@ -87,16 +87,16 @@ past_last starts i =
     if nat_lt i (length starts) then None else Some (LineTooLarge i (length starts - 1))
 
 -- what a lookup fails with: those of the range and of a column of a line past the last alone
-abbrev pub failure_of : SourceView → Lookup → Option Error
-failure_of s (LineRange i) = past_last s.cut.starts i
-failure_of s (ColumnNumber i byte) = past_last s.cut.starts i
-failure_of s _ = None
+abbrev pub native_failure : SourceView → Lookup → Option Error
+native_failure s (LineRange i) = past_last s.cut.starts i
+native_failure s (ColumnNumber i byte) = past_last s.cut.starts i
+native_failure s _ = None
 
 -- the files, by their indices
 abbrev pub database_of : List SourceView → FileDatabase ℕ
 database_of ss = record {
   same = nat_eq;
-  file = λ id. option_map_or file_of (slice_get ss id) missing_file;
+  file = λ id. option_map_or native_file_model (slice_get ss id) missing_file;
   failure = λ id lookup.
-      option_map_or (λ s. failure_of s lookup) (slice_get ss id) (Some FileMissing);
+      option_map_or (λ s. native_failure s lookup) (slice_get ss id) (Some FileMissing);
 }

@@ -1,4 +1,4 @@
--- Lines and locations that a caller states, in a window of a file from the byte `first` on; an
+-- Lines and locations that a caller states, in a window of a file from the byte `first_byte` on; an
 -- index before the window counts as its start.
 use Rattle.std.specs.Prelude.{ℕ, ◌-◌, Bool, true, false, ◌&&◌, ◌==◌, nat_lt, nat_le, if◌then◌else◌, List, [], ◌∷◌, map, Option, Some, None}
 use Rattle.codespan_base.specs.declared.files.Location.{Location}
@@ -9,48 +9,48 @@ use Rattle.codespan_sources.specs.declared.raw.RawLocation.{RawLocation}
 -- whether lines follow one that has this start and this end: each starts after the start of the one
 -- before it, and not before its end
 abbrev pub follow : List ℕ → ℕ → ℕ → ℕ → List RawLine → Bool
-follow text first start end [] = true
-follow text first start end (l ∷ ls) =
-    nat_lt start (l.start - first)
-    && (nat_le end (l.start - first)
-    && (nat_le (l.start - first) (l.end - first)
-    && (is_char_boundary text (l.start - first)
-    && (is_char_boundary text (l.end - first)
-    && follow text first (l.start - first) (l.end - first) ls))))
+follow text first_byte start end [] = true
+follow text first_byte start end (l ∷ ls) =
+    nat_lt start (l.start - first_byte)
+    && (nat_le end (l.start - first_byte)
+    && (nat_le (l.start - first_byte) (l.end - first_byte)
+    && (is_char_boundary text (l.start - first_byte)
+    && (is_char_boundary text (l.end - first_byte)
+    && follow text first_byte (l.start - first_byte) (l.end - first_byte) ls))))
 
 -- whether the text is cut into these lines
 abbrev pub are_lines : List ℕ → ℕ → List RawLine → Bool
-are_lines text first [] = false
-are_lines text first (l ∷ ls) =
-    (l.start - first) == 0
-    && (is_char_boundary text (l.end - first)
-    && follow text first (l.start - first) (l.end - first) ls)
+are_lines text first_byte [] = false
+are_lines text first_byte (l ∷ ls) =
+    (l.start - first_byte) == 0
+    && (is_char_boundary text (l.end - first_byte)
+    && follow text first_byte (l.start - first_byte) (l.end - first_byte) ls)
 
 -- where the lines start, where they end, and their numbers
 abbrev pub starts_of : ℕ → List RawLine → List ℕ
-starts_of first lines = map (λ l. l.start - first) lines
+starts_of first_byte lines = map (λ l. l.start - first_byte) lines
 
 abbrev pub ends_of : ℕ → List RawLine → List ℕ
-ends_of first lines = map (λ l. l.end - first) lines
+ends_of first_byte lines = map (λ l. l.end - first_byte) lines
 
 abbrev pub numbers_of : List RawLine → List ℕ
 numbers_of lines = map (λ l. l.number) lines
 
 -- the location that is stated for a byte
 abbrev pub location_at : ℕ → List RawLocation → ℕ → Option Location
-location_at first [] byte = None
-location_at first (l ∷ ls) byte =
-    if (l.byte - first) == byte
+location_at first_byte [] byte = None
+location_at first_byte (l ∷ ls) byte =
+    if (l.byte - first_byte) == byte
     then Some (record { line_number = l.line_number; column_number = l.column_number })
-    else location_at first ls byte
+    else location_at first_byte ls byte
 
 -- whether the bytes of locations ascend strictly from this one on
-abbrev pub ascend_from : ℕ → ℕ → List RawLocation → Bool
-ascend_from first byte [] = true
-ascend_from first byte (l ∷ ls) =
-    nat_lt byte (l.byte - first) && ascend_from first (l.byte - first) ls
+abbrev pub bytes_ascend_from : ℕ → ℕ → List RawLocation → Bool
+bytes_ascend_from first_byte byte [] = true
+bytes_ascend_from first_byte byte (l ∷ ls) =
+    nat_lt byte (l.byte - first_byte) && bytes_ascend_from first_byte (l.byte - first_byte) ls
 
 -- whether the bytes of locations ascend strictly
 abbrev pub ascends : ℕ → List RawLocation → Bool
-ascends first [] = true
-ascends first (l ∷ ls) = ascend_from first (l.byte - first) ls
+ascends first_byte [] = true
+ascends first_byte (l ∷ ls) = bytes_ascend_from first_byte (l.byte - first_byte) ls

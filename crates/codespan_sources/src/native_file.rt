@@ -4,7 +4,7 @@ ghost use Rattle.std.specs.Prelude.{◌≡◌, true, IfOk, None};
 ghost use Rattle.codespan_base.specs.FileModel.{line_of};
 ghost use Rattle.codespan_base.specs.LawfulFiles.{FailsBy};
 ghost use Rattle.codespan_sources.specs.StatedLines.{ascends, location_at};
-ghost use Rattle.codespan_sources.specs.SourceTexts.{IsRangeIn, cut_column, file_of, past_last};
+ghost use Rattle.codespan_sources.specs.SourceTexts.{IsRangeIn, cut_column, native_file_model, past_last};
 
 mod newline;
 mod stated;
@@ -30,7 +30,7 @@ pub struct NativeFile<'a> {
 }
 
 impl<'a> NativeFile<'a> {
-    ghost use Rattle.codespan_sources.specs.SourceModel.{cut_of, source_of};
+    ghost use Rattle.codespan_sources.specs.SourceModel.{cut_of, source_view};
 
     /// Returns the file of a text, which starts at the byte `first_byte` of the file, with these
     /// locations.
@@ -44,8 +44,9 @@ impl<'a> NativeFile<'a> {
         locations: &'a [RawLocation],
     ) -> NativeFile<'a>
         requires { ascends first_byte locations.now ≡ true }
-        ensures cut { (source_of result).cut ≡ cut_of text.entry }
-        ensures stated { (source_of result).stated_location ≡ location_at first_byte locations.now }
+        ensures cut { (source_view result).cut ≡ cut_of text.entry }
+        ensures stated { (source_view result).stated_location
+            ≡ location_at first_byte locations.now }
     {
         NativeFile {
             text,
@@ -56,28 +57,28 @@ impl<'a> NativeFile<'a> {
 
     /// Returns the name.
     pub fn name(&self) -> &'a str
-        ensures { result.now ≡ (source_of self.now).cut.name }
+        ensures { result.now ≡ (source_view self.now).cut.name }
     {
         self.text.name()
     }
 
     /// Returns the source.
     pub fn source(&self) -> &'a str
-        ensures { result.now ≡ (source_of self.now).cut.text }
+        ensures { result.now ≡ (source_view self.now).cut.text }
     {
         self.text.source()
     }
 
     /// Returns the index of the byte's line.
     pub fn line_index(&self, byte_index: usize) -> usize
-        ensures { result ≡ line_of (source_of self.now).cut.starts byte_index }
+        ensures { result ≡ line_of (source_view self.now).cut.starts byte_index }
     {
         self.text.line_index(byte_index)
     }
 
     /// Returns the number of the line of this index.
     pub fn line_number(&self, line_index: usize) -> usize
-        ensures { result ≡ (source_of self.now).cut.number line_index }
+        ensures { result ≡ (source_view self.now).cut.number line_index }
     {
         self.text.line_number(line_index)
     }
@@ -88,8 +89,8 @@ impl<'a> NativeFile<'a> {
     ///
     /// [`Error::LineTooLarge`] where there is no such line.
     pub fn line_range(&self, line_index: usize) -> Result<Range<usize>, Error>
-        ensures value { IfOk result (IsRangeIn (source_of self.now).cut line_index) }
-        ensures failed { FailsBy (past_last (source_of self.now).cut.starts line_index) result }
+        ensures value { IfOk result (IsRangeIn (source_view self.now).cut line_index) }
+        ensures failed { FailsBy (past_last (source_view self.now).cut.starts line_index) result }
     {
         self.text.line_range(line_index)
     }
@@ -101,8 +102,8 @@ impl<'a> NativeFile<'a> {
     /// [`Error::LineTooLarge`] where there is no such line.
     pub fn column_number(&self, line_index: usize, byte_index: usize) -> Result<usize, Error>
         ensures value { IfOk result (λ column.
-            column ≡ cut_column (source_of self.now).cut line_index byte_index) }
-        ensures failed { FailsBy (past_last (source_of self.now).cut.starts line_index) result }
+            column ≡ cut_column (source_view self.now).cut line_index byte_index) }
+        ensures failed { FailsBy (past_last (source_view self.now).cut.starts line_index) result }
     {
         let range = self.line_range(line_index)?;
         Ok(column_index(self.source(), range, byte_index) + 1)
@@ -110,7 +111,7 @@ impl<'a> NativeFile<'a> {
 
     /// Returns the caller's location of a byte, by binary search.
     fn stated_location(&self, byte_index: usize) -> Option<Location>
-        ensures { result ≡ (source_of self.now).stated_location byte_index }
+        ensures { result ≡ (source_view self.now).stated_location byte_index }
     {
         let first_byte = self.first_byte;
         match self.locations.binary_search_by_key(
@@ -137,7 +138,7 @@ impl<'a> NativeFile<'a> {
     #[tactic(auto, using(crate::proofs::FileLines::byte_has_line))]
     pub fn location(&self, byte_index: usize) -> Result<Location, Error>
         ensures value { IfOk result (λ location.
-            location ≡ (file_of (source_of self.now)).location byte_index) }
+            location ≡ (native_file_model (source_view self.now)).location byte_index) }
         ensures failed { FailsBy None result }
     {
         match self.stated_location(byte_index) {

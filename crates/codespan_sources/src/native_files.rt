@@ -17,7 +17,7 @@ pub struct NativeFiles<'a> {
 }
 
 impl<'a> NativeFiles<'a> {
-    ghost use Rattle.codespan_sources.specs.SourceModel.{source_of, sources_of};
+    ghost use Rattle.codespan_sources.specs.SourceModel.{source_view, sources_of};
 
     /// Returns a database without files.
     pub fn new(alloc: Global) -> NativeFiles<'a>
@@ -42,7 +42,7 @@ impl<'a> NativeFiles<'a> {
     /// [`OutOfMemory`] where an allocation fails.
     pub fn add(&mut self, file: NativeFile<'a>) -> Result<(), OutOfMemory>
         ensures { OnOk result
-            (sources_of self.new ≡ sources_of self.old ++ source_of file.entry ∷ []) }
+            (sources_of self.new ≡ sources_of self.old ++ source_view file.entry ∷ []) }
     {
         self.files.push(file)?;
         Ok(())
@@ -55,7 +55,7 @@ impl<'a> NativeFiles<'a> {
     /// [`Error::FileMissing`] exactly where the id is not below the number of files.
     fn get(&self, id: usize) -> Result<&NativeFile<'a>, Error>
         ensures found { IfOk result (λ file.
-            slice_get (sources_of self.now) id ≡ Some (source_of file.now)) }
+            slice_get (sources_of self.now) id ≡ Some (source_view file.now)) }
         ensures missing { IfErr result (λ e.
             (slice_get (sources_of self.now) id ≡ None) × (e ≡ FileMissing)) }
     {

@@ -8,7 +8,7 @@ use Rattle.codespan_structs.specs.declared.error.Argument.TheVariants.{Abi, Disp
 use Rattle.codespan_structs.specs.declared.raw.RawConfig.{RawConfig}
 use Rattle.codespan_structs.specs.declared.raw.RawDiagnostic.{RawDiagnostic}
 use Rattle.codespan_structs.specs.declared.raw.RawFile.{RawFile}
-use Rattle.codespan_structs.specs.Validity.{FindsInvalid, FindsWithout, HoldsIfAt, IsFirstInvalid, IsFirstInvalidIndex, IsValidAt, number_of}
+use Rattle.codespan_structs.specs.Validity.{FindsInvalid, FindsWithout, HoldsIfAt, IsFirstInvalid, IsFirstInvalidIndex, IsValidAt, argument_number}
 
 -- what a search among values found, by their indices
 pub by_index : {X : Type 0} (P : X → Type 0) (xs : List X) (r : Option ℕ)
@@ -52,7 +52,7 @@ in_order =
     ∷ LabelStyle ∷ LabelMessage ∷ LabelFile ∷ Note ∷ []
 
 -- the argument of a number
-at_number : (b : Argument) (i : ℕ) (d : Argument) → number_of b ≡ i + 1 → get_or in_order i d ≡ b
+at_number : (b : Argument) (i : ℕ) (d : Argument) → argument_number b ≡ i + 1 → get_or in_order i d ≡ b
 at_number Abi i d e = let at : i ≡ 0 = omega (arith, e) in rw at refl
 at_number DisplayStyle i d e = let at : i ≡ 1 = omega (arith, e) in rw at refl
 at_number Layout i d e = let at : i ≡ 2 = omega (arith, e) in rw at refl
@@ -76,9 +76,9 @@ at_number Note i d e = let at : i ≡ 18 = omega (arith, e) in rw at refl
 -- the numbers of arguments from this one on
 abbrev AreNumbered : ℕ → List Argument → Type 0
 AreNumbered n [] = Unit {0}
-AreNumbered n (a ∷ more) = (number_of a ≡ n) × AreNumbered (n + 1) more
+AreNumbered n (a ∷ more) = (argument_number a ≡ n) × AreNumbered (n + 1) more
 
-number_at : (n : ℕ) (arguments : List Argument) (i : ℕ) (d : Argument) → AreNumbered n arguments → i < length arguments → number_of (get_or arguments i d) ≡ n + i
+number_at : (n : ℕ) (arguments : List Argument) (i : ℕ) (d : Argument) → AreNumbered n arguments → i < length arguments → argument_number (get_or arguments i d) ≡ n + i
 number_at n [] i d h below = absurd (omega (arith, below))
 number_at n (a ∷ more) zero d h below = omega (arith, h.0)
 number_at n (a ∷ more) (suc i) d h below = omega (arith, number_at (n + 1) more i d h.1 (omega (arith, below)))
@@ -88,22 +88,22 @@ numbered = (refl, (refl, (refl, (refl, (refl, (refl, (refl, (refl, (refl, (refl,
 
 module _ (files : List RawFile) (d : RawDiagnostic) (c : RawConfig) (i : ℕ) where
   -- one more argument is valid
-  pub next-valid : ((b : Argument) (j : ℕ) → number_of b ≤ i → IsValidAt files d c b j) → ((j : ℕ) → IsValidAt files d c (get_or in_order i Abi) j)
-      → (b : Argument) (j : ℕ) → number_of b ≤ i + 1 → IsValidAt files d c b j
-  next-valid before here b j low = elim (cases_lt i (number_of b)) [
+  pub next-valid : ((b : Argument) (j : ℕ) → argument_number b ≤ i → IsValidAt files d c b j) → ((j : ℕ) → IsValidAt files d c (get_or in_order i Abi) j)
+      → (b : Argument) (j : ℕ) → argument_number b ≤ i + 1 → IsValidAt files d c b j
+  next-valid before here b j low = elim (cases_lt i (argument_number b)) [
     | inl above ↦
-        let is : number_of b ≡ i + 1 = omega (arith, above, low) in
+        let is : argument_number b ≡ i + 1 = omega (arith, above, low) in
         subst (λ a. IsValidAt files d c a j) (at_number b i Abi is) (here j)
     | inr below ↦ before b j below
   ]
 
   -- the argument at the index is the first invalid one
-  pub first-found : (index : ℕ) → i < 19 → ((b : Argument) (j : ℕ) → number_of b ≤ i → IsValidAt files d c b j) → IsFirstInvalidIndex (IsValidAt files d c (get_or in_order i Abi)) index
+  pub first-found : (index : ℕ) → i < 19 → ((b : Argument) (j : ℕ) → argument_number b ≤ i → IsValidAt files d c b j) → IsFirstInvalidIndex (IsValidAt files d c (get_or in_order i Abi)) index
       → IsFirstInvalid files d c (get_or in_order i Abi) index
   first-found index inside before found = record {
     invalid = found.invalid;
     before = found.before;
     arguments_before = λ b j lower.
-        let number : number_of (get_or in_order i Abi) ≡ 1 + i = number_at 1 in_order i Abi numbered inside in
+        let number : argument_number (get_or in_order i Abi) ≡ 1 + i = number_at 1 in_order i Abi numbered inside in
         before b j (omega (arith, lower, number));
   }

@@ -68,8 +68,8 @@ abbrev pub first_byte_of : List RawFile → ℕ → ℕ
 first_byte_of files id = option_map_or (λ f. f.first_byte) (slice_get files id) 0
 
 -- a label, with byte indices in the source of its file
-abbrev pub label_of : List RawFile → RawLabel → LabelView ℕ
-label_of files l = record {
+abbrev pub converted_label : List RawFile → RawLabel → LabelView ℕ
+converted_label files l = record {
   style = label_style_of l.style;
   file_id = l.file;
   range = record {
@@ -94,7 +94,7 @@ view_of files d = record {
   severity = severity_of d.severity;
   code = code_of d.code.now;
   message = d.message.now;
-  labels = map (label_of files) d.labels.now;
+  labels = map (converted_label files) d.labels.now;
   notes = map bytes_of d.notes.now;
 }
 
@@ -122,17 +122,17 @@ custom_chars c = record {
 }
 
 -- the characters that are chosen
-abbrev pub chars_of : RawConfig → Chars
-chars_of c =
+abbrev pub converted_chars : RawConfig → Chars
+converted_chars c =
     if c.characters == 0 then box_drawing else if c.characters == 1 then ascii
     else custom_chars c.chars
 
 -- the configuration; a tab stops after 1024 cells at most
-abbrev pub config_of : RawConfig → Config
-config_of c = record {
+abbrev pub converted_config : RawConfig → Config
+converted_config c = record {
   display_style = display_style_of c.display_style;
   tab_width = min c.tab_width 1024;
-  chars = chars_of c;
+  chars = converted_chars c;
   start_context_lines = c.start_context_lines;
   end_context_lines = c.end_context_lines;
   before_label_lines = c.before_label_lines;
@@ -190,5 +190,5 @@ source_in f = record {
 }
 
 -- the files
-abbrev pub files_of : List RawFile → FileDatabase ℕ
-files_of files = database_of (map source_in files)
+abbrev pub converted_files : List RawFile → FileDatabase ℕ
+converted_files files = database_of (map source_in files)

@@ -2,7 +2,7 @@
 use Rattle.std.specs.Prelude.{ℕ, ◌==◌, if◌then◌else◌, List, ◌++◌, codes}
 use Rattle.codespan_structs.specs.declared.error.Argument.TheVariants.{Abi, DisplayStyle, Layout, Spelling, Characters, SnippetStart, Character, Color, FileName, FileSource, FileLines, FileLocations, Severity, Code, Message, LabelStyle, LabelMessage, Note}
 use Rattle.codespan_structs.specs.Statuses.{OK, TOO_SMALL, OUT_OF_MEMORY, FILE_MISSING, INVALID}
-use Rattle.codespan_structs.specs.Validity.{number_of}
+use Rattle.codespan_structs.specs.Validity.{argument_number}
 
 -- the greatest length of a text, in bytes
 abbrev pub STATUS_TEXT_MAX : ℕ
@@ -20,29 +20,32 @@ status_text s =
 -- what an argument must be
 abbrev pub argument_text : ℕ → List ℕ
 argument_text a =
-    if a == number_of Abi then codes "the ABI version must be that of the library" else
-    if a == number_of DisplayStyle then
+    if a == argument_number Abi then codes "the ABI version must be that of the library" else
+    if a == argument_number DisplayStyle then
     codes "the display style must be one of those of the header" else
-    if a == number_of Layout then codes "the layout must be one of those of the header" else
-    if a == number_of Spelling then codes "the spelling must be one of those of the header" else
-    if a == number_of Characters then
+    if a == argument_number Layout then codes "the layout must be one of those of the header" else
+    if a == argument_number Spelling then
+    codes "the spelling must be one of those of the header" else
+    if a == argument_number Characters then
     codes "the choice of characters must be one of those of the header" else
-    if a == number_of SnippetStart then codes "the text before a locus must be UTF-8" else
-    if a == number_of Character then codes "a character must be a Unicode scalar value" else
-    if a == number_of Color then codes "a color must be one of those of the header" else
-    if a == number_of FileName then codes "the name of a file must be UTF-8" else
-    if a == number_of FileSource then codes "the source of a file must be UTF-8" else
-    if a == number_of FileLines then
+    if a == argument_number SnippetStart then codes "the text before a locus must be UTF-8" else
+    if a == argument_number Character then codes "a character must be a Unicode scalar value" else
+    if a == argument_number Color then codes "a color must be one of those of the header" else
+    if a == argument_number FileName then codes "the name of a file must be UTF-8" else
+    if a == argument_number FileSource then codes "the source of a file must be UTF-8" else
+    if a == argument_number FileLines then
     codes "the lines of a file must start with its source, ascend without overlap and end inside"
     ++ codes " it, at boundaries of characters" else
-    if a == number_of FileLocations then codes "the locations of a file must ascend strictly" else
-    if a == number_of Severity then codes "the severity must be one of those of the header" else
-    if a == number_of Code then codes "the code must be UTF-8" else
-    if a == number_of Message then codes "the message must be UTF-8" else
-    if a == number_of LabelStyle then
+    if a == argument_number FileLocations then
+    codes "the locations of a file must ascend strictly" else
+    if a == argument_number Severity then
+    codes "the severity must be one of those of the header" else
+    if a == argument_number Code then codes "the code must be UTF-8" else
+    if a == argument_number Message then codes "the message must be UTF-8" else
+    if a == argument_number LabelStyle then
     codes "the style of a label must be one of those of the header" else
-    if a == number_of LabelMessage then codes "the message of a label must be UTF-8" else
-    if a == number_of Note then codes "a note must be UTF-8" else
+    if a == argument_number LabelMessage then codes "the message of a label must be UTF-8" else
+    if a == argument_number Note then codes "a note must be UTF-8" else
     codes "an argument is invalid"
 
 -- of a status with an argument: of an invalid one, what it must be

@@ -75,26 +75,26 @@ IsOfAFile count l = l.file < count
 -- ---- arguments
 
 -- the number of an argument
-abbrev pub number_of : Argument → ℕ
-number_of Abi = 1
-number_of DisplayStyle = 2
-number_of Layout = 3
-number_of Spelling = 4
-number_of Characters = 5
-number_of SnippetStart = 6
-number_of Character = 7
-number_of Color = 8
-number_of FileName = 9
-number_of FileSource = 10
-number_of FileLines = 11
-number_of FileLocations = 12
-number_of Severity = 13
-number_of Code = 14
-number_of Message = 15
-number_of LabelStyle = 16
-number_of LabelMessage = 17
-number_of LabelFile = 18
-number_of Note = 19
+abbrev pub argument_number : Argument → ℕ
+argument_number Abi = 1
+argument_number DisplayStyle = 2
+argument_number Layout = 3
+argument_number Spelling = 4
+argument_number Characters = 5
+argument_number SnippetStart = 6
+argument_number Character = 7
+argument_number Color = 8
+argument_number FileName = 9
+argument_number FileSource = 10
+argument_number FileLines = 11
+argument_number FileLocations = 12
+argument_number Severity = 13
+argument_number Code = 14
+argument_number Message = 15
+argument_number LabelStyle = 16
+argument_number LabelMessage = 17
+argument_number LabelFile = 18
+argument_number Note = 19
 
 -- the fact holds of the value at this index, where there is one
 abbrev pub HoldsIfAt : {X : Type 0} → (X → Type 0) → List X → ℕ → Type 0
@@ -149,7 +149,8 @@ module _ (files : List RawFile) (d : RawDiagnostic) (c : RawConfig) where
   pub record IsFirstInvalid (a : Argument) (i : ℕ) : Type 0 where
     pub invalid : ¬ IsValidAt a i
     pub before : (j : ℕ) → j < i → IsValidAt a j
-    pub arguments_before : (b : Argument) (j : ℕ) → number_of b < number_of a → IsValidAt b j
+    pub arguments_before : (b : Argument) (j : ℕ) → argument_number b < argument_number a
+        → IsValidAt b j
 
   -- there is an invalid argument, and the first one is such an argument
   abbrev pub FirstInvalidIs : (Argument → Type 0) → Type 0
@@ -158,7 +159,7 @@ module _ (files : List RawFile) (d : RawDiagnostic) (c : RawConfig) where
   -- the detail names the first invalid argument, by its number and its index
   pub record NamesFirstInvalid (detail : Detail) : Type 0 where
     pub argument : Argument
-    pub number_is : detail.argument ≡ number_of argument
+    pub number_is : detail.argument ≡ argument_number argument
     pub first : IsFirstInvalid argument detail.index
 
 -- the detail that names no argument

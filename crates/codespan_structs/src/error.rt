@@ -49,11 +49,11 @@ pub enum Argument {
 
 impl Argument {
     ghost use Rattle.std.specs.Prelude.{◌≡◌};
-    ghost use Rattle.codespan_structs.specs.Validity.{number_of};
+    ghost use Rattle.codespan_structs.specs.Validity.{argument_number};
 
     /// Returns the number of the argument in the header.
     pub fn number(self) -> u32
-        ensures { result ≡ number_of self }
+        ensures { result ≡ argument_number self }
     {
         self as u32
     }

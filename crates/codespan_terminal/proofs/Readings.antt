@@ -20,11 +20,11 @@ use Rattle.codespan_base.specs.Ansi.{ansi_bold, ansi_color, ansi_reset, ansi_sty
 use Rattle.codespan_base.specs.StyleTables.{header_style, label_style}
 use Rattle.codespan_base.specs.Streams.{StyleMark, Header, HeaderMessage, LineNumber, NoteBullet, SourceBorder, LabelMark, Reset}
 use Rattle.codespan_documents.specs.declared.text.Run.{Run}
-use Rattle.codespan_documents.specs.Runs.{AreTexts, StyledRun, characters_of, run_view}
+use Rattle.codespan_documents.specs.Runs.{AreTexts, StyledRun, run_characters, run_view}
 use Rattle.codespan_documents.specs.declared.style.Style.{Style}
 use Rattle.codespan_documents.specs.declared.style.Style.TheVariants as Kinds
 use Rattle.codespan_base.specs.StyleTables.{ansi_spelling}
-use Rattle.codespan_terminal.specs.Terminal.{columns, is_safe, style_mark_of, next_reading, first_sequences, reading_after, run_bytes, runs_bytes, safe_characters, safe_text, shown, terminal_text, ShowsSafe, Text, Escape, Parameters, Unknown}
+use Rattle.codespan_terminal.specs.Terminal.{columns, is_safe, style_mark_of, next_reading, first_sequences, reading_after, run_bytes, runs_bytes, safe_characters, safe_text, visible, terminal_text, ShowsSafe, Text, Escape, Parameters, Unknown}
 use Rattle.codespan_terminal.proofs.UnsafeCells.{columns_stay}
 
 -- ---- characters
@@ -32,7 +32,7 @@ use Rattle.codespan_terminal.proofs.UnsafeCells.{columns_stay}
 -- read as text, the characters show these, and what follows them is read as text
 pub record Reads (cs s : List ℕ) : Type 0 where
   pub after : (rest : List ℕ) → reading_after Text (cs ++ rest) ≡ reading_after Text rest
-  pub shows : (rest : List ℕ) → shown Text (cs ++ rest) ≡ s ++ shown Text rest
+  pub shows : (rest : List ℕ) → visible Text (cs ++ rest) ≡ s ++ visible Text rest
 
 Reads-nil : Reads [] []
 Reads-nil = record { after = λ rest. refl; shows = λ rest. refl }
@@ -40,7 +40,7 @@ Reads-nil = record { after = λ rest. refl; shows = λ rest. refl }
 Reads-append : (a s b t : List ℕ) → Reads a s → Reads b t → Reads (a ++ b) (s ++ t)
 Reads-append a s b t p q = record {
   after = λ rest. ap (reading_after Text) (append_assoc a b rest) ∙ p.after (b ++ rest) ∙ q.after rest;
-  shows = λ rest. ap (shown Text) (append_assoc a b rest) ∙ p.shows (b ++ rest) ∙ ap (λ (l : List ℕ). s ++ l) (q.shows rest) ∙ sym (append_assoc s t (shown Text rest));
+  shows = λ rest. ap (visible Text) (append_assoc a b rest) ∙ p.shows (b ++ rest) ∙ ap (λ (l : List ℕ). s ++ l) (q.shows rest) ∙ sym (append_assoc s t (visible Text rest));
 }
 
 -- a safe character is no escape character
@@ -56,8 +56,8 @@ Reads-safe : (c : ℕ) (cs s : List ℕ) → is_safe c ≡ true → Reads cs s �
 Reads-safe c cs s h p = record {
   after = λ rest. ap (λ r. reading_after r (cs ++ rest)) (next_safe c h) ∙ p.after rest;
   shows = λ rest.
-      ap (λ b. cond b (shown Escape (cs ++ rest)) (c ∷ shown (next_reading Text c) (cs ++ rest))) (no_escape c h)
-      ∙ ap (λ r. c ∷ shown r (cs ++ rest)) (next_safe c h) ∙ ap (λ (l : List ℕ). c ∷ l) (p.shows rest);
+      ap (λ b. cond b (visible Escape (cs ++ rest)) (c ∷ visible (next_reading Text c) (cs ++ rest))) (no_escape c h)
+      ∙ ap (λ r. c ∷ visible r (cs ++ rest)) (next_safe c h) ∙ ap (λ (l : List ℕ). c ∷ l) (p.shows rest);
 }
 
 reads_step : (c : ℕ) (s : List ℕ) (b : Bool) → is_safe c ≡ b → Reads s s → Reads (cond b (c ∷ s) s) (cond b (c ∷ s) s)
@@ -90,11 +90,11 @@ parameters_after (p ∷ ps) rest h =
     ap (λ r. reading_after r (ps ++ 109 ∷ rest)) (next_parameter p parts.0) ∙ parameters_after ps rest parts.1
 
 parameters_show : (ps rest : List ℕ) → list_all is_parameter ps ≡ true
-    → shown Parameters (ps ++ 109 ∷ rest) ≡ shown Text rest
+    → visible Parameters (ps ++ 109 ∷ rest) ≡ visible Text rest
 parameters_show [] rest h = refl
 parameters_show (p ∷ ps) rest h =
     let parts = and_parts (is_parameter p) (list_all is_parameter ps) h in
-    ap (λ r. shown r (ps ++ 109 ∷ rest)) (next_parameter p parts.0) ∙ parameters_show ps rest parts.1
+    ap (λ r. visible r (ps ++ 109 ∷ rest)) (next_parameter p parts.0) ∙ parameters_show ps rest parts.1
 
 -- ---- texts
 
@@ -157,7 +157,7 @@ ReadsText-escape ps h =
     (IsAscii-cons 0x1b (91 ∷ (ps ++ 109 ∷ [])) (omega arith) (IsAscii-cons 91 (ps ++ 109 ∷ []) (omega arith) (ascii_parameters ps h)))
     (record {
       after = λ rest. ap (reading_after Parameters) (append_assoc ps (109 ∷ []) rest) ∙ parameters_after ps rest h;
-      shows = λ rest. ap (shown Parameters) (append_assoc ps (109 ∷ []) rest) ∙ parameters_show ps rest h;
+      shows = λ rest. ap (visible Parameters) (append_assoc ps (109 ∷ []) rest) ∙ parameters_show ps rest h;
     })
 
 ReadsText-reset : ReadsText ansi_reset []
@@ -240,25 +240,25 @@ ReadsText-first_sequences styles (Kinds.Label severity style) = ReadsText-mark s
 
 -- the safe characters of a run and of those after it
 safe_split : (text : List ℕ) (runs : List StyledRun)
-    → safe_characters (chars text) ++ safe_characters (characters_of runs) ≡ safe_characters (chars text ++ characters_of runs)
-safe_split text runs = sym (filter-append is_safe (chars text) (characters_of runs))
+    → safe_characters (chars text) ++ safe_characters (run_characters runs) ≡ safe_characters (chars text ++ run_characters runs)
+safe_split text runs = sym (filter-append is_safe (chars text) (run_characters runs))
 
-ReadsText-runs : (styles : Styles) (runs : List StyledRun) → AreTexts runs → ReadsText (runs_bytes styles runs) (safe_characters (characters_of runs))
+ReadsText-runs : (styles : Styles) (runs : List StyledRun) → AreTexts runs → ReadsText (runs_bytes styles runs) (safe_characters (run_characters runs))
 ReadsText-runs styles [] texts = ReadsText-nil
 ReadsText-runs styles (run ∷ runs) texts =
     let shown_run = safe_characters (chars run.text) in
     subst (ReadsText (runs_bytes styles (run ∷ runs))) (safe_split run.text runs)
-    (ReadsText-append (run_bytes styles run) shown_run (runs_bytes styles runs) (safe_characters (characters_of runs))
+    (ReadsText-append (run_bytes styles run) shown_run (runs_bytes styles runs) (safe_characters (run_characters runs))
     (ReadsText-append (ansi_spelling styles (style_mark_of run.style)) [] (safe_text run.text) shown_run
     (ReadsText-mark styles (style_mark_of run.style)) (ReadsText-safe run.text texts.0))
     (ReadsText-runs styles runs texts.1))
 
-ReadsText-terminal : (styles : Styles) (runs : List StyledRun) → AreTexts runs → ReadsText (terminal_text styles runs) (safe_characters (characters_of runs))
+ReadsText-terminal : (styles : Styles) (runs : List StyledRun) → AreTexts runs → ReadsText (terminal_text styles runs) (safe_characters (run_characters runs))
 ReadsText-terminal styles [] texts = ReadsText-nil
 ReadsText-terminal styles (first ∷ rest) texts =
     let shown_first = safe_characters (chars first.text) in
     subst (ReadsText (terminal_text styles (first ∷ rest))) (safe_split first.text rest)
-    (ReadsText-append (first_sequences styles first.style ++ safe_text first.text) shown_first (runs_bytes styles rest) (safe_characters (characters_of rest))
+    (ReadsText-append (first_sequences styles first.style ++ safe_text first.text) shown_first (runs_bytes styles rest) (safe_characters (run_characters rest))
     (ReadsText-append (first_sequences styles first.style) [] (safe_text first.text) shown_first
     (ReadsText-first_sequences styles first.style) (ReadsText-safe first.text texts.0))
     (ReadsText-runs styles rest texts.1))
@@ -268,12 +268,12 @@ pub shows_safe : (styles : Styles) (runs : List StyledRun) → AreTexts runs →
 shows_safe styles runs texts =
     let read = (ReadsText-terminal styles runs texts).reads in
     let cs = chars (terminal_text styles runs) in
-    let safe = safe_characters (characters_of runs) in
-    let shows : shown Text cs ≡ safe = ap (shown Text) (sym (append-nil cs)) ∙ read.shows [] ∙ append-nil safe in
+    let safe = safe_characters (run_characters runs) in
+    let shows : visible Text cs ≡ safe = ap (visible Text) (sym (append-nil cs)) ∙ read.shows [] ∙ append-nil safe in
     record {
       ends_in_text = ap (reading_after Text) (sym (append-nil cs)) ∙ read.after [];
       shows = shows;
-      in_columns = λ tab. ap (columns tab 0) shows ∙ columns_stay tab 0 (characters_of runs);
+      in_columns = λ tab. ap (columns tab 0) shows ∙ columns_stay tab 0 (run_characters runs);
     }
 
 -- the texts of runs that are strings are UTF-8

@@ -8,7 +8,7 @@ use Rattle.codespan_base.specs.StyleTables.{ansi_spelling}
 use Rattle.codespan_base.specs.Streams.{StyleMark, Header, HeaderMessage, LineNumber, NoteBullet, SourceBorder, LabelMark, Reset}
 use Rattle.codespan_base.specs.declared.term.config.styles.Styles.{Styles}
 use Rattle.codespan_picture.specs.CharMetrics.{width_at}
-use Rattle.codespan_documents.specs.Runs.{StyledRun, characters_of}
+use Rattle.codespan_documents.specs.Runs.{StyledRun, run_characters}
 use Rattle.codespan_documents.specs.declared.style.Style.{Style}
 use Rattle.codespan_documents.specs.declared.style.Style.TheVariants as Kinds
 
@@ -83,10 +83,11 @@ reading_after reading [] = reading
 reading_after reading (c ∷ cs) = reading_after (next_reading reading c) cs
 
 -- the characters that it shows: those of text outside sequences
-abbrev pub shown : Reading → List ℕ → List ℕ
-shown reading [] = []
-shown Text (c ∷ cs) = if c == 0x1b then shown Escape cs else c ∷ shown (next_reading Text c) cs
-shown reading (c ∷ cs) = shown (next_reading reading c) cs
+abbrev pub visible : Reading → List ℕ → List ℕ
+visible reading [] = []
+visible Text (c ∷ cs) =
+    if c == 0x1b then visible Escape cs else c ∷ visible (next_reading Text c) cs
+visible reading (c ∷ cs) = visible (next_reading reading c) cs
 
 -- ---- columns
 
@@ -115,10 +116,10 @@ pub record ShowsSafe (text : List ℕ) (runs : List StyledRun) : Type 0 where
   -- directional control: after any of them a reader would not be in text again
   pub ends_in_text : reading_after Text (chars text) ≡ Text
   -- it shows the safe characters of the runs
-  pub shows : shown Text (chars text) ≡ safe_characters (characters_of runs)
+  pub shows : visible Text (chars text) ≡ safe_characters (run_characters runs)
   -- each has the column that it has among all characters of the runs
   pub in_columns : (tab : ℕ)
-      → columns tab 0 (shown Text (chars text)) ≡ safe_columns tab 0 (characters_of runs)
+      → columns tab 0 (visible Text (chars text)) ≡ safe_columns tab 0 (run_characters runs)
 
 -- each character of the runs is safe
 abbrev pub AreSafe : List StyledRun → Type 0

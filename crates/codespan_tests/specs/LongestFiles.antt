@@ -96,9 +96,9 @@ cut_at i h =
     (cases_lt i greatest))
 
 -- a byte's line has the byte's index
-pub line_at : (byte : ℕ) → byte < 2 ^ 64 → line_of longest_starts byte ≡ byte
+pub line_of_byte : (byte : ℕ) → byte < 2 ^ 64 → line_of longest_starts byte ≡ byte
 unfolding line_of
-line_at byte h =
+line_of_byte byte h =
     omega (
       arith,
       count_split byte longest_starts (byte + 1) (omega (arith, h, starts_len))
@@ -134,4 +134,4 @@ pub longest_past_end : (name : List ℕ) (i : ℕ)
     → FailsPastEnd (longest_file name) i (longest_failure (LineRange i))
 longest_past_end name i there = rw starts_len (past_end_is (2 ^ 64) i)
 
-pub ruleset longest_lines = (line_at, start_at, starts_len)
+pub ruleset longest_lines = (line_of_byte, start_at, starts_len)

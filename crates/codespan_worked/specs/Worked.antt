@@ -86,9 +86,9 @@ abbrev pub numbered : List FileModel → ℕ → FileModel
 numbered files id = option_map_or (λ f. f) (slice_get files id) missing_file
 
 -- what is rendered in a style, with the names that the files state
-abbrev pub shown : DisplayStyle → Config → DiagnosticText → List FileModel → List (InFile ℕ)
-    → Stream
-shown style config diagnostic files labels =
+abbrev pub worked_output_of : DisplayStyle → Config → DiagnosticText → List FileModel
+    → List (InFile ℕ) → Stream
+worked_output_of style config diagnostic files labels =
     rendered style config config diagnostic.severity
     (record { code = diagnostic.code; message = diagnostic.message })
     (map stated_locus (starts ◌==◌ (numbered files) labels style))
@@ -96,15 +96,15 @@ shown style config diagnostic files labels =
 
 -- in rich style
 abbrev pub rich : Config → DiagnosticText → List FileModel → List (InFile ℕ) → Stream
-rich config diagnostic files labels = shown Rich config diagnostic files labels
+rich config diagnostic files labels = worked_output_of Rich config diagnostic files labels
 
 -- in medium style
 abbrev pub medium : Config → DiagnosticText → List FileModel → List (InFile ℕ) → Stream
-medium config diagnostic files labels = shown Medium config diagnostic files labels
+medium config diagnostic files labels = worked_output_of Medium config diagnostic files labels
 
 -- in short style
 abbrev pub short : Config → DiagnosticText → List FileModel → List (InFile ℕ) → Stream
-short config diagnostic files labels = shown Short config diagnostic files labels
+short config diagnostic files labels = worked_output_of Short config diagnostic files labels
 
 -- ---- texts of several worked outputs
 

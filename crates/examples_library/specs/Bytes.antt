@@ -4,5 +4,5 @@ use Rattle.std.specs.declared.ops.Range.{Range}
 use Rattle.examples_library.specs.declared.config.Word.{Word}
 
 -- the range of a word
-abbrev pub bytes : Word → Range ℕ
-bytes w = record { start = w.start; end = w.end }
+abbrev pub byte_range : Word → Range ℕ
+byte_range w = record { start = w.start; end = w.end }

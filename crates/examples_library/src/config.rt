@@ -4,7 +4,7 @@
 //! A line is empty or sets a name to a number or to a name above.
 
 ghost use Rattle.std.specs.Prelude.{◌≡◌, ◌≤◌, All, IfOk, IfSome, length, slice_get};
-ghost use Rattle.examples_library.specs.Bytes.{bytes};
+ghost use Rattle.examples_library.specs.Bytes.{byte_range};
 
 use codespan_base::diagnostic::{Diagnostic, Label, LabelStyle};
 use codespan_base::files::Error;
@@ -47,7 +47,7 @@ impl ParseError {
     /// `OutOfMemory`: an allocation fails.
     pub fn diagnostic(&self, alloc: Global) -> Result<Diagnostic<()>, Error>
         ensures { IfOk result (λ d. IfSome (slice_get d.labels.items 0) (λ label.
-            (label.style ≡ LabelStyle.Primary) × (label.range ≡ bytes self.now.word))) }
+            (label.style ≡ LabelStyle.Primary) × (label.range ≡ byte_range self.now.word))) }
     {
         let label = Label::primary(alloc, (), self.word.start..self.word.end);
         let error = Diagnostic::error(alloc)

@@ -23,8 +23,8 @@ shown_byte b =
     else b ∷ []
 
 -- an output as it is shown
-abbrev pub shown : List ℕ → List ℕ
-shown output = flat_map shown_byte output
+abbrev pub with_escapes : List ℕ → List ℕ
+with_escapes output = flat_map shown_byte output
 
 -- the line of an error: nothing if there is none, else a line with the error's text
 abbrev pub IsErrorLine : Result (Unit {0}) Error → List ℕ → Type 0
@@ -39,7 +39,7 @@ pub record IsSection (case : Case) (text : List ℕ) : Type 0 where
   pub rendered : Result (Unit {0}) Error
   pub output : List ℕ
   pub error_line : List ℕ
-  pub is : text ≡ shown output ++ error_line
+  pub is : text ≡ with_escapes output ++ error_line
   pub failure : IsErrorLine rendered error_line
   pub plain : case.colors ≡ Plain → OnOk rendered (IsOutput case output)
   pub document : case.colors ≡ Svg → OnOk rendered (IsSvg case output)

@@ -4,7 +4,7 @@ ghost use Rattle.std.specs.Prelude.{◌≡◌, ℕ, List, ◌++◌, IfOk, OnOk};
 ghost use Rattle.gallery_script.specs.declared.case.Colors.TheVariants.{Plain, Svg};
 ghost use Rattle.gallery_cases.specs.CaseOutputs.{AppendsOutput};
 ghost use Rattle.gallery_cases.specs.Documents.{AppendsSvg};
-ghost use Rattle.gallery_cases.specs.Galleries.{heading, shown, IsSection, IsGallery, IsErrorLine};
+ghost use Rattle.gallery_cases.specs.Galleries.{heading, with_escapes, IsSection, IsGallery, IsErrorLine};
 
 use crate::document::document;
 use crate::rendering::render;
@@ -46,7 +46,7 @@ fn add_output(alloc: Global, gallery: &mut Vec<u8>, case: &Case<'_>) -> Result<(
 {
     let mut output = Vec::new(alloc);
     let rendered = render_as_stated(alloc, case, &mut output);
-    add_shown(gallery, output.as_slice())?;
+    add_with_escapes(gallery, output.as_slice())?;
     add_failure(alloc, gallery, rendered)
 }
 
@@ -92,8 +92,8 @@ fn add_failure(
 
 /// Appends an output as it is shown: the escape character, the null character, the carriage return
 /// and the tab by a backslash and a letter or digit, all else unchanged.
-fn add_shown(gallery: &mut Vec<u8>, rendered: &[u8]) -> Result<(), AllocError>
-    ensures { OnOk result (gallery.new.items ≡ gallery.old.items ++ shown rendered.now) }
+fn add_with_escapes(gallery: &mut Vec<u8>, rendered: &[u8]) -> Result<(), AllocError>
+    ensures { OnOk result (gallery.new.items ≡ gallery.old.items ++ with_escapes rendered.now) }
 {
     for byte in rendered {
         match *byte {

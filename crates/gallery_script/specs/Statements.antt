@@ -33,9 +33,9 @@ abbrev pub UnescapesTo : List ℕ → List ℕ → Type 0
 UnescapesTo text bytes = Unescapes text (Some bytes)
 
 -- the word of labels of a style
-abbrev pub style_word : LabelStyle → Word
-style_word styles.Primary = Primary
-style_word styles.Secondary = Secondary
+abbrev pub label_style_word : LabelStyle → Word
+label_style_word styles.Primary = Primary
+label_style_word styles.Secondary = Secondary
 
 -- the rest has the numbers of context lines: after a first line, before a last one, before a
 -- label and after it
@@ -80,7 +80,7 @@ Describes word rest (statements.Code code) =
 Describes word rest (statements.Message message) =
     (word ≡ Some Message) × UnescapesTo rest (string_bytes message)
 Describes word rest (statements.Label label) =
-    (word ≡ Some (style_word label.style)) × IsLabel rest label
+    (word ≡ Some (label_style_word label.style)) × IsLabel rest label
 Describes word rest (statements.Note note) =
     (word ≡ Some Note) × UnescapesTo rest (string_bytes note)
 

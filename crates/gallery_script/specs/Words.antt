@@ -14,7 +14,7 @@ use Rattle.gallery_script.specs.declared.case.CharacterSet.TheVariants as sets
 use Rattle.gallery_script.specs.declared.words.Word.{Word}
 use Rattle.gallery_script.specs.declared.words.Word.TheVariants.{Database, File, Source, Number, Style, Layout, Tab, Context, Characters, Colors, Severity, Code, Message, Primary, Secondary, Note}
 
--- the word of this spelling
+-- the word of this text
 unfoldable pub word_named : List ℕ → Option Word
 word_named text =
     if bytes_eq text (codes "database") then Some Database

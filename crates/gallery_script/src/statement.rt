@@ -2,7 +2,7 @@
 
 ghost use Rattle.std.specs.Prelude.{◌≡◌, Some, IfOk, IfErr};
 ghost use Rattle.std.specs.Option.{ok_or};
-ghost use Rattle.gallery_script.specs.Statements.{ParsesTo, Describes, IsWrong, IsWrongLine, style_word};
+ghost use Rattle.gallery_script.specs.Statements.{ParsesTo, Describes, IsWrong, IsWrongLine, label_style_word};
 ghost use Rattle.gallery_script.specs.declared.errors.LineError.TheVariants.{UnknownName};
 ghost use Rattle.gallery_script.specs.declared.words.Word.TheVariants as words;
 
@@ -162,8 +162,8 @@ fn parse_context(rest: &str) -> Result<Statement, LineError>
 
 /// Parses the rest of a line of a label in this style.
 fn parse_label(alloc: Global, style: LabelStyle, rest: &str) -> Result<Statement, LineError>
-    ensures parsed { IfOk result (Describes (Some (style_word style)) rest.now) }
-    ensures wrong { IfErr result (IsWrong (Some (style_word style)) rest.now) }
+    ensures parsed { IfOk result (Describes (Some (label_style_word style)) rest.now) }
+    ensures wrong { IfErr result (IsWrong (Some (label_style_word style)) rest.now) }
 {
     let (file_id, left) = cut_number(rest)?;
     let (start, left) = cut_number(left)?;

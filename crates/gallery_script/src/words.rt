@@ -44,7 +44,7 @@ pub enum Word {
     Note,
 }
 
-/// Returns the word of this spelling, or `None`.
+/// Returns the word of this text, or `None`.
 #[tactic(auto, unfolding(crate::specs::Words::word_named))]
 pub fn parse_word(text: &str) -> Option<Word>
     ensures { result ≡ word_named text.now }

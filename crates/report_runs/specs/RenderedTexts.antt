@@ -42,8 +42,8 @@ abbrev pub view_labels : DiagnosticView (Unit {0}) → List (InFile (Unit {0}))
 view_labels diagnostic = map view_label diagnostic.labels
 
 -- the configuration: the default one, in this display style
-abbrev pub config_of : DisplayStyle → Config
-config_of style = record default_config { display_style = style }
+abbrev pub report_config : DisplayStyle → Config
+report_config style = record default_config { display_style = style }
 
 -- the one file of a name and a source, whatever its id
 abbrev pub only_file : List ℕ → List ℕ → Unit {0} → FileModel
@@ -52,7 +52,7 @@ only_file name source id = simple_file (Some name) source
 -- the text of the diagnostic's output, in a style, over the file of a name and a source
 unfoldable pub output_text : DisplayStyle → List ℕ → List ℕ → DiagnosticView (Unit {0}) → List ℕ
 output_text style name source diagnostic =
-    text_of (rendered style (config_of style) (config_of style) diagnostic.severity
+    text_of (rendered style (report_config style) (report_config style) diagnostic.severity
     (view_heading diagnostic)
     (map stated_locus (starts (λ i j. true) (only_file name source) (view_labels diagnostic) style))
     (labeled_file_models (λ i j. true) (only_file name source) (view_labels diagnostic))

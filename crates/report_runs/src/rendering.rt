@@ -3,7 +3,7 @@
 ghost use Rattle.std.specs.Prelude.{◌≡◌, IfOk, IfErr, Ok, string_bytes};
 ghost use Rattle.codespan_base.specs.ConfigEquality.{IsEqualConfig};
 ghost use Rattle.codespan_base.specs.Diagnostics.{diagnostic_view};
-ghost use Rattle.report_runs.specs.RenderedTexts.{config_of, rendering_of, rendering_of_script, output_text, IsRenderFailure};
+ghost use Rattle.report_runs.specs.RenderedTexts.{report_config, rendering_of, rendering_of_script, output_text, IsRenderFailure};
 ghost use Rattle.report_script.specs.Requests.{request_view};
 ghost use Rattle.report_script.specs.Scripts.{read_script};
 
@@ -102,7 +102,7 @@ fn render_over(
 
 /// Returns the default configuration, in a display style.
 fn config_in(style: DisplayStyle) -> Config<'static>
-    ensures { IsEqualConfig (config_of style) result }
+    ensures { IsEqualConfig (report_config style) result }
 {
     Config {
         display_style: style,

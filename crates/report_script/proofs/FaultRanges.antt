@@ -21,8 +21,8 @@ use Rattle.report_script.specs.Requests.{number_of}
 use Rattle.report_script.specs.ScriptFaults.{fault_at, fault_from, line_of_word, line_fault, number_fault, or_fault, repetition, severity_fault, word_fault}
 use Rattle.report_script.specs.ScriptLaws.{FaultLiesIn, FaultsLieInside, LiesIn}
 use Rattle.report_script.specs.ScriptLines.{ScriptLine, body, is_end, is_newline, is_ignored}
-use Rattle.report_script.specs.ScriptLines.{lines_from, lines_of, range_at, rest_of}
-use Rattle.report_script.specs.ScriptLines.{source_of, word_of, word_range}
+use Rattle.report_script.specs.ScriptLines.{script_lines_from, script_lines, range_at, rest_of}
+use Rattle.report_script.specs.ScriptLines.{script_source, word_of, word_range}
 use Rattle.report_script.specs.ScriptWords.{word_named}
 use Rattle.report_script.specs.Scripts.{read_lines, read_script}
 
@@ -157,7 +157,7 @@ module _ (input : List ℕ) (utf8 : IsUtf8 input) where
 
   -- the lines of what is left of the input
   lines_are_at : (start : ℕ) (pieces : List (List ℕ)) → start ≤ length input → IsCharBoundary input start → drop start input ≡ join_with_byte 10 pieces
-      → AllByRecursion IsLineAt (lines_from start pieces)
+      → AllByRecursion IsLineAt (script_lines_from start pieces)
   lines_are_at start [] within cut is = tt
   lines_are_at start (piece ∷ []) within cut is =
       let long : start + length piece ≡ length input = omega (arith, ap length is, length-drop start input) in (
@@ -282,9 +282,9 @@ module _ (input : List ℕ) (utf8 : IsUtf8 input) where
 
 -- the ranges of an error lie inside the input
 pub faults_lie : (input : List ℕ) → FaultsLieInside input
-unfolding read_script lines_of
+unfolding read_script script_lines
 faults_lie input utf8 =
     let pieces : List (List ℕ) = slice_split is_newline input in
     let all = lines_are_at input utf8 0 pieces (omega arith) (IsCharBoundary-start input utf8) (sym (join_with_byte-slice_split 10 input)) in
-    read_lies input utf8 (body (lines_from 0 pieces)) (fault_from [] (body (lines_from 0 pieces))) (source_of input (lines_from 0 pieces))
-    (fault_lies input utf8 [] (body (lines_from 0 pieces)) tt (body_at input utf8 (lines_from 0 pieces) all))
+    read_lies input utf8 (body (script_lines_from 0 pieces)) (fault_from [] (body (script_lines_from 0 pieces))) (script_source input (script_lines_from 0 pieces))
+    (fault_lies input utf8 [] (body (script_lines_from 0 pieces)) tt (body_at input utf8 (script_lines_from 0 pieces) all))

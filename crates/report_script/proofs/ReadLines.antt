@@ -10,7 +10,7 @@ use Rattle.codespan_base.specs.declared.diagnostic.Severity.TheVariants.{Bug, Er
 use Rattle.script_words.specs.Fields.{field_of, is_space, past_space}
 use Rattle.script_words.specs.Names.{severity_named}
 use Rattle.report_script.specs.Requests.{number_of}
-use Rattle.report_script.specs.Statements.{IsStatable, Statement, code_stated, fields, label_fields, label_stated, message_stated, note_stated, severity_name, severity_stated, statement_line}
+use Rattle.report_script.specs.Statements.{IsStatable, Statement, code_stated, fields, label_fields, label_stated, message_stated, note_stated, severity_word, severity_stated, statement_line}
 use Rattle.report_script.specs.Statements.Statement.{SeverityLine, CodeLine, MessageLine, LabelLine, NoteLine, CommentLine, EmptyLine}
 use Rattle.report_script.specs.ScriptLines.{ScriptLine, rest_of, word_of}
 use Rattle.report_script.specs.ScriptWords.{word_named}
@@ -29,7 +29,7 @@ abbrev pub rest_by : List ℕ → ScriptLine → Option (List ℕ)
 rest_by word line = if bytes_eq (word_of line) word then Some (rest_of line) else None
 
 -- the severity, the code, the message and the note of a line are those of its statement
-pub severity_read : (start : ℕ) (s : Statement) → IsStatable s → rest_by (codes "severity") (line_at start s) ≡ option_map severity_name (severity_stated s)
+pub severity_read : (start : ℕ) (s : Statement) → IsStatable s → rest_by (codes "severity") (line_at start s) ≡ option_map severity_word (severity_stated s)
 severity_read start (SeverityLine severity) can = refl
 severity_read start (CodeLine text) can = refl
 severity_read start (MessageLine text) can = refl
@@ -70,7 +70,7 @@ note_read start (CommentLine text) can = ap (λ word. if bytes_eq word (codes "n
 note_read start EmptyLine can = refl
 
 -- the name of a severity names it
-pub name_read : (severity : Severity) → severity_named (severity_name severity) ≡ Some severity
+pub name_read : (severity : Severity) → severity_named (severity_word severity) ≡ Some severity
 unfolding severity_named
 name_read Bug = refl
 name_read Error = refl

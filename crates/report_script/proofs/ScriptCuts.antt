@@ -7,7 +7,7 @@ use Rattle.std.proofs.lemmas.Bool.Decides.{nat_tests}
 use Rattle.std.proofs.lemmas.Grind.{common_steps}
 use Rattle.std.proofs.lemmas.List.{drop-drop, drop_at, take_at, take_all, take_more, get_or_push, length-append, length_push}
 use Rattle.std.proofs.lemmas.List.Splits.{length-slice_split}
-use Rattle.report_script.specs.ScriptLines.{is_newline, lines_from}
+use Rattle.report_script.specs.ScriptLines.{is_newline, script_lines_from}
 
 -- no element of the list is c
 abbrev pub Lacks : ℕ → List ℕ → Type 0
@@ -38,28 +38,28 @@ some_piece p xs = omega (arith, length-slice_split p xs)
 
 -- a piece with others after it is a line, and the others begin after its newline
 pub line_then : (start : ℕ) (piece : List ℕ) (pieces : List (List ℕ)) → 0 < length pieces
-    → lines_from start (piece ∷ pieces) ≡ record { start = start; text = strip_carriage_return piece; next = start + length piece + 1 } ∷ lines_from (start + length piece + 1) pieces
+    → script_lines_from start (piece ∷ pieces) ≡ record { start = start; text = strip_carriage_return piece; next = start + length piece + 1 } ∷ script_lines_from (start + length piece + 1) pieces
 line_then start piece [] some = absurd (omega arith)
 line_then start piece (other ∷ more) some = refl
 
 -- the first line of what is left of an input
 pub first_then : (size : ℕ) (left text after : List ℕ) → length left ≤ size → left ≡ text ++ 10 ∷ after → Lacks 10 text
-    → lines_from (size - length left) (slice_split is_newline left)
-    ≡ record { start = size - length left; text = strip_carriage_return text; next = size - length after } ∷ lines_from (size - length after) (slice_split is_newline after)
+    → script_lines_from (size - length left) (slice_split is_newline left)
+    ≡ record { start = size - length left; text = strip_carriage_return text; next = size - length after } ∷ script_lines_from (size - length after) (slice_split is_newline after)
 first_then size left text after within is lacks =
     let long : length left ≡ length text + length (10 ∷ after) = ap length is ∙ length-append text (10 ∷ after) in
     let at : size - length left + length text + 1 ≡ size - length after = omega arith in
-    ap (λ l. lines_from (size - length left) (slice_split is_newline l)) is
-    ∙ ap (lines_from (size - length left)) (pieces_at 10 text after lacks)
+    ap (λ l. script_lines_from (size - length left) (slice_split is_newline l)) is
+    ∙ ap (script_lines_from (size - length left)) (pieces_at 10 text after lacks)
     ∙ line_then (size - length left) text (slice_split is_newline after) (some_piece is_newline after)
-    ∙ ap (λ n. record { start = size - length left; text = strip_carriage_return text; next = n } ∷ lines_from n (slice_split is_newline after)) at
+    ∙ ap (λ n. record { start = size - length left; text = strip_carriage_return text; next = n } ∷ script_lines_from n (slice_split is_newline after)) at
 
 -- the one line of what is left without a newline
 pub last_line : (size : ℕ) (left : List ℕ) → length left ≤ size → Lacks 10 left
-    → lines_from (size - length left) (slice_split is_newline left) ≡ record { start = size - length left; text = left; next = size } ∷ []
+    → script_lines_from (size - length left) (slice_split is_newline left) ≡ record { start = size - length left; text = left; next = size } ∷ []
 last_line size left within lacks =
     let at : size - length left + length left ≡ size = omega arith in
-    ap (lines_from (size - length left)) (pieces_of_one 10 left lacks)
+    ap (script_lines_from (size - length left)) (pieces_of_one 10 left lacks)
     ∙ ap (λ n. record { start = size - length left; text = left; next = n } ∷ []) at
 
 -- a list that ends in its last element

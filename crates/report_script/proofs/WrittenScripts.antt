@@ -11,9 +11,9 @@ use Rattle.codespan_base.specs.declared.diagnostic.LabelStyle.TheVariants.{Prima
 use Rattle.codespan_base.specs.declared.diagnostic.Severity.{Severity}
 use Rattle.codespan_base.specs.declared.diagnostic.Severity.TheVariants.{Bug, Error, Warning, Note, Help}
 use Rattle.script_words.specs.Fields.{field_of, is_space, past_space}
-use Rattle.report_script.specs.Statements.{IsLineEnd, IsStatable, Statement, fields, label_fields, severity_name, statement_line, written}
+use Rattle.report_script.specs.Statements.{IsLineEnd, IsStatable, Statement, fields, label_fields, severity_word, statement_line, written}
 use Rattle.report_script.specs.Statements.Statement.{SeverityLine, CodeLine, MessageLine, LabelLine, NoteLine, CommentLine, EmptyLine}
-use Rattle.report_script.specs.ScriptLines.{ScriptLine, body, is_newline, lines_from, source_of}
+use Rattle.report_script.specs.ScriptLines.{ScriptLine, body, is_newline, script_lines_from, script_source}
 use Rattle.report_script.proofs.Numbers.{digits_of_decimal}
 use Rattle.report_script.proofs.ScriptCuts.{Lacks, past_one, left_after, line_then, pieces_at, some_piece}
 
@@ -90,7 +90,7 @@ end_label range (Some message) fits =
     (end_after (32 ∷ []) (decimal range.end ++ 32 ∷ message) (above (32 ∷ []) refl)
     (end_decimal range.end (32 ∷ message) fits.1 (end_after (32 ∷ []) message (above (32 ∷ []) refl) fits.2)))
 
-end_name : (severity : Severity) → IsLineEnd (severity_name severity)
+end_name : (severity : Severity) → IsLineEnd (severity_word severity)
 end_name Bug = end_after (codes "bug") [] (above (codes "bug") refl) end_nothing
 end_name Error = end_after (codes "error") [] (above (codes "error") refl) end_nothing
 end_name Warning = end_after (codes "warning") [] (above (codes "warning") refl) end_nothing
@@ -99,7 +99,7 @@ end_name Help = end_after (codes "help") [] (above (codes "help") refl) end_noth
 
 -- a line that a statement is written in is one line
 line_ends : (s : Statement) → IsStatable s → IsLineEnd (statement_line s)
-line_ends (SeverityLine severity) can = end_after (codes "severity ") (severity_name severity) (above (codes "severity ") refl) (end_name severity)
+line_ends (SeverityLine severity) can = end_after (codes "severity ") (severity_word severity) (above (codes "severity ") refl) (end_name severity)
 line_ends (CodeLine text) can = end_after (codes "code ") text (above (codes "code ") refl) can
 line_ends (MessageLine text) can = end_after (codes "message ") text (above (codes "message ") refl) can
 line_ends (LabelLine Primary range message) can = end_after (codes "primary ") (label_fields range message) (above (codes "primary ") refl) (end_label range message can)
@@ -139,43 +139,43 @@ written_after : (s : Statement) (ss : List Statement) (source : List ℕ) → wr
 written_after s ss source = simp append_assoc
 
 first_line : (start : ℕ) (s : Statement) (ss : List Statement) (source : List ℕ) → IsStatable s
-    → lines_from start (slice_split is_newline (written (s ∷ ss) source))
-    ≡ line_at start s ∷ lines_from (start + length (statement_line s) + 1) (slice_split is_newline (written ss source))
+    → script_lines_from start (slice_split is_newline (written (s ∷ ss) source))
+    ≡ line_at start s ∷ script_lines_from (start + length (statement_line s) + 1) (slice_split is_newline (written ss source))
 first_line start s ss source can =
     let pieces : List (List ℕ) = slice_split is_newline (written ss source) in
     let lacks : Lacks 10 (statement_line s) = λ i below. (line_ends s can).no_newline i 0 below in
-    ap (λ text. lines_from start (slice_split is_newline text)) (written_after s ss source)
-    ∙ ap (lines_from start) (pieces_at 10 (statement_line s) (written ss source) lacks)
+    ap (λ text. script_lines_from start (slice_split is_newline text)) (written_after s ss source)
+    ∙ ap (script_lines_from start) (pieces_at 10 (statement_line s) (written ss source) lacks)
     ∙ line_then start (statement_line s) pieces (some_piece is_newline (written ss source))
-    ∙ ap (λ text. record { start = start; text = text; next = start + length (statement_line s) + 1 } ∷ lines_from (start + length (statement_line s) + 1) pieces) (line_unchanged s can)
+    ∙ ap (λ text. record { start = start; text = text; next = start + length (statement_line s) + 1 } ∷ script_lines_from (start + length (statement_line s) + 1) pieces) (line_unchanged s can)
 
 end_line : (start : ℕ) (source : List ℕ)
-    → lines_from start (slice_split is_newline (written [] source))
-    ≡ record { start = start; text = codes "---"; next = start + 3 + 1 } ∷ lines_from (start + 3 + 1) (slice_split is_newline source)
+    → script_lines_from start (slice_split is_newline (written [] source))
+    ≡ record { start = start; text = codes "---"; next = start + 3 + 1 } ∷ script_lines_from (start + 3 + 1) (slice_split is_newline source)
 end_line start source =
-    ap (lines_from start) (pieces_at 10 (codes "---") source no_newline)
+    ap (script_lines_from start) (pieces_at 10 (codes "---") source no_newline)
     ∙ line_then start (codes "---") (slice_split is_newline source) (some_piece is_newline source)
   where
     no_newline : Lacks 10 (codes "---")
     no_newline i below is = let large = above (codes "---") refl i below in omega (arith, large, is)
 
 pub body_written : (start : ℕ) (ss : List Statement) (source : List ℕ) → AllByRecursion IsStatable ss
-    → body (lines_from start (slice_split is_newline (written ss source))) ≡ statement_lines start ss
+    → body (script_lines_from start (slice_split is_newline (written ss source))) ≡ statement_lines start ss
 body_written start [] source can = ap body (end_line start source)
 body_written start (s ∷ ss) source can =
     let next : ℕ = start + length (statement_line s) + 1 in
-    let lines : List ScriptLine = lines_from next (slice_split is_newline (written ss source)) in
+    let lines : List ScriptLine = script_lines_from next (slice_split is_newline (written ss source)) in
     ap body (first_line start s ss source can.0)
     ∙ ap (λ b. if b then [] else line_at start s ∷ body lines) (line_goes_on s)
     ∙ ap (λ ls. line_at start s ∷ ls) (body_written next ss source can.1)
 
 pub source_written : (input : List ℕ) (start : ℕ) (ss : List Statement) (source : List ℕ) → AllByRecursion IsStatable ss → drop start input ≡ written ss source
-    → source_of input (lines_from start (slice_split is_newline (written ss source))) ≡ Some source
+    → script_source input (script_lines_from start (slice_split is_newline (written ss source))) ≡ Some source
 source_written input start [] source can is =
-    ap (source_of input) (end_line start source) ∙ ap Some (left_after input start (codes "---") source is)
+    ap (script_source input) (end_line start source) ∙ ap Some (left_after input start (codes "---") source is)
 source_written input start (s ∷ ss) source can is =
     let next : ℕ = start + length (statement_line s) + 1 in
-    let lines : List ScriptLine = lines_from next (slice_split is_newline (written ss source)) in
-    ap (source_of input) (first_line start s ss source can.0)
-    ∙ ap (λ b. if b then Some (drop next input) else source_of input lines) (line_goes_on s)
+    let lines : List ScriptLine = script_lines_from next (slice_split is_newline (written ss source)) in
+    ap (script_source input) (first_line start s ss source can.0)
+    ∙ ap (λ b. if b then Some (drop next input) else script_source input lines) (line_goes_on s)
     ∙ source_written input next ss source can.1 (left_after input start (statement_line s) (written ss source) (is ∙ written_after s ss source))

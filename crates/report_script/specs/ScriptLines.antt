@@ -14,8 +14,8 @@ pub record ScriptLine : Type 0 where
   pub next : ℕ
 
 -- a line by its text's bytes
-abbrev pub line_view : Line → ScriptLine
-line_view line = record { start = line.start; text = line.text.now; next = line.next }
+abbrev pub script_line_view : Line → ScriptLine
+script_line_view line = record { start = line.start; text = line.text.now; next = line.next }
 
 -- the byte at which lines are cut
 abbrev pub is_newline : ℕ → Bool
@@ -23,17 +23,17 @@ is_newline b = b == 10
 
 -- the lines of pieces that are cut at each newline, of which the first starts at this byte; a `\r`
 -- right before a newline is dropped
-abbrev pub lines_from : ℕ → List (List ℕ) → List ScriptLine
-lines_from start [] = []
-lines_from start (piece ∷ []) =
+abbrev pub script_lines_from : ℕ → List (List ℕ) → List ScriptLine
+script_lines_from start [] = []
+script_lines_from start (piece ∷ []) =
     record { start = start; text = piece; next = start + length piece } ∷ []
-lines_from start (piece ∷ other ∷ more) =
+script_lines_from start (piece ∷ other ∷ more) =
     record { start = start; text = strip_carriage_return piece; next = start + length piece + 1 }
-    ∷ lines_from (start + length piece + 1) (other ∷ more)
+    ∷ script_lines_from (start + length piece + 1) (other ∷ more)
 
 -- the lines of an input
-unfoldable pub lines_of : List ℕ → List ScriptLine
-lines_of input = lines_from 0 (slice_split is_newline input)
+unfoldable pub script_lines : List ℕ → List ScriptLine
+script_lines input = script_lines_from 0 (slice_split is_newline input)
 
 -- the line `---`, which ends the script
 abbrev pub is_end : ScriptLine → Bool
@@ -45,15 +45,15 @@ body [] = []
 body (line ∷ lines) = if is_end line then [] else line ∷ body lines
 
 -- the source: what follows the newline of the first end; none without an end
-abbrev pub source_of : List ℕ → List ScriptLine → Option (List ℕ)
-source_of input [] = None
-source_of input (line ∷ lines) =
-    if is_end line then Some (drop line.next input) else source_of input lines
+abbrev pub script_source : List ℕ → List ScriptLine → Option (List ℕ)
+script_source input [] = None
+script_source input (line ∷ lines) =
+    if is_end line then Some (drop line.next input) else script_source input lines
 
 -- the lines of the suffix that is left of an input of this many bytes; none if none is left
 abbrev pub lines_left : ℕ → Option (List ℕ) → List ScriptLine
 lines_left size None = []
-lines_left size (Some text) = lines_from (size - length text) (slice_split is_newline text)
+lines_left size (Some text) = script_lines_from (size - length text) (slice_split is_newline text)
 
 -- the line is ignored
 abbrev pub is_ignored : ScriptLine → Bool

@@ -18,7 +18,7 @@ use Rattle.report_script.specs.declared.script.words.Word.{Word}
 use Rattle.report_script.specs.declared.script.words.Word.TheVariants.{Primary, Secondary}
 use Rattle.report_script.specs.Requests.{number_of}
 use Rattle.report_script.specs.ScriptFaults.{line_of_word, fault_from, missing_end}
-use Rattle.report_script.specs.ScriptLines.{ScriptLine, lines_of, body, source_of, word_of, rest_of}
+use Rattle.report_script.specs.ScriptLines.{ScriptLine, script_lines, body, script_source, word_of, rest_of}
 use Rattle.report_script.specs.ScriptWords.{word_named}
 
 -- what a script states: a diagnostic of one file, and that file's source
@@ -95,8 +95,8 @@ abbrev pub parsed_notes : List ScriptLine → List (List ℕ)
 parsed_notes lines = filter_map parsed_note lines
 
 -- what lines state
-abbrev pub diagnostic_of : List ScriptLine → DiagnosticView (Unit {0})
-diagnostic_of lines = record {
+abbrev pub script_diagnostic : List ScriptLine → DiagnosticView (Unit {0})
+script_diagnostic lines = record {
   severity = parsed_severity lines;
   code = rest_of_word (codes "code") lines;
   message = unwrap_or (rest_of_word (codes "message") lines) [];
@@ -111,10 +111,10 @@ abbrev pub read_lines : List ℕ → List ScriptLine → Option Fault → Option
 read_lines input lines (Some fault) source = Err fault
 read_lines input lines None None = Err (missing_end input)
 read_lines input lines None (Some source) =
-    Ok (record { diagnostic = diagnostic_of lines; source = source })
+    Ok (record { diagnostic = script_diagnostic lines; source = source })
 
 -- what an input states as a script, or its first error
 unfoldable pub read_script : List ℕ → Result ScriptView Fault
 read_script input =
-    read_lines input (body (lines_of input)) (fault_from [] (body (lines_of input)))
-    (source_of input (lines_of input))
+    read_lines input (body (script_lines input)) (fault_from [] (body (script_lines input)))
+    (script_source input (script_lines input))

@@ -7,14 +7,14 @@ ghost use Rattle.std.specs.Prelude.{ℕ, List};
 ghost use Rattle.report_script.specs.ScriptLaws.{FaultsLieInside, ScriptReadsBack};
 ghost use Rattle.report_script.specs.Statements.{Statement};
 
-/// A script that is written out from its statements is read as exactly these, with the source that
-/// follows it.
+/// States that a script that is written out from its statements is read as exactly these, with the
+/// source that follows it.
 pub fn scripts_read_back()
     ensures { (statements : List Statement) (source : List ℕ) → ScriptReadsBack statements source }
 {}
 
-/// The ranges of a script's error lie inside the input, between characters, and do not end before
-/// they start.
+/// States that the ranges of a script's error lie inside the input, between characters, and do not
+/// end before they start.
 pub fn faults_lie_inside()
     ensures { (input : List ℕ) → FaultsLieInside input }
 {}

@@ -24,10 +24,10 @@ pub struct Line<'text> {
     pub severity: Severity,
     /// Its labels.
     pub labels: &'text [SingleLabel<'text>],
-    /// The number of lanes of the file.
-    pub lanes: usize,
+    /// The number of the file's multi-line labels.
+    pub num_multi_labels: usize,
     /// The multi-line label marks of the line.
-    pub marks: &'text [(usize, LabelStyle, MultiLabel<'text>)],
+    pub multi_labels: &'text [(usize, LabelStyle, MultiLabel<'text>)],
 }
 
 /// A call of `Renderer` that writes rows.
@@ -99,7 +99,7 @@ fn render_line<W: WriteStyle>(
     renderer: &mut Renderer<'_, '_, W>,
     line: Line<'_>,
 ) -> Result<(), Error> {
-    if !lanes_in_order(line.lanes, line.marks) {
+    if !lanes_in_order(line.num_multi_labels, line.multi_labels) {
         return Err(Error::FormatError);
     }
     renderer.render_snippet_source(
@@ -108,8 +108,8 @@ fn render_line<W: WriteStyle>(
         line.text,
         line.severity,
         line.labels,
-        line.lanes,
-        line.marks,
+        line.num_multi_labels,
+        line.multi_labels,
     )
 }
 
@@ -117,13 +117,13 @@ fn render_line<W: WriteStyle>(
 fn render_break<W: WriteStyle>(
     renderer: &mut Renderer<'_, '_, W>,
     padding: usize,
-    lanes: usize,
-    marks: &[(usize, LabelStyle, MultiLabel<'_>)],
+    num_multi_labels: usize,
+    multi_labels: &[(usize, LabelStyle, MultiLabel<'_>)],
 ) -> Result<(), Error> {
-    if !lanes_in_order(lanes, marks) {
+    if !lanes_in_order(num_multi_labels, multi_labels) {
         return Err(Error::FormatError);
     }
-    renderer.render_snippet_break(padding, Severity::Error, lanes, marks)
+    renderer.render_snippet_break(padding, Severity::Error, num_multi_labels, multi_labels)
 }
 
 /// Makes a call, which may write this locus.
@@ -142,10 +142,15 @@ fn render_call<W: WriteStyle>(
         RowCall::Empty => renderer.render_empty(),
         RowCall::Start => renderer.render_snippet_start(1, locus),
         RowCall::Source(line) => render_line(renderer, line),
-        RowCall::SnippetEmpty(padding, lanes) => {
-            renderer.render_snippet_empty(padding, Severity::Error, lanes, &[])
+        RowCall::SnippetEmpty(padding, num_multi_labels) => {
+            renderer.render_snippet_empty(padding, Severity::Error, num_multi_labels, &[])
         }
-        RowCall::Break(padding, lanes, marks) => render_break(renderer, padding, lanes, marks),
+        RowCall::Break(padding, num_multi_labels, multi_labels) => render_break(
+            renderer,
+            padding,
+            num_multi_labels,
+            multi_labels,
+        ),
         RowCall::Note(padding, message) => renderer.render_snippet_note(padding, message),
     }
 }

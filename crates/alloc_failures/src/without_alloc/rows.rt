@@ -44,11 +44,11 @@ fn render_other_rows<W: WriteStyle>(
     row_locus: &Locus,
 ) -> Result<(), Error> {
     render_hanging(renderer)?;
-    let bars = [(0, Primary, MultiLabel::Left)];
-    if !lanes_in_order(1, &bars) {
+    let multi_labels = [(0, Primary, MultiLabel::Left)];
+    if !lanes_in_order(1, &multi_labels) {
         return Err(Error::FormatError);
     }
-    renderer.render_snippet_break(2, Severity::Error, 1, &bars)?;
+    renderer.render_snippet_break(2, Severity::Error, 1, &multi_labels)?;
     let message = "unexpected type in application of `_+_`";
     renderer.render_header(Some(row_locus), Severity::Error, Some("E0001"), message)?;
     renderer.render_snippet_note(0, "a\r\n\nb\n")
@@ -85,12 +85,12 @@ fn render_line<W: WriteStyle>(
     renderer: &mut Renderer<'_, '_, W>,
     number: usize,
     text: &str,
-    lanes: &[(usize, LabelStyle, MultiLabel<'_>)],
+    multi_labels: &[(usize, LabelStyle, MultiLabel<'_>)],
 ) -> Result<(), Error> {
-    if !lanes_in_order(2, lanes) {
+    if !lanes_in_order(2, multi_labels) {
         return Err(Error::FormatError);
     }
-    renderer.render_snippet_source(1, number, text, Severity::Error, &[], 2, lanes)
+    renderer.render_snippet_source(1, number, text, Severity::Error, &[], 2, multi_labels)
 }
 
 /// Writes a source line with a label and its message, in colors.

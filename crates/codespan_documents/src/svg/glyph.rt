@@ -1,7 +1,7 @@
 //! The characters of styled text, each in its ink, and the cells that they occupy.
 
 ghost use Rattle.std.specs.Prelude.{◌≡◌, ◌≤◌, IfOk, length, map};
-ghost use Rattle.codespan_documents.specs.Glyphs.{cells_of, follows, glyphs_of, glyphs_of_run, goes_on, is_narrow, is_newline, joined_cells, joins};
+ghost use Rattle.codespan_documents.specs.Glyphs.{cells_of, follows, glyphs_of, glyphs_of_run, goes_on, is_narrow, is_newline_glyph, joined_cells, joins};
 ghost use Rattle.codespan_documents.specs.Runs.{run_view};
 
 use crate::style_sheet::spec_of;
@@ -31,7 +31,7 @@ impl Glyph {
 
     /// Returns whether it is a newline.
     pub fn ends_row(self) -> bool
-        ensures { result ≡ is_newline self }
+        ensures { result ≡ is_newline_glyph self }
     {
         self.character == '\n'
     }

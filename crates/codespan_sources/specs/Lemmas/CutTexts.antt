@@ -13,16 +13,19 @@ use Rattle.codespan_base.specs.SimpleModel.{simple_file}
 use Rattle.codespan_base.specs.Lemmas.Simple.{renumbered_lawful, simple_lawful}
 use Rattle.codespan_sources.specs.declared.raw.RawLine.{RawLine}
 use Rattle.codespan_sources.specs.StatedLines.{are_lines, ends_of, follow, starts_of}
-use Rattle.codespan_sources.specs.SourceTexts.{file_of, stated_text, newline_text}
+use Rattle.codespan_sources.specs.SourceTexts.{native_file_model, stated_text, newline_text}
 
 -- a text cut at newlines makes a lawful file
 pub newline_lawful : (name text : List ℕ) (first_line : ℕ) (stated : ℕ → Option Location)
     → IsUtf8 text → length text < 2 ^ 64
-    → IsLawful (file_of
+    → IsLawful (native_file_model
     (record { cut = newline_text name text first_line; stated_location = stated }))
 newline_lawful name text first_line stated u fits =
     let f : FileModel =
-    file_of (record { cut = newline_text name text first_line; stated_location = stated }) in
+    native_file_model (record {
+      cut = newline_text name text first_line;
+      stated_location = stated;
+    }) in
     renumbered_lawful (simple_file (Some name) text) f.line_number f.column_number f.location
     (simple_lawful (Some name) text u fits)
 
@@ -154,7 +157,7 @@ module _ (text : List ℕ) (first : ℕ) where
 pub stated_lawful : (name text : List ℕ) (first : ℕ) (lines : List RawLine)
     (stated : ℕ → Option Location) → IsUtf8 text → length text < 2 ^ 64
     → are_lines text first lines ≡ true
-    → IsLawful (file_of
+    → IsLawful (native_file_model
     (record { cut = stated_text name text first lines; stated_location = stated }))
 stated_lawful name text first [] stated u fits t = absurd (cc)
 stated_lawful name text first (l ∷ ls) stated u fits t =

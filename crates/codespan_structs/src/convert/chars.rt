@@ -3,7 +3,7 @@
 ghost use Rattle.std.specs.Prelude.{◌≡◌};
 ghost use Rattle.std.specs.Char.{InScalarRange};
 ghost use Rattle.codespan_base.specs.ConfigEquality.{IsEqualChars};
-ghost use Rattle.codespan_structs.specs.Converted.{chars_of, custom_chars};
+ghost use Rattle.codespan_structs.specs.Converted.{converted_chars, custom_chars};
 ghost use Rattle.codespan_structs.specs.ValidParts.{AreCustomChars, AreValidChars};
 
 use crate::convert::text::text_of;
@@ -18,7 +18,7 @@ use codespan_base::term::{Chars, SnippetStart};
 /// one of the caller's characters.
 pub fn convert_chars<'a>(raw: &RawConfig<'a>) -> Chars<'a>
     requires { AreValidChars raw.now }
-    ensures { IsEqualChars (chars_of raw.now) result }
+    ensures { IsEqualChars (converted_chars raw.now) result }
 {
     match raw.characters {
         0 => Chars::box_drawing(),

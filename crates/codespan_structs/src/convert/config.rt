@@ -2,7 +2,7 @@
 
 ghost use Rattle.std.specs.Prelude.{◌≡◌};
 ghost use Rattle.codespan_base.specs.ConfigEquality.{IsEqualConfig};
-ghost use Rattle.codespan_structs.specs.Converted.{config_of, display_style_of, layout_of, spelling_of};
+ghost use Rattle.codespan_structs.specs.Converted.{converted_config, display_style_of, layout_of, spelling_of};
 ghost use Rattle.codespan_structs.specs.Spellings.{spelling_by_kind};
 ghost use Rattle.codespan_structs.specs.ValidParts.{AreValidChars};
 
@@ -38,19 +38,19 @@ pub struct Settings<'a> {
 /// [`first_invalid`](crate::validate::first_invalid) has found nothing.
 pub fn convert_config<'a>(raw: &RawConfig<'a>) -> Settings<'a>
     requires { AreValidChars raw.now }
-    ensures config { IsEqualConfig (config_of raw.now) result.config }
+    ensures config { IsEqualConfig (converted_config raw.now) result.config }
     ensures spelling { spelling_by_kind result.spelling ≡ spelling_of raw.now }
 {
     Settings {
-        config: config_of(raw),
+        config: converted_config(raw),
         spelling: spelling_of(raw),
     }
 }
 
 /// Returns the configuration itself.
-fn config_of<'a>(raw: &RawConfig<'a>) -> Config<'a>
+fn converted_config<'a>(raw: &RawConfig<'a>) -> Config<'a>
     requires { AreValidChars raw.now }
-    ensures { IsEqualConfig (config_of raw.now) result }
+    ensures { IsEqualConfig (converted_config raw.now) result }
 {
     Config {
         display_style: display_style_of(raw.display_style),

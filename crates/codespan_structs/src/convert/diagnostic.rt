@@ -4,7 +4,7 @@ ghost use Rattle.std.specs.Prelude.{◌≡◌, All, IfOk, map, string_bytes};
 ghost use Rattle.std.specs.Str.{IsUtf8};
 ghost use Rattle.std.specs.Option.{option_map};
 ghost use Rattle.codespan_base.specs.Diagnostics.{diagnostic_view, label_view};
-ghost use Rattle.codespan_structs.specs.Converted.{bytes_of, code_of, label_of, label_style_of, first_byte_of, severity_of, view_of};
+ghost use Rattle.codespan_structs.specs.Converted.{bytes_of, code_of, converted_label, label_style_of, first_byte_of, severity_of, view_of};
 ghost use Rattle.codespan_structs.specs.Validity.{HasTextMessage, IsValidText};
 ghost use Rattle.codespan_structs.specs.ValidParts.{IsValidDiagnostic};
 
@@ -72,23 +72,23 @@ fn labels_of(
 ) -> Result<Vec<Label<usize>>, OutOfMemory>
     requires { All HasTextMessage raw.now }
     ensures { IfOk result (λ labels.
-        map label_view labels.items ≡ map (label_of files.now) raw.now) }
+        map label_view labels.items ≡ map (converted_label files.now) raw.now) }
 {
     let mut labels = Vec::new(alloc);
     for label in raw {
-        labels.push(label_of(alloc, files, label)?)?;
+        labels.push(converted_label(alloc, files, label)?)?;
     }
     Ok(labels)
 }
 
 /// Returns a label, with byte indices in the source of its file.
-fn label_of(
+fn converted_label(
     alloc: Global,
     files: &[RawFile<'_>],
     raw: &RawLabel<'_>,
 ) -> Result<Label<usize>, AllocError>
     requires { HasTextMessage raw.now }
-    ensures { IfOk result (λ label. label_view label ≡ label_of files.now raw.now) }
+    ensures { IfOk result (λ label. label_view label ≡ converted_label files.now raw.now) }
 {
     let first_byte = first_byte_of(files, raw.file);
     Ok(Label {

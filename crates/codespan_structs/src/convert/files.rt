@@ -2,7 +2,7 @@
 
 ghost use Rattle.std.specs.Prelude.{◌≡◌, All, IfOk, map};
 ghost use Rattle.codespan_structs.specs.Converted.{source_in};
-ghost use Rattle.codespan_sources.specs.SourceModel.{cut_of, source_of, sources_of};
+ghost use Rattle.codespan_sources.specs.SourceModel.{cut_of, source_view, sources_of};
 ghost use Rattle.codespan_structs.specs.ValidParts.{IsValidFile};
 
 use crate::convert::text::text_of;
@@ -35,7 +35,7 @@ pub fn convert_files<'a>(alloc: Global, raw: &[RawFile<'a>]) -> Result<NativeFil
 /// Returns a file.
 fn file_of<'a>(alloc: Global, raw: &RawFile<'a>) -> Result<NativeFile<'a>, OutOfMemory>
     requires { IsValidFile raw.now }
-    ensures { IfOk result (λ file. source_of file ≡ source_in raw.now) }
+    ensures { IfOk result (λ file. source_view file ≡ source_in raw.now) }
 {
     let text = source_text_of(alloc, raw)?;
     Ok(NativeFile::new(text, raw.first_byte, raw.locations))

@@ -2,7 +2,7 @@
 //! and some of whose lookups fail.
 
 ghost use Rattle.std.specs.Prelude.{◌≡◌, refl, None, Some};
-ghost use Rattle.codespan_tests.specs.Listings.{is_at, is_from};
+ghost use Rattle.codespan_tests.specs.Listings.{is_at, is_from_index};
 
 use codespan_reporting::files::{Error, Files, Location, SimpleFile};
 use std::alloc::Global;
@@ -69,8 +69,8 @@ fn is_at(failed: Option<usize>, position: usize) -> bool
 }
 
 /// Returns whether the lookup of this index is one of those that fail.
-fn is_from(failed: Option<usize>, position: usize) -> bool
-    ensures { result ≡ is_from failed position }
+fn is_from_index(failed: Option<usize>, position: usize) -> bool
+    ensures { result ≡ is_from_index failed position }
 {
     match failed {
         Some(failed) => failed <= position,
@@ -85,7 +85,7 @@ impl<'a, 'text: 'a> Files<'a> for Listing<'text> {
     ghost use Rattle.codespan_base.specs.Lines.{line_starts_of};
     ghost use Rattle.codespan_base.specs.SimpleModel.{simple_file, simple_column, line_failure};
     ghost use Rattle.codespan_base.specs.Lemmas.Simple.{or_failure-past_end, renumbered_lawful, simple_lawful, simple_past_end, text_fits, text_is_utf8};
-    ghost use Rattle.codespan_tests.specs.Listings.{is_at, is_from, failed_if, failed_if-other};
+    ghost use Rattle.codespan_tests.specs.Listings.{is_at, is_from_index, failed_if, failed_if-other};
 
     type FileId = ();
 
@@ -107,7 +107,7 @@ impl<'a, 'text: 'a> Files<'a> for Listing<'text> {
       failure = λ _. elim [
         | NameLookup ↦ failed_if s.failed.name 1 0
         | SourceLookup ↦ failed_if s.failed.source 2 0
-        | LineIndex byte ↦ failed_if (is_from s.failed.line_index byte) 4 byte
+        | LineIndex byte ↦ failed_if (is_from_index s.failed.line_index byte) 4 byte
         | LineNumber i ↦ failed_if (is_at s.failed.line_number i) 5 i
         | ColumnNumber i byte ↦ line_failure (source_of s.file).now i
         | LocationAt byte ↦ failed_if s.failed.location 3 byte
@@ -131,7 +131,7 @@ impl<'a, 'text: 'a> Files<'a> for Listing<'text> {
     }
 
     fn line_index(&'a self, _id: (), byte_index: usize) -> Result<usize, Error> {
-        if is_from(self.failed.line_index, byte_index) {
+        if is_from_index(self.failed.line_index, byte_index) {
             return Err(failure(4, byte_index));
         }
         self.file.line_index((), byte_index)

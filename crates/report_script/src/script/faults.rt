@@ -1,7 +1,7 @@
 //! The errors of scripts.
 
 ghost use Rattle.std.specs.Prelude.{◌≡◌, [], map};
-ghost use Rattle.report_script.specs.ScriptLines.{line_view};
+ghost use Rattle.report_script.specs.ScriptLines.{script_line_view};
 ghost use Rattle.report_script.specs.ScriptFaults.{fault_from, line_fault, severity_fault, number_fault, repetition};
 
 use super::line::Line;
@@ -15,7 +15,7 @@ use std::ops::Range;
 
 /// Returns the first error in the lines of a script.
 pub(super) fn first_fault(lines: &[Line<'_>]) -> Option<Fault>
-    ensures { result ≡ fault_from [] (map line_view lines.now) }
+    ensures { result ≡ fault_from [] (map script_line_view lines.now) }
 {
     for (i, line) in lines.iter().enumerate() {
         if let Some(fault) = line_fault(&lines[..i], line) {
@@ -27,7 +27,7 @@ pub(super) fn first_fault(lines: &[Line<'_>]) -> Option<Fault>
 
 /// Returns the first error of a line; `before` are the lines before it.
 fn line_fault(before: &[Line<'_>], line: &Line<'_>) -> Option<Fault>
-    ensures { result ≡ line_fault (map line_view before.now) (line_view line.now) }
+    ensures { result ≡ line_fault (map script_line_view before.now) (script_line_view line.now) }
 {
     if line.is_ignored() {
         return None;
@@ -61,7 +61,7 @@ fn fault(number: FaultNumber, range: Range<usize>) -> Fault
 /// Returns the error of a line whose word an earlier line has.
 #[tactic(auto, unfolding(crate::specs::ScriptFaults::repetition))]
 fn repetition(before: &[Line<'_>], line: &Line<'_>) -> Option<Fault>
-    ensures { result ≡ repetition (map line_view before.now) (line_view line.now) }
+    ensures { result ≡ repetition (map script_line_view before.now) (script_line_view line.now) }
 {
     let first = line_of_word(line.word(), before)?;
     Some(Fault {
@@ -74,7 +74,7 @@ fn repetition(before: &[Line<'_>], line: &Line<'_>) -> Option<Fault>
 /// Returns the error of a `severity` line whose rest is no severity.
 #[tactic(auto, unfolding(crate::specs::ScriptFaults::severity_fault))]
 fn severity_fault(line: &Line<'_>) -> Option<Fault>
-    ensures { result ≡ severity_fault (line_view line.now) }
+    ensures { result ≡ severity_fault (script_line_view line.now) }
 {
     match parse_severity(line.rest()) {
         Some(_) => None,
@@ -88,7 +88,7 @@ fn severity_fault(line: &Line<'_>) -> Option<Fault>
 /// Returns the error of a label's line whose start or end is no number.
 #[tactic(auto, unfolding(crate::specs::ScriptFaults::number_fault))]
 fn number_fault(line: &Line<'_>) -> Option<Fault>
-    ensures { result ≡ number_fault (line_view line.now) }
+    ensures { result ≡ number_fault (script_line_view line.now) }
 {
     let (start, after) = cut(line.rest());
     let (end, _) = cut(after);

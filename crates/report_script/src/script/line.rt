@@ -19,11 +19,11 @@ pub(super) struct Line<'input> {
 
 impl<'input> Line<'input> {
     ghost use Rattle.std.specs.Prelude.{◌≡◌, ◌≤◌};
-    ghost use Rattle.report_script.specs.ScriptLines.{line_view, range_at, word_of, rest_of, is_ignored};
+    ghost use Rattle.report_script.specs.ScriptLines.{script_line_view, range_at, word_of, rest_of, is_ignored};
 
     /// Returns the text before the first space.
     pub(super) fn word(&self) -> &'input str
-        ensures word { result.now ≡ word_of (line_view self.now) }
+        ensures word { result.now ≡ word_of (script_line_view self.now) }
         ensures short { length result.now ≤ length self.now.text.now }
     {
         cut(self.text).0
@@ -31,7 +31,7 @@ impl<'input> Line<'input> {
 
     /// Returns the text after the first space.
     pub(super) fn rest(&self) -> &'input str
-        ensures rest { result.now ≡ rest_of (line_view self.now) }
+        ensures rest { result.now ≡ rest_of (script_line_view self.now) }
         ensures short { length result.now ≤ length self.now.text.now }
     {
         cut(self.text).1
@@ -39,7 +39,7 @@ impl<'input> Line<'input> {
 
     /// Returns whether the line is empty or begins with `#`.
     pub(super) fn is_ignored(&self) -> bool
-        ensures { result ≡ is_ignored (line_view self.now) }
+        ensures { result ≡ is_ignored (script_line_view self.now) }
     {
         is_ignored(self.text)
     }
@@ -48,7 +48,7 @@ impl<'input> Line<'input> {
     pub(super) fn range_at(&self, from: &str, field: &str) -> Range<usize>
         requires { (length field.now ≤ length from.now)
             × (length from.now ≤ length self.now.text.now) }
-        ensures { result ≡ range_at (line_view self.now) from.now field.now }
+        ensures { result ≡ range_at (script_line_view self.now) from.now field.now }
     {
         let start = self.start + self.text.len() - from.len();
         start..start + field.len()

@@ -3,7 +3,7 @@
 ghost use Rattle.std.specs.Prelude.{◌≡◌, ◌≤◌, ◌+◌, ◌-◌, ◌<◌, ◌∷◌, length, map, drop, IfOk, IfSome, IfNone, Some};
 ghost use Rattle.std.specs.Option.{option_map};
 ghost use Rattle.std.specs.Str.Lines.{strip_carriage_return};
-ghost use Rattle.report_script.specs.ScriptLines.{line_view, lines_of, lines_left, body, source_of};
+ghost use Rattle.report_script.specs.ScriptLines.{script_line_view, script_lines, lines_left, body, script_source};
 
 use super::line::Line;
 use std::alloc::{AllocError, Global};
@@ -24,7 +24,7 @@ fn without_return(text: &str) -> &str
 fn first_line(size: usize, left: &str) -> (Line<'_>, Option<&str>)
     requires { length left.now ≤ size }
     ensures line { lines_left size (Some left.now)
-        ≡ line_view result.0 ∷ lines_left size (option_map (λ after. after.now) result.1) }
+        ≡ script_line_view result.0 ∷ lines_left size (option_map (λ after. after.now) result.1) }
     ensures after { IfSome result.1 (λ after. (result.0.next + length after.now ≡ size)
         × (length after.now < length left.now)
         × (after.now ≡ drop (length left.now - length after.now) left.now)) }
@@ -60,9 +60,10 @@ pub(super) fn read_lines(
     alloc: Global,
     input: &str,
 ) -> Result<(Vec<Line<'_>>, Option<&str>), AllocError>
-    ensures body { IfOk result (λ read. map line_view read.0.items ≡ body (lines_of input.now)) }
+    ensures body { IfOk result (λ read. map script_line_view read.0.items
+        ≡ body (script_lines input.now)) }
     ensures source { IfOk result (λ read. option_map (λ source. source.now) read.1
-        ≡ source_of input.now (lines_of input.now)) }
+        ≡ script_source input.now (script_lines input.now)) }
 {
     let mut lines = Vec::new(alloc);
     let mut rest = Some(input);

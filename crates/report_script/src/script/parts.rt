@@ -2,7 +2,7 @@
 
 ghost use Rattle.std.specs.Prelude.{◌≡◌, map, IfOk};
 ghost use Rattle.std.specs.Option.{option_map};
-ghost use Rattle.report_script.specs.ScriptLines.{line_view};
+ghost use Rattle.report_script.specs.ScriptLines.{script_line_view};
 ghost use Rattle.report_script.specs.ScriptFaults.{line_of_word};
 ghost use Rattle.report_script.specs.Scripts.{rest_of_word, parsed_severity, parsed_labels, parsed_label, parsed_notes, script_label_view, label_of_rest};
 
@@ -20,7 +20,8 @@ pub(super) fn line_of_word<'a, 'input>(
     word: &str,
     lines: &'a [Line<'input>],
 ) -> Option<Line<'input>>
-    ensures { option_map line_view result ≡ line_of_word word.now (map line_view lines.now) }
+    ensures { option_map script_line_view result
+        ≡ line_of_word word.now (map script_line_view lines.now) }
 {
     for line in lines {
         if line.word() == word {
@@ -33,7 +34,7 @@ pub(super) fn line_of_word<'a, 'input>(
 /// Returns the rest of the first line whose word is this.
 pub(super) fn rest_of_word<'input>(word: &str, lines: &[Line<'input>]) -> Option<&'input str>
     ensures { option_map (λ rest. rest.now) result
-        ≡ rest_of_word word.now (map line_view lines.now) }
+        ≡ rest_of_word word.now (map script_line_view lines.now) }
 {
     let line = line_of_word(word, lines)?;
     Some(line.rest())
@@ -42,7 +43,7 @@ pub(super) fn rest_of_word<'input>(word: &str, lines: &[Line<'input>]) -> Option
 /// Returns the severity that the lines state; an error if they state none.
 #[tactic(auto, unfolding(crate::specs::Scripts::parsed_severity))]
 pub(super) fn parsed_severity(lines: &[Line<'_>]) -> Severity
-    ensures { result ≡ parsed_severity (map line_view lines.now) }
+    ensures { result ≡ parsed_severity (map script_line_view lines.now) }
 {
     match rest_of_word("severity", lines) {
         Some(rest) => parse_severity(rest).unwrap_or(Severity::Error),
@@ -53,7 +54,7 @@ pub(super) fn parsed_severity(lines: &[Line<'_>]) -> Severity
 /// Returns the label that a line states, if it states one.
 #[tactic(auto, unfolding(crate::specs::Scripts::parsed_label))]
 fn parsed_label<'input>(line: &Line<'input>) -> Option<ScriptLabel<'input>>
-    ensures { option_map script_label_view result ≡ parsed_label (line_view line.now) }
+    ensures { option_map script_label_view result ≡ parsed_label (script_line_view line.now) }
 {
     match parse_word(line.word()) {
         Some(Word::Primary) => label_of_rest(LabelStyle::Primary, line.rest()),
@@ -81,7 +82,7 @@ pub(super) fn parsed_labels<'input>(
     lines: &[Line<'input>],
 ) -> Result<Vec<ScriptLabel<'input>>, AllocError>
     ensures { IfOk result (λ labels. map script_label_view labels.items
-        ≡ parsed_labels (map line_view lines.now)) }
+        ≡ parsed_labels (map script_line_view lines.now)) }
 {
     let mut labels = Vec::new(alloc);
     for line in lines {
@@ -102,7 +103,7 @@ pub(super) fn parsed_notes<'input>(
     lines: &[Line<'input>],
 ) -> Result<Vec<&'input str>, AllocError>
     ensures { IfOk result (λ notes. map (λ note. note.now) notes.items
-        ≡ parsed_notes (map line_view lines.now)) }
+        ≡ parsed_notes (map script_line_view lines.now)) }
 {
     let mut notes = Vec::new(alloc);
     for line in lines {

@@ -34,8 +34,8 @@ const LINE: Line<'static> = Line {
     tab_width: 4,
     severity: Severity::Error,
     labels: &[],
-    lanes: 0,
-    marks: &[],
+    num_multi_labels: 0,
+    multi_labels: &[],
 };
 
 /// The text of `tab_stops`.
@@ -199,8 +199,8 @@ static LANES: [DirectRow<'static>; 3] = [
         name: "crossing_lanes, first line",
         call: RowCall::Source(Line {
             text: "ab\n",
-            lanes: 2,
-            marks: &[
+            num_multi_labels: 2,
+            multi_labels: &[
                 (0, Secondary, MultiLabel::Top(1)),
                 (1, Primary, MultiLabel::Top(0)),
             ],
@@ -214,8 +214,8 @@ static LANES: [DirectRow<'static>; 3] = [
         call: RowCall::Source(Line {
             number: 2,
             text: "cd\n",
-            lanes: 2,
-            marks: &[
+            num_multi_labels: 2,
+            multi_labels: &[
                 (0, Secondary, MultiLabel::Bottom(1, "q")),
                 (1, Primary, MultiLabel::Left),
             ],
@@ -229,8 +229,8 @@ static LANES: [DirectRow<'static>; 3] = [
         call: RowCall::Source(Line {
             number: 3,
             text: "ef",
-            lanes: 2,
-            marks: &[(1, Primary, MultiLabel::Bottom(1, "p"))],
+            num_multi_labels: 2,
+            multi_labels: &[(1, Primary, MultiLabel::Bottom(1, "p"))],
             ..LINE
         }),
         text: "3 │   │ ef\n  │   ╰─^ p\n",

@@ -1,7 +1,7 @@
 use Rattle.std.proofs.Common.{◌≡◌, sym, ap, ◌∙◌, arith}
 use Rattle.std.specs.Char.{encode_utf8}
 use Rattle.std.proofs.lemmas.Bool.Decides.{nat_tests}
-use Rattle.codespan_documents.specs.Html.{html_character, shown}
+use Rattle.codespan_documents.specs.Html.{html_character, replaced_character}
 use Rattle.codespan_documents.proofs.Appending.{pushed}
 use Rattle.codespan_documents.proofs.html.push_character.Goals as goal
 
@@ -16,5 +16,5 @@ returns-in-34 c = pushed c.push_str-in-34.result _ _ _ _ c.push_str-in-34.ensure
 -- any other character is shown
 pub returns-in_default : goal.returns-in_default
 returns-in_default c =
-    let other : encode_utf8 (shown c.args.c) ≡ html_character c.args.c = grind (arith, nat_tests) in
-    pushed c.push.result _ _ _ (html_character c.args.c) c.push.ensures.bytes (ap encode_utf8 c.shown.ensures ∙ other)
+    let other : encode_utf8 (replaced_character c.args.c) ≡ html_character c.args.c = grind (arith, nat_tests) in
+    pushed c.push.result _ _ _ (html_character c.args.c) c.push.ensures.bytes (ap encode_utf8 c.replaced_character.ensures ∙ other)

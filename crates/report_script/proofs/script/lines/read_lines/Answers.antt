@@ -1,10 +1,10 @@
 use Rattle.std.proofs.Common.{◌≡◌, ◌-◌, ◌++◌, ap, drop, length, map, sym, ◌∙◌, arith}
 use Rattle.std.specs.List.{slice_split}
-use Rattle.report_script.specs.ScriptLines.{body, is_newline, line_view, lines_from, lines_of, source_of}
+use Rattle.report_script.specs.ScriptLines.{body, is_newline, script_line_view, script_lines_from, script_lines, script_source}
 use Rattle.report_script.proofs.script.lines.read_lines.Goals as goal
 
 pub lines-init : goal.lines-init
-unfolding lines_of
+unfolding script_lines
 lines-init c =
     let input = c.args.input.now in
     let pieces = slice_split is_newline input in
@@ -12,6 +12,6 @@ lines-init c =
     record {
       within = omega arith;
       end = sym (ap (λ n. drop n input) none);
-      read = ap (λ contents. map line_view contents ++ body (lines_from (length input - length input) pieces)) c.new-lines.ensures.items ∙ ap (λ n. body (lines_from n pieces)) none;
-      source = ap (λ n. source_of input (lines_from n pieces)) none;
+      read = ap (λ contents. map script_line_view contents ++ body (script_lines_from (length input - length input) pieces)) c.new-lines.ensures.items ∙ ap (λ n. body (script_lines_from n pieces)) none;
+      source = ap (λ n. script_source input (script_lines_from n pieces)) none;
     }

@@ -1,14 +1,14 @@
 use Rattle.std.proofs.Common.{◌≡◌, ◌≤◌, ◌+◌, ◌-◌, ◌++◌, map, drop, length, IfSome}
 use Rattle.std.specs.Option.{option_map, option_map_or}
-use Rattle.report_script.specs.ScriptLines.{body, line_view, lines_left, lines_of, source_of}
+use Rattle.report_script.specs.ScriptLines.{body, script_line_view, lines_left, script_lines, script_source}
 use Rattle.report_script.proofs.script.lines.read_lines.Given as goal
 
 abbrev pub invariant-lines : goal.invariant-lines
 invariant-lines l = record {
   within : IfSome l.rest (λ left. length left.now ≤ length l.input);
   end : IfSome l.rest (λ left. left.now ≡ drop (length l.input - length left.now) l.input);
-  read : map line_view l.lines.items ++ body (lines_left (length l.input) (option_map (λ left. left.now) l.rest)) ≡ body (lines_of l.input);
-  source : source_of l.input (lines_left (length l.input) (option_map (λ left. left.now) l.rest)) ≡ source_of l.input (lines_of l.input);
+  read : map script_line_view l.lines.items ++ body (lines_left (length l.input) (option_map (λ left. left.now) l.rest)) ≡ body (script_lines l.input);
+  source : script_source l.input (lines_left (length l.input) (option_map (λ left. left.now) l.rest)) ≡ script_source l.input (script_lines l.input);
 }
 
 abbrev pub decreases-lines : goal.decreases-lines

@@ -1,8 +1,8 @@
 use Rattle.std.proofs.Common.{◌≡◌, ◌++◌, map, drop}
-use Rattle.report_script.specs.ScriptLines.{line_view}
+use Rattle.report_script.specs.ScriptLines.{script_line_view}
 use Rattle.report_script.specs.Scripts.{parsed_notes}
 use Rattle.report_script.proofs.script.parts.parsed_notes.Given as goal
 
 abbrev pub invariant-loop-line : goal.invariant-loop-line
 invariant-loop-line l =
-    map (λ note. note.now) l.notes.items ++ parsed_notes (map line_view (drop l.line-index l.lines)) ≡ parsed_notes (map line_view l.lines)
+    map (λ note. note.now) l.notes.items ++ parsed_notes (map script_line_view (drop l.line-index l.lines)) ≡ parsed_notes (map script_line_view l.lines)

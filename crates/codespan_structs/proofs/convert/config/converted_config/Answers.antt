@@ -1,5 +1,5 @@
 use Rattle.std.proofs.Common.{refl}
-use Rattle.codespan_structs.proofs.convert.config.config_of.Goals as goal
+use Rattle.codespan_structs.proofs.convert.config.converted_config.Goals as goal
 
 -- the fields but the characters are equal; the width of a tab is at most 1024
 pub returns : goal.returns
