@@ -46,7 +46,7 @@ static RUNS: [(Style, &str); 4] = [
     (Style::Plain, "\n"),
 ];
 
-/// Its HTML document.
+/// Its HTML element.
 const HTML: &str =
     "<pre class=\"diagnostic\">\nf&amp;g:2:1: <span class=\"header-error\">error</span>\
                     <span class=\"header-message\">: b\u{fffd}d</span>\n</pre>";

@@ -1,4 +1,4 @@
--- A document reads back as its tags and its text: for the clauses `tokens` and `text` of `to_html`.
+-- An element reads back as its tags and its text: for the clauses `tokens` and `text` of `to_html`.
 use Rattle.std.proofs.Common.{◌≡◌, ℕ, ◌+◌, ◌≤◌, ◌/◌, ◌%◌, true, false, List, [], ◌∷◌, ◌++◌, map, codes, encode_utf8_all, refl, sym, subst, ap, ◌∙◌, append_assoc, append-nil, arith, string_bytes}
 use Rattle.std.specs.Prelude.{Bool, ◌==◌, ◌&&◌, ◌||◌, nat_lt, if◌then◌else◌}
 use Rattle.std.specs.Char.{encode_utf8}
@@ -15,8 +15,8 @@ use Rattle.codespan_base.specs.declared.diagnostic.Severity.TheVariants.{Bug, Er
 use Rattle.codespan_documents.specs.declared.style.Style.{Style}
 use Rattle.codespan_documents.specs.declared.style.Style.TheVariants.{Plain, Header, HeaderMessage, LineNumber, NoteBullet, SourceBorder, Label}
 use Rattle.codespan_documents.specs.declared.text.Run.{Run}
-use Rattle.codespan_documents.specs.Html.{html_character, html_document, html_run, html_text, is_forbidden_control, is_noncharacter, replaced_character, shown_text, span_tag_content}
-use Rattle.codespan_documents.specs.HtmlReading.{InEntity, InTag, InText, Token, Tag, TextByte, document_tokens, html_tokens, tokens_from, run_tokens, text_of_html, text_of_tokens, text_tokens, without_newline}
+use Rattle.codespan_documents.specs.Html.{html_character, html_element, html_run, html_text, is_forbidden_control, is_noncharacter, replaced_character, shown_text, span_tag_content}
+use Rattle.codespan_documents.specs.HtmlReading.{InEntity, InTag, InText, Token, Tag, TextByte, element_tokens, html_tokens, tokens_from, run_tokens, text_of_html, text_of_tokens, text_tokens, without_newline}
 use Rattle.codespan_documents.specs.Runs.{StyledRun, is_plain, joined, run_view}
 
 -- ---- bytes of text
@@ -132,9 +132,9 @@ runs-read (run ∷ runs) rest =
     ∙ ap (λ (tokens : List Token). run_tokens run ++ tokens) (runs-read runs rest)
     ∙ sym (append_assoc (run_tokens run) (flat_map run_tokens runs) (tokens_from InText rest))
 
--- the document of runs reads back
-pub document-read : (runs : List StyledRun) → html_tokens (html_document runs) ≡ document_tokens runs
-document-read runs =
+-- the element of runs reads back
+pub element-read : (runs : List StyledRun) → html_tokens (html_element runs) ≡ element_tokens runs
+element-read runs =
     ap (λ (tokens : List Token). Tag (codes "pre class=\"diagnostic\"") ∷ TextByte 10 ∷ tokens) (runs-read runs (codes "</pre>"))
 
 -- ---- the text of tokens
@@ -194,9 +194,9 @@ runs-text (run ∷ runs) =
     ∙ ap (λ bs. shown_text (string_bytes run.text) ++ bs) (runs-text runs)
     ∙ sym (replaced_character-append (string_bytes run.text) rest (IsUtf8-string_bytes run.text) (joined-utf8 runs))
 
--- the text of a document is that of its runs
-pub document-text : (runs : List Run) → text_of_html (html_document (map run_view runs)) ≡ shown_text (joined (map run_view runs))
-document-text runs =
+-- the text of an element is that of its runs
+pub element-text : (runs : List Run) → text_of_html (html_element (map run_view runs)) ≡ shown_text (joined (map run_view runs))
+element-text runs =
     let inner = flat_map run_tokens (map run_view runs) in
-    ap (λ (tokens : List Token). without_newline (text_of_tokens tokens)) (document-read (map run_view runs))
+    ap (λ (tokens : List Token). without_newline (text_of_tokens tokens)) (element-read (map run_view runs))
     ∙ text_of-append inner (Tag (codes "/pre") ∷ []) ∙ append-nil (text_of_tokens inner) ∙ runs-text runs

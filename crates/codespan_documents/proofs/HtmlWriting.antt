@@ -1,4 +1,4 @@
--- Texts and runs that are appended to a document one by one: for the clause `document` of
+-- Texts and runs that are appended to an element one by one: for the clause `element` of
 -- `to_html`.
 use Rattle.std.proofs.Common.{◌≡◌, ℕ, List, [], ◌∷◌, ◌++◌, length, map, sym, ap, ◌∙◌, append_assoc, append-nil, arith, codes, false, refl, string_bytes}
 use Rattle.std.specs.Char.{encode_utf8}
@@ -6,7 +6,7 @@ use Rattle.std.specs.List.{flat_map}
 use Rattle.std.specs.Str.{IsUtf8}
 use Rattle.std.proofs.lemmas.Str.{chars-nil, chars_past_char}
 use Rattle.codespan_documents.specs.declared.text.Run.{Run}
-use Rattle.codespan_documents.specs.Html.{html_character, html_document, html_run, html_text, style_class}
+use Rattle.codespan_documents.specs.Html.{html_character, html_element, html_run, html_text, style_class}
 use Rattle.codespan_documents.specs.Runs.{is_plain, run_view}
 
 -- a character of the text that is left
@@ -27,7 +27,7 @@ pub run-written : (run : Run) (front b1 b2 b3 b4 b5 class : List ℕ) → is_pla
     → b3 ≡ b2 ++ codes "\">" → b4 ≡ b3 ++ html_text (string_bytes run.text) → b5 ≡ b4 ++ codes "</span>" → b5 ≡ front ++ html_run (run_view run)
 run-written run front b1 b2 b3 b4 b5 class styled e1 named e2 e3 e4 e5 = rw (e5, e4, e3, e2, named, e1, styled) (simp append_assoc)
 
--- the whole document
-pub document-written : (runs slice : List Run) (b0 b1 b2 b3 : List ℕ) → b0 ≡ [] → b1 ≡ b0 ++ codes "<pre class=\"diagnostic\">\n" → slice ≡ runs → b2 ≡ b1 ++ flat_map html_run (map run_view slice)
-    → b3 ≡ b2 ++ codes "</pre>" → b3 ≡ html_document (map run_view runs)
-document-written runs slice b0 b1 b2 b3 e0 e1 same e2 e3 = rw (e3, e2, same, e1, e0) refl
+-- the whole element
+pub element-written : (runs slice : List Run) (b0 b1 b2 b3 : List ℕ) → b0 ≡ [] → b1 ≡ b0 ++ codes "<pre class=\"diagnostic\">\n" → slice ≡ runs → b2 ≡ b1 ++ flat_map html_run (map run_view slice)
+    → b3 ≡ b2 ++ codes "</pre>" → b3 ≡ html_element (map run_view runs)
+element-written runs slice b0 b1 b2 b3 e0 e1 same e2 e3 = rw (e3, e2, same, e1, e0) refl

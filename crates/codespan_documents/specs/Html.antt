@@ -1,4 +1,4 @@
--- HTML documents of styled text.
+-- HTML elements of styled text.
 use Rattle.std.specs.Prelude.{ℕ, ◌%◌, ◌==◌, Bool, not, nat_lt, nat_le, ◌&&◌, ◌||◌, List, ◌++◌, codes, encode_utf8, if◌then◌else◌}
 use Rattle.std.specs.List.{flat_map}
 use Rattle.std.specs.Str.{chars}
@@ -21,15 +21,15 @@ is_forbidden_control c =
 abbrev pub is_noncharacter : ℕ → Bool
 is_noncharacter c = (nat_le 64976 c && nat_le c 65007) || nat_le 65534 (c % 65536)
 
--- a character as a document shows it: U+FFFD for one that HTML text can not hold
+-- a character as an element shows it: U+FFFD for one that HTML text can not hold
 abbrev pub replaced_character : ℕ → ℕ
 replaced_character c = if is_forbidden_control c || is_noncharacter c then 65533 else c
 
--- a text as a document shows it
+-- a text as an element shows it
 abbrev pub shown_text : List ℕ → List ℕ
 shown_text text = flat_map (λ c. encode_utf8 (replaced_character c)) (chars text)
 
--- a character in a document: those that can begin or end a tag, an attribute or an entity are
+-- a character in an element: those that can begin or end a tag, an attribute or an entity are
 -- entities
 abbrev pub html_character : ℕ → List ℕ
 html_character c =
@@ -40,7 +40,7 @@ html_character c =
     else if c == 39 then codes "&#39;"
     else encode_utf8 (replaced_character c)
 
--- a text in a document
+-- a text in an element
 abbrev pub html_text : List ℕ → List ℕ
 html_text text = flat_map html_character (chars text)
 
@@ -65,7 +65,7 @@ style_class SourceBorder = codes "source-border"
 style_class (Label severity Primary) = codes "primary-label-" ++ severity_suffix severity
 style_class (Label severity Secondary) = codes "secondary-label"
 
--- ---- documents
+-- ---- elements
 
 -- the content of the tag that starts a run
 abbrev pub span_tag_content : Style → List ℕ
@@ -78,7 +78,7 @@ html_run run =
     else codes "<" ++ span_tag_content run.style ++ codes ">" ++ html_text run.text
     ++ codes "</span>"
 
--- the document of runs; HTML does not show the newline after the first tag
-abbrev pub html_document : List StyledRun → List ℕ
-html_document runs =
+-- the element of runs; HTML does not show the newline after the first tag
+abbrev pub html_element : List StyledRun → List ℕ
+html_element runs =
     codes "<pre class=\"diagnostic\">\n" ++ flat_map html_run runs ++ codes "</pre>"

@@ -1,11 +1,11 @@
--- How an HTML document is read back: its tags, and the text between them.
+-- How an HTML element is read back: its tags, and the text between them.
 use Rattle.std.specs.Prelude.{ℕ, ◌==◌, List, [], ◌∷◌, ◌++◌, map, codes, if◌then◌else◌}
 use Rattle.std.specs.List.{flat_map}
 use Rattle.std.specs.Str.{bytes_eq}
 use Rattle.codespan_documents.specs.Html.{shown_text, span_tag_content}
 use Rattle.codespan_documents.specs.Runs.{StyledRun, is_plain}
 
--- a token of a document: a byte of text, or what is between `<` and `>`
+-- a token of an element: a byte of text, or what is between `<` and `>`
 pub data Token : Type 0 where
   TextByte : ℕ → Token
   Tag : List ℕ → Token
@@ -40,9 +40,9 @@ tokens_from (InEntity name) (b ∷ bs) =
     if b == 59 then map TextByte (entity_text name) ++ tokens_from InText bs
     else tokens_from (InEntity (name ++ b ∷ [])) bs
 
--- the tokens of a document
+-- the tokens of an element
 abbrev pub html_tokens : List ℕ → List Token
-html_tokens document = tokens_from InText document
+html_tokens element = tokens_from InText element
 
 -- the text of tokens
 abbrev pub text_of_tokens : List Token → List ℕ
@@ -55,11 +55,11 @@ abbrev pub without_newline : List ℕ → List ℕ
 without_newline [] = []
 without_newline (b ∷ text) = if b == 10 then text else b ∷ text
 
--- the text of a document that begins with the tag of a `pre`: tags taken out, entities read back
+-- the text of an element that begins with the tag of a `pre`: tags taken out, entities read back
 abbrev pub text_of_html : List ℕ → List ℕ
-text_of_html document = without_newline (text_of_tokens (html_tokens document))
+text_of_html element = without_newline (text_of_tokens (html_tokens element))
 
--- ---- the tokens of the document of runs
+-- ---- the tokens of the element of runs
 
 -- a text
 abbrev pub text_tokens : List ℕ → List Token
@@ -71,8 +71,8 @@ run_tokens run =
     if is_plain run.style then text_tokens run.text
     else Tag (span_tag_content run.style) ∷ text_tokens run.text ++ Tag (codes "/span") ∷ []
 
--- all of a document: no other tag, and no other text
-abbrev pub document_tokens : List StyledRun → List Token
-document_tokens runs =
+-- all of an element: no other tag, and no other text
+abbrev pub element_tokens : List StyledRun → List Token
+element_tokens runs =
     Tag (codes "pre class=\"diagnostic\"") ∷ TextByte 10 ∷ flat_map run_tokens runs
     ++ Tag (codes "/pre") ∷ []

@@ -1,8 +1,8 @@
-//! Styled text as an HTML document.
+//! Styled text as an HTML element.
 
 ghost use Rattle.std.specs.Prelude.{◌≡◌, ◌++◌, IfErr, IfOk, OnOk, flat_map, map, string_bytes};
-ghost use Rattle.codespan_documents.specs.Html.{html_character, html_document, html_run, html_text, is_forbidden_control, is_noncharacter, replaced_character, shown_text, style_class};
-ghost use Rattle.codespan_documents.specs.HtmlReading.{document_tokens, html_tokens, text_of_html};
+ghost use Rattle.codespan_documents.specs.Html.{html_character, html_element, html_run, html_text, is_forbidden_control, is_noncharacter, replaced_character, shown_text, style_class};
+ghost use Rattle.codespan_documents.specs.HtmlReading.{element_tokens, html_tokens, text_of_html};
 ghost use Rattle.codespan_documents.specs.Runs.{joined, run_view, styled_runs};
 
 use crate::style::Style;
@@ -11,8 +11,8 @@ use codespan_base::diagnostic::{LabelStyle, Severity};
 use codespan_base::files::Error;
 use std::alloc::{AllocError, Global};
 
-/// Returns an HTML document of styled text: an element `pre` of the class `diagnostic`, and in it
-/// an element `span` for each run that is not plain, with the class of its style.
+/// Returns an HTML element of styled text: a `pre` of the class `diagnostic`, and in it
+/// a `span` for each run that is not plain, with the class of its style.
 ///
 /// The classes are named as the fields of `Styles`: `header-error`, `header-message`,
 /// `primary-label-error`, `secondary-label`, `line-number`, `source-border`, `note-bullet`, and the
@@ -21,7 +21,7 @@ use std::alloc::{AllocError, Global};
 /// A text can neither start nor end a tag, an attribute or an entity: each of the characters `&`,
 /// `<`, `>`, `"` and `'` becomes an entity. A control character other than a tab, a newline and a
 /// form feed, and a noncharacter, which HTML text can not hold, become U+FFFD. With its tags taken
-/// out and its entities read back the document is the text, with U+FFFD for these characters.
+/// out and its entities read back the element is the text, with U+FFFD for these characters.
 ///
 /// # Errors
 ///
@@ -34,10 +34,10 @@ use std::alloc::{AllocError, Global};
 /// let html = to_html(alloc, &text)?;
 /// ```
 pub fn to_html(alloc: Global, text: &StyledText) -> Result<String, Error>
-    ensures document { IfOk result (λ html.
-        string_bytes html ≡ html_document (styled_runs text.now)) }
+    ensures element { IfOk result (λ html.
+        string_bytes html ≡ html_element (styled_runs text.now)) }
     ensures tokens { IfOk result (λ html.
-        html_tokens (string_bytes html) ≡ document_tokens (styled_runs text.now)) }
+        html_tokens (string_bytes html) ≡ element_tokens (styled_runs text.now)) }
     ensures text { IfOk result (λ html.
         text_of_html (string_bytes html) ≡ shown_text (joined (styled_runs text.now))) }
     ensures failed { IfErr result (λ error. error ≡ Error.OutOfMemory) }
@@ -100,7 +100,7 @@ fn push_character(html: &mut String, c: char) -> Result<(), AllocError>
     }
 }
 
-/// Returns the character that a document shows.
+/// Returns the character that an element shows.
 fn replaced_character(c: char) -> char
     ensures { result ≡ replaced_character c }
 {

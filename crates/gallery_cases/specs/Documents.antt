@@ -7,7 +7,7 @@ use Rattle.codespan_base.specs.StyleTables.{default_styles}
 use Rattle.codespan_picture.specs.Lookups.{AllSucceed, lookups_in}
 use Rattle.codespan_picture.specs.StatedPicture.{picture}
 use Rattle.codespan_styled.specs.Glyphs.{glyphs_of}
-use Rattle.codespan_styled.specs.Html.{html_document}
+use Rattle.codespan_styled.specs.Html.{html_element}
 use Rattle.codespan_styled.specs.Runs.{StyledRun, runs_of}
 use Rattle.codespan_styled.specs.Svg.{svg_document}
 use Rattle.codespan_styled.specs.Terminal.{terminal_text}
@@ -31,7 +31,7 @@ AreRunsOf case runs =
 -- a document of runs, in the default styles
 abbrev pub document_of : Format → List StyledRun → List ℕ
 document_of Svg runs = svg_document (glyphs_of default_styles runs)
-document_of Html runs = html_document runs
+document_of Html runs = html_element runs
 document_of Terminal runs = terminal_text default_styles runs
 
 -- the document shows the output of a case

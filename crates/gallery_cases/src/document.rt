@@ -29,7 +29,7 @@ pub fn document(alloc: Global, case: &Case<'_>, format: Format) -> Result<String
     }
 }
 
-/// Returns the style sheet of HTML documents, in the default styles.
+/// Returns the style sheet of HTML elements, in the default styles.
 ///
 /// # Errors
 ///
