@@ -24,10 +24,10 @@ abbrev pub marks_from : FileModel → ℕ → ℕ → List LabelModel → List L
 marks_from f l n xs = filter_map (λ (entry : ℕ × LabelModel). lane_mark_of entry.0 entry.1 (multi_label_on f l entry.1)) (enumerate_from n xs)
 
 -- a multi-line label mark of another lane is passed over
-pass_by : (lane n : ℕ) (x : LabelModel) (multi_label : Option MultiLabel) (marks : List LaneMark) → (n == lane) ≡ false
-    → lane_mark_in (cons_option (lane_mark_of n x multi_label) marks) lane ≡ lane_mark_in marks lane
-pass_by lane n x None marks h = refl
-pass_by lane n x (Some multi_label) marks h = simp h
+pass_by : (lane n : ℕ) (x : LabelModel) (multi_label : Option MultiLabel) (lane_marks : List LaneMark) → (n == lane) ≡ false
+    → lane_mark_in (cons_option (lane_mark_of n x multi_label) lane_marks) lane ≡ lane_mark_in lane_marks lane
+pass_by lane n x None lane_marks h = refl
+pass_by lane n x (Some multi_label) lane_marks h = simp h
 
 -- later lanes have other numbers
 none_before : (f : FileModel) (l n lane : ℕ) (xs : List LabelModel) → lane < n → lane_mark_in (marks_from f l n xs) lane ≡ None
@@ -35,10 +35,10 @@ none_before f l n lane [] low = refl
 none_before f l n lane (x ∷ xs) low =
     pass_by lane n x (multi_label_on f l x) (marks_from f l (n + 1) xs) (grind (arith, nat_tests)) ∙ none_before f l (n + 1) lane xs (omega arith)
 
-found : (lane : ℕ) (x : LabelModel) (multi_label : Option MultiLabel) (marks : List LaneMark) → lane_mark_in marks lane ≡ None
-    → lane_mark_in (cons_option (lane_mark_of lane x multi_label) marks) lane ≡ lane_mark_of lane x multi_label
-found lane x None marks none = none
-found lane x (Some multi_label) marks none = let same : (lane == lane) ≡ true = grind (arith, nat_tests) in simp same
+found : (lane : ℕ) (x : LabelModel) (multi_label : Option MultiLabel) (lane_marks : List LaneMark) → lane_mark_in lane_marks lane ≡ None
+    → lane_mark_in (cons_option (lane_mark_of lane x multi_label) lane_marks) lane ≡ lane_mark_of lane x multi_label
+found lane x None lane_marks none = none
+found lane x (Some multi_label) lane_marks none = let same : (lane == lane) ≡ true = grind (arith, nat_tests) in simp same
 
 pub lane_mark_in-from : (f : FileModel) (l n k : ℕ) (xs : List LabelModel) → lane_mark_in (marks_from f l n xs) (n + k) ≡ lane_mark_for f l (n + k) (slice_get xs k)
 lane_mark_in-from f l n k [] = refl

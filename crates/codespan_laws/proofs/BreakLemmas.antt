@@ -33,7 +33,7 @@ no_break_line line =
     ∙ ap₂ (λ s t. s ++ t)
     (breaks-append (SourceRow line ∷ caret_rows line line.labels) (hanging_rows line (hanging_labels line.labels))
     ∙ ap₂ (λ s t. s ++ t) (no_break_caret line line.labels) (no_break_hanging line (hanging_labels line.labels)))
-    (breaks-map (UnderlineRow line) (filter (λ (m : LaneMark). has_underline (leading_whitespace line.text) m.multi_label) line.lanes.marks) (λ m. refl))
+    (breaks-map (UnderlineRow line) (filter (λ (m : LaneMark). has_underline (leading_whitespace line.text) m.multi_label) line.lanes.lane_marks) (λ m. refl))
 
 -- ---- the breaks between drawn lines
 

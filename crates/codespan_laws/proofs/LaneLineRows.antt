@@ -40,23 +40,23 @@ each_below P line a b d =
 abbrev is_underlined : Line → LaneMark → Bool
 is_underlined line m = has_underline (leading_of line) m.multi_label
 
-each_under : (P : Row → Type 0) (line : Line) (marks : List LaneMark) → AllByRecursion (λ m. P (UnderlineRow line m)) marks
-    → AllByRecursion P (map (UnderlineRow line) (filter (is_underlined line) marks))
-each_under P line marks a =
-    each_map P (UnderlineRow line) (filter (is_underlined line) marks) (all-filter (λ m. P (UnderlineRow line m)) (is_underlined line) marks a)
+each_under : (P : Row → Type 0) (line : Line) (lane_marks : List LaneMark) → AllByRecursion (λ m. P (UnderlineRow line m)) lane_marks
+    → AllByRecursion P (map (UnderlineRow line) (filter (is_underlined line) lane_marks))
+each_under P line lane_marks a =
+    each_map P (UnderlineRow line) (filter (is_underlined line) lane_marks) (all-filter (λ m. P (UnderlineRow line m)) (is_underlined line) lane_marks a)
 
 each_after_source : (P : Row → Type 0) (line : Line) → P (CaretRow line) → P (PointerRow line) → ((y : LabelModel) → P (HangingRow line y))
     → ((m : LaneMark) → P (UnderlineRow line m)) → AllByRecursion P (below_rows line ++ underline_rows line)
 each_after_source P line a b d e =
     all-append P (below_rows line) (underline_rows line) (each_below P line a b d)
-    (each_under P line line.lanes.marks (each_all (λ m. P (UnderlineRow line m)) line.lanes.marks e))
+    (each_under P line line.lanes.lane_marks (each_all (λ m. P (UnderlineRow line m)) line.lanes.lane_marks e))
 
 -- ---- a line on which the label neither begins nor ends
 
 abbrev pub lane_mark_with : ℕ → LabelStyle → MultiLabel → LaneMark
 lane_mark_with lane style multi_label = record { lane = lane; style = style; multi_label = multi_label }
 
-pub no_lane_mark : (layout : Layout) (lane : ℕ) (line : Line) → lane_mark_in line.lanes.marks lane ≡ None → AllByRecursion (Shows layout lane Space) (rows_of line)
+pub no_lane_mark : (layout : Layout) (lane : ℕ) (line : Line) → lane_mark_in line.lanes.lane_marks lane ≡ None → AllByRecursion (Shows layout lane Space) (rows_of line)
 no_lane_mark layout lane line none = (
   ap (shape_of (source_shape (leading_of line))) none,
   each_after_source (Shows layout lane Space) line
@@ -66,7 +66,7 @@ no_lane_mark layout lane line none = (
       (λ m. ap (shape_of (underline_shape layout (leading_of line) m.lane lane)) none),
 )
 
-pub left_lane_mark : (layout : Layout) (lane : ℕ) (line : Line) (style : LabelStyle) → lane_mark_in line.lanes.marks lane ≡ Some (lane_mark_with lane style Left)
+pub left_lane_mark : (layout : Layout) (lane : ℕ) (line : Line) (style : LabelStyle) → lane_mark_in line.lanes.lane_marks lane ≡ Some (lane_mark_with lane style Left)
     → AllByRecursion (Shows layout lane Bar) (rows_of line)
 left_lane_mark layout lane line style is = (
   ap (shape_of (source_shape (leading_of line))) is,
@@ -80,15 +80,15 @@ left_lane_mark layout lane line style is = (
 -- ---- a line with an end of the label
 
 -- the lane's multi-line label mark among those of the line
-pub record Split (lane : ℕ) (m : LaneMark) (marks : List LaneMark) : Type 0 where
+pub record Split (lane : ℕ) (m : LaneMark) (lane_marks : List LaneMark) : Type 0 where
   pub low : List LaneMark
   pub high : List LaneMark
-  pub is : marks ≡ low ++ (m ∷ high)
+  pub is : lane_marks ≡ low ++ (m ∷ high)
   pub below : AllByRecursion (λ (o : LaneMark). o.lane < lane) low
   pub above : AllByRecursion (λ (o : LaneMark). lane < o.lane) high
 
 -- the rows of the line, where the lane has an underline of its own
-rows_split : (lane : ℕ) (line : Line) (m : LaneMark) (r : Split lane m line.lanes.marks) → is_underlined line m ≡ true
+rows_split : (lane : ℕ) (line : Line) (m : LaneMark) (r : Split lane m line.lanes.lane_marks) → is_underlined line m ≡ true
     → rows_of line
     ≡ (SourceRow line ∷ (below_rows line ++ map (UnderlineRow line) (filter (is_underlined line) r.low)))
     ++ (UnderlineRow line m ∷ map (UnderlineRow line) (filter (is_underlined line) r.high))
@@ -98,8 +98,8 @@ rows_split lane line m r h =
     ∙ ap (λ t. SourceRow line ∷ t) (sym (append_assoc (below_rows line) (map (UnderlineRow line) (filter (is_underlined line) r.low)) (UnderlineRow line m ∷ map (UnderlineRow line) (filter (is_underlined line) r.high))))
 
 pub bottom_lane_mark : (layout : Layout) (lane : ℕ) (line : Line) (style : LabelStyle) (end : ℕ) (message : Stream)
-    → lane_mark_in line.lanes.marks lane ≡ Some (lane_mark_with lane style (Bottom end message))
-    → Split lane (lane_mark_with lane style (Bottom end message)) line.lanes.marks
+    → lane_mark_in line.lanes.lane_marks lane ≡ Some (lane_mark_with lane style (Bottom end message))
+    → Split lane (lane_mark_with lane style (Bottom end message)) line.lanes.lane_marks
     → Finishes layout lane (rows_of line)
 bottom_lane_mark layout lane line style end message is r = record {
   before = SourceRow line ∷ (below_rows line ++ map (UnderlineRow line) (filter (is_underlined line) r.low));
@@ -164,8 +164,8 @@ top_high lane corner_lane h e =
 
 -- a corner in the source row
 top_early : (layout : Layout) (lane : ℕ) (line : Line) (style : LabelStyle) (start : ℕ)
-    → lane_mark_in line.lanes.marks lane ≡ Some (lane_mark_with lane style (Top start))
-    → Split lane (lane_mark_with lane style (Top start)) line.lanes.marks → begins_in_source_row (leading_of line) start ≡ true
+    → lane_mark_in line.lanes.lane_marks lane ≡ Some (lane_mark_with lane style (Top start))
+    → Split lane (lane_mark_with lane style (Top start)) line.lanes.lane_marks → begins_in_source_row (leading_of line) start ≡ true
     → Begins layout lane line (rows_of line)
 top_early layout lane line style start is r early = record {
   before = [];
@@ -187,7 +187,7 @@ top_early layout lane line style start is r early = record {
         ap (λ t. map (UnderlineRow line) (filter (is_underlined line) t)) r.is
         ∙ split_off (UnderlineRow line) (is_underlined line) r.low m r.high (ap not early)
 
-    gap : shape_of (below_shape Classic (leading_of line)) (lane_mark_in line.lanes.marks lane) ≡ Space
+    gap : shape_of (below_shape Classic (leading_of line)) (lane_mark_in line.lanes.lane_marks lane) ≡ Space
     gap = ap (shape_of (below_shape Classic (leading_of line))) is
 
     shown : (o : LaneMark) → shape_in Classic (UnderlineRow line o) lane ≡ cond (lane == o.lane) TopCorner (cond (nat_lt lane o.lane) Bar Space)
@@ -233,8 +233,8 @@ late_underline layout leading corner_lane lane start h =
 
 -- a corner in a row of its own
 top_late : (layout : Layout) (lane : ℕ) (line : Line) (style : LabelStyle) (start : ℕ)
-    → lane_mark_in line.lanes.marks lane ≡ Some (lane_mark_with lane style (Top start))
-    → Split lane (lane_mark_with lane style (Top start)) line.lanes.marks → begins_in_source_row (leading_of line) start ≡ false
+    → lane_mark_in line.lanes.lane_marks lane ≡ Some (lane_mark_with lane style (Top start))
+    → Split lane (lane_mark_with lane style (Top start)) line.lanes.lane_marks → begins_in_source_row (leading_of line) start ≡ false
     → Begins layout lane line (rows_of line)
 top_late layout lane line style start is r early = record {
   before = SourceRow line ∷ (below_rows line ++ map (UnderlineRow line) (filter (is_underlined line) r.low));
@@ -258,7 +258,7 @@ top_late layout lane line style start is r early = record {
     m : LaneMark
     m = lane_mark_with lane style (Top start)
 
-    under : shape_of (below_shape layout (leading_of line)) (lane_mark_in line.lanes.marks lane) ≡ Space
+    under : shape_of (below_shape layout (leading_of line)) (lane_mark_in line.lanes.lane_marks lane) ≡ Space
     under = ap (shape_of (below_shape layout (leading_of line))) is ∙ late_below layout (leading_of line) start early
 
     shown : (o : LaneMark) → shape_in layout (UnderlineRow line o) lane ≡ cond (lane == o.lane) TopCorner (cond (nat_lt lane o.lane) Bar Space)
@@ -271,8 +271,8 @@ top_late layout lane line style start is r early = record {
     on_high o h = top_high lane o.lane h (shown o)
 
 pub top_lane_mark : (layout : Layout) (lane : ℕ) (line : Line) (style : LabelStyle) (start : ℕ)
-    → lane_mark_in line.lanes.marks lane ≡ Some (lane_mark_with lane style (Top start))
-    → Split lane (lane_mark_with lane style (Top start)) line.lanes.marks
+    → lane_mark_in line.lanes.lane_marks lane ≡ Some (lane_mark_with lane style (Top start))
+    → Split lane (lane_mark_with lane style (Top start)) line.lanes.lane_marks
     → Begins layout lane line (rows_of line)
 top_lane_mark layout lane line style start is r = by_test (begins_in_source_row (leading_of line) start) refl
   where

@@ -24,10 +24,10 @@ use Rattle.codespan_laws.proofs.ListElements.{all-append, all-weaker}
 
 -- ---- the multi-line label marks of a line in their order
 
-each_lane_mark : (P : LaneMark → Type 0) (n : ℕ) (x : LabelModel) (multi_label : Option MultiLabel) (marks : List LaneMark)
-    → ((p : MultiLabel) → P (lane_mark_with n x.style p)) → AllByRecursion P marks → AllByRecursion P (cons_option (lane_mark_of n x multi_label) marks)
-each_lane_mark P n x None marks h a = a
-each_lane_mark P n x (Some p) marks h a = (h p, a)
+each_lane_mark : (P : LaneMark → Type 0) (n : ℕ) (x : LabelModel) (multi_label : Option MultiLabel) (lane_marks : List LaneMark)
+    → ((p : MultiLabel) → P (lane_mark_with n x.style p)) → AllByRecursion P lane_marks → AllByRecursion P (cons_option (lane_mark_of n x multi_label) lane_marks)
+each_lane_mark P n x None lane_marks h a = a
+each_lane_mark P n x (Some p) lane_marks h a = (h p, a)
 
 each_from : (f : FileModel) (l n : ℕ) (xs : List LabelModel) → AllByRecursion (λ (o : LaneMark). n ≤ o.lane) (marks_from f l n xs)
 each_from f l n [] = tt
@@ -36,10 +36,10 @@ each_from f l n (x ∷ xs) =
     (all-weaker (λ (o : LaneMark). n + 1 ≤ o.lane) (λ (o : LaneMark). n ≤ o.lane) (λ o h. omega arith) (marks_from f l (n + 1) xs) (each_from f l (n + 1) xs))
 
 -- one multi-line label mark more before the others
-split_later : (lane n : ℕ) (m : LaneMark) (x : LabelModel) (multi_label : Option MultiLabel) (marks : List LaneMark) → n < lane → Split lane m marks
-    → Split lane m (cons_option (lane_mark_of n x multi_label) marks)
-split_later lane n m x None marks h r = r
-split_later lane n m x (Some p) marks h r = record {
+split_later : (lane n : ℕ) (m : LaneMark) (x : LabelModel) (multi_label : Option MultiLabel) (lane_marks : List LaneMark) → n < lane → Split lane m lane_marks
+    → Split lane m (cons_option (lane_mark_of n x multi_label) lane_marks)
+split_later lane n m x None lane_marks h r = r
+split_later lane n m x (Some p) lane_marks h r = record {
   low = lane_mark_with n x.style p ∷ r.low;
   high = r.high;
   is = ap (λ t. lane_mark_with n x.style p ∷ t) r.is;

@@ -62,5 +62,5 @@ twice f two a (suc n) =
 pub row_length-lanes_in : (context : RowContext) (crossing : ℕ → Option LaneMark) (shape : ℕ → MultiLabel → Shape) (lanes : Lanes)
     → row_length (lanes_in context crossing shape lanes) ≡ 2 * lanes.count
 row_length-lanes_in context crossing shape lanes =
-    twice (λ lane. inner_gutter_column context (crossing lane) (shape lane) (lane_mark_in lanes.marks lane))
-    (λ lane. row_length-inner_gutter_column context (crossing lane) (shape lane) (lane_mark_in lanes.marks lane)) 0 lanes.count
+    twice (λ lane. inner_gutter_column context (crossing lane) (shape lane) (lane_mark_in lanes.lane_marks lane))
+    (λ lane. row_length-inner_gutter_column context (crossing lane) (shape lane) (lane_mark_in lanes.lane_marks lane)) 0 lanes.count

@@ -16,7 +16,7 @@ use Rattle.codespan_laws.specs.LaneLaws.{lanes_shown, before_lanes, ShowsLanes, 
 -- the two characters of each lane, from left to right, from the multi-line label marks in them
 lanes_are : (context : RowContext) (crossing : ℕ → Option LaneMark) (shape : ℕ → MultiLabel → Shape) (lanes : Lanes)
     → lanes_in context crossing shape lanes
-    ≡ flat_map (λ lane. lane_cells context.severity context.chars (crossing lane) (style_of_lane_mark (lane_mark_in lanes.marks lane)) (shape_of (shape lane) (lane_mark_in lanes.marks lane)))
+    ≡ flat_map (λ lane. lane_cells context.severity context.chars (crossing lane) (style_of_lane_mark (lane_mark_in lanes.lane_marks lane)) (shape_of (shape lane) (lane_mark_in lanes.lane_marks lane)))
     (range_with_len 0 lanes.count)
 unfolding inner_gutter_column
 lanes_are context crossing shape lanes = refl

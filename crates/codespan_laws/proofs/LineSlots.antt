@@ -105,12 +105,12 @@ no_underline k leading (Top start) h = refl
 no_underline k leading Left h = refl
 no_underline k leading (Bottom end message) h = cc
 
-underline_sum : (k : ℕ) (line : Line) → sum_by (row_slots k) (underline_rows line) ≡ sum_by (lane_mark_slots k) line.lanes.marks
+underline_sum : (k : ℕ) (line : Line) → sum_by (row_slots k) (underline_rows line) ≡ sum_by (lane_mark_slots k) line.lanes.lane_marks
 underline_sum k line =
-    sum-map (row_slots k) (UnderlineRow line) (filter (λ (m : LaneMark). has_underline (leading_whitespace line.text) m.multi_label) line.lanes.marks)
-    ∙ sum-filter_free (lane_mark_slots k) (λ (m : LaneMark). has_underline (leading_whitespace line.text) m.multi_label) (λ m. no_underline k (leading_whitespace line.text) m.multi_label) line.lanes.marks
+    sum-map (row_slots k) (UnderlineRow line) (filter (λ (m : LaneMark). has_underline (leading_whitespace line.text) m.multi_label) line.lanes.lane_marks)
+    ∙ sum-filter_free (lane_mark_slots k) (λ (m : LaneMark). has_underline (leading_whitespace line.text) m.multi_label) (λ m. no_underline k (leading_whitespace line.text) m.multi_label) line.lanes.lane_marks
 
-line_sum : (k : ℕ) (line : Line) → sum_by (row_slots k) (rows_of line) ≡ sum_by (label_slots k) line.labels + sum_by (lane_mark_slots k) line.lanes.marks
+line_sum : (k : ℕ) (line : Line) → sum_by (row_slots k) (rows_of line) ≡ sum_by (label_slots k) line.labels + sum_by (lane_mark_slots k) line.lanes.lane_marks
 line_sum k line =
     omega (
       arith,

@@ -45,11 +45,11 @@ module _ (f : FileModel) (xs ys : List LabelModel) (equal : AreEqual f xs ys) wh
   -- the multi-line label marks of a line depend on the multi-line labels alone
   lanes-same : (l : ℕ) → (line_at s l).lanes ≡ (line_at t l).lanes
   lanes-same l = ap {B = Lanes}
-      (λ zs. record { count = length zs; marks = filter_map (λ (entry : ℕ × LabelModel). lane_mark_of entry.0 entry.1 (multi_label_on f l entry.1)) (enumerate_from 0 zs) })
+      (λ zs. record { count = length zs; lane_marks = filter_map (λ (entry : ℕ × LabelModel). lane_mark_of entry.0 entry.1 (multi_label_on f l entry.1)) (enumerate_from 0 zs) })
       equal.several_lines
 
   bare-same : empty_lanes s ≡ empty_lanes t
-  bare-same = ap {B = Lanes} (λ (zs : List LabelModel). record { count = length zs; marks = [] }) equal.several_lines
+  bare-same = ap {B = Lanes} (λ (zs : List LabelModel). record { count = length zs; lane_marks = [] }) equal.several_lines
 
   line-same : (l : ℕ) → line_at s l ≡ line_at t l
   line-same l = ap₂ {C = Line} (λ zs lanes. record { number = f.line_number l; text = text_without_line_end (line_text f l); labels = zs; lanes = lanes })

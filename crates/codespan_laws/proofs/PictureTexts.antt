@@ -67,10 +67,10 @@ module _ (f : FileModel) (labels : List LabelModel) (texts : AllByRecursion HasT
       by false false true = tt
       by false false false = tt
 
-  text_message-marks : (l k : ℕ) (xs : List LabelModel) → AllByRecursion HasTextMessage xs
+  text_message-lane_marks : (l k : ℕ) (xs : List LabelModel) → AllByRecursion HasTextMessage xs
       → AllByRecursion (λ (m : LaneMark). IsTextMultiLabel m.multi_label) (filter_map (λ (entry : ℕ × LabelModel). lane_mark_of entry.0 entry.1 (multi_label_on f l entry.1)) (enumerate_from k xs))
-  text_message-marks l k [] h = tt
-  text_message-marks l k (x ∷ xs) h = by (lane_mark_of k x (multi_label_on f l x)) (text_message-multi_label _ _ l _ x k h.0) (text_message-marks l (k + 1) xs h.1)
+  text_message-lane_marks l k [] h = tt
+  text_message-lane_marks l k (x ∷ xs) h = by (lane_mark_of k x (multi_label_on f l x)) (text_message-multi_label _ _ l _ x k h.0) (text_message-lane_marks l (k + 1) xs h.1)
     where
       by : (o : Option LaneMark) → IfSome o (λ m. IsTextMultiLabel m.multi_label)
           → AllByRecursion (λ (m : LaneMark). IsTextMultiLabel m.multi_label) (filter_map (λ (entry : ℕ × LabelModel). lane_mark_of entry.0 entry.1 (multi_label_on f l entry.1)) (enumerate_from (k + 1) xs))
@@ -111,7 +111,7 @@ rows-line line t =
     all-append IsTextRow ((SourceRow line ∷ caret_rows line line.labels) ++ hanging_rows line (hanging_labels line.labels)) (underline_rows line)
     (all-append IsTextRow (SourceRow line ∷ caret_rows line line.labels) (hanging_rows line (hanging_labels line.labels)) (t.text, rows-caret line line.labels t.labels)
     (rows-hanging_labels line (hanging_labels line.labels) (text_message-hanging_labels line.labels t.labels)))
-    (each_map IsTextRow (UnderlineRow line) (filter test line.lanes.marks) (all-filter (λ (m : LaneMark). IsTextMultiLabel m.multi_label) test line.lanes.marks t.marks))
+    (each_map IsTextRow (UnderlineRow line) (filter test line.lanes.lane_marks) (all-filter (λ (m : LaneMark). IsTextMultiLabel m.multi_label) test line.lanes.lane_marks t.lane_marks))
 
 -- ---- the rows of a file
 
@@ -125,7 +125,7 @@ module _ (s : LabeledFileModel) (ok : IsTextFile s) where
   line-text l = record {
     text = drawn-utf8 (line_text s.file l) (line-utf8 s.file ok.lawful l);
     labels = text_message-single s.file s.labels ok.labels l;
-    marks = text_message-marks s.file s.labels ok.labels l 0 (multi_labels s.file s.labels) (all-filter HasTextMessage (λ x. not (is_single s.file x)) s.labels ok.labels);
+    lane_marks = text_message-lane_marks s.file s.labels ok.labels l 0 (multi_labels s.file s.labels) (all-filter HasTextMessage (λ x. not (is_single s.file x)) s.labels ok.labels);
   }
 
   rows-lines : (previous : Option ℕ) (ls : List ℕ) → AllByRecursion IsTextRow (rows_after s previous ls)

@@ -62,7 +62,7 @@ abbrev pub re_lane_mark : (Stream → Stream) → LaneMark → LaneMark
 re_lane_mark φ m = record m { multi_label = re_multi_label φ m.multi_label }
 
 abbrev pub re_lanes : (Stream → Stream) → Lanes → Lanes
-re_lanes φ lanes = record lanes { marks = map (re_lane_mark φ) lanes.marks }
+re_lanes φ lanes = record lanes { lane_marks = map (re_lane_mark φ) lanes.lane_marks }
 
 abbrev pub re_line : (Stream → Stream) → Line → Line
 re_line φ line = record line { labels = map (re φ) line.labels; lanes = re_lanes φ line.lanes }
@@ -169,10 +169,10 @@ module _ (φ : Stream → Stream) (keeps : (s : Stream) → is_empty_stream (φ 
   lanes-re context crossing crossing' shape lanes h same =
       ap (λ f. flat_map f (range_with_len 0 lanes.count)) (fun_ext each)
     where
-      each : (lane : ℕ) → inner_gutter_column context (crossing' lane) (shape lane) (lane_mark_in (map (re_lane_mark φ) lanes.marks) lane) ≡ inner_gutter_column context (crossing lane) (shape lane) (lane_mark_in lanes.marks lane)
+      each : (lane : ℕ) → inner_gutter_column context (crossing' lane) (shape lane) (lane_mark_in (map (re_lane_mark φ) lanes.lane_marks) lane) ≡ inner_gutter_column context (crossing lane) (shape lane) (lane_mark_in lanes.lane_marks lane)
       each lane =
-          ap₂ (λ c m. inner_gutter_column context c (shape lane) m) (h lane) (find-map (λ (m : LaneMark). m.lane == lane) (re_lane_mark φ) lanes.marks)
-          ∙ lane-re context (crossing lane) (lane_mark_in lanes.marks lane) (shape lane) (same lane)
+          ap₂ (λ c m. inner_gutter_column context c (shape lane) m) (h lane) (find-map (λ (m : LaneMark). m.lane == lane) (re_lane_mark φ) lanes.lane_marks)
+          ∙ lane-re context (crossing lane) (lane_mark_in lanes.lane_marks lane) (shape lane) (same lane)
 
   source_shape-re : (leading : ℕ) (multi_label : MultiLabel) → source_shape leading (re_multi_label φ multi_label) ≡ source_shape leading multi_label
   source_shape-re leading (Top start) = refl
@@ -229,8 +229,8 @@ module _ (φ : Stream → Stream) (keeps : (s : Stream) → is_empty_stream (φ 
   source_style-re line c =
       ap₂ (λ a b. if a || b then Some Primary else None)
       (any-map (λ x. is_primary x && covers x c) (re φ) line.labels)
-      (any-map (λ (m : LaneMark). is_primary_style m.style && multi_label_covers c m.multi_label) (re_lane_mark φ) line.lanes.marks
-      ∙ ap (λ p. list_any p line.lanes.marks) (fun_ext (λ (m : LaneMark). ap (λ b. is_primary_style m.style && b) (multi_label_covers-re c m.multi_label))))
+      (any-map (λ (m : LaneMark). is_primary_style m.style && multi_label_covers c m.multi_label) (re_lane_mark φ) line.lanes.lane_marks
+      ∙ ap (λ p. list_any p line.lanes.lane_marks) (fun_ext (λ (m : LaneMark). ap (λ b. is_primary_style m.style && b) (multi_label_covers-re c m.multi_label))))
 
   pub colored_text-re : (context : RowContext) (line : Line) → colored_text context (re_line φ line) ≡ colored_text context line
   unfolding colored_text

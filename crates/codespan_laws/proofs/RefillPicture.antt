@@ -70,10 +70,10 @@ module _ (φ : Stream → Stream) (keeps : (s : Stream) → is_empty_stream (φ 
   underline-rows : (line : Line) → map (re_row φ) (underline_rows line) ≡ underline_rows (re_line φ line)
   underline-rows line =
       let p = λ (m : LaneMark). has_underline (leading_whitespace line.text) m.multi_label in
-      map-map (re_row φ) (UnderlineRow line) (filter p line.lanes.marks)
-      ∙ sym (map-map (UnderlineRow (re_line φ line)) (re_lane_mark φ) (filter p line.lanes.marks))
-      ∙ ap (λ q. map (UnderlineRow (re_line φ line)) (map (re_lane_mark φ) (filter q line.lanes.marks))) (fun_ext (λ (m : LaneMark). sym (has-underline (leading_whitespace line.text) m.multi_label)))
-      ∙ ap (map (UnderlineRow (re_line φ line))) (sym (filter-map p (re_lane_mark φ) line.lanes.marks))
+      map-map (re_row φ) (UnderlineRow line) (filter p line.lanes.lane_marks)
+      ∙ sym (map-map (UnderlineRow (re_line φ line)) (re_lane_mark φ) (filter p line.lanes.lane_marks))
+      ∙ ap (λ q. map (UnderlineRow (re_line φ line)) (map (re_lane_mark φ) (filter q line.lanes.lane_marks))) (fun_ext (λ (m : LaneMark). sym (has-underline (leading_whitespace line.text) m.multi_label)))
+      ∙ ap (map (UnderlineRow (re_line φ line))) (sym (filter-map p (re_lane_mark φ) line.lanes.lane_marks))
 
   line-rows : (line : Line) → map (re_row φ) (rows_of line) ≡ rows_of (re_line φ line)
   line-rows line =
@@ -126,27 +126,27 @@ module _ (φ : Stream → Stream) (keeps : (s : Stream) → is_empty_stream (φ 
   cons-lane_mark n x None ms = refl
   cons-lane_mark n x (Some multi_label) ms = refl
 
-  marks-from : (f : FileModel) (l n : ℕ) (xs : List LabelModel)
+  lane_marks-from : (f : FileModel) (l n : ℕ) (xs : List LabelModel)
       → filter_map (λ (entry : ℕ × LabelModel). lane_mark_of entry.0 entry.1 (multi_label_on f l entry.1)) (enumerate_from n (map (re φ) xs))
       ≡ map (re_lane_mark φ) (filter_map (λ (entry : ℕ × LabelModel). lane_mark_of entry.0 entry.1 (multi_label_on f l entry.1)) (enumerate_from n xs))
-  marks-from f l n [] = refl
-  marks-from f l n (x ∷ xs) =
-      ap₂ (λ multi_label ms. cons_option (lane_mark_of n (re φ x) multi_label) ms) (multi_label-on f l x) (marks-from f l (n + 1) xs)
+  lane_marks-from f l n [] = refl
+  lane_marks-from f l n (x ∷ xs) =
+      ap₂ (λ multi_label ms. cons_option (lane_mark_of n (re φ x) multi_label) ms) (multi_label-on f l x) (lane_marks-from f l (n + 1) xs)
       ∙ cons-lane_mark n x (multi_label_on f l x) (filter_map (λ (entry : ℕ × LabelModel). lane_mark_of entry.0 entry.1 (multi_label_on f l entry.1)) (enumerate_from (n + 1) xs))
 
-  marks-re : (f : FileModel) (xs : List LabelModel) (l : ℕ) → lane_marks_on f (map (re φ) xs) l ≡ map (re_lane_mark φ) (lane_marks_on f xs l)
-  marks-re f xs l =
+  lane_marks-re : (f : FileModel) (xs : List LabelModel) (l : ℕ) → lane_marks_on f (map (re φ) xs) l ≡ map (re_lane_mark φ) (lane_marks_on f xs l)
+  lane_marks-re f xs l =
       ap (λ ys. filter_map (λ (entry : ℕ × LabelModel). lane_mark_of entry.0 entry.1 (multi_label_on f l entry.1)) (enumerate_from 0 ys)) (multi-re f xs)
-      ∙ marks-from f l 0 (multi_labels f xs)
+      ∙ lane_marks-from f l 0 (multi_labels f xs)
 
   lanes-count : (s : LabeledFileModel) → num_multi_labels (re_file φ s) ≡ num_multi_labels s
   lanes-count s = ap length (multi-re s.file s.labels) ∙ same-length (re φ) (multi_labels s.file s.labels)
 
   bare-re : (s : LabeledFileModel) → re_lanes φ (empty_lanes s) ≡ empty_lanes (re_file φ s)
-  bare-re s = ap {B = Lanes} (λ n. record { count = n; marks = [] }) (sym (lanes-count s))
+  bare-re s = ap {B = Lanes} (λ n. record { count = n; lane_marks = [] }) (sym (lanes-count s))
 
   lanes-at : (s : LabeledFileModel) (l : ℕ) → re_lanes φ (line_at s l).lanes ≡ (line_at (re_file φ s) l).lanes
-  lanes-at s l = ap₂ {C = Lanes} (λ n ms. record { count = n; marks = ms }) (sym (lanes-count s)) (sym (marks-re s.file s.labels l))
+  lanes-at s l = ap₂ {C = Lanes} (λ n ms. record { count = n; lane_marks = ms }) (sym (lanes-count s)) (sym (lane_marks-re s.file s.labels l))
 
   line-re : (s : LabeledFileModel) (l : ℕ) → re_line φ (line_at s l) ≡ line_at (re_file φ s) l
   line-re s l =

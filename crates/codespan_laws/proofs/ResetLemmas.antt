@@ -88,8 +88,8 @@ closes-flat_map f each (x ∷ xs) = closes-append (f x) (flat_map f xs) (each x)
 
 pub closes-lanes_in : (context : RowContext) (crossing : ℕ → Option LaneMark) (shape : ℕ → MultiLabel → Shape) (lanes : Lanes) → Closes (lanes_in context crossing shape lanes)
 closes-lanes_in context crossing shape lanes =
-    closes-flat_map (λ lane. inner_gutter_column context (crossing lane) (shape lane) (lane_mark_in lanes.marks lane))
-    (λ lane. closes-inner_gutter_column context (crossing lane) (shape lane) (lane_mark_in lanes.marks lane)) (range_with_len 0 lanes.count)
+    closes-flat_map (λ lane. inner_gutter_column context (crossing lane) (shape lane) (lane_mark_in lanes.lane_marks lane))
+    (λ lane. closes-inner_gutter_column context (crossing lane) (shape lane) (lane_mark_in lanes.lane_marks lane)) (range_with_len 0 lanes.count)
 
 -- ---- styled characters
 

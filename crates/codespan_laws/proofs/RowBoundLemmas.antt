@@ -201,7 +201,7 @@ one_source line =
       count-cons is_source_row (SourceRow line) (caret_rows line line.labels),
       no_source_caret line line.labels,
       no_source_hanging line (hanging_labels line.labels),
-      count-map-none is_source_row (UnderlineRow line) (filter (λ (m : LaneMark). has_underline (leading_whitespace line.text) m.multi_label) line.lanes.marks) (λ m. refl),
+      count-map-none is_source_row (UnderlineRow line) (filter (λ (m : LaneMark). has_underline (leading_whitespace line.text) m.multi_label) line.lanes.lane_marks) (λ m. refl),
     )
 
 count-rows_after : (s : LabeledFileModel) (previous : Option ℕ) (ls : List ℕ) → count_by is_source_row (rows_after s previous ls) ≡ length ls

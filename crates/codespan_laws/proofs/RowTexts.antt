@@ -106,7 +106,7 @@ IsTextMultiLabel _ = Unit {0}
 pub record IsTextLine (line : Line) : Type 0 where
   pub text : IsUtf8 line.text
   pub labels : AllByRecursion (λ (x : LabelModel). IsText x.message) line.labels
-  pub marks : AllByRecursion (λ (m : LaneMark). IsTextMultiLabel m.multi_label) line.lanes.marks
+  pub lane_marks : AllByRecursion (λ (m : LaneMark). IsTextMultiLabel m.multi_label) line.lanes.lane_marks
 
 -- what a row is of is a text
 abbrev pub IsTextRow : Row → Type 0
@@ -164,10 +164,10 @@ module _ (context : RowContext) (ok : AreCharacters context.chars) where
   text-inner_gutter : (leading : ℕ) (row : LaneRow) (lanes : Lanes) → IsText (inner_gutter context leading row lanes)
   unfolding inner_gutter
   text-inner_gutter leading row lanes =
-      let shown : ℕ → Stream = λ lane. inner_gutter_column context (row_crossing row lane) (row_shape context.layout leading row lane) (lane_mark_in lanes.marks lane) in
+      let shown : ℕ → Stream = λ lane. inner_gutter_column context (row_crossing row lane) (row_shape context.layout leading row lane) (lane_mark_in lanes.lane_marks lane) in
       text-each shown (range_with_len 0 lanes.count)
       (each_all (λ lane. IsText (shown lane)) (range_with_len 0 lanes.count)
-      (λ lane. text-inner_gutter_column (row_crossing row lane) (row_shape context.layout leading row lane) (lane_mark_in lanes.marks lane)))
+      (λ lane. text-inner_gutter_column (row_crossing row lane) (row_shape context.layout leading row lane) (lane_mark_in lanes.lane_marks lane)))
 
   -- the source
   text-colored : (line : Line) → IsUtf8 line.text → IsText (colored_text context line)

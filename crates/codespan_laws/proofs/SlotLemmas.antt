@@ -86,8 +86,8 @@ slots-inner_gutter_column k context crossing shape (Some m) = slots-lane_cells k
 
 pub slots-lanes_in : (k : ℕ) (context : RowContext) (crossing : ℕ → Option LaneMark) (shape : ℕ → MultiLabel → Shape) (lanes : Lanes) → slots k (lanes_in context crossing shape lanes) ≡ 0
 slots-lanes_in k context crossing shape lanes =
-    slots-flat_map k (λ lane. inner_gutter_column context (crossing lane) (shape lane) (lane_mark_in lanes.marks lane)) (range_with_len 0 lanes.count)
-    (λ lane. slots-inner_gutter_column k context (crossing lane) (shape lane) (lane_mark_in lanes.marks lane))
+    slots-flat_map k (λ lane. inner_gutter_column context (crossing lane) (shape lane) (lane_mark_in lanes.lane_marks lane)) (range_with_len 0 lanes.count)
+    (λ lane. slots-inner_gutter_column k context (crossing lane) (shape lane) (lane_mark_in lanes.lane_marks lane))
 
 pub slots-inner_gutter : (k : ℕ) (context : RowContext) (leading : ℕ) (row : LaneRow) (lanes : Lanes) → slots k (inner_gutter context leading row lanes) ≡ 0
 unfolding inner_gutter

@@ -43,7 +43,7 @@ kind_of _ = Plain
 abbrev pub shape_in : Layout → Row → ℕ → Shape
 shape_in layout row lane =
     shape_of (row_shape layout (option_map_or leading_of (line_of_row row) 0) (kind_of row) lane)
-    (lane_mark_in (option_map_or (λ (lanes : Lanes). lanes.marks) (lanes_of_row row) []) lane)
+    (lane_mark_in (option_map_or (λ (lanes : Lanes). lanes.lane_marks) (lanes_of_row row) []) lane)
 
 -- the label's lane
 abbrev pub HasLane : LabeledFileModel → ℕ → LabelModel → Type 0
@@ -101,7 +101,7 @@ LanesJoinCorners config layout s =
 abbrev pub lanes_shown : RowContext → Row → Lanes → Stream
 lanes_shown context row lanes =
     flat_map (λ lane. lane_cells context.severity context.chars (row_crossing (kind_of row) lane)
-    (style_of_lane_mark (lane_mark_in lanes.marks lane)) (shape_in context.layout row lane))
+    (style_of_lane_mark (lane_mark_in lanes.lane_marks lane)) (shape_in context.layout row lane))
     (range_with_len 0 lanes.count)
 
 -- what is left of the lanes: in a source row the line's number, else spaces, and the bar left of

@@ -48,7 +48,7 @@ lane_mark_view m = record { lane = m.0; style = m.1; multi_label = multi_label_v
 
 -- how many lanes a row has, and the lane marks in them
 abbrev pub lanes_of : ℕ → List LaneMarkTuple → Lanes
-lanes_of count ms = record { count = count; marks = map lane_mark_view ms }
+lanes_of count ms = record { count = count; lane_marks = map lane_mark_view ms }
 
 -- the lanes ascend strictly from `least` on and stay below their number
 abbrev pub ascend_from : ℕ → ℕ → List LaneMark → Bool

@@ -64,7 +64,7 @@ row_crossing _ lane = None
 
 -- the lane mark of the line in a lane
 abbrev pub lane_mark_in : List LaneMark → ℕ → Option LaneMark
-lane_mark_in marks lane = find (λ (m : LaneMark). m.lane == lane) marks
+lane_mark_in lane_marks lane = find (λ (m : LaneMark). m.lane == lane) lane_marks
 
 -- what a row shows in a lane, from the lane mark in it
 abbrev pub shape_of : (MultiLabel → Shape) → Option LaneMark → Shape

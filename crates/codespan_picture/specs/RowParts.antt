@@ -83,7 +83,7 @@ abbrev pub lanes_in : RowContext → (ℕ → Option LaneMark) → (ℕ → Mult
 lanes_in context crossing shape lanes =
     flat_map
     (λ lane.
-    inner_gutter_column context (crossing lane) (shape lane) (lane_mark_in lanes.marks lane))
+    inner_gutter_column context (crossing lane) (shape lane) (lane_mark_in lanes.lane_marks lane))
     (range_with_len 0 lanes.count)
 
 -- the lanes of a kind of row, of a line whose text begins with so many bytes of white space
@@ -116,7 +116,7 @@ abbrev pub source_style : Line → Metrics → Option LabelStyle
 source_style line c =
     if list_any (λ x. is_primary x && covers x c) line.labels
     || list_any (λ (m : LaneMark). is_primary_style m.style && multi_label_covers c m.multi_label)
-    line.lanes.marks
+    line.lanes.lane_marks
     then Some Primary else None
 
 -- a tab is written as spaces

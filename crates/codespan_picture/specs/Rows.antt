@@ -29,7 +29,7 @@ pub record RowContext : Type 0 where
 -- how many lanes a row has, and the lane marks in them
 pub record Lanes : Type 0 where
   pub count : ℕ
-  pub marks : List LaneMark
+  pub lane_marks : List LaneMark
 
 -- a drawn line with what its labels do on it
 pub record Line : Type 0 where
@@ -109,7 +109,7 @@ abbrev pub underline_rows : Line → List Row
 underline_rows line =
     map (UnderlineRow line)
     (filter (λ (m : LaneMark). has_underline (leading_whitespace line.text) m.multi_label)
-    line.lanes.marks)
+    line.lanes.lane_marks)
 
 -- all rows of a line
 abbrev pub rows_of : Line → List Row

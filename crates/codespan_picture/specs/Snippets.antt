@@ -45,7 +45,7 @@ num_multi_labels s = length (multi_labels s.file s.labels)
 
 -- lanes with nothing in them
 abbrev pub empty_lanes : LabeledFileModel → Lanes
-empty_lanes s = record { count = num_multi_labels s; marks = [] }
+empty_lanes s = record { count = num_multi_labels s; lane_marks = [] }
 
 -- a line of the file, with what its labels do on it
 abbrev pub line_at : LabeledFileModel → ℕ → Line
@@ -53,7 +53,7 @@ line_at s l = record {
   number = s.file.line_number l;
   text = text_without_line_end (line_text s.file l);
   labels = single_labels s.file s.labels l;
-  lanes = record { count = num_multi_labels s; marks = lane_marks_on s.file s.labels l };
+  lanes = record { count = num_multi_labels s; lane_marks = lane_marks_on s.file s.labels l };
 }
 
 -- the rows of a line

@@ -20,7 +20,7 @@ use Rattle.codespan_picture.specs.Snippets.{InFile}
 use Rattle.codespan_annotations.specs.LabeledFiles.{num_multi_labels_of}
 use Rattle.codespan_plan.specs.SnippetLines.{single_labels_in}
 use Rattle.codespan_annotations.proofs.AnnotationOrder.{lane_mark_annotation, index_below}
-use Rattle.codespan_collect.proofs.LabelAnnotations.{is_kind, all-of_file, all-below, annotations-on_line, marks-on_line, single_labels-on_line, shown-on_line}
+use Rattle.codespan_collect.proofs.LabelAnnotations.{is_kind, all-of_file, all-below, annotations-on_line, lane_marks-on_line, single_labels-on_line, shown-on_line}
 use Rattle.codespan_collect.proofs.LabelIndexing.{num_multi_labels_of-more, label_lanes}
 use Rattle.codespan_plan.proofs.LaneMarks.{marks_from}
 use Rattle.codespan_laws.proofs.OrderSorts.{has_range}
@@ -248,17 +248,17 @@ module _ {Id : Type 0} {same : Id → Id → Bool} {file : Id → FileModel} {id
         by_tests : (s t : Bool) → nat_lt l (line_count own_file) ≡ t
             → filter (is_kind 2) (cond (s && t) (line_annotations config own_file (indices_at before) x.label l) []) ≡ cond s (multi_annotations_if (is_single own_file x.label) (lane_mark_of lane x.label (multi_label_on own_file l x.label))) []
         by_tests false t h = refl
-        by_tests true true h = marks-on_line config own_file (indices_at before) x.label l
+        by_tests true true h = lane_marks-on_line config own_file (indices_at before) x.label l
         by_tests true false h = none (is_single own_file x.label) ∙ ap (λ o. multi_annotations_if (is_single own_file x.label) (lane_mark_of lane x.label o)) (sym (multi_label-outside x.label h))
 
     -- the lane marks of labels that come after these, in their lanes
-    pub all-marks : (xs before : List (InFile Id)) (n : ℕ) → num_multi_labels_of same file before id ≡ n
+    pub all-lane_marks : (xs before : List (InFile Id)) (n : ℕ) → num_multi_labels_of same file before id ≡ n
         → filter (is_kind 2) (line_annotations_after before xs) ≡ map (lane_mark_annotation f l) (marks_from own_file l n (multi_labels own_file (labels_in xs)))
-    all-marks [] before n e = refl
-    all-marks (x ∷ xs) before n e =
+    all-lane_marks [] before n e = refl
+    all-lane_marks (x ∷ xs) before n e =
         filter-append (is_kind 2) (line_annotations_of before x) (line_annotations_after (before ++ x ∷ []) xs)
         ∙ (λ i. (one-lane_mark before x ∙ ap (λ k. cond (same id x.id) (multi_annotations_if (is_single own_file x.label) (lane_mark_of k x.label (multi_label_on own_file l x.label))) []) e) i
-        ++ all-marks xs (before ++ x ∷ []) (n + (if same id x.id then label_lanes own_file x.label else 0)) (num_multi_labels_of-more same file before x id ∙ ap (λ k. k + (if same id x.id then label_lanes own_file x.label else 0)) e) i)
+        ++ all-lane_marks xs (before ++ x ∷ []) (n + (if same id x.id then label_lanes own_file x.label else 0)) (num_multi_labels_of-more same file before x id ∙ ap (λ k. k + (if same id x.id then label_lanes own_file x.label else 0)) e) i)
         ∙ by_tests (same id x.id) (is_single own_file x.label) refl
       where
         later : ℕ → List Annotation

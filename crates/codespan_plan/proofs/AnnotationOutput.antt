@@ -27,7 +27,7 @@ use Rattle.codespan_plan.proofs.FileLabels.{HasFileIndex, is_of_range}
 use Rattle.codespan_annotations.proofs.AnnotationOrder.{below_order, lane_mark_annotation}
 use Rattle.codespan_plan.proofs.SingleLabelOrder.{IsOn, single_labels-ascend}
 use Rattle.codespan_annotations.proofs.FileIndices.{index_of_file-at}
-use Rattle.codespan_plan.proofs.LaneMarks.{ascend-climbs, marks-ascend}
+use Rattle.codespan_plan.proofs.LaneMarks.{ascend-climbs, lane_marks-ascend}
 use Rattle.codespan_laws.proofs.FillLemmas.{none_past}
 use Rattle.codespan_collect.proofs.LabelAnnotations.{is_kind}
 use Rattle.codespan_collect.proofs.LabelIndexing.{AreFiles, num_multi_labels_of-equal}
@@ -36,7 +36,7 @@ use Rattle.codespan_laws.proofs.ListElements.{all-weaker, all-filter, all-both, 
 use Rattle.codespan_laws.proofs.SortedLists.{Rises, Climbs, Falls, filter-reverse, rises-filter, rises-from_sorted, filter-sorted_climbs, filter-sorted_falls}
 use Rattle.codespan_plan.proofs.LabelStarts.{ascends-starts}
 use Rattle.codespan_plan.proofs.SnippetLineRows.{lines_of_snippet_lines, snippet_lines-rows, snippet_lines-fit, snippet_lines-lines, snippet_lines-fills}
-use Rattle.codespan_plan.proofs.GroupAnnotations.{single_labels-of_range, range-rank, marks-rank, marks-of_annotations, single_labels-reverse, first-shows, lines-rise}
+use Rattle.codespan_plan.proofs.GroupAnnotations.{single_labels-of_range, range-rank, lane_marks-rank, lane_marks-of_annotations, single_labels-reverse, first-shows, lines-rise}
 
 -- ---- the annotations of a file
 
@@ -168,26 +168,26 @@ module _ {Id : Type 0} {database : FileDatabase Id} (lawful : AreFiles database)
   -- ---- the lane marks of a line
 
   -- those of the labels of the file
-  abbrev marks : ℕ → List LaneMark
-  marks l = lane_marks_on (file id) s.labels l
+  abbrev lane_marks : ℕ → List LaneMark
+  lane_marks l = lane_marks_on (file id) s.labels l
 
   -- their annotations as they were given
-  marks-of_all : (l : ℕ) → filter (picks l (is_kind 2)) all ≡ map (lane_mark_annotation f l) (marks l)
-  marks-of_all l = sym (of_picked l (is_kind 2) all) ∙ ap (filter (is_kind 2)) (line_annotations-are l) ∙ annotation_lines.all-marks here config l xs [] 0 refl
+  lane_marks-of_all : (l : ℕ) → filter (picks l (is_kind 2)) all ≡ map (lane_mark_annotation f l) (lane_marks l)
+  lane_marks-of_all l = sym (of_picked l (is_kind 2) all) ∙ ap (filter (is_kind 2)) (line_annotations-are l) ∙ annotation_lines.all-lane_marks here config l xs [] 0 refl
 
   -- the lane marks of the annotations of a line
-  marks-are : (l : ℕ) → lane_marks_in (bucket l) ≡ marks l
-  marks-are l =
-      marks-rank (bucket l)
+  lane_marks-are : (l : ℕ) → lane_marks_in (bucket l) ≡ lane_marks l
+  lane_marks-are l =
+      lane_marks-rank (bucket l)
       ∙ ap lane_marks_in (of_picked l (is_kind 2) annotations
       ∙ filter-sorted_climbs is_before below_order all annotations known.permutation known.sorted (picks l (is_kind 2))
-      (subst (Climbs is_before) (sym (marks-of_all l)) (ascend-climbs f l (num_multi_labels s) 0 (marks l) (marks-ascend s l)))
-      ∙ marks-of_all l)
-      ∙ marks-of_annotations f l (marks l)
+      (subst (Climbs is_before) (sym (lane_marks-of_all l)) (ascend-climbs f l (num_multi_labels s) 0 (lane_marks l) (lane_marks-ascend s l)))
+      ∙ lane_marks-of_all l)
+      ∙ lane_marks-of_annotations f l (lane_marks l)
 
   -- a line is rendered with what its labels do on it
   line-is : (l : ℕ) → line_of_group (file id) (num_multi_labels s) l (bucket l) ≡ line_at s l
-  line-is l = λ i. record (line_at s l) { labels = single_labels-are l i; lanes = record { count = num_multi_labels s; marks = marks-are l i } }
+  line-is l = λ i. record (line_at s l) { labels = single_labels-are l i; lanes = record { count = num_multi_labels s; lane_marks = lane_marks-are l i } }
 
   -- ---- shown lines
 
@@ -235,11 +235,11 @@ module _ {Id : Type 0} {database : FileDatabase Id} (lawful : AreFiles database)
   starts-ascend l = ascends-starts (single_labels_in (bucket l)) (single_labels-ascend f l (bucket l) (bucket-on l) (bucket-rises l))
 
   -- its lane marks ascend in the lanes of the file
-  marks-fit : (l : ℕ) → are_lane_marks_in_order (num_multi_labels s) (bucket l) ≡ true
-  marks-fit l = ap (ascend_from (num_multi_labels s) 0) (marks-are l) ∙ marks-ascend s l
+  lane_marks-fit : (l : ℕ) → are_lane_marks_in_order (num_multi_labels s) (bucket l) ≡ true
+  lane_marks-fit l = ap (ascend_from (num_multi_labels s) 0) (lane_marks-are l) ∙ lane_marks-ascend s l
 
   -- so do those of each snippet line
   pub snippet-fits : AllByRecursion (λ snippet_line. is_line_in_order (num_multi_labels s) snippet_line ≡ true) (lines_of own)
   snippet-fits =
       subst (AllByRecursion (λ snippet_line. is_line_in_order (num_multi_labels s) snippet_line ≡ true)) (sym snippet_lines-are)
-      (snippet_lines-fit (num_multi_labels s) bucket (λ l i. starts-ascend l i && marks-fit l i) marks-fit None shown)
+      (snippet_lines-fit (num_multi_labels s) bucket (λ l i. starts-ascend l i && lane_marks-fit l i) lane_marks-fit None shown)

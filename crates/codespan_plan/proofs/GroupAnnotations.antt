@@ -47,9 +47,9 @@ range-rank start end es = filter-filter (is_of_range start end) (is_kind 1) es �
     by_kind (Multi m) = refl
 
 -- the lane marks are the annotations of their kind
-pub marks-rank : (es : List Annotation) → lane_marks_in es ≡ lane_marks_in (filter (is_kind 2) es)
-marks-rank [] = refl
-marks-rank (x ∷ xs) = by_kind x.kind (marks-rank xs)
+pub lane_marks-rank : (es : List Annotation) → lane_marks_in es ≡ lane_marks_in (filter (is_kind 2) es)
+lane_marks-rank [] = refl
+lane_marks-rank (x ∷ xs) = by_kind x.kind (lane_marks-rank xs)
   where
     by_kind : (s : AnnotationKind) → lane_marks_in xs ≡ lane_marks_in (filter (is_kind 2) xs)
         → cons_option (lane_mark_of_kind s) (lane_marks_in xs) ≡ lane_marks_in (cond (rank_of s == 2) (record x { kind = s } ∷ filter (is_kind 2) xs) (filter (is_kind 2) xs))
@@ -58,9 +58,9 @@ marks-rank (x ∷ xs) = by_kind x.kind (marks-rank xs)
     by_kind (Multi m) rest = ap (λ (ms : List LaneMark). m ∷ ms) rest
 
 -- those of annotations of lane marks
-pub marks-of_annotations : (f l : ℕ) (ms : List LaneMark) → lane_marks_in (map (lane_mark_annotation f l) ms) ≡ ms
-marks-of_annotations f l [] = refl
-marks-of_annotations f l (m ∷ ms) = ap (λ (ks : List LaneMark). m ∷ ks) (marks-of_annotations f l ms)
+pub lane_marks-of_annotations : (f l : ℕ) (ms : List LaneMark) → lane_marks_in (map (lane_mark_annotation f l) ms) ≡ ms
+lane_marks-of_annotations f l [] = refl
+lane_marks-of_annotations f l (m ∷ ms) = ap (λ (ks : List LaneMark). m ∷ ks) (lane_marks-of_annotations f l ms)
 
 -- the labels of annotations from the end
 pub single_labels-reverse : (es : List Annotation) → single_labels_in (reverse es) ≡ reverse (single_labels_in es)

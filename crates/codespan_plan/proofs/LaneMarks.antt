@@ -33,8 +33,8 @@ ascend-from f l count n least (y ∷ ys) low total = by_multi_label (multi_label
         rw (a, b) (rest (n + 1) (omega arith))
 
 -- the lane marks of a line ascend in the lanes of its file
-pub marks-ascend : (s : LabeledFileModel) (l : ℕ) → ascend_from (num_multi_labels s) 0 (lane_marks_on s.file s.labels l) ≡ true
-marks-ascend s l = ascend-from s.file l (num_multi_labels s) 0 0 (multi_labels s.file s.labels) (omega arith) (omega arith)
+pub lane_marks-ascend : (s : LabeledFileModel) (l : ℕ) → ascend_from (num_multi_labels s) 0 (lane_marks_on s.file s.labels l) ≡ true
+lane_marks-ascend s l = ascend-from s.file l (num_multi_labels s) 0 0 (multi_labels s.file s.labels) (omega arith) (omega arith)
 
 -- ---- lane marks that ascend
 

@@ -91,7 +91,7 @@ lane_marks_in es = filter_map (λ (e : Annotation). lane_mark_of_kind e.kind) es
 module _ (f : FileModel) (count : ℕ) where
   -- so many lanes, with the lane marks of these annotations
   abbrev pub lanes_with : List Annotation → Lanes
-  lanes_with es = record { count = count; marks = lane_marks_in es }
+  lanes_with es = record { count = count; lane_marks = lane_marks_in es }
 
   -- a line of the file with these annotations
   abbrev pub line_of_group : ℕ → List Annotation → Line

@@ -47,9 +47,9 @@ no-lane_mark c (m ∷ ms) e =
     rw (parts.0, no-lane_mark c ms parts.1) refl
 
 -- no character is primary
-no-style : (line : Line) (c : Metrics) → list_any is_primary line.labels ≡ false → list_any (λ (m : LaneMark). is_primary_style m.style) line.lanes.marks ≡ false
+no-style : (line : Line) (c : Metrics) → list_any is_primary line.labels ≡ false → list_any (λ (m : LaneMark). is_primary_style m.style) line.lanes.lane_marks ≡ false
     → source_style line c ≡ None
-no-style line c labels marks = rw (no-label c line.labels labels, no-lane_mark c line.lanes.marks marks) refl
+no-style line c labels lane_marks = rw (no-label c line.labels labels, no-lane_mark c line.lanes.lane_marks lane_marks) refl
 
 -- ---- no character is a tab
 
@@ -81,12 +81,12 @@ plain-left context line tab byte_index column (c ∷ cs) none e =
     (sym (bytes-append (encode_utf8 c) (encodes cs)))
 
 -- a text without a tab, in a line without a primary label
-colored-plain : (context : RowContext) (line : Line) → list_any is_primary line.labels ≡ false → list_any (λ (m : LaneMark). is_primary_style m.style) line.lanes.marks ≡ false
+colored-plain : (context : RowContext) (line : Line) → list_any is_primary line.labels ≡ false → list_any (λ (m : LaneMark). is_primary_style m.style) line.lanes.lane_marks ≡ false
     → list_any (λ b. b == 9) line.text ≡ false → IsUtf8 line.text → colored_text context line ≡ bytes line.text
 unfolding colored_text
-colored-plain context line labels marks tab u =
+colored-plain context line labels lane_marks tab u =
     let is = encodes-chars line.text u in
-    plain-left context line context.tab_width 0 0 (chars line.text) (λ c. no-style line c labels marks) (ap (list_any (λ b. b == 9)) is ∙ tab)
+    plain-left context line context.tab_width 0 0 (chars line.text) (λ c. no-style line c labels lane_marks) (ap (list_any (λ b. b == 9)) is ∙ tab)
     ∙ ap bytes is
 
 -- a test that failed
@@ -95,11 +95,11 @@ not_true true e = cc
 not_true false e = refl
 
 -- the same by tests that were made
-pub colored-seen : (context : RowContext) (line : Line) (labels marks tab : Bool) → labels ≡ list_any is_primary line.labels
-    → marks ≡ list_any (λ (m : LaneMark). is_primary_style m.style) line.lanes.marks → tab ≡ list_any (λ b. b == 9) line.text → IsUtf8 line.text
-    → labels ≡ false → not marks ≡ true → not tab ≡ true → colored_text context line ≡ bytes line.text
-colored-seen context line labels marks tab l m t u no_label no_lane_mark no_tab =
-    colored-plain context line (sym l ∙ no_label) (sym m ∙ not_true marks no_lane_mark) (sym t ∙ not_true tab no_tab) u
+pub colored-seen : (context : RowContext) (line : Line) (labels lane_marks tab : Bool) → labels ≡ list_any is_primary line.labels
+    → lane_marks ≡ list_any (λ (m : LaneMark). is_primary_style m.style) line.lanes.lane_marks → tab ≡ list_any (λ b. b == 9) line.text → IsUtf8 line.text
+    → labels ≡ false → not lane_marks ≡ true → not tab ≡ true → colored_text context line ≡ bytes line.text
+colored-seen context line labels lane_marks tab l m t u no_label no_lane_mark no_tab =
+    colored-plain context line (sym l ∙ no_label) (sym m ∙ not_true lane_marks no_lane_mark) (sym t ∙ not_true tab no_tab) u
 
 -- ---- the end of a text
 
@@ -112,7 +112,7 @@ no-label-past labels c past = by_test (list_any (λ x. is_primary x && covers x 
     by_test false is = is
 
 -- past that and what marks cover no character is primary
-pub no-style-past : (line : Line) (given : PrimaryCover) (c : Metrics) → CoversAsLaneMarks line.lanes.marks given → is_marked given c ≡ false
+pub no-style-past : (line : Line) (given : PrimaryCover) (c : Metrics) → CoversAsLaneMarks line.lanes.lane_marks given → is_marked given c ≡ false
     → max_label_end line.labels ≤ c.byte_index → 1 ≤ c.bytes → source_style line c ≡ None
 no-style-past line given c are none past some = rw (no-label-past line.labels c past, ← are c some, none) refl
 

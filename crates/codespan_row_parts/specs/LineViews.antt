@@ -24,7 +24,7 @@ context_view x = record {
 
 -- how many lanes a row has, and the lane marks in them
 abbrev pub lanes_view : lanes.Lanes → Lanes
-lanes_view x = lanes_of x.count x.marks.now
+lanes_view x = lanes_of x.count x.lane_marks.now
 
 -- a drawn line
 abbrev pub line_view : line.Line → Line

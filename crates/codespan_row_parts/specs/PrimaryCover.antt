@@ -17,7 +17,7 @@ is_marked m c = is_from m.from c.byte_index || nat_le (c.byte_index + c.bytes) m
 
 -- covered are the characters that a primary one of these lane marks covers
 abbrev pub CoversAsLaneMarks : List LaneMark → PrimaryCover → Type 0
-CoversAsLaneMarks marks covered =
+CoversAsLaneMarks lane_marks covered =
     (c : Metrics) → 1 ≤ c.bytes → is_marked covered c
     ≡ list_any (λ (m : LaneMark). is_primary_style m.style && multi_label_covers c m.multi_label)
-    marks
+    lane_marks

@@ -26,11 +26,11 @@ rendered_start config padding locus =
 
 -- a line of the source, with the labels inside it and the lane marks on it
 abbrev pub source_line : ℕ → List ℕ → List SingleLabelTuple → ℕ → List LaneMarkTuple → Line
-source_line number source labels num_multi_labels marks = record {
+source_line number source labels num_multi_labels lane_marks = record {
   number = number;
   text = text_without_line_end source;
   labels = single_label_views labels;
-  lanes = lanes_of num_multi_labels marks;
+  lanes = lanes_of num_multi_labels lane_marks;
 }
 
 -- all rows of a line of the source
@@ -40,13 +40,13 @@ rendered_source config severity padding line =
 
 -- an empty row of a snippet
 abbrev pub rendered_snippet_empty : Config → Severity → ℕ → ℕ → List LaneMarkTuple → Stream
-rendered_snippet_empty config severity padding num_multi_labels marks =
-    empty_row (context_of config severity padding) (lanes_of num_multi_labels marks) ++ newline
+rendered_snippet_empty config severity padding num_multi_labels lane_marks =
+    empty_row (context_of config severity padding) (lanes_of num_multi_labels lane_marks) ++ newline
 
 -- the row of a break
 abbrev pub rendered_break : Config → Severity → ℕ → ℕ → List LaneMarkTuple → Stream
-rendered_break config severity padding num_multi_labels marks =
-    break_row (context_of config severity padding) (lanes_of num_multi_labels marks) ++ newline
+rendered_break config severity padding num_multi_labels lane_marks =
+    break_row (context_of config severity padding) (lanes_of num_multi_labels lane_marks) ++ newline
 
 -- the later rows of a note
 abbrev pub later_note_rows : ℕ → List (List ℕ) → Stream

@@ -40,7 +40,7 @@ struct Lane<'d> {
     /// Its index, from the left.
     index: usize,
     /// The lane mark in it, if any.
-    mark: Option<(usize, LabelStyle, MultiLabel<'d>)>,
+    lane_mark: Option<(usize, LabelStyle, MultiLabel<'d>)>,
 }
 
 /// Returns the lane mark of an underline row whose corner is left of the lane.
@@ -153,11 +153,11 @@ fn inner_gutter_column<W: PutStyle>(
 ) -> Result<(), W::Error>
     ensures { Writes (W.sink w.old)
         (lane_of_view (context_view context.entry) leading row.entry lane.entry.index
-        lane.entry.mark)
+        lane.entry.lane_mark)
         result (W.sink w.new) }
 {
     let crossing = crossing(row, lane.index);
-    match lane.mark {
+    match lane.lane_mark {
         None => write_lane_cells(w, context, crossing, LabelStyle::Primary, Shape::Space),
         Some((_, style, multi_label)) => {
             let shape = shape_in(context.layout, leading, row, lane.index, multi_label);
@@ -169,15 +169,16 @@ fn inner_gutter_column<W: PutStyle>(
 /// Returns the next lane mark, if it is in the lane, and the index of the one after it.
 #[tactic(auto, using(crate::proofs::LaneCursor::taking))]
 fn take_lane_mark<'d>(
-    marks: &[(usize, LabelStyle, MultiLabel<'d>)],
+    lane_marks: &[(usize, LabelStyle, MultiLabel<'d>)],
     next: usize,
     lane: usize,
 ) -> (Option<(usize, LabelStyle, MultiLabel<'d>)>, usize)
-    ensures lane_mark { result.0 ≡ lane_mark_here (drop next marks.now) lane }
-    ensures after { drop result.1 marks.now ≡ lane_marks_after (drop next marks.now) lane }
+    ensures lane_mark { result.0 ≡ lane_mark_here (drop next lane_marks.now) lane }
+    ensures after { drop result.1 lane_marks.now
+        ≡ lane_marks_after (drop next lane_marks.now) lane }
 {
-    if next < marks.len() {
-        let lane_mark = marks[next];
+    if next < lane_marks.len() {
+        let lane_mark = lane_marks[next];
         if lane_mark.0 == lane {
             return (Some(lane_mark), next + 1);
         }
@@ -188,11 +189,11 @@ fn take_lane_mark<'d>(
 /// Returns the lane of the next lane mark, or the number of lanes where none is left.
 fn next_lane(lanes: Lanes<'_, '_>, next: usize) -> usize
     ensures bare { (lane : ℕ) → lane < result
-        → lane_mark_here (drop next lanes.entry.marks.now) lane ≡ None }
+        → lane_mark_here (drop next lanes.entry.lane_marks.now) lane ≡ None }
     ensures within { result ≤ lanes.entry.count }
 {
-    if next < lanes.marks.len() {
-        lanes.marks[next].0.min(lanes.count)
+    if next < lanes.lane_marks.len() {
+        lanes.lane_marks[next].0.min(lanes.count)
     } else {
         lanes.count
     }
@@ -262,8 +263,8 @@ fn inner_gutter_columns<W: PutStyle>(
             put_spaces(w, empty + empty)?;
             lane += empty;
         } else {
-            let (mark, after) = take_lane_mark(lanes.marks, next, lane);
-            inner_gutter_column(w, context, leading, row, Lane { index: lane, mark })?;
+            let (lane_mark, after) = take_lane_mark(lanes.lane_marks, next, lane);
+            inner_gutter_column(w, context, leading, row, Lane { index: lane, lane_mark })?;
             next = after;
             lane += 1;
         }

@@ -24,15 +24,15 @@ pub struct RowContext<'config> {
     pub padding: usize,
 }
 
-/// How many lanes a row has, and the lane marks in them. The lanes of `marks` ascend strictly and
-/// are below `count`.
+/// How many lanes a row has, and the lane marks in them. The lanes of `lane_marks` ascend strictly
+/// and are below `count`.
 #[derive(Clone, Copy)]
 pub struct Lanes<'row, 'd> {
     /// The number of lanes.
     pub count: usize,
     /// The lane of each label, counted from 0, its style, and what the label does on the line.
-    pub marks: &'row [(usize, LabelStyle, MultiLabel<'d>)],
-    ghost in_order: { IsTrue (lanes_in_order count marks.now) },
+    pub lane_marks: &'row [(usize, LabelStyle, MultiLabel<'d>)],
+    ghost in_order: { IsTrue (lanes_in_order count lane_marks.now) },
 }
 
 /// A drawn line with what its labels do on it.
@@ -65,7 +65,8 @@ impl<'row, 'd> Line<'row, 'd> {
         lanes: Lanes<'row, 'd>,
     ) -> Line<'row, 'd>
         ensures line { line_view result
-            ≡ source_line number source.now labels.now lanes.entry.count lanes.entry.marks.now }
+            ≡ source_line number source.now labels.now lanes.entry.count
+            lanes.entry.lane_marks.now }
         ensures text { result.text.now ≡ text_without_line_end source.now }
         ensures labels { result.labels.now ≡ labels.now }
     {

@@ -22,11 +22,11 @@ pub struct PrimaryCover {
 
 impl PrimaryCover {
     /// Returns what the labels of these lane marks cover.
-    pub fn of(marks: &[(usize, LabelStyle, MultiLabel<'_>)]) -> PrimaryCover
-        ensures { CoversAsLaneMarks (map lane_mark_view marks.now) result }
+    pub fn of(lane_marks: &[(usize, LabelStyle, MultiLabel<'_>)]) -> PrimaryCover
+        ensures { CoversAsLaneMarks (map lane_mark_view lane_marks.now) result }
     {
         let mut found = PrimaryCover { from: None, to: 0 };
-        for lane_mark in marks {
+        for lane_mark in lane_marks {
             if lane_mark.1 == LabelStyle::Primary {
                 found = found.with(lane_mark.2);
             }

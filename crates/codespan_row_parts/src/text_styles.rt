@@ -36,7 +36,7 @@ pub fn text_style<C: CharCursor>(
     requires some { 1 ≤ metrics.bytes }
     requires returned { C.has_returned metrics characters.old }
     requires labels { C.labels characters.old ≡ line.labels.now }
-    requires primary { CoversAsLaneMarks (map lane_mark_view line.lanes.marks.now) primary }
+    requires primary { CoversAsLaneMarks (map lane_mark_view line.lanes.lane_marks.now) primary }
     ensures left { C.left characters.new ≡ C.left characters.old }
     ensures labels { C.labels characters.new ≡ C.labels characters.old }
     ensures style { result ≡ source_style (line_view line.entry) metrics }
@@ -61,11 +61,12 @@ fn has_primary(labels: &[SingleLabel<'_>]) -> bool
 }
 
 /// Returns whether one of these lane marks is primary.
-fn has_primary_lane_mark(marks: &[(usize, LabelStyle, MultiLabel<'_>)]) -> bool
+fn has_primary_lane_mark(lane_marks: &[(usize, LabelStyle, MultiLabel<'_>)]) -> bool
     ensures { result
-        ≡ list_any (λ (m : LaneMark). is_primary_style m.style) (map lane_mark_view marks.now) }
+        ≡ list_any (λ (m : LaneMark). is_primary_style m.style)
+        (map lane_mark_view lane_marks.now) }
 {
-    for lane_mark in marks {
+    for lane_mark in lane_marks {
         if lane_mark.1 == LabelStyle::Primary {
             return true;
         }
@@ -87,7 +88,7 @@ pub fn is_plain(line: Line<'_, '_>) -> bool
     ensures { result ≡ true → (context : RowContextSpec)
         → colored_text context (line_view line.entry) ≡ bytes line.entry.text.now }
 {
-    !has_primary(line.labels) && !has_primary_lane_mark(line.lanes.marks) && !has_tab(line.text)
+    !has_primary(line.labels) && !has_primary_lane_mark(line.lanes.lane_marks) && !has_tab(line.text)
 }
 
 /// Returns the byte index from which on the text of a line is written unchanged: no primary label
@@ -99,7 +100,7 @@ pub fn is_plain(line: Line<'_, '_>) -> bool
 /// `primary` is [`PrimaryCover::of`] the lane marks of `line`.
 #[inline(always)]
 pub fn plain_from(line: Line<'_, '_>, primary: PrimaryCover) -> usize
-    requires primary { CoversAsLaneMarks (map lane_mark_view line.lanes.marks.now) primary }
+    requires primary { CoversAsLaneMarks (map lane_mark_view line.lanes.lane_marks.now) primary }
     ensures style { (c : metrics.Metrics) → result ≤ c.byte_index
         → c.byte_index < length line.entry.text.now
         → 1 ≤ c.bytes → source_style (line_view line.entry) c ≡ None }

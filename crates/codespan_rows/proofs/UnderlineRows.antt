@@ -66,23 +66,23 @@ underline-runs chars style width cs (Bottom end message) e = rw e refl
 
 -- the rows of the remaining lane marks
 abbrev pub underlines_of : RowContext → Line → List LaneMarkTuple → Stream
-underlines_of context line marks = stream_of_rows context (map (UnderlineRow line) (filter (λ (m : LaneMark). has_underline (leading_whitespace line.text) m.multi_label) (map lane_mark_view marks)))
+underlines_of context line lane_marks = stream_of_rows context (map (UnderlineRow line) (filter (λ (m : LaneMark). has_underline (leading_whitespace line.text) m.multi_label) (map lane_mark_view lane_marks)))
 
 -- the lane mark at an index has a row
-pub underlines-in : (context : RowContext) (line : Line) (leading : ℕ) (marks : List LaneMarkTuple) (i : ℕ) (d : LaneMarkTuple) → i < length marks
-    → leading ≡ leading_whitespace line.text → has_underline leading (multi_label_view (get_or marks i d).2) ≡ true
-    → underlines_of context line (drop i marks) ≡ underline_row context line (lane_mark_view (get_or marks i d)) ++ newline ++ underlines_of context line (drop (i + 1) marks)
-underlines-in context line leading marks i d h e t =
-    let k : has_underline (leading_whitespace line.text) (multi_label_view (get_or marks i d).2) ≡ true = rw e at t in
-    rw (drop-cons marks i d h, k, add-one) refl
+pub underlines-in : (context : RowContext) (line : Line) (leading : ℕ) (lane_marks : List LaneMarkTuple) (i : ℕ) (d : LaneMarkTuple) → i < length lane_marks
+    → leading ≡ leading_whitespace line.text → has_underline leading (multi_label_view (get_or lane_marks i d).2) ≡ true
+    → underlines_of context line (drop i lane_marks) ≡ underline_row context line (lane_mark_view (get_or lane_marks i d)) ++ newline ++ underlines_of context line (drop (i + 1) lane_marks)
+underlines-in context line leading lane_marks i d h e t =
+    let k : has_underline (leading_whitespace line.text) (multi_label_view (get_or lane_marks i d).2) ≡ true = rw e at t in
+    rw (drop-cons lane_marks i d h, k, add-one) refl
 
 -- it has none
-pub underlines-out : (context : RowContext) (line : Line) (leading : ℕ) (marks : List LaneMarkTuple) (i : ℕ) (d : LaneMarkTuple) → i < length marks
-    → leading ≡ leading_whitespace line.text → has_underline leading (multi_label_view (get_or marks i d).2) ≡ false
-    → underlines_of context line (drop i marks) ≡ underlines_of context line (drop (i + 1) marks)
-underlines-out context line leading marks i d h e t =
-    let k : has_underline (leading_whitespace line.text) (multi_label_view (get_or marks i d).2) ≡ false = rw e at t in
-    rw (drop-cons marks i d h, k, add-one) refl
+pub underlines-out : (context : RowContext) (line : Line) (leading : ℕ) (lane_marks : List LaneMarkTuple) (i : ℕ) (d : LaneMarkTuple) → i < length lane_marks
+    → leading ≡ leading_whitespace line.text → has_underline leading (multi_label_view (get_or lane_marks i d).2) ≡ false
+    → underlines_of context line (drop i lane_marks) ≡ underlines_of context line (drop (i + 1) lane_marks)
+underlines-out context line leading lane_marks i d h e t =
+    let k : has_underline (leading_whitespace line.text) (multi_label_view (get_or lane_marks i d).2) ≡ false = rw e at t in
+    rw (drop-cons lane_marks i d h, k, add-one) refl
 
 -- ---- the rows of a note
 

@@ -38,7 +38,7 @@ fn write_colored_text<W: PutStyle, C: CharCursor>(
         result (W.sink w.new) }
 {
     let text = line.text.as_bytes();
-    let primary = PrimaryCover::of(line.lanes.marks);
+    let primary = PrimaryCover::of(line.lanes.lane_marks);
     let plain = plain_from(line, primary);
     let mut previous = None;
     let mut start = 0;

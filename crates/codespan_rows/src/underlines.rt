@@ -173,7 +173,7 @@ pub fn write_underlines<W: PutStyle, S: LineCharacters>(
         (stream_of_rows (context_view context.entry) (underline_rows (line_view line.entry)))
         result (W.sink w.new) }
 {
-    for lane_mark in line.lanes.marks {
+    for lane_mark in line.lanes.lane_marks {
         if has_underline(line.leading, lane_mark.2) {
             let width = underline_width(characters, lane_mark.2);
             write_underline_row(w, context, line, *lane_mark, width)?;

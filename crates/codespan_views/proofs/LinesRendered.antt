@@ -129,11 +129,11 @@ filled-rendered {sink = sink} database snippet lookups annotations {old} {new} {
     renders_after succeeded (subst (λ (k : ℕ). RendersLine sink database snippet [] (Labeled k annotations) old r new) same rendered)
 
 -- a line of a file, with its labels and its lane marks, is rendered as that of its group
-pub line-shown : {f : FileModel} {count : ℕ} {line : LineInfo} (annotations : List Annotation) {text source : List ℕ} (labels : List SingleLabelTuple) (marks : List LaneMarkTuple) → IsLineOf f line
+pub line-shown : {f : FileModel} {count : ℕ} {line : LineInfo} (annotations : List Annotation) {text source : List ℕ} (labels : List SingleLabelTuple) (lane_marks : List LaneMarkTuple) → IsLineOf f line
     → text ≡ f.text → source ≡ slice_range text line.start line.end
-    → single_label_views labels ≡ single_labels_in annotations → map lane_mark_view marks ≡ lane_marks_in annotations
-    → source_line line.number source labels count marks ≡ line_of_group f count line.index annotations
-line-shown annotations labels marks is same_text same_source same_labels same_marks = cc
+    → single_label_views labels ≡ single_labels_in annotations → map lane_mark_view lane_marks ≡ lane_marks_in annotations
+    → source_line line.number source labels count lane_marks ≡ line_of_group f count line.index annotations
+line-shown annotations labels lane_marks is same_text same_source same_labels same_marks = cc
 
 -- the rows of a line are rendered, and nothing is looked up
 pub line-rendered : {W F Id Name Source : Type 0} {sink : W → Sink} (database : F → FileDatabase Id) (snippet : Snippet F Id Name Source) (l : ℕ) (annotations : List Annotation) {shown : Line}

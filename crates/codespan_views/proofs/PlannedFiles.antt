@@ -108,6 +108,6 @@ module _ {Id : Type 0} {config : Config} {own : LabeledFileModel} {snippet_plan 
   -- its rows
   pub rows-are : (followed : Bool) → rows_in snippet_plan own.file snippet_lines ++ trailing_border_rows snippet_plan followed ≡ snippet config (locus_view snippet_plan.locus) own ++ row_after followed own
   rows-are followed =
-      (λ i. (SnippetStartRow (locus_view snippet_plan.locus) ∷ EmptyRow (record { count = is.lanes_are i; marks = [] }) ∷ []) ++ rows_of_lines own.file (is.lanes_are i) (map snippet_line_view snippet_lines)
-      ++ (if followed then EmptyRow (record { count = is.lanes_are i; marks = [] }) ∷ [] else []))
+      (λ i. (SnippetStartRow (locus_view snippet_plan.locus) ∷ EmptyRow (record { count = is.lanes_are i; lane_marks = [] }) ∷ []) ++ rows_of_lines own.file (is.lanes_are i) (map snippet_line_view snippet_lines)
+      ++ (if followed then EmptyRow (record { count = is.lanes_are i; lane_marks = [] }) ∷ [] else []))
       ∙ ap (λ (r : List Row). (SnippetStartRow (locus_view snippet_plan.locus) ∷ EmptyRow (empty_lanes own) ∷ []) ++ r ++ (if followed then EmptyRow (empty_lanes own) ∷ [] else [])) is.rows

@@ -138,7 +138,7 @@ line_of_labels number text labels = record {
   number = number;
   text = encode_utf8_all text;
   labels = map (λ (x : InFile ℕ). x.label) labels;
-  lanes = record { count = 0; marks = [] };
+  lanes = record { count = 0; lane_marks = [] };
 }
 
 -- a bar in each of these lanes

@@ -42,6 +42,6 @@ farther_lane_mark reach (Bottom end message) = farther reach end
 -- how far the rows under a line reach: the greatest start or end of its labels, and of what
 -- underlines have; none where it has neither
 abbrev pub reach_of : List LabelModel → List LaneMark → Option ℕ
-reach_of labels marks =
+reach_of labels lane_marks =
     fold (λ reach (m : LaneMark). farther_lane_mark reach m.multi_label)
-    (fold (λ reach (x : LabelModel). farther (farther reach x.start) x.end) None labels) marks
+    (fold (λ reach (x : LabelModel). farther (farther reach x.start) x.end) None labels) lane_marks

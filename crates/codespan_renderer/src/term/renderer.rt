@@ -184,7 +184,7 @@ impl<'writer, 'config, W: WriteStyle> Renderer<'writer, 'config, W> {
     {
         let lanes = Lanes {
             count: num_multi_labels,
-            marks: multi_labels,
+            lane_marks: multi_labels,
         };
         let line = Line::new(line_number, source, single_labels, lanes);
         let context = self.context(severity, outer_padding);
@@ -221,7 +221,7 @@ impl<'writer, 'config, W: WriteStyle> Renderer<'writer, 'config, W> {
         let context = self.context(severity, outer_padding);
         let lanes = Lanes {
             count: num_multi_labels,
-            marks: multi_labels,
+            lane_marks: multi_labels,
         };
         let mut rows = RowWriter::new(self.writer, &self.saved);
         let written = write_snippet_empty(&mut rows, context, lanes);
@@ -252,7 +252,7 @@ impl<'writer, 'config, W: WriteStyle> Renderer<'writer, 'config, W> {
         let context = self.context(severity, outer_padding);
         let lanes = Lanes {
             count: num_multi_labels,
-            marks: multi_labels,
+            lane_marks: multi_labels,
         };
         let mut rows = RowWriter::new(self.writer, &self.saved);
         let written = write_break(&mut rows, context, lanes);

@@ -19,7 +19,7 @@ module _ {Id : Type 0} (snippet_plan : SnippetPlan Id) where
   -- a row with its lanes and nothing else
   abbrev pub snippet_empty_row : Row
   snippet_empty_row =
-      EmptyRow (record { count = snippet_plan.file.now.num_multi_labels; marks = [] })
+      EmptyRow (record { count = snippet_plan.file.now.num_multi_labels; lane_marks = [] })
 
   -- its first rows
   abbrev pub start_rows : List Row

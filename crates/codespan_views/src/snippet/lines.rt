@@ -145,7 +145,7 @@ impl<'context, 'files, F: Files<'files>> Snippet<'context, 'files, F> {
         let source = &self.text[line.start..line.end];
         let lanes = Lanes {
             count: self.num_multi_labels,
-            marks: labels.multi_labels.as_slice(),
+            lane_marks: labels.multi_labels.as_slice(),
         };
         let line = Line::new(line.number, source, labels.single_labels.as_slice(), lanes);
         let cached = labels.metrics.take_line(renderer, line)?;

@@ -16,7 +16,7 @@ use Rattle.codespan_row_parts.proofs.text_styles.text_style.Goals as goal
 -- multi-line one does
 styled : (line : Line) (c : Metrics) (inside marked : Bool)
     → inside ≡ list_any (λ x. is_primary x && covers x c) line.labels
-    → marked ≡ list_any (λ (m : LaneMark). is_primary_style m.style && multi_label_covers c m.multi_label) line.lanes.marks
+    → marked ≡ list_any (λ (m : LaneMark). is_primary_style m.style && multi_label_covers c m.multi_label) line.lanes.lane_marks
     → (if inside || marked then Some Primary else None) ≡ source_style line c
 styled line c inside marked same_inside same_marked = rw (same_inside, same_marked) refl
 

@@ -11,13 +11,13 @@ use codespan_row_parts::line::Line;
 /// its labels, and of what underlines have; `None` where it has neither labels nor underlines.
 pub fn reach_of(line: Line<'_, '_>) -> Option<usize>
     ensures { result ≡ reach_of (single_label_views line.entry.labels.now)
-        (map lane_mark_view line.entry.lanes.marks.now) }
+        (map lane_mark_view line.entry.lanes.lane_marks.now) }
 {
     let mut reach = None;
     for label in line.labels {
         reach = farther(farther(reach, label.1.start), label.1.end);
     }
-    for lane_mark in line.lanes.marks {
+    for lane_mark in line.lanes.lane_marks {
         reach = farther_lane_mark(reach, lane_mark.2);
     }
     reach

@@ -11,5 +11,5 @@ use Rattle.codespan_row_parts.proofs.primary_cover.PrimaryCover.of.Given as goal
 abbrev pub invariant-loop-lane_mark : goal.invariant-loop-lane_mark
 invariant-loop-lane_mark l =
     (c : Metrics) → 1 ≤ c.bytes
-    → (is_marked l.found c || list_any (λ (m : LaneMark). is_primary_style m.style && multi_label_covers c m.multi_label) (map lane_mark_view (drop l.lane_mark-index l.marks)))
-    ≡ list_any (λ (m : LaneMark). is_primary_style m.style && multi_label_covers c m.multi_label) (map lane_mark_view l.marks)
+    → (is_marked l.found c || list_any (λ (m : LaneMark). is_primary_style m.style && multi_label_covers c m.multi_label) (map lane_mark_view (drop l.lane_mark-index l.lane_marks)))
+    ≡ list_any (λ (m : LaneMark). is_primary_style m.style && multi_label_covers c m.multi_label) (map lane_mark_view l.lane_marks)

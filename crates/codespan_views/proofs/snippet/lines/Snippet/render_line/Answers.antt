@@ -17,10 +17,10 @@ returns-in_err-refill g c =
 
 pub invariant_of-lanes : goal.invariant_of-lanes
 invariant_of-lanes g c =
-    let marks = ap (map lane_mark_view) c.as_slice.ensures.value ∙ c.in_ok-refill.ensures.multi_labels in
+    let lane_marks = ap (map lane_mark_view) c.as_slice.ensures.value ∙ c.in_ok-refill.ensures.multi_labels in
     record {
       in_order = lanes_fit c.args.self.now.num_multi_labels
-          (map annotation_view c.args.annotations.now) _ marks
+          (map annotation_view c.args.annotations.now) _ lane_marks
           (both-true (starts_in_order (single_labels_in (map annotation_view c.args.annotations.now)))
           _ c.requires.fits).1;
     }
@@ -34,6 +34,6 @@ pub returns : goal.returns
 returns g c =
     let annotations = map annotation_view c.args.annotations.now in
     let labels = ap single_label_views c.as_slice-2.ensures.value ∙ c.in_ok-refill.ensures.single_labels in
-    let marks = ap (map lane_mark_view) c.as_slice.ensures.value ∙ c.in_ok-refill.ensures.multi_labels in
+    let lane_marks = ap (map lane_mark_view) c.as_slice.ensures.value ∙ c.in_ok-refill.ensures.multi_labels in
     line-rendered g.F.Files.database c.args.self.now c.args.line.index annotations
-    (ap line_view c.in_ok-cached.ensures.line ∙ c.new-line.ensures.line ∙ line-shown annotations _ _ c.requires.line c.requires.text c.range-source.ensures.value labels marks) c.render.ensures
+    (ap line_view c.in_ok-cached.ensures.line ∙ c.new-line.ensures.line ∙ line-shown annotations _ _ c.requires.line c.requires.text c.range-source.ensures.value labels lane_marks) c.render.ensures

@@ -13,5 +13,5 @@ invariant-loop-label l =
 -- the lane marks that are left are
 abbrev pub invariant-loop-lane_mark : goal.invariant-loop-lane_mark
 invariant-loop-lane_mark l =
-    fold (λ reach (m : LaneMark). farther_lane_mark reach m.multi_label) l.reach (map lane_mark_view (drop l.lane_mark-index l.line.lanes.marks.now))
-    ≡ reach_of (single_label_views l.line.labels.now) (map lane_mark_view l.line.lanes.marks.now)
+    fold (λ reach (m : LaneMark). farther_lane_mark reach m.multi_label) l.reach (map lane_mark_view (drop l.lane_mark-index l.line.lanes.lane_marks.now))
+    ≡ reach_of (single_label_views l.line.labels.now) (map lane_mark_view l.line.lanes.lane_marks.now)
