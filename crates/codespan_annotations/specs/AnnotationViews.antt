@@ -4,7 +4,7 @@ use Rattle.std.specs.List.{AllByRecursion}
 use Rattle.codespan_base.specs.FileModel.{FileModel}
 use Rattle.codespan_base.specs.LawfulFiles.{IsLineRange}
 use Rattle.codespan_base.specs.Labels.{LabelModel, MultiLabel, Top, Left, Bottom, from_line_start}
-use Rattle.codespan_picture.specs.Picture.{label_of}
+use Rattle.codespan_picture.specs.OutputStreams.{label_of}
 use Rattle.codespan_annotations.specs.declared.annotation.Annotation.{Annotation as RustAnnotation}
 use Rattle.codespan_annotations.specs.declared.annotation.MultiLabelKind.{MultiLabelKind}
 use Rattle.codespan_annotations.specs.declared.annotation.MultiLabelKind.TheVariants as label_kind

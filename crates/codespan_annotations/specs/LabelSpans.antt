@@ -5,7 +5,7 @@ use Rattle.codespan_base.specs.FileModel.{FileModel}
 use Rattle.codespan_base.specs.FileModel.Lookup.{LineIndex}
 use Rattle.codespan_base.specs.Labels.{first_line, last_line}
 use Rattle.codespan_picture.specs.Lookups.{Failures}
-use Rattle.codespan_picture.specs.Picture.{label_of}
+use Rattle.codespan_picture.specs.OutputStreams.{label_of}
 use Rattle.codespan_annotations.specs.FileLookups.{failure_in}
 
 -- the line of its file on which a label starts

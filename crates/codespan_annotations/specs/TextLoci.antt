@@ -2,7 +2,7 @@
 use Rattle.std.specs.Prelude.{ℕ}
 use Rattle.std.specs.Str.{IsUtf8}
 use Rattle.codespan_base.specs.FileModel.{FileModel}
-use Rattle.codespan_picture.specs.Picture.{IsLocus, label_start, snippet_start}
+use Rattle.codespan_picture.specs.OutputStreams.{IsLocus, label_start, snippet_start}
 use Rattle.codespan_picture.specs.Rows.{Locus}
 use Rattle.codespan_picture.specs.Snippets.{InFile, LabeledFileModel}
 

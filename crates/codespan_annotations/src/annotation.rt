@@ -4,7 +4,7 @@ ghost use Rattle.std.specs.Prelude.{◌≡◌, ⊤, OnOk, OnErr, IsErrOf};
 ghost use Rattle.std.specs.Option.{option_map};
 ghost use Rattle.codespan_base.specs.Labels.{from_line_start};
 ghost use Rattle.codespan_picture.specs.Arguments.{multi_label_view};
-ghost use Rattle.codespan_picture.specs.Picture.{label_of};
+ghost use Rattle.codespan_picture.specs.OutputStreams.{label_of};
 ghost use Rattle.codespan_annotations.specs.AnnotationViews.{Adds, kind_view, multi_label_from};
 ghost use Rattle.codespan_annotations.specs.Annotations.{annotation_if_any};
 

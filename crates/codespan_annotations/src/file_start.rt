@@ -2,7 +2,7 @@
 
 ghost use Rattle.std.specs.Prelude.{◌≡◌};
 ghost use Rattle.codespan_base.specs.Labels.{is_primary};
-ghost use Rattle.codespan_picture.specs.Picture.{label_of};
+ghost use Rattle.codespan_picture.specs.OutputStreams.{label_of};
 ghost use Rattle.codespan_annotations.specs.FileStarts.{least_with, no_start, start_byte, start_with};
 
 use codespan_base::diagnostic::{Label, LabelStyle};

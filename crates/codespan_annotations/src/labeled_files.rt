@@ -2,7 +2,7 @@
 
 ghost use Rattle.std.specs.Prelude.{◌≡◌, ◌<◌, ◌≤◌, ◌+◌, ◌^◌, false, [], ◌∷◌, ◌++◌, IfOk, OnOk, OnErr, IsErrOf, length, slice_index_or, take};
 ghost use Rattle.std.specs.List.{AllByRecursion};
-ghost use Rattle.codespan_picture.specs.Picture.{label_of};
+ghost use Rattle.codespan_picture.specs.OutputStreams.{label_of};
 ghost use Rattle.codespan_annotations.specs.LabeledFiles.{ids_view, lanes_by, lane_counts, lanes_with_label, starts_with_label, starts_view, with_file};
 ghost use Rattle.codespan_annotations.specs.FileStarts.{no_start, start_with};
 ghost use Rattle.codespan_annotations.specs.FileIndices.{AreDistinct, index_of_file};

@@ -21,7 +21,7 @@ use Rattle.codespan_annotations.specs.declared.annotation.AnnotationKind.TheVari
 use Rattle.codespan_annotations.specs.declared.annotation.MultiLabelKind.TheVariants as label_kind
 use Rattle.codespan_collect.specs.declared.label_annotations.LabelIndices.{LabelIndices}
 use Rattle.codespan_picture.specs.Types.{Config, Label}
-use Rattle.codespan_picture.specs.Picture.{label_of}
+use Rattle.codespan_picture.specs.OutputStreams.{label_of}
 use Rattle.std.proofs.lemmas.Bool.Decides.{nat_tests}
 use Rattle.codespan_laws.proofs.ListElements.{all-append, all-weaker}
 

@@ -9,7 +9,7 @@ use Rattle.std.proofs.lemmas.List.Elements.{filter-append}
 use Rattle.std.proofs.lemmas.List.Sums.{fold-append}
 use Rattle.codespan_base.specs.declared.diagnostic.Label.{Label}
 use Rattle.codespan_base.specs.Labels.{is_primary}
-use Rattle.codespan_picture.specs.Picture.{label_of}
+use Rattle.codespan_picture.specs.OutputStreams.{label_of}
 use Rattle.codespan_picture.specs.Snippets.{InFile, file_ids}
 use Rattle.codespan_annotations.specs.declared.file_start.FileStart.{FileStart}
 use Rattle.codespan_annotations.specs.LabeledFiles.{starts_with_label}

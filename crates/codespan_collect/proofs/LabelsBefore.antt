@@ -4,7 +4,7 @@ use Rattle.std.proofs.Common.{◌≡◌, ℕ, ◌+◌, ◌<◌, Bool, true, List
 use Rattle.std.specs.Cmp.{IsEquivalence}
 use Rattle.std.proofs.lemmas.List.{get_or-map, get_or-take, length-map, length-take-le, map-append}
 use Rattle.codespan_base.specs.declared.diagnostic.Label.{Label}
-use Rattle.codespan_picture.specs.Picture.{label_of}
+use Rattle.codespan_picture.specs.OutputStreams.{label_of}
 use Rattle.codespan_picture.specs.Snippets.{InFile, file_ids}
 use Rattle.codespan_annotations.specs.FileIndices.{index_of_file}
 use Rattle.codespan_annotations.proofs.FileOrder.{file_ids-has, has}

@@ -23,7 +23,7 @@ use Rattle.codespan_annotations.specs.AnnotationViews.{Adds, AddsOf, IsLineOf, I
 use Rattle.codespan_annotations.specs.LabeledFiles.{HasLabels, ids_view, lane_counts, num_multi_labels_of, lanes_with_label, starts_with_label, starts_view, with_file}
 use Rattle.codespan_annotations.specs.FileStarts.{file_start, no_start}
 use Rattle.codespan_picture.specs.Lookups.{lookups_of_file, first_error, label_lookups, label_line_lookups}
-use Rattle.codespan_picture.specs.Picture.{label_of}
+use Rattle.codespan_picture.specs.OutputStreams.{label_of}
 use Rattle.codespan_annotations.specs.FileIndices.{IsIdAt, index_of_file}
 use Rattle.codespan_collect.specs.IndexedLabels.{annotations_after, indices_after}
 use Rattle.codespan_collect.specs.SpannedDigits.{all_digits, label_digits}

@@ -4,7 +4,7 @@ use Rattle.codespan_picture.specs.Types.{Label, Error, Config}
 use Rattle.codespan_base.specs.FileModel.{FileDatabase, FileModel, line_count, Lookup}
 use Rattle.codespan_base.specs.Labels.{LabelModel}
 use Rattle.codespan_picture.specs.Lookups.{Failures, looked_up_lines, lookups_of_file, first_error, is_looked_up, label_lookups, label_line_lookups, line_lookups, lookup_past_end}
-use Rattle.codespan_picture.specs.Picture.{label_of}
+use Rattle.codespan_picture.specs.OutputStreams.{label_of}
 use Rattle.codespan_picture.specs.Snippets.{InFile}
 use Rattle.codespan_annotations.specs.declared.annotation.Annotation.{Annotation as RustAnnotation}
 use Rattle.codespan_annotations.specs.declared.annotation.LineInfo.{LineInfo}

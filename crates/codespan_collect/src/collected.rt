@@ -2,7 +2,7 @@
 
 ghost use Rattle.std.specs.Prelude.{◌≡◌, map, IfOk};
 ghost use Rattle.codespan_base.specs.LawfulFiles.{FailsBy};
-ghost use Rattle.codespan_picture.specs.Picture.{label_of};
+ghost use Rattle.codespan_picture.specs.OutputStreams.{label_of};
 ghost use Rattle.codespan_collect.specs.CollectedLabels.{labels_failure};
 ghost use Rattle.codespan_collect.specs.Collections.{IsCollected, IsCollectedInTurn};
 

@@ -4,7 +4,7 @@ ghost use Rattle.std.specs.Prelude.{◌≡◌, ◌≢◌, true, None, IfErr, IfO
 ghost use Rattle.std.specs.Option.{option_map};
 ghost use Rattle.codespan_base.specs.LawfulFiles.{FailsBy};
 ghost use Rattle.codespan_base.specs.Labels.{first_line, last_line};
-ghost use Rattle.codespan_picture.specs.Picture.{label_of};
+ghost use Rattle.codespan_picture.specs.OutputStreams.{label_of};
 ghost use Rattle.codespan_collect.specs.CollectedLabels.{AddsLine, FindsLine, FindsLines, HasLineLookedUp, IfEnded, IfContinues, ExtendsPadding, ExtendsPaddingForLine, FailsLine, label_of_collector, collected_label, label_failure, lines_failure, failure_on, multi_by, kind_by};
 ghost use Rattle.codespan_annotations.specs.SourceFiles.{EndsBefore, model_of};
 ghost use Rattle.codespan_annotations.specs.AnnotationViews.{IsLineOf, kind_view};

@@ -10,8 +10,8 @@ use Rattle.codespan_base.specs.declared.term.config.DisplayStyle.TheVariants.{Ri
 use Rattle.codespan_base.specs.declared.diagnostic.Diagnostic.{Diagnostic}
 use Rattle.codespan_base.specs.FileModel.{FileDatabase, FileModel}
 use Rattle.codespan_base.specs.Labels.{first_seen, is_primary}
-use Rattle.codespan_picture.specs.Picture.{AreLoci, IsLocus, NamesAreTexts, label_start, labels_of, snippet_start, starts}
-use Rattle.codespan_picture.specs.StatedPicture.{stated_loci, stated_locus}
+use Rattle.codespan_picture.specs.OutputStreams.{AreLoci, IsLocus, NamesAreTexts, label_start, labels_of, snippet_start, starts}
+use Rattle.codespan_picture.specs.Picture.{stated_loci, stated_locus}
 use Rattle.codespan_picture.specs.Rows.{Locus}
 use Rattle.codespan_picture.specs.Snippets.{InFile, LabeledFileModel, file_ids, labeled_file_model, labeled_file_models, primary_of}
 use Rattle.codespan_laws.proofs.LaneLineLemmas.{each_map}

@@ -21,7 +21,7 @@ use Rattle.codespan_picture.specs.Lines.{drawn_lines}
 use Rattle.codespan_picture.specs.Rows.{HeaderText, Locus, RowContext}
 use Rattle.codespan_picture.specs.RowStreams.{stream_of_rows}
 use Rattle.codespan_picture.specs.Snippets.{LabeledFileModel, InFile, file_ids, labeled_file_model, labeled_file_models, rich_rows}
-use Rattle.codespan_picture.specs.Picture.{AreLoci, IsLocus, header_text_of, label_of, labels_of, context_of, notes_of, rendered, snippet_start}
+use Rattle.codespan_picture.specs.OutputStreams.{AreLoci, IsLocus, header_text_of, label_of, labels_of, context_of, notes_of, rendered, snippet_start}
 use Rattle.codespan_picture.specs.Padding.{padding_of}
 use Rattle.codespan_laws.specs.MessageLaws.{slotted, all_slotted, message_text, slotted_output, MessagesAppearOnce}
 use Rattle.codespan_laws.proofs.Loci.{zip_length}

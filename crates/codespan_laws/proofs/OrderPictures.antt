@@ -17,7 +17,7 @@ use Rattle.codespan_laws.specs.LineLaws.{shown_lines}
 use Rattle.codespan_picture.specs.Lines.{shows, is_shown, drawn_lines}
 use Rattle.codespan_laws.specs.OrderLaws.{OrderIsFree}
 use Rattle.codespan_picture.specs.Padding.{spans, spanned_lines, numbered_lines, digits_of}
-use Rattle.codespan_picture.specs.Picture.{context_of, rendered, snippet_start}
+use Rattle.codespan_picture.specs.OutputStreams.{context_of, rendered, snippet_start}
 use Rattle.codespan_picture.specs.RowStreams.{stream_of_rows}
 use Rattle.codespan_picture.specs.Rows.{Locus, HeaderText, Lanes, Line, HeaderRow, SnippetStartRow, EmptyRow, FinalRow}
 use Rattle.codespan_picture.specs.Snippets.{LabeledFileModel, InFile, labeled_file_model, empty_lanes, line_at, rows_after, rows_of_shown, labeled_file_models, snippet, has_any, row_after, snippets, note_rows}

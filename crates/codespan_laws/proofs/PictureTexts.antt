@@ -16,8 +16,8 @@ use Rattle.codespan_base.specs.LawfulFiles.{IsLawful}
 use Rattle.codespan_base.specs.Labels.{LabelModel, LaneMark, Top, Left, Bottom, drawn_label, first_line, has_message, is_single, lane_mark_of, multi_labels, multi_label_at, multi_label_on, insert_sorted, single_labels, sorted, range_precedes}
 use Rattle.codespan_picture.specs.Lines.{drawn_lines}
 use Rattle.codespan_picture.specs.Padding.{padding_of}
-use Rattle.codespan_picture.specs.Picture.{NamesAreTexts, files_of, header_text_of, label_of, labels_of, context_of, notes_of, output, starts}
-use Rattle.codespan_picture.specs.StatedPicture.{stated_loci, headers}
+use Rattle.codespan_picture.specs.OutputStreams.{NamesAreTexts, files_of, header_text_of, label_of, labels_of, context_of, notes_of, output, starts}
+use Rattle.codespan_picture.specs.Picture.{stated_loci, headers}
 use Rattle.codespan_picture.specs.Rows.{Line, Locus, Row, HeaderRow, EmptyRow, SourceRow, HangingRow, UnderlineRow, FinalRow, caret_rows, hanging_labels, hanging_rows, has_underline, rows_of, underline_rows}
 use Rattle.codespan_picture.specs.CharMetrics.{leading_whitespace}
 use Rattle.codespan_picture.specs.Carets.{max_label_end}

@@ -7,7 +7,7 @@ use Rattle.codespan_base.specs.FileModel.{FileDatabase, line_count}
 use Rattle.codespan_picture.specs.Rows.{RowContext}
 use Rattle.codespan_picture.specs.Snippets.{LabeledFileModel, line_at}
 use Rattle.codespan_picture.specs.RowStreams.{caret_row}
-use Rattle.codespan_picture.specs.Picture.{files_of}
+use Rattle.codespan_picture.specs.OutputStreams.{files_of}
 use Rattle.codespan_laws.specs.CaretLaws.{CaretsAreCells}
 use Rattle.codespan_laws.specs.RichLaws.{SnippetMeansLabels, MeansLabels}
 use Rattle.codespan_laws.proofs.Texts.{text_of-append}

@@ -14,8 +14,8 @@ use Rattle.codespan_base.specs.declared.term.config.DisplayStyle.TheVariants.{Sh
 use Rattle.codespan_base.specs.FileModel.{FileDatabase, FileModel, Lookup, or_failure}
 use Rattle.codespan_base.specs.FileModel.Lookup.{Name, LocationAt}
 use Rattle.codespan_picture.specs.Lookups.{AllSucceed, Failures, first_error, header_lookups_of}
-use Rattle.codespan_picture.specs.Picture.{AreLoci, label_start, labels_of, output, starts}
-use Rattle.codespan_picture.specs.StatedPicture.{headers_at, stated_loci, stated_locus}
+use Rattle.codespan_picture.specs.OutputStreams.{AreLoci, label_start, labels_of, output, starts}
+use Rattle.codespan_picture.specs.Picture.{headers_at, stated_loci, stated_locus}
 use Rattle.codespan_picture.specs.Rows.{Locus}
 use Rattle.codespan_picture.specs.Snippets.{InFile, primary_of}
 use Rattle.codespan_laws.specs.StatedNames.{HeadersAreBeforeFailure, NamesAreStated, OutputIsPicture}

@@ -8,7 +8,7 @@ use Rattle.codespan_base.specs.Labels.{has_message, is_empty_stream}
 use Rattle.codespan_base.specs.Streams.{Stream, Item, Slot, text_of, filled}
 use Rattle.codespan_picture.specs.Rows.{Locus}
 use Rattle.codespan_picture.specs.Snippets.{InFile, labeled_file_models}
-use Rattle.codespan_picture.specs.Picture.{header_text_of, labels_of, notes_of, output, rendered}
+use Rattle.codespan_picture.specs.OutputStreams.{header_text_of, labels_of, notes_of, output, rendered}
 
 -- a label with a slot instead of its message, where it has one
 abbrev pub slotted : {Id : Type 0} → ℕ → InFile Id → InFile Id

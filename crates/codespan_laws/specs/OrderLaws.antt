@@ -7,7 +7,7 @@ use Rattle.codespan_base.specs.FileModel.{FileModel}
 use Rattle.codespan_base.specs.Labels.{LabelModel, is_single, first_line, drawn_label}
 use Rattle.codespan_picture.specs.Rows.{HeaderText, Locus}
 use Rattle.codespan_picture.specs.Snippets.{InFile, file_ids, labeled_file_model, labeled_file_models}
-use Rattle.codespan_picture.specs.Picture.{rendered, starts}
+use Rattle.codespan_picture.specs.OutputStreams.{rendered, starts}
 
 -- the label has this drawn range
 abbrev pub is_drawn_at : FileModel → ℕ → ℕ → LabelModel → Bool

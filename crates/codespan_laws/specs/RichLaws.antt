@@ -7,7 +7,7 @@ use Rattle.codespan_picture.specs.Rows.{Locus, RowContext}
 use Rattle.codespan_picture.specs.RowParts.{line_metrics}
 use Rattle.codespan_picture.specs.Snippets.{LabeledFileModel, line_at}
 use Rattle.codespan_picture.specs.Padding.{padding_of}
-use Rattle.codespan_picture.specs.Picture.{AreLoci, files_of, context_of}
+use Rattle.codespan_picture.specs.OutputStreams.{AreLoci, files_of, context_of}
 use Rattle.codespan_laws.specs.CaretLaws.{CaretsAreCells, StartsHaveCells, PointersAreCells}
 use Rattle.codespan_laws.specs.LaneLaws.{BarsAreLabels, LanesJoinCorners, LanesAreShown}
 use Rattle.codespan_laws.specs.LineLaws.{BreaksAreGaps, BreaksAreCovered, RowsOfShown, SourceRowsAreFew, PaddingFits}

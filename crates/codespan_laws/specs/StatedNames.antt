@@ -3,8 +3,8 @@ use Rattle.std.specs.Prelude.{◌≡◌, List, ◌∷◌, ◌++◌, flat_map, Co
 use Rattle.codespan_picture.specs.Types.{Diagnostic, Error, Config, DisplayStyle, Short}
 use Rattle.codespan_base.specs.FileModel.{FileDatabase}
 use Rattle.codespan_picture.specs.Lookups.{AllSucceed, first_error, header_lookups_of, Failures}
-use Rattle.codespan_picture.specs.Picture.{AreLoci, labels_of, output, label_start}
-use Rattle.codespan_picture.specs.StatedPicture.{headers_at, picture, stated_locus}
+use Rattle.codespan_picture.specs.OutputStreams.{AreLoci, labels_of, output, label_start}
+use Rattle.codespan_picture.specs.Picture.{headers_at, picture, stated_locus}
 use Rattle.codespan_picture.specs.Rows.{Locus}
 use Rattle.codespan_picture.specs.Snippets.{InFile, primary_of}
 use Rattle.codespan_base.specs.FileModel.Lookup.{Name, LocationAt}

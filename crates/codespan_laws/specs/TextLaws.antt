@@ -7,8 +7,8 @@ use Rattle.codespan_base.specs.SnippetStarts.{start_text}
 use Rattle.codespan_base.specs.FileModel.{FileDatabase}
 use Rattle.codespan_base.specs.LawfulFiles.{IsLawful}
 use Rattle.codespan_base.specs.Streams.{Stream, Byte, Mark, Slot, text_of}
-use Rattle.codespan_picture.specs.Picture.{NamesAreTexts, output}
-use Rattle.codespan_picture.specs.StatedPicture.{picture}
+use Rattle.codespan_picture.specs.OutputStreams.{NamesAreTexts, output}
+use Rattle.codespan_picture.specs.Picture.{picture}
 use Rattle.codespan_picture.specs.Rows.{Locus}
 
 -- the stream after these bytes is UTF-8 up to its first style mark, between each two, and after

@@ -28,8 +28,8 @@ ghost use Rattle.codespan_laws.specs.StatedNames.{HeadersAreBeforeFailure, Outpu
 ghost use Rattle.codespan_laws.specs.TextLaws.{OutputIsText, PictureIsText};
 ghost use Rattle.codespan_picture.specs.Lanes.{LaneRow};
 ghost use Rattle.codespan_picture.specs.RowParts.{line_metrics, inner_gutter};
-ghost use Rattle.codespan_picture.specs.Picture.{AreLoci, output};
-ghost use Rattle.codespan_picture.specs.StatedPicture.{stated_loci};
+ghost use Rattle.codespan_picture.specs.OutputStreams.{AreLoci, output};
+ghost use Rattle.codespan_picture.specs.Picture.{stated_loci};
 ghost use Rattle.codespan_picture.specs.Rows.{Locus, RowContext, Lanes, Line};
 ghost use Rattle.codespan_picture.specs.Snippets.{LabeledFileModel};
 

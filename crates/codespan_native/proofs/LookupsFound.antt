@@ -10,7 +10,7 @@ use Rattle.codespan_base.specs.FileModel.Lookup.{Name, Source, LineIndex, LineNu
 use Rattle.codespan_base.specs.Labels.{LabelModel, first_seen, is_primary, last_line}
 use Rattle.codespan_base.specs.declared.files.Error.TheVariants.{FileMissing}
 use Rattle.codespan_base.specs.SimpleModel.{missing_file}
-use Rattle.codespan_picture.specs.Picture.{labels_of}
+use Rattle.codespan_picture.specs.OutputStreams.{labels_of}
 use Rattle.codespan_picture.specs.Types.{Config, Diagnostic, Error, DisplayStyle, Rich, Medium, Short, Layout, Classic, Unbroken}
 use Rattle.codespan_picture.specs.Lookups.{AllSucceed, looked_up_lines, lookups_of_file, early_lookups, ends_context, file_at, filled_lines, header_lookups_of, is_looked_up, label_lookups, late_lookups, locus_lookups, lookup_past_end, lookups_in, numbers_for_padding, filled_line_lookups, label_line_lookups, line_lookups, snippet_lookups}
 use Rattle.codespan_picture.specs.Snippets.{InFile, file_ids, locus_start, primary_of}

@@ -19,9 +19,9 @@ use Rattle.codespan_laws.specs.RichLaws.{MeansLabels}
 use Rattle.codespan_laws.specs.StatedNames.{NamesAreStated}
 use Rattle.codespan_laws.proofs.StatedNames.{output_stated}
 use Rattle.codespan_picture.proofs.EqualConfigs.{rendered_equal}
-use Rattle.codespan_picture.specs.Picture.{header_text_of, label_of, labels_of, notes_of, rendered, starts}
+use Rattle.codespan_picture.specs.OutputStreams.{header_text_of, label_of, labels_of, notes_of, rendered, starts}
 use Rattle.codespan_picture.specs.Snippets.{InFile, labeled_file_models}
-use Rattle.codespan_picture.specs.StatedPicture.{stated_locus}
+use Rattle.codespan_picture.specs.Picture.{stated_locus}
 use Rattle.codespan_views.specs.WriteCalls.{WritesStyled}
 use Rattle.codespan_sources.specs.declared.error.OutOfMemory.{OutOfMemory}
 use Rattle.codespan_structs.specs.declared.raw.RawConfig.{RawConfig}

@@ -8,10 +8,10 @@ use Rattle.codespan_base.specs.declared.diagnostic.Diagnostic.{Diagnostic}
 use Rattle.codespan_base.specs.declared.term.config.Config.{Config}
 use Rattle.codespan_laws.specs.RichLaws.{MeansLabels}
 use Rattle.codespan_picture.specs.Lookups.{AllSucceed, lookups_in}
-use Rattle.codespan_picture.specs.Picture.{rendered, starts}
+use Rattle.codespan_picture.specs.OutputStreams.{rendered, starts}
 use Rattle.codespan_picture.specs.Rows.{HeaderText}
 use Rattle.codespan_picture.specs.Snippets.{InFile, labeled_file_models}
-use Rattle.codespan_picture.specs.StatedPicture.{stated_locus}
+use Rattle.codespan_picture.specs.Picture.{stated_locus}
 use Rattle.codespan_structs.specs.declared.raw.RawConfig.{RawConfig}
 use Rattle.codespan_structs.specs.declared.raw.RawDiagnostic.{RawDiagnostic}
 use Rattle.codespan_structs.specs.declared.raw.RawFile.{RawFile}

@@ -3,7 +3,7 @@ use Rattle.std.specs.Prelude.{ℕ, List}
 use Rattle.codespan_base.specs.declared.diagnostic.Diagnostic.{Diagnostic}
 use Rattle.codespan_base.specs.declared.term.config.Config.{Config}
 use Rattle.codespan_base.specs.Streams.{Stream}
-use Rattle.codespan_picture.specs.StatedPicture.{picture}
+use Rattle.codespan_picture.specs.Picture.{picture}
 use Rattle.codespan_sources.specs.SourceTexts.{SourceView, database_of}
 
 -- the output of a diagnostic over files, with the names that the files have

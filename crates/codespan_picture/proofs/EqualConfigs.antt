@@ -14,7 +14,7 @@ use Rattle.codespan_picture.specs.RowParts.{outer_gutter, locus}
 use Rattle.codespan_picture.specs.RowStreams.{stream_of, stream_of_rows}
 use Rattle.codespan_picture.specs.RowDefinitions.{row_definitions}
 use Rattle.codespan_picture.specs.Padding.{padding_of}
-use Rattle.codespan_picture.specs.Picture.{context_of, rendered}
+use Rattle.codespan_picture.specs.OutputStreams.{context_of, rendered}
 use Rattle.codespan_picture.specs.Snippets.{LabeledFileModel, header_rows, note_rows, rich_rows}
 
 -- the configuration with this text before a locus

@@ -29,8 +29,8 @@ pub mod Lines
 pub mod Sequences
 pub mod Snippets
 pub mod Padding
+pub mod OutputStreams
 pub mod Picture
-pub mod StatedPicture
 pub mod Lookups
 -- labels, lane marks and loci as calls take them
 pub mod Arguments

@@ -8,7 +8,7 @@ use Rattle.codespan_base.specs.Labels.{LabelModel, first_line, last_line}
 use Rattle.codespan_picture.specs.Lines.{is_shown, is_drawn}
 use Rattle.codespan_picture.specs.Snippets.{LabeledFileModel, InFile, file_ids, labeled_file_model, locus_start, primary_of}
 use Rattle.codespan_picture.specs.Padding.{spans}
-use Rattle.codespan_picture.specs.Picture.{labels_of}
+use Rattle.codespan_picture.specs.OutputStreams.{labels_of}
 
 -- the error that a lookup of a file fails with, if any
 abbrev pub Failures : Type 0 → Type 0

@@ -2,7 +2,7 @@
 
 ghost use Rattle.std.specs.Prelude.{IfOk, map};
 ghost use Rattle.codespan_annotations.specs.FileLookups.{FailsByOrFormat};
-ghost use Rattle.codespan_picture.specs.Picture.{label_of};
+ghost use Rattle.codespan_picture.specs.OutputStreams.{label_of};
 ghost use Rattle.codespan_collect.specs.Collections.{IsCollected};
 ghost use Rattle.codespan_plan.specs.OutputPlans.{IsOutputPlan, output_plan_failure};
 

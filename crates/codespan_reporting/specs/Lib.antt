@@ -24,8 +24,8 @@ pub use Rattle.codespan_picture.specs.Lines
 pub use Rattle.codespan_picture.specs.Sequences
 pub use Rattle.codespan_picture.specs.Snippets
 pub use Rattle.codespan_picture.specs.Padding
+pub use Rattle.codespan_picture.specs.OutputStreams
 pub use Rattle.codespan_picture.specs.Picture
-pub use Rattle.codespan_picture.specs.StatedPicture
 pub use Rattle.codespan_picture.specs.Lookups
 pub use Rattle.codespan_picture.specs.Arguments
 -- what an output means

@@ -8,7 +8,7 @@ use Rattle.codespan_base.specs.Streams.{Stream, newline}
 use Rattle.codespan_picture.specs.declared.arguments.Locus as rust_locus
 use Rattle.codespan_picture.specs.CharMetrics.{text_without_line_end}
 use Rattle.codespan_picture.specs.Arguments.{SingleLabelTuple, LaneMarkTuple, lanes_of, locus_view, single_label_views, text_now}
-use Rattle.codespan_picture.specs.Picture.{context_of}
+use Rattle.codespan_picture.specs.OutputStreams.{context_of}
 use Rattle.codespan_picture.specs.Rows.{Line, rows_of}
 use Rattle.codespan_picture.specs.RowStreams.{break_row, empty_row, header_row, snippet_start_row, stream_of_rows, first_note_row, later_note_row}
 

@@ -6,7 +6,7 @@ use Rattle.codespan_base.specs.LawfulFiles.{IsLawful}
 use Rattle.codespan_base.specs.Streams.{Stream, text_of}
 use Rattle.codespan_laws.specs.RichLaws.{MeansLabels}
 use Rattle.codespan_laws.specs.TextLaws.{AreCharacters}
-use Rattle.codespan_picture.specs.Picture.{AreLoci, NamesAreTexts, output}
+use Rattle.codespan_picture.specs.OutputStreams.{AreLoci, NamesAreTexts, output}
 use Rattle.codespan_picture.specs.Rows.{Locus}
 use Rattle.codespan_views.specs.Output.{IsEmitError, Succeeds}
 use Rattle.codespan_documents.specs.Runs.{AreTexts, StyledRun, joined, runs_of}

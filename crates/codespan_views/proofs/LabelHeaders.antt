@@ -18,8 +18,8 @@ use Rattle.codespan_base.specs.Streams.{Stream, newline}
 use Rattle.codespan_base.specs.WriterLaw.{Sink, with_written, is_known, PrefixWritten, Writes}
 use Rattle.codespan_base.proofs.Writes.{is_known-with_written, with_written-append, with_written-nil}
 use Rattle.codespan_picture.specs.Lookups.{Failures, first_error, header_lookups_of}
-use Rattle.codespan_picture.specs.Picture.{header_text_of, label_of, label_start, labels_of, context_of, notes_of}
-use Rattle.codespan_picture.specs.StatedPicture.{stated_locus, headers}
+use Rattle.codespan_picture.specs.OutputStreams.{header_text_of, label_of, label_start, labels_of, context_of, notes_of}
+use Rattle.codespan_picture.specs.Picture.{stated_locus, headers}
 use Rattle.codespan_annotations.specs.TextLoci.{IsLocusOfLabel}
 use Rattle.codespan_picture.specs.Rows.{HeaderRow, HeaderText, RowContext, Locus, Row}
 use Rattle.codespan_picture.specs.RowStreams.{header_row, stream_of, stream_of_rows}

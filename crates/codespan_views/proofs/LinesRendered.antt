@@ -8,7 +8,7 @@ use Rattle.codespan_base.specs.declared.term.config.Config.{Config}
 use Rattle.codespan_base.specs.FileModel.{FileDatabase, FileModel, Lookup, or_failure}
 use Rattle.codespan_base.specs.Streams.{Stream, newline}
 use Rattle.codespan_base.specs.WriterLaw.{Sink}
-use Rattle.codespan_picture.specs.Picture.{context_of}
+use Rattle.codespan_picture.specs.OutputStreams.{context_of}
 use Rattle.codespan_picture.specs.Rows.{Line, RowContext, Row, rows_of}
 use Rattle.codespan_picture.specs.RowStreams.{stream_of, stream_of_rows}
 use Rattle.codespan_views.specs.declared.snippet.lines.Snippet.{Snippet}

@@ -4,7 +4,7 @@ use Rattle.std.proofs.Common.{List}
 use Rattle.std.specs.List.{AllZip}
 use Rattle.codespan_base.specs.declared.term.config.DisplayStyle.TheVariants.{Rich, Short}
 use Rattle.codespan_base.specs.declared.diagnostic.Diagnostic.{Diagnostic}
-use Rattle.codespan_picture.specs.Picture.{AreLoci, IsLocus, NamesAreTexts, files_of, label_start, labels_of, snippet_start}
+use Rattle.codespan_picture.specs.OutputStreams.{AreLoci, IsLocus, NamesAreTexts, files_of, label_start, labels_of, snippet_start}
 use Rattle.codespan_picture.specs.Rows.{Locus}
 use Rattle.codespan_picture.specs.Snippets.{InFile, LabeledFileModel, primary_of}
 use Rattle.codespan_laws.proofs.Loci.{zip_map, zip_texts, zip_weaker}

@@ -11,7 +11,7 @@ use Rattle.codespan_base.specs.Errors.{IsIo}
 use Rattle.codespan_views.specs.Private.LookupsWhileRendering.{WroteStream, WritesWithLookups}
 use Rattle.codespan_picture.specs.Snippets.{row_after, snippet, snippets, LabeledFileModel, has_any, labeled_file_model, labeled_file_models}
 use Rattle.codespan_picture.specs.Lookups.{lookups_of_file, first_error, late_lookups, snippet_lookups}
-use Rattle.codespan_picture.specs.Picture.{labels_of, context_of, notes_of}
+use Rattle.codespan_picture.specs.OutputStreams.{labels_of, context_of, notes_of}
 use Rattle.codespan_picture.specs.Rows.{RowContext, Locus, Row}
 use Rattle.codespan_picture.specs.RowStreams.{stream_of_rows}
 use Rattle.codespan_base.specs.FileModel.Lookup.{Source}

@@ -13,8 +13,8 @@ use Rattle.codespan_base.specs.Streams.{Stream}
 use Rattle.codespan_base.specs.WriterLaw.{Sink, with_written, is_known, PrefixWritten, Writes, failing}
 use Rattle.codespan_base.proofs.KnownBytes.{extended-nil}
 use Rattle.codespan_base.specs.declared.term.config.DisplayStyle.TheVariants.{Rich}
-use Rattle.codespan_picture.specs.Picture.{files_of, labels_of, output}
-use Rattle.codespan_picture.specs.StatedPicture.{stated_loci}
+use Rattle.codespan_picture.specs.OutputStreams.{files_of, labels_of, output}
+use Rattle.codespan_picture.specs.Picture.{stated_loci}
 use Rattle.codespan_picture.specs.Rows.{Locus}
 use Rattle.codespan_annotations.specs.TextLoci.{IsLocusOfFile}
 use Rattle.std.specs.List.{AllZip}

@@ -24,7 +24,7 @@ use Rattle.codespan_views.specs.Private.LookupsWhileRendering.{WroteStream, Wrot
 use Rattle.codespan_plan.specs.OutputPlans.{AreSnippetPlans, IsOutputPlan, ids_of, loci_of, output_plan_failure}
 use Rattle.codespan_views.specs.WriteCalls.{WritesOutput}
 use Rattle.codespan_picture.specs.Lookups.{early_lookups, first_error, late_lookups}
-use Rattle.codespan_picture.specs.Picture.{header_text_of, label_of, labels_of, context_of, notes_of}
+use Rattle.codespan_picture.specs.OutputStreams.{header_text_of, label_of, labels_of, context_of, notes_of}
 use Rattle.codespan_picture.specs.Padding.{padding_of}
 use Rattle.codespan_picture.specs.Snippets.{snippets, InFile, has_any, labeled_file_model, labeled_file_models, note_rows}
 use Rattle.codespan_annotations.specs.TextLoci.{IsLocusOfFile}

@@ -17,7 +17,7 @@ use Rattle.codespan_views.specs.Private.SnippetRows.{start_rows}
 use Rattle.codespan_plan.specs.SnippetLineViews.{lookups_of_lines, snippet_line_view}
 use Rattle.codespan_plan.specs.SnippetLines.{rows_of_lines}
 use Rattle.codespan_picture.specs.Lookups.{lookups_of_file, first_error}
-use Rattle.codespan_picture.specs.Picture.{context_of}
+use Rattle.codespan_picture.specs.OutputStreams.{context_of}
 use Rattle.codespan_picture.specs.Rows.{RowContext, Row}
 use Rattle.codespan_picture.specs.RowStreams.{stream_of, stream_of_rows}
 use Rattle.codespan_views.proofs.LookupRuns.{IsLookupRun, run_after, run_as, run_cut, run_of_writes, run_then}

@@ -5,7 +5,7 @@ use Rattle.codespan_picture.specs.Types.{Diagnostic, Error, FormatError, Config,
 use Rattle.codespan_base.specs.Errors.{IsIo}
 use Rattle.codespan_base.specs.FileModel.{FileDatabase, Lookup}
 use Rattle.codespan_picture.specs.Lookups.{AllSucceed, IsLookupError, early_lookups, first_error, header_lookups_of, late_lookups, lookups_in}
-use Rattle.codespan_picture.specs.Picture.{labels_of}
+use Rattle.codespan_picture.specs.OutputStreams.{labels_of}
 use Rattle.codespan_picture.specs.Rows.{Locus}
 use Rattle.codespan_picture.specs.Snippets.{InFile, primary_of}
 

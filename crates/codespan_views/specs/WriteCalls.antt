@@ -6,8 +6,8 @@ use Rattle.codespan_base.specs.FileModel.{FileDatabase}
 use Rattle.codespan_base.specs.Streams.{text_of}
 use Rattle.codespan_base.specs.WriterLaw.{AppendsBytes, WritesOrPrefix, Sink, extended, is_known, failing, with_written, are_known}
 use Rattle.codespan_laws.specs.RichLaws.{MeansLabels}
-use Rattle.codespan_picture.specs.Picture.{AreLoci, output}
-use Rattle.codespan_picture.specs.StatedPicture.{headers_at}
+use Rattle.codespan_picture.specs.OutputStreams.{AreLoci, output}
+use Rattle.codespan_picture.specs.Picture.{headers_at}
 use Rattle.codespan_picture.specs.Rows.{Locus}
 use Rattle.codespan_views.specs.Failures.{FailsAs}
 use Rattle.codespan_views.specs.Output.{Succeeds, text_at}

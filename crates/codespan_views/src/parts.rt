@@ -2,7 +2,7 @@
 
 ghost use Rattle.std.specs.Option.{option_map};
 ghost use Rattle.codespan_picture.specs.Arguments.{locus_view};
-ghost use Rattle.codespan_picture.specs.Picture.{notes_of};
+ghost use Rattle.codespan_picture.specs.OutputStreams.{notes_of};
 ghost use Rattle.codespan_picture.specs.Snippets.{note_rows};
 ghost use Rattle.codespan_renderer.specs.Renderers.{Renders};
 ghost use Rattle.codespan_views.specs.Private.Rendering.{RendersRows};

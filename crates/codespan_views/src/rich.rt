@@ -2,7 +2,7 @@
 
 ghost use Rattle.std.specs.Prelude.{◌≡◌, ◌+◌, ◌<◌, ◌≤◌, drop, length, nat_lt, take};
 ghost use Rattle.codespan_base.specs.declared.term.config.DisplayStyle.TheVariants.{Rich};
-ghost use Rattle.codespan_picture.specs.Picture.{labels_of, notes_of};
+ghost use Rattle.codespan_picture.specs.OutputStreams.{labels_of, notes_of};
 ghost use Rattle.codespan_picture.specs.Snippets.{has_any};
 ghost use Rattle.codespan_renderer.specs.Renderers.{writer_of, config_of, Renders, SameRenderer};
 ghost use Rattle.codespan_views.specs.WriteCalls.{WritesStyled};

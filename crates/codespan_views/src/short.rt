@@ -6,7 +6,7 @@ ghost use Rattle.codespan_annotations.specs.TextLoci.{IsLocusOfLabel};
 ghost use Rattle.codespan_base.specs.declared.term.config.DisplayStyle.TheVariants.{Short, Medium};
 ghost use Rattle.codespan_picture.specs.Arguments.{locus_view};
 ghost use Rattle.codespan_picture.specs.Lookups.{first_error, header_lookups_of};
-ghost use Rattle.codespan_picture.specs.Picture.{label_of, labels_of};
+ghost use Rattle.codespan_picture.specs.OutputStreams.{label_of, labels_of};
 ghost use Rattle.codespan_renderer.specs.Renderers.{writer_of, config_of, SameRenderer};
 ghost use Rattle.codespan_views.specs.WriteCalls.{WritesStyled};
 ghost use Rattle.codespan_views.specs.Private.ViewRendering.{RendersHeadersOf, RendersInStyle};

@@ -17,8 +17,8 @@ use Rattle.codespan_picture.specs.Arguments.{LaneMarkTuple}
 use Rattle.codespan_picture.specs.Rows.{Line}
 use Rattle.codespan_picture.specs.RowDefinitions.{row_definitions}
 use Rattle.codespan_picture.specs.Snippets.{InFile, labeled_file_models}
-use Rattle.codespan_picture.specs.Picture.{rendered, starts}
-use Rattle.codespan_picture.specs.StatedPicture.{stated_locus}
+use Rattle.codespan_picture.specs.OutputStreams.{rendered, starts}
+use Rattle.codespan_picture.specs.Picture.{stated_locus}
 
 -- opens all definitions of an output, so that it computes
 unfoldable pub worked_definitions : Unit {0}

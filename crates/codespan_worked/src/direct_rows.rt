@@ -6,7 +6,7 @@ ghost use Rattle.codespan_base.specs.Streams.{text_of};
 ghost use Rattle.codespan_base.specs.declared.diagnostic.Severity.TheVariants.{Error};
 ghost use Rattle.codespan_base.specs.declared.diagnostic.LabelStyle.TheVariants.{Secondary};
 ghost use Rattle.codespan_picture.specs.Arguments.{lanes_in_order};
-ghost use Rattle.codespan_picture.specs.Picture.{context_of};
+ghost use Rattle.codespan_picture.specs.OutputStreams.{context_of};
 ghost use Rattle.codespan_picture.specs.Rows.{rows_of};
 ghost use Rattle.codespan_picture.specs.RowStreams.{stream_of_rows};
 ghost use Rattle.codespan_worked.specs.Worked.{label, line_of_labels, bars_in, rows};

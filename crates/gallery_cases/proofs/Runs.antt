@@ -8,7 +8,7 @@ use Rattle.codespan_base.specs.declared.files.Error.{Error}
 use Rattle.codespan_base.specs.declared.term.config.Config.{Config}
 use Rattle.codespan_base.specs.FileModel.{FileDatabase}
 use Rattle.codespan_base.specs.SimpleModel.{missing_file, simple_file, database_file}
-use Rattle.codespan_picture.specs.Picture.{labels_of}
+use Rattle.codespan_picture.specs.OutputStreams.{labels_of}
 use Rattle.codespan_picture.specs.Snippets.{InFile}
 use Rattle.codespan_laws.specs.StatedNames.{NamesAreStated}
 use Rattle.codespan_laws.proofs.StatedNames.{output_stated}

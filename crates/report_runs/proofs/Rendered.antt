@@ -14,8 +14,8 @@ use Rattle.codespan_base.specs.Streams.{Stream, text_of}
 use Rattle.codespan_views.specs.Output.{Emits, IsRendered}
 use Rattle.codespan_laws.proofs.StatedNames.{output_stated}
 use Rattle.codespan_picture.specs.Lookups.{Failures}
-use Rattle.codespan_picture.specs.Picture.{header_text_of, label_of, labels_of, notes_of, rendered, starts}
-use Rattle.codespan_picture.specs.StatedPicture.{stated_locus}
+use Rattle.codespan_picture.specs.OutputStreams.{header_text_of, label_of, labels_of, notes_of, rendered, starts}
+use Rattle.codespan_picture.specs.Picture.{stated_locus}
 use Rattle.codespan_picture.specs.Snippets.{InFile, labeled_file_models}
 use Rattle.codespan_picture.proofs.EqualConfigs.{rendered_equal}
 use Rattle.report_runs.specs.RenderedTexts.{report_config, view_label, only_file, output_text}

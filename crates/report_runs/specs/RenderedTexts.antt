@@ -8,8 +8,8 @@ use Rattle.codespan_base.specs.FileModel.{FileModel}
 use Rattle.codespan_base.specs.SimpleModel.{simple_file}
 use Rattle.codespan_base.specs.Streams.{bytes, text_of}
 use Rattle.codespan_picture.specs.Rows.{HeaderText}
-use Rattle.codespan_picture.specs.Picture.{rendered, starts}
-use Rattle.codespan_picture.specs.StatedPicture.{stated_locus}
+use Rattle.codespan_picture.specs.OutputStreams.{rendered, starts}
+use Rattle.codespan_picture.specs.Picture.{stated_locus}
 use Rattle.codespan_picture.specs.Snippets.{InFile, labeled_file_models}
 use Rattle.report_runs.specs.declared.run_error.RunError.{RunError}
 use Rattle.report_runs.specs.declared.run_error.RunError.TheVariants as run_error

@@ -64,7 +64,7 @@ impl<'writer, 'config, W: WriteStyle> Renderer<'writer, 'config, W> {
     ghost use Rattle.std.specs.Prelude.{◌≡◌, IsTrue};
     ghost use Rattle.codespan_base.specs.Streams.{newline};
     ghost use Rattle.codespan_row_parts.specs.LineViews.{context_view};
-    ghost use Rattle.codespan_picture.specs.Picture.{context_of};
+    ghost use Rattle.codespan_picture.specs.OutputStreams.{context_of};
     ghost use Rattle.codespan_renderer.specs.Renderers.{writer_of, reference_of, config_of, Renders};
     ghost use Rattle.codespan_row_parts.specs.RenderedRows.{rendered_header, rendered_start, rendered_snippet_empty};
     ghost use Rattle.codespan_row_parts.specs.RenderedRows.{rendered_break, rendered_note};

@@ -6,7 +6,7 @@ use Rattle.codespan_base.specs.Errors.{IsIo}
 use Rattle.codespan_base.specs.FileModel.{FileModel}
 use Rattle.codespan_base.specs.WriterLaw.{Sink, with_written, is_known, PrefixWritten, failing}
 use Rattle.codespan_picture.specs.Lookups.{Failures, first_error, header_lookups_of}
-use Rattle.codespan_picture.specs.StatedPicture.{headers_at}
+use Rattle.codespan_picture.specs.Picture.{headers_at}
 use Rattle.codespan_picture.specs.Rows.{Locus}
 use Rattle.codespan_picture.specs.Snippets.{InFile, has_any}
 use Rattle.codespan_annotations.specs.TextLoci.{IsLocusOfLabel}

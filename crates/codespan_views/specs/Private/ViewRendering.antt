@@ -4,7 +4,7 @@ use Rattle.codespan_picture.specs.Types.{Diagnostic, Error, Config, DisplayStyle
 use Rattle.codespan_base.specs.Streams.{Stream, newline}
 use Rattle.codespan_base.specs.WriterLaw.{Sink}
 use Rattle.codespan_picture.specs.Lookups.{first_error, late_lookups}
-use Rattle.codespan_picture.specs.Picture.{header_text_of, labels_of, context_of, notes_of}
+use Rattle.codespan_picture.specs.OutputStreams.{header_text_of, labels_of, context_of, notes_of}
 use Rattle.codespan_picture.specs.Snippets.{snippets, InFile, has_any, labeled_file_models, note_rows, primary_of}
 use Rattle.codespan_picture.specs.Rows.{FinalRow, Locus, Row}
 use Rattle.codespan_picture.specs.RowStreams.{header_row, stream_of_rows}

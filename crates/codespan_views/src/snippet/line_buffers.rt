@@ -3,7 +3,7 @@
 ghost use Rattle.std.specs.Prelude.{◌≡◌, [], IfOk, OnErr, IsErrOf, map};
 ghost use Rattle.codespan_base.specs.Labels.{from_line_start};
 ghost use Rattle.codespan_picture.specs.Arguments.{single_label_views, single_label_view, lane_mark_view};
-ghost use Rattle.codespan_picture.specs.Picture.{label_of};
+ghost use Rattle.codespan_picture.specs.OutputStreams.{label_of};
 ghost use Rattle.codespan_annotations.specs.AnnotationViews.{annotation_view};
 ghost use Rattle.codespan_plan.specs.SnippetLines.{lane_marks_in, single_labels_in};
 

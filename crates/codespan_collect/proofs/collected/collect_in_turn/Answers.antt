@@ -7,7 +7,7 @@ use Rattle.codespan_collect.specs.CollectedLabels.{FindsLines, collected_label}
 use Rattle.codespan_annotations.specs.AnnotationViews.{Adds, IsOfFiles}
 use Rattle.codespan_annotations.specs.LabeledFiles.{ids_view, lane_counts, num_multi_labels_of, lanes_with_label}
 use Rattle.codespan_annotations.specs.FileStarts.{file_start}
-use Rattle.codespan_picture.specs.Picture.{label_of}
+use Rattle.codespan_picture.specs.OutputStreams.{label_of}
 use Rattle.codespan_picture.specs.Snippets.{file_ids}
 use Rattle.codespan_annotations.specs.FileIndices.{AreDistinct, index_of_file}
 use Rattle.codespan_collect.specs.IndexedLabels.{annotations_after}

@@ -1,6 +1,6 @@
 use Rattle.std.proofs.Common.{Ok, take}
 use Rattle.std.specs.Prelude.{string_bytes}
-use Rattle.codespan_picture.specs.Picture.{context_of}
+use Rattle.codespan_picture.specs.OutputStreams.{context_of}
 use Rattle.codespan_renderer.specs.Renderers.{Renders, config_of}
 use Rattle.codespan_views.proofs.NoteRows.{stream_of_notes}
 use Rattle.codespan_views.proofs.parts.render_notes.Given as goal

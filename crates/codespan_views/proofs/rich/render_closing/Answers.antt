@@ -3,7 +3,7 @@ use Rattle.std.specs.Prelude.{string_bytes}
 use Rattle.std.proofs.lemmas.Result.{err_from_is_err_and}
 use Rattle.codespan_base.specs.declared.term.config.Config.{Config}
 use Rattle.codespan_base.specs.Streams.{newline}
-use Rattle.codespan_picture.specs.Picture.{context_of}
+use Rattle.codespan_picture.specs.OutputStreams.{context_of}
 use Rattle.codespan_renderer.specs.Renderers.{config_of}
 use Rattle.codespan_views.proofs.NoteRows.{notes-empty}
 use Rattle.codespan_views.proofs.RendererRuns.{renders_as, renders_cut, renders_then}

@@ -1,5 +1,5 @@
 use Rattle.std.proofs.Common.{◌≡◌, map, take}
-use Rattle.codespan_picture.specs.Picture.{label_of}
+use Rattle.codespan_picture.specs.OutputStreams.{label_of}
 use Rattle.codespan_picture.specs.Snippets.{has_any, primary_of}
 use Rattle.codespan_renderer.specs.Renderers.{SameRenderer, config_of, writer_of}
 use Rattle.codespan_views.specs.Private.Headers.{HeadersWritten}

@@ -7,7 +7,7 @@ use Rattle.codespan_collect.specs.CollectedLabels.{AddsLine, label_of_collector}
 use Rattle.codespan_annotations.specs.LabelSpans.{spans_line}
 use Rattle.codespan_collect.specs.declared.label_annotations.FoundAnnotations.{FoundAnnotations}
 use Rattle.codespan_picture.specs.Lookups.{is_looked_up}
-use Rattle.codespan_picture.specs.Picture.{label_of}
+use Rattle.codespan_picture.specs.OutputStreams.{label_of}
 use Rattle.codespan_annotations.specs.SourceFiles.{model_of}
 use Rattle.codespan_collect.proofs.Collecting.{Adds-none, Adds-as}
 use Rattle.codespan_collect.proofs.CollectedLines.{added-looked_up, far-spans, looked_up-around, looked_up-spanned, padding-spanned, padding-unspanned, succeeded-looked_up}

@@ -1,5 +1,5 @@
 use Rattle.codespan_renderer.specs.Renderers.{SameRenderer, config_of, writer_of}
-use Rattle.codespan_picture.specs.Picture.{labels_of}
+use Rattle.codespan_picture.specs.OutputStreams.{labels_of}
 use Rattle.codespan_views.specs.Views.{diagnostic_of, view_config_of}
 use Rattle.codespan_views.proofs.PlannedFiles.{AreFilesFrom}
 use Rattle.codespan_views.proofs.OutputPlanRendering.{SnippetsLeft}

@@ -3,7 +3,7 @@ use Rattle.std.proofs.lemmas.Result.{err_from_is_err_and}
 use Rattle.codespan_base.specs.Labels.{LaneMark}
 use Rattle.codespan_base.specs.Streams.{newline}
 use Rattle.codespan_picture.specs.Arguments.{lane_mark_view}
-use Rattle.codespan_picture.specs.Picture.{context_of}
+use Rattle.codespan_picture.specs.OutputStreams.{context_of}
 use Rattle.codespan_picture.specs.RowStreams.{break_row}
 use Rattle.codespan_renderer.specs.Renderers.{config_of}
 use Rattle.codespan_views.proofs.RendererRuns.{allocation_failed, renders_alone, renders_as}

@@ -1,0 +1,110 @@
+-- The output of a diagnostic as a stream, in each style, by the loci in it.
+use Rattle.std.specs.Prelude.{◌≡◌, ℕ, Bool, List, ◌++◌, map, string_bytes, IfSome}
+use Rattle.std.specs.List.{AllByRecursion, AllZip}
+use Rattle.std.specs.Option.{option_map}
+use Rattle.std.specs.Str.{IsUtf8}
+use Rattle.codespan_picture.specs.Types.{Config, DisplayStyle, Rich, Medium, Short, Diagnostic, Label, Severity}
+use Rattle.codespan_base.specs.FileModel.{FileDatabase, FileModel}
+use Rattle.codespan_base.specs.Streams.{Stream, bytes}
+use Rattle.codespan_picture.specs.Padding.{padding_of}
+use Rattle.codespan_picture.specs.Rows.{HeaderText, Locus, RowContext}
+use Rattle.codespan_picture.specs.RowStreams.{stream_of_rows}
+use Rattle.codespan_picture.specs.Snippets.{InFile, LabeledFileModel, header_rows, labeled_file_models, locus_start, note_rows, primary_of, rich_rows}
+
+-- ---- a diagnostic, as its output reads it
+
+-- a label
+abbrev pub label_of : {Id : Type 0} → Label Id → InFile Id
+label_of x = record {
+  id = x.file_id;
+  label = record {
+    style = x.style;
+    start = x.range.start;
+    end = x.range.end;
+    message = bytes (string_bytes x.message);
+  };
+}
+
+-- the labels in the order given
+abbrev pub labels_of : {Id : Type 0} → Diagnostic Id → List (InFile Id)
+labels_of d = map label_of d.labels.items
+
+-- its files with their labels
+abbrev pub files_of : {Id : Type 0} → FileDatabase Id → Diagnostic Id → List LabeledFileModel
+files_of files d = labeled_file_models files.same files.file (labels_of d)
+
+-- its code and message
+abbrev pub header_text_of : {Id : Type 0} → Diagnostic Id → HeaderText
+header_text_of d = record {
+  code = option_map string_bytes d.code;
+  message = string_bytes d.message;
+}
+
+-- its notes
+abbrev pub notes_of : {Id : Type 0} → Diagnostic Id → List (List ℕ)
+notes_of d = map string_bytes d.notes.items
+
+-- ---- loci
+
+-- the locus of a byte of a file: its location, and a name, which is the one that the file states,
+-- if it states one
+pub record IsLocus (at : FileModel × ℕ) (locus : Locus) : Type 0 where
+  pub location : locus.location ≡ at.0.location at.1
+  pub name : IfSome at.0.name (λ name. locus.name ≡ name)
+
+-- where a file's snippet starts
+abbrev pub snippet_start : LabeledFileModel → FileModel × ℕ
+snippet_start s = (s.file, locus_start s.labels)
+
+-- where a label starts
+abbrev pub label_start : {Id : Type 0} → (Id → FileModel) → InFile Id → FileModel × ℕ
+label_start file x = (file x.id, x.label.start)
+
+module _ {Id : Type 0} (same : Id → Id → Bool) (file : Id → FileModel) (xs : List (InFile Id)) where
+  -- the starts that have a locus: in rich style that of each file's snippet, in medium and short
+  -- style that of each primary label
+  abbrev pub starts : DisplayStyle → List (FileModel × ℕ)
+  starts Rich = map snippet_start (labeled_file_models same file xs)
+  starts _ = map (label_start file) (primary_of xs)
+
+-- the names of these loci are texts
+abbrev pub NamesAreTexts : List Locus → Type 0
+NamesAreTexts loci = AllByRecursion (λ (locus : Locus). IsUtf8 locus.name) loci
+
+module _ {Id : Type 0} (files : FileDatabase Id) (d : Diagnostic Id) (style : DisplayStyle) where
+  -- these are the loci of an output
+  abbrev pub AreLoci : List Locus → Type 0
+  AreLoci loci = AllZip IsLocus (starts files.same files.file (labels_of d) style) loci
+
+-- ---- the output
+
+-- what all rows of an output are rendered by
+abbrev pub context_of : Config → Severity → ℕ → RowContext
+context_of config severity padding = record {
+  chars = config.chars;
+  tab_width = config.tab_width;
+  layout = config.layout;
+  severity = severity;
+  padding = padding;
+}
+
+-- what is rendered with these loci: the view's configuration chooses lines and padding, the
+-- renderer's the characters, the tab width and the layout
+abbrev pub rendered : DisplayStyle → Config → Config → Severity → HeaderText
+    → List Locus → List LabeledFileModel → List (List ℕ) → Stream
+rendered Rich renderer_config view_config severity heading loci ss notes =
+    stream_of_rows (context_of renderer_config severity (padding_of view_config ss))
+    (rich_rows view_config heading loci ss notes)
+rendered Medium renderer_config view_config severity heading loci ss notes =
+    stream_of_rows (context_of renderer_config severity 0)
+    (header_rows heading loci ++ note_rows notes)
+rendered Short renderer_config view_config severity heading loci ss notes =
+    stream_of_rows (context_of renderer_config severity 0) (header_rows heading loci)
+
+module _ {Id : Type 0} (style : DisplayStyle) (renderer_config view_config : Config)
+    (files : FileDatabase Id) (d : Diagnostic Id) where
+  -- the output of a diagnostic with these loci
+  abbrev pub output : List Locus → Stream
+  output loci =
+      rendered style renderer_config view_config d.severity (header_text_of d) loci
+      (files_of files d) (notes_of d)
