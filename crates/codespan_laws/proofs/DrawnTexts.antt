@@ -14,7 +14,7 @@ use Rattle.std.proofs.lemmas.Str.{IsCharBoundary-before_ascii, IsCharBoundary-en
 use Rattle.codespan_base.specs.FileModel.{FileModel, line_text}
 use Rattle.codespan_base.specs.LawfulFiles.{IsLawful}
 use Rattle.codespan_picture.specs.CharMetrics.{text_without_line_end, is_line_end}
-use Rattle.codespan_picture.specs.OutputStreams.{starts}
+use Rattle.codespan_picture.specs.OutputStreams.{locus_starts}
 use Rattle.codespan_picture.specs.Rows.{LaterNoteRow}
 use Rattle.codespan_picture.specs.Snippets.{note_rows, piece_rows}
 use Rattle.codespan_laws.proofs.LaneLineLemmas.{each_map}

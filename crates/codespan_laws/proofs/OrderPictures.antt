@@ -17,7 +17,7 @@ use Rattle.codespan_laws.specs.LineLaws.{shown_lines}
 use Rattle.codespan_picture.specs.Lines.{shows, is_shown, drawn_lines}
 use Rattle.codespan_laws.specs.OrderLaws.{OrderIsFree}
 use Rattle.codespan_picture.specs.Padding.{spans, spanned_lines, numbered_lines, digits_of}
-use Rattle.codespan_picture.specs.OutputStreams.{context_of, rendered, snippet_start}
+use Rattle.codespan_picture.specs.OutputStreams.{context_of, rendered, snippet_locus_start}
 use Rattle.codespan_picture.specs.RowStreams.{stream_of_rows}
 use Rattle.codespan_picture.specs.Rows.{Locus, HeaderText, Lanes, Line, HeaderRow, SnippetStartRow, EmptyRow, FinalRow}
 use Rattle.codespan_picture.specs.Snippets.{LabeledFileModel, InFile, labeled_file_model, empty_lanes, line_at, rows_after, rows_of_shown, labeled_file_models, snippet, has_any, row_after, snippets, note_rows}
@@ -66,7 +66,7 @@ module _ (f : FileModel) (xs ys : List LabelModel) (equal : AreEqual f xs ys) wh
   drawn-same view_config =
       ap (λ (shown : ℕ → Bool). filter (λ l. shown l || (nat_lt 0 l && shown (l - 1) && shown (l + 1))) (range_with_len 0 (line_count f))) (fun_ext (shown-same view_config))
 
-  start-same : snippet_start s ≡ snippet_start t
+  start-same : snippet_locus_start s ≡ snippet_locus_start t
   start-same = ap {B = FileModel × ℕ} (λ n. (f, n)) (locus-same xs ys tests)
 
   -- the rows follow from the shown lines
@@ -146,7 +146,7 @@ module _ {Id : Type 0} (same : Id → Id → Bool) (file : Id → FileModel) (o 
 -- file
 pub order_is_free : {Id : Type 0} (same : Id → Id → Bool) (file : Id → FileModel) → OrderIsFree same file
 order_is_free {Id} same file xs ys o one_file orders = record {
-  same_starts = starts-same ids ∙ ap (map snippet_start) others;
+  same_starts = starts-same ids ∙ ap (map snippet_locus_start) others;
   same_stream = λ renderer_config view_config severity heading loci notes.
       rich-same view_config (labeled_file_model same file xs) (labeled_file_model same file ys) (have_same_rows view_config) renderer_config severity heading loci notes ids
       ∙ ap (λ ss. rendered Rich renderer_config view_config severity heading loci ss notes) others;
@@ -164,7 +164,7 @@ order_is_free {Id} same file xs ys o one_file orders = record {
     have_same_rows : (view_config : Config) (id : Id) → HaveSameRows view_config (labeled_file_model same file xs id) (labeled_file_model same file ys id)
     have_same_rows view_config id = have_same_rows-same (file id) (labeled_file_model same file xs id).labels (labeled_file_model same file ys id).labels (equal id) view_config
 
-    starts-same : (ids : List Id) → map snippet_start (map (labeled_file_model same file xs) ids) ≡ map snippet_start (map (labeled_file_model same file ys) ids)
+    starts-same : (ids : List Id) → map snippet_locus_start (map (labeled_file_model same file xs) ids) ≡ map snippet_locus_start (map (labeled_file_model same file ys) ids)
     starts-same [] = refl
     starts-same (i ∷ ids) =
         ap₂ (λ a b. a ∷ b) (start-same (file i) (labeled_file_model same file xs i).labels (labeled_file_model same file ys i).labels (equal i)) (starts-same ids)

@@ -14,7 +14,7 @@ use Rattle.codespan_base.specs.declared.term.config.DisplayStyle.TheVariants.{Sh
 use Rattle.codespan_base.specs.FileModel.{FileDatabase, FileModel, Lookup, or_failure}
 use Rattle.codespan_base.specs.FileModel.Lookup.{Name, LocationAt}
 use Rattle.codespan_picture.specs.Lookups.{AllSucceed, Failures, first_error, header_lookups_of}
-use Rattle.codespan_picture.specs.OutputStreams.{AreLoci, label_start, labels_of, output, starts}
+use Rattle.codespan_picture.specs.OutputStreams.{AreLoci, label_locus_start, labels_of, output, locus_starts}
 use Rattle.codespan_picture.specs.Picture.{headers_at, stated_loci, stated_locus}
 use Rattle.codespan_picture.specs.Rows.{Locus}
 use Rattle.codespan_picture.specs.Snippets.{InFile, primary_of}
@@ -75,7 +75,7 @@ module _ {Id : Type 0} (files : FileDatabase Id) (d : Diagnostic Id) (named : Na
   -- loci of the output are those that the files state
   pub loci_stated : (style : DisplayStyle) (loci : List Locus) → AreLoci files d style loci → loci ≡ stated_loci files d style
   loci_stated style loci are =
-      zip_stated (starts files.same files.file (labels_of d) style) loci are
+      zip_stated (locus_starts files.same files.file (labels_of d) style) loci are
       (each_start files.same files.file (labels_of d) (λ (f : FileModel). IsSome f.name) (each_of (λ (x : InFile Id). IsSome (files.file x.id).name) (labels_of d) named) style)
 
   -- so the output is the picture
@@ -89,12 +89,12 @@ module _ {Id : Type 0} (files : FileDatabase Id) (d : Diagnostic Id) (named : Na
       → (before : List (InFile Id)) (here : InFile Id) (after : List (InFile Id)) → before ++ here ∷ after ≡ primary_of (labels_of d)
       → AllSucceed files.failure (flat_map header_lookups_of before) → (e : Error) → first_error files.failure (header_lookups_of here) ≡ Some e
       → headers_at config d (take (length before) loci)
-      ≡ headers_at config d (map (λ (x : InFile Id). stated_locus (label_start files.file x)) (take_while (lookup_succeeds files.failure) (primary_of (labels_of d))))
+      ≡ headers_at config d (map (λ (x : InFile Id). stated_locus (label_locus_start files.file x)) (take_while (lookup_succeeds files.failure) (primary_of (labels_of d))))
   headers_stated config loci are before here after whole succeeded e failed =
       let primaries = primary_of (labels_of d) in
-      let to_locus : InFile Id → Locus = λ x. stated_locus (label_start files.file x) in
+      let to_locus : InFile Id → Locus = λ x. stated_locus (label_locus_start files.file x) in
       let split : loci ≡ map to_locus before ++ map to_locus (here ∷ after) =
-      loci_stated Short loci are ∙ map_twice stated_locus (label_start files.file) primaries ∙ ap (map to_locus) (sym whole) ∙ map-append to_locus before (here ∷ after) in
+      loci_stated Short loci are ∙ map_twice stated_locus (label_locus_start files.file) primaries ∙ ap (map to_locus) (sym whole) ∙ map-append to_locus before (here ∷ after) in
       let taken : take (length before) loci ≡ map to_locus before =
       ap (λ n. take n loci) (sym (length-map before to_locus)) ∙ ap (take (length (map to_locus before))) split ∙ take-append_seam (map to_locus before) (map to_locus (here ∷ after)) in
       let run : take_while (lookup_succeeds files.failure) primaries ≡ before =

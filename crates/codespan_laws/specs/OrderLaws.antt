@@ -7,7 +7,7 @@ use Rattle.codespan_base.specs.FileModel.{FileModel}
 use Rattle.codespan_base.specs.Labels.{LabelModel, is_single, first_line, drawn_label}
 use Rattle.codespan_picture.specs.Rows.{HeaderText, Locus}
 use Rattle.codespan_picture.specs.Snippets.{InFile, file_ids, labeled_file_model, labeled_file_models}
-use Rattle.codespan_picture.specs.OutputStreams.{rendered, starts}
+use Rattle.codespan_picture.specs.OutputStreams.{rendered, locus_starts}
 
 -- the label has this drawn range
 abbrev pub is_drawn_at : FileModel → ℕ → ℕ → LabelModel → Bool
@@ -39,7 +39,7 @@ pub record SameOrders {Id : Type 0} (same : Id → Id → Bool) (file : Id → F
 -- the starts of one order are those of the other, and with any loci both render the same
 pub record RenderSame {Id : Type 0} (same : Id → Id → Bool) (file : Id → FileModel)
     (xs ys : List (InFile Id)) : Type 0 where
-  pub same_starts : starts same file xs Rich ≡ starts same file ys Rich
+  pub same_starts : locus_starts same file xs Rich ≡ locus_starts same file ys Rich
   pub same_stream : (renderer_config view_config : Config) (severity : Severity)
       (heading : HeaderText) (loci : List Locus) (notes : List (List ℕ))
       → rendered Rich renderer_config view_config severity heading loci

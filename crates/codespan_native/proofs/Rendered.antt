@@ -19,7 +19,7 @@ use Rattle.codespan_laws.specs.RichLaws.{MeansLabels}
 use Rattle.codespan_laws.specs.StatedNames.{NamesAreStated}
 use Rattle.codespan_laws.proofs.StatedNames.{output_stated}
 use Rattle.codespan_picture.proofs.EqualConfigs.{rendered_equal}
-use Rattle.codespan_picture.specs.OutputStreams.{header_text_of, label_of, labels_of, notes_of, rendered, starts}
+use Rattle.codespan_picture.specs.OutputStreams.{header_text_of, label_of, labels_of, notes_of, rendered, locus_starts}
 use Rattle.codespan_picture.specs.Snippets.{InFile, labeled_file_models}
 use Rattle.codespan_picture.specs.Picture.{stated_locus}
 use Rattle.codespan_views.specs.WriteCalls.{WritesStyled}
@@ -79,7 +79,7 @@ labels_equal (x ∷ xs) = ap (λ rest. label_of x ∷ rest) (labels_equal xs)
 abbrev rendered_of : DisplayStyle → Config → FileDatabase ℕ → Diagnostic ℕ → List (InFile ℕ) → Stream
 rendered_of style config files d xs =
     rendered style config config d.severity (header_text_of d)
-    (map stated_locus (starts files.same files.file xs style))
+    (map stated_locus (locus_starts files.same files.file xs style))
     (labeled_file_models files.same files.file xs) (notes_of d)
 
 -- the output of a configuration, of files and of a diagnostic is that of what they stand for
@@ -91,7 +91,7 @@ output_is expected config ss ts d v alike same viewed =
     ap (λ (style : DisplayStyle). rendered_of style config files d (labels_of d))
     (ap (λ (c : Config). c.display_style) alike.others)
     ∙ rendered_equal expected config alike d.severity (header_text_of d)
-    (map stated_locus (starts files.same files.file (labels_of d) expected.display_style))
+    (map stated_locus (locus_starts files.same files.file (labels_of d) expected.display_style))
     (labeled_file_models files.same files.file (labels_of d)) (notes_of d) expected.display_style
     ∙ ap (λ xs. rendered_of expected.display_style expected files d xs) (labels_equal d.labels.items)
     ∙ ap (λ ss. output_in expected (database_of ss) (diagnostic_view d)) same

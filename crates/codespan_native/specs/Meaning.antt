@@ -8,7 +8,7 @@ use Rattle.codespan_base.specs.declared.diagnostic.Diagnostic.{Diagnostic}
 use Rattle.codespan_base.specs.declared.term.config.Config.{Config}
 use Rattle.codespan_laws.specs.RichLaws.{MeansLabels}
 use Rattle.codespan_picture.specs.Lookups.{AllSucceed, lookups_in}
-use Rattle.codespan_picture.specs.OutputStreams.{rendered, starts}
+use Rattle.codespan_picture.specs.OutputStreams.{rendered, locus_starts}
 use Rattle.codespan_picture.specs.Rows.{HeaderText}
 use Rattle.codespan_picture.specs.Snippets.{InFile, labeled_file_models}
 use Rattle.codespan_picture.specs.Picture.{stated_locus}
@@ -41,7 +41,7 @@ labels_in d = map label_in d.labels
 abbrev pub output_in : Config → FileDatabase ℕ → DiagnosticView ℕ → Stream
 output_in config files d =
     rendered config.display_style config config d.severity (header_text_in d)
-    (map stated_locus (starts files.same files.file (labels_in d) config.display_style))
+    (map stated_locus (locus_starts files.same files.file (labels_in d) config.display_style))
     (labeled_file_models files.same files.file (labels_in d)) d.notes
 
 -- the bytes of the output that the structs describe

@@ -52,20 +52,20 @@ pub record IsLocus (at : FileModel × ℕ) (locus : Locus) : Type 0 where
   pub location : locus.location ≡ at.0.location at.1
   pub name : IfSome at.0.name (λ name. locus.name ≡ name)
 
--- where a file's snippet starts
-abbrev pub snippet_start : LabeledFileModel → FileModel × ℕ
-snippet_start s = (s.file, locus_start s.labels)
+-- the byte of a file whose locus its snippet shows
+abbrev pub snippet_locus_start : LabeledFileModel → FileModel × ℕ
+snippet_locus_start s = (s.file, locus_start s.labels)
 
--- where a label starts
-abbrev pub label_start : {Id : Type 0} → (Id → FileModel) → InFile Id → FileModel × ℕ
-label_start file x = (file x.id, x.label.start)
+-- the byte of a file at which a label starts
+abbrev pub label_locus_start : {Id : Type 0} → (Id → FileModel) → InFile Id → FileModel × ℕ
+label_locus_start file x = (file x.id, x.label.start)
 
 module _ {Id : Type 0} (same : Id → Id → Bool) (file : Id → FileModel) (xs : List (InFile Id)) where
-  -- the starts that have a locus: in rich style that of each file's snippet, in medium and short
-  -- style that of each primary label
-  abbrev pub starts : DisplayStyle → List (FileModel × ℕ)
-  starts Rich = map snippet_start (labeled_file_models same file xs)
-  starts _ = map (label_start file) (primary_of xs)
+  -- the bytes of files whose loci the output shows: in rich style that of each file's snippet, in
+  -- medium and short style the start of each primary label
+  abbrev pub locus_starts : DisplayStyle → List (FileModel × ℕ)
+  locus_starts Rich = map snippet_locus_start (labeled_file_models same file xs)
+  locus_starts _ = map (label_locus_start file) (primary_of xs)
 
 -- the names of these loci are texts
 abbrev pub NamesAreTexts : List Locus → Type 0
@@ -74,7 +74,7 @@ NamesAreTexts loci = AllByRecursion (λ (locus : Locus). IsUtf8 locus.name) loci
 module _ {Id : Type 0} (files : FileDatabase Id) (d : Diagnostic Id) (style : DisplayStyle) where
   -- these are the loci of an output
   abbrev pub AreLoci : List Locus → Type 0
-  AreLoci loci = AllZip IsLocus (starts files.same files.file (labels_of d) style) loci
+  AreLoci loci = AllZip IsLocus (locus_starts files.same files.file (labels_of d) style) loci
 
 -- ---- the output
 

@@ -18,7 +18,7 @@ use Rattle.codespan_base.specs.Streams.{Stream, newline}
 use Rattle.codespan_base.specs.WriterLaw.{Sink, with_written, is_known, PrefixWritten, Writes}
 use Rattle.codespan_base.proofs.Writes.{is_known-with_written, with_written-append, with_written-nil}
 use Rattle.codespan_picture.specs.Lookups.{Failures, first_error, header_lookups_of}
-use Rattle.codespan_picture.specs.OutputStreams.{header_text_of, label_of, label_start, labels_of, context_of, notes_of}
+use Rattle.codespan_picture.specs.OutputStreams.{header_text_of, label_of, label_locus_start, labels_of, context_of, notes_of}
 use Rattle.codespan_picture.specs.Picture.{stated_locus, headers}
 use Rattle.codespan_annotations.specs.TextLoci.{IsLocusOfLabel}
 use Rattle.codespan_picture.specs.Rows.{HeaderRow, HeaderText, RowContext, Locus, Row}
@@ -97,7 +97,7 @@ some_headers R heading (x ∷ xs) (p ∷ ps) some h = refl
 
 -- the locus of a label, with the name that its file states
 abbrev pub stated_of : {Id : Type 0} → (Id → FileModel) → InFile Id → Locus
-stated_of file x = stated_locus (label_start file x)
+stated_of file x = stated_locus (label_locus_start file x)
 
 -- the labels that have headers
 abbrev pub primary_labels : {Id : Type 0} → Diagnostic Id → List (InFile Id)

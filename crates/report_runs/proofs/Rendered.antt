@@ -14,7 +14,7 @@ use Rattle.codespan_base.specs.Streams.{Stream, text_of}
 use Rattle.codespan_views.specs.Output.{Emits, IsRendered}
 use Rattle.codespan_laws.proofs.StatedNames.{output_stated}
 use Rattle.codespan_picture.specs.Lookups.{Failures}
-use Rattle.codespan_picture.specs.OutputStreams.{header_text_of, label_of, labels_of, notes_of, rendered, starts}
+use Rattle.codespan_picture.specs.OutputStreams.{header_text_of, label_of, labels_of, notes_of, rendered, locus_starts}
 use Rattle.codespan_picture.specs.Picture.{stated_locus}
 use Rattle.codespan_picture.specs.Snippets.{InFile, labeled_file_models}
 use Rattle.codespan_picture.proofs.EqualConfigs.{rendered_equal}
@@ -37,7 +37,7 @@ module _ (d : Diagnostic (Unit {0})) where
   -- the output of the diagnostic with these labels
   abbrev rendered_by : Config → List ℕ → List ℕ → List (InFile (Unit {0})) → Stream
   rendered_by config name source xs =
-      rendered config.display_style config config d.severity (header_text_of d) (map stated_locus (starts (λ i j. true) (only_file name source) xs config.display_style)) (labeled_file_models (λ i j. true) (only_file name source) xs) (notes_of d)
+      rendered config.display_style config config d.severity (header_text_of d) (map stated_locus (locus_starts (λ i j. true) (only_file name source) xs config.display_style)) (labeled_file_models (λ i j. true) (only_file name source) xs) (notes_of d)
 
   -- the text rendered of the diagnostic over a name and a source, by a configuration equal to the
   -- default one in its style, is that of its output
@@ -50,7 +50,7 @@ module _ (d : Diagnostic (Unit {0})) where
       is_rendered.text_is
       ∙ ap text_of (output_stated (table_at name source failure) d (λ x has. refl) config.display_style config config is_rendered.loci is_rendered.are_loci)
       ∙ ap text_of (rendered_equal plain config equal d.severity (header_text_of d)
-      (map stated_locus (starts (λ i j. true) (only_file name source) (labels_of d) config.display_style)) (labeled_file_models (λ i j. true) (only_file name source) (labels_of d)) (notes_of d) config.display_style)
+      (map stated_locus (locus_starts (λ i j. true) (only_file name source) (labels_of d) config.display_style)) (labeled_file_models (λ i j. true) (only_file name source) (labels_of d)) (notes_of d) config.display_style)
       ∙ ap (λ m. text_of (rendered_by plain m source (labels_of d))) n
       ∙ ap (λ m. text_of (rendered_by plain named m (labels_of d))) s
       ∙ ap (λ xs. text_of (rendered_by plain named contents xs)) (labels_equal d.labels.items)

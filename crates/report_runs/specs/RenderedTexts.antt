@@ -8,7 +8,7 @@ use Rattle.codespan_base.specs.FileModel.{FileModel}
 use Rattle.codespan_base.specs.SimpleModel.{simple_file}
 use Rattle.codespan_base.specs.Streams.{bytes, text_of}
 use Rattle.codespan_picture.specs.Rows.{HeaderText}
-use Rattle.codespan_picture.specs.OutputStreams.{rendered, starts}
+use Rattle.codespan_picture.specs.OutputStreams.{rendered, locus_starts}
 use Rattle.codespan_picture.specs.Picture.{stated_locus}
 use Rattle.codespan_picture.specs.Snippets.{InFile, labeled_file_models}
 use Rattle.report_runs.specs.declared.run_error.RunError.{RunError}
@@ -54,7 +54,8 @@ unfoldable pub output_text : DisplayStyle → List ℕ → List ℕ → Diagnost
 output_text style name source diagnostic =
     text_of (rendered style (report_config style) (report_config style) diagnostic.severity
     (view_heading diagnostic)
-    (map stated_locus (starts (λ i j. true) (only_file name source) (view_labels diagnostic) style))
+    (map stated_locus
+    (locus_starts (λ i j. true) (only_file name source) (view_labels diagnostic) style))
     (labeled_file_models (λ i j. true) (only_file name source) (view_labels diagnostic))
     diagnostic.notes)
 
