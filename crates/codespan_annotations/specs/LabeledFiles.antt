@@ -6,8 +6,8 @@ use Rattle.codespan_base.specs.Labels.{LabelModel}
 use Rattle.codespan_picture.specs.Snippets.{InFile, labeled_file_model, num_multi_labels}
 use Rattle.codespan_annotations.specs.declared.labeled_files.LabeledFile.{LabeledFile as RustFile}
 use Rattle.codespan_annotations.specs.declared.label_span.LabelSpan.{LabelSpan}
-use Rattle.codespan_annotations.specs.declared.file_start.FileStart.{FileStart}
-use Rattle.codespan_annotations.specs.FileStarts.{file_start, no_start, start_with}
+use Rattle.codespan_annotations.specs.declared.locus_start.LocusStart.{LocusStart}
+use Rattle.codespan_annotations.specs.LocusStarts.{file_locus_start, no_start, start_with}
 
 -- ---- all files
 
@@ -16,7 +16,7 @@ abbrev pub ids_view : {Id : Type 0} → List (RustFile Id) → List Id
 ids_view {Id} files = map (λ (f : RustFile Id). f.id) files
 
 -- where the snippet of each starts
-abbrev pub starts_view : {Id : Type 0} → List (RustFile Id) → List FileStart
+abbrev pub starts_view : {Id : Type 0} → List (RustFile Id) → List LocusStart
 starts_view {Id} files = map (λ (f : RustFile Id). f.start) files
 
 -- how many lanes each has
@@ -31,7 +31,7 @@ num_multi_labels_of same file xs id = num_multi_labels (labeled_file_model same 
 -- the start and the lanes of the file are those of these labels
 pub record HasLabels {Id : Type 0} (same : Id → Id → Bool) (file : Id → FileModel)
     (xs : List (InFile Id)) (f : RustFile Id) : Type 0 where
-  pub start_is : f.start ≡ file_start same xs f.id
+  pub start_is : f.start ≡ file_locus_start same xs f.id
   pub lanes_are : f.num_multi_labels ≡ num_multi_labels_of same file xs f.id
 
 -- ---- one file more
@@ -48,7 +48,7 @@ abbrev pub lanes_by : LabelSpan → ℕ
 lanes_by lines = if lines.first == lines.last then 0 else 1
 
 -- where snippets start, with one more label of the file at this index
-abbrev pub starts_with_label : List FileStart → ℕ → LabelModel → List FileStart
+abbrev pub starts_with_label : List LocusStart → ℕ → LabelModel → List LocusStart
 starts_with_label starts index x =
     slice_set starts index (start_with (slice_index_or starts index no_start) x)
 

@@ -2,7 +2,7 @@ pub mod TextLoci
 pub mod FileLookups
 pub mod SourceFiles
 pub mod LabelSpans
-pub mod FileStarts
+pub mod LocusStarts
 pub mod FileIndices
 pub mod LabeledFiles
 pub mod Annotations

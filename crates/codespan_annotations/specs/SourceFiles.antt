@@ -3,7 +3,7 @@ use Rattle.std.specs.Prelude.{◌≡◌, ◌≤◌, ℕ, true, nat_lt, ◌&&◌,
 use Rattle.codespan_picture.specs.Types.{Error}
 use Rattle.codespan_base.specs.FileModel.{FileDatabase, FileModel, line_count, Lookup, or_failure}
 use Rattle.codespan_base.specs.FileModel.Lookup.{LineRange, LineNumber}
-use Rattle.codespan_picture.specs.Lookups.{ends_context}
+use Rattle.codespan_picture.specs.Lookups.{ends_context_lines}
 use Rattle.codespan_annotations.specs.declared.source_file.SourceFile.{SourceFile}
 use Rattle.codespan_annotations.specs.FileLookups.{failure_in}
 
@@ -20,7 +20,7 @@ lookups_of_filled number l = LineRange l ∷ number_lookup number l
 -- a label `LineTooLarge` fails nothing
 abbrev pub line_failure : FileModel → (Lookup → Option Error) → ℕ → ℕ → Option Error
 line_failure f failure last l =
-    if nat_lt last l && ends_context (failure (LineRange l)) then None
+    if nat_lt last l && ends_context_lines (failure (LineRange l)) then None
     else or_failure (failure (LineRange l))
     (if nat_lt l (line_count f) then failure (LineNumber l) else None)
 
@@ -38,7 +38,7 @@ module _ {F Id Name Source : Type 0} (database : F → FileDatabase Id)
   abbrev pub EndsBefore : ℕ → Type 0
   EndsBefore l =
       (line_count model_of ≤ l)
-      × (ends_context ((database file.files.now).failure file.id (LineRange l)) ≡ true)
+      × (ends_context_lines ((database file.files.now).failure file.id (LineRange l)) ≡ true)
 
   -- what a line of the file fails with, where `last` is the last line of a label
   abbrev pub failure_unless_past_end : ℕ → ℕ → Option Error

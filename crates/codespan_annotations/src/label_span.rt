@@ -104,7 +104,7 @@ impl LabelSpan {
 
     /// Returns the lines, and the context lines around them, as 0-based indices, the end exclusive.
     /// The line of the greatest index is left out.
-    pub fn with_context(self, config: &Config<'_>) -> Range<usize> {
+    pub fn with_context_lines(self, config: &Config<'_>) -> Range<usize> {
         let start = self.first.saturating_sub(config.before_label_lines);
         let end = self.last.saturating_add(config.after_label_lines);
         start..end.saturating_add(1)

@@ -4,10 +4,10 @@ ghost use Rattle.std.specs.Prelude.{◌≡◌, ◌<◌, ◌≤◌, ◌+◌, ◌^
 ghost use Rattle.std.specs.List.{AllByRecursion};
 ghost use Rattle.codespan_picture.specs.OutputStreams.{label_of};
 ghost use Rattle.codespan_annotations.specs.LabeledFiles.{ids_view, lanes_by, lane_counts, lanes_with_label, starts_with_label, starts_view, with_file};
-ghost use Rattle.codespan_annotations.specs.FileStarts.{no_start, start_with};
+ghost use Rattle.codespan_annotations.specs.LocusStarts.{no_start, start_with};
 ghost use Rattle.codespan_annotations.specs.FileIndices.{AreDistinct, index_of_file};
 
-use crate::file_start::FileStart;
+use crate::locus_start::LocusStart;
 use crate::label_span::LabelSpan;
 use codespan_base::diagnostic::Label;
 use codespan_base::files::Error;
@@ -18,7 +18,7 @@ pub struct LabeledFile<FileId> {
     /// The file's id.
     pub id: FileId,
     /// The byte of its locus.
-    pub start: FileStart,
+    pub start: LocusStart,
     /// The number of its multi-line labels, each of which has a lane.
     pub num_multi_labels: usize,
 }
@@ -114,7 +114,7 @@ fn push_file<FileId: Copy>(files: &mut Vec<LabeledFile<FileId>>, id: FileId) -> 
 {
     files.push(LabeledFile {
         id,
-        start: FileStart::unknown(),
+        start: LocusStart::unknown(),
         num_multi_labels: 0,
     })?;
     Ok(())

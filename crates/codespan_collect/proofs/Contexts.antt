@@ -20,7 +20,7 @@ use Rattle.codespan_collect.specs.declared.label_annotations.FoundAnnotations.{F
 use Rattle.codespan_annotations.specs.FileLookups.{failure_in}
 use Rattle.codespan_annotations.specs.AnnotationViews.{AddsOf}
 use Rattle.codespan_collect.specs.SpannedDigits.{digits_on, label_digits}
-use Rattle.codespan_picture.specs.Lookups.{looked_up_lines, lookups_of_file, ends_context, first_error, is_around, is_looked_up, line_lookups, lookup_past_end}
+use Rattle.codespan_picture.specs.Lookups.{looked_up_lines, lookups_of_file, ends_context_lines, first_error, is_around, is_looked_up, line_lookups, lookup_past_end}
 use Rattle.codespan_picture.specs.Padding.{count_digits, spans}
 use Rattle.codespan_laws.proofs.Greatest.{greatest-append}
 use Rattle.codespan_collect.proofs.Collecting.{Adds-as, Adds-both, Adds-none}
@@ -165,16 +165,16 @@ module _ {Id : Type 0} {x : CollectedLabel Id} where
         x.config.before_label_lines x.config.after_label_lines l (omega arith) (omega arith)) in
         let unreached : nat_le (line_count x.file) (last_line x.file x.label + x.config.after_label_lines) ≡ false = lt-leb _ _ (omega (arith, g.within)) in
         let no_lookup_past_end : lookup_past_end x.config x.file (x.failure x.id) x.label ≡ [] =
-        ap (λ (b : Bool). if b && not (ends_context (x.failure x.id (LineRange (line_count x.file)))) then LineRange (line_count x.file) ∷ [] else []) unreached in
+        ap (λ (b : Bool). if b && not (ends_context_lines (x.failure x.id (LineRange (line_count x.file)))) then LineRange (line_count x.file) ∷ [] else []) unreached in
         collected-up all.0 all.1 all.2 no_lookup_past_end
 
     -- the end of the file
-    pub collected-context : line_count x.file ≤ n → ends_context (x.failure x.id (LineRange n)) ≡ true
+    pub collected-context : line_count x.file ≤ n → ends_context_lines (x.failure x.id (LineRange n)) ≡ true
         → CollectsLabel x xs ys
     collected-context past ends =
         let here : n ≡ line_count x.file = omega (arith, g.within) in
         let all = all_collected (λ l low high. absurd (omega arith)) in
-        let ended : ends_context (x.failure x.id (LineRange (line_count x.file))) ≡ true = ap (λ k. ends_context (x.failure x.id (LineRange k))) (sym here) ∙ ends in
+        let ended : ends_context_lines (x.failure x.id (LineRange (line_count x.file))) ≡ true = ap (λ k. ends_context_lines (x.failure x.id (LineRange k))) (sym here) ∙ ends in
         let no_lookup_past_end : lookup_past_end x.config x.file (x.failure x.id) x.label ≡ [] =
         ap (λ (b : Bool). if nat_le (line_count x.file) (last_line x.file x.label + x.config.after_label_lines) && not b then LineRange (line_count x.file) ∷ [] else []) ended
         ∙ neither (nat_le (line_count x.file) (last_line x.file x.label + x.config.after_label_lines)) in
@@ -191,7 +191,7 @@ module _ {Id : Type 0} {x : CollectedLabel Id} where
         let past : line_count x.file ≤ n = omega (arith, all, lines_have_indices x.file law) in
         collected-context past (too_large (x.failure x.id (LineRange n)) ((past_end (is_existing x.file.exists refl)).1 past))
       where
-        too_large : (o : Option Error) → IsPastEndError o → ends_context o ≡ true
+        too_large : (o : Option Error) → IsPastEndError o → ends_context_lines o ≡ true
         too_large (Some (LineTooLarge given last)) h = refl
         too_large None h = absurd h
         too_large (Some FileMissing) h = absurd h
@@ -232,8 +232,8 @@ module _ {Id : Type 0} {x : CollectedLabel Id} where
 
         line_error : nat_lt n (line_count x.file) ≡ true → failed x (line_lookups n) ≡ Some e
         line_error inside =
-            by_line (nat_lt (last_line x.file x.label) n && ends_context (x.failure x.id (LineRange n))) (x.failure x.id (LineRange n)) (x.failure x.id (LineNumber n))
-            (ap (λ (b : Bool). if nat_lt (last_line x.file x.label) n && ends_context
+            by_line (nat_lt (last_line x.file x.label) n && ends_context_lines (x.failure x.id (LineRange n))) (x.failure x.id (LineRange n)) (x.failure x.id (LineNumber n))
+            (ap (λ (b : Bool). if nat_lt (last_line x.file x.label) n && ends_context_lines
             (x.failure x.id (LineRange n)) then None else or_failure
             (x.failure x.id (LineRange n)) (if b then x.failure x.id (LineNumber n) else None))
             (sym inside) ∙ known)
@@ -268,13 +268,13 @@ module _ {Id : Type 0} {x : CollectedLabel Id} where
             let reach : n ≤ last_line x.file x.label + x.config.after_label_lines =
             near_after (first_line x.file x.label) (last_line x.file x.label) x.config.before_label_lines x.config.after_label_lines n (omega (arith, here)) (omega (arith, here)) looked_up in
             let parts = by_range (nat_lt (last_line x.file x.label) n)
-            (ends_context (x.failure x.id (LineRange n))) (nat_lt n (line_count x.file))
+            (ends_context_lines (x.failure x.id (LineRange n))) (nat_lt n (line_count x.file))
             (x.failure x.id (LineRange n)) (x.failure x.id (LineNumber n))
             (lt-ltb (last_line x.file x.label) n (omega (arith, here))) (le-ltb n (line_count x.file) (omega (arith, here))) known in
             let lookup_is : lookup_past_end x.config x.file (x.failure x.id) x.label ≡ LineRange n ∷ [] =
-            ap (λ (b : Bool). if b && not (ends_context (x.failure x.id (LineRange (line_count x.file)))) then LineRange (line_count x.file) ∷ [] else [])
+            ap (λ (b : Bool). if b && not (ends_context_lines (x.failure x.id (LineRange (line_count x.file)))) then LineRange (line_count x.file) ∷ [] else [])
             (le-leb (line_count x.file) (last_line x.file x.label + x.config.after_label_lines) (omega (arith, reach, here)))
-            ∙ ap (λ k. if not (ends_context (x.failure x.id (LineRange k))) then LineRange k ∷ [] else []) (sym here)
+            ∙ ap (λ k. if not (ends_context_lines (x.failure x.id (LineRange k))) then LineRange k ∷ [] else []) (sym here)
             ∙ ap (λ (b : Bool). if not b then LineRange n ∷ [] else []) parts.0 in
             succeeded_then x (flat_map line_lookups (looked_up_lines x.config x.file x.label)) (lookup_past_end x.config x.file (x.failure x.id) x.label) (ap (failed x) all.1 ∙ g.succeeded)
             ∙ ap (failed x) lookup_is ∙ parts.1

@@ -4,7 +4,7 @@ pub mod LabelIndexing
 pub mod LabelsBefore
 pub mod LabelAnnotations
 pub mod LabelFiles
-pub mod FileStarts
+pub mod LocusStarts
 pub mod NearLines
 pub mod RangeMaps
 pub mod Collecting

@@ -53,7 +53,7 @@ pub fn collect<'files, 'd, F: Files<'files>>(
         (map label_of labels.now)) result }
 {
     let mut collected = collect_in_turn(alloc, files, config, labels)?;
-    let lines = collected.lines.with_context(config);
+    let lines = collected.lines.with_context_lines(config);
     let has_one_file = collected.files.len() == 1;
     put_in_order(&mut collected.annotations, has_one_file.then_some(lines))?;
     Ok(collected)

@@ -7,8 +7,8 @@ use Rattle.codespan_base.specs.declared.term.config.Layout.{Layout}
 use Rattle.codespan_base.specs.Labels.{LabelModel, first_line, last_line, multi_label_on, lane_mark_of, lane_marks_on, multi_labels, LaneMark, MultiLabel, Top, Left, Bottom}
 use Rattle.codespan_picture.specs.declared.lanes.Shape.{Shape}
 use Rattle.codespan_picture.specs.declared.lanes.Shape.TheVariants.{Space, Bar, TopCorner}
-use Rattle.codespan_picture.specs.Lanes.{source_shape, plain_shape, lane_mark_in, shape_of}
-use Rattle.codespan_laws.specs.LaneLaws.{shape_in, HasLane, IsCovered}
+use Rattle.codespan_picture.specs.Lanes.{source_shape, empty_shape, lane_mark_in, shape_of}
+use Rattle.codespan_laws.specs.LaneLaws.{shape_in, HasLane, IsBarLine}
 use Rattle.codespan_picture.specs.Rows.{SourceRow, BreakRow}
 use Rattle.codespan_picture.specs.CharMetrics.{leading_whitespace, text_without_line_end}
 use Rattle.codespan_base.specs.Streams.{Stream}
@@ -55,7 +55,7 @@ lane_mark_in-from f l n (suc k) (x ∷ xs) =
 module _ (shape : MultiLabel → Shape) (at_top : (start : ℕ) → shape (Top start) ≡ Bar → ⊥) (at_left : shape Left ≡ Bar)
     (at_bottom : (end : ℕ) (message : Stream) → shape (Bottom end message) ≡ Bar) where
   bar_of : (f : FileModel) (l lane : ℕ) (x : LabelModel) → first_line f x < last_line f x
-      → (shape_of shape (lane_mark_of lane x (multi_label_on f l x)) ≡ Bar) ↔ IsCovered f x l
+      → (shape_of shape (lane_mark_of lane x (multi_label_on f l x)) ≡ Bar) ↔ IsBarLine f x l
   bar_of f l lane x order = by_first (first_line f x == l) refl
     where
       between : Option MultiLabel
@@ -65,7 +65,7 @@ module _ (shape : MultiLabel → Shape) (at_top : (start : ℕ) → shape (Top s
       bottom = Some (Bottom (x.end - line_start f l) x.message)
 
       by_between : (first_line f x == l) ≡ false → (last_line f x == l) ≡ false → (b : Bool) → (nat_lt (first_line f x) l && nat_lt l (last_line f x)) ≡ b
-          → (shape_of shape (lane_mark_of lane x (if b then Some Left else None)) ≡ Bar) ↔ IsCovered f x l
+          → (shape_of shape (lane_mark_of lane x (if b then Some Left else None)) ≡ Bar) ↔ IsBarLine f x l
       by_between not_first not_last true is =
           let low : first_line f x < l = grind (arith, nat_tests) in
           let high : l < last_line f x = grind (arith, nat_tests) in
@@ -73,7 +73,7 @@ module _ (shape : MultiLabel → Shape) (at_top : (start : ℕ) → shape (Top s
       by_between not_first not_last false is = (λ bar. cc, λ covered. absurd (grind (arith, nat_tests)))
 
       by_last : (first_line f x == l) ≡ false → (b : Bool) → (last_line f x == l) ≡ b
-          → (shape_of shape (lane_mark_of lane x (if b then bottom else between)) ≡ Bar) ↔ IsCovered f x l
+          → (shape_of shape (lane_mark_of lane x (if b then bottom else between)) ≡ Bar) ↔ IsBarLine f x l
       by_last not_first true is =
           let same : last_line f x ≡ l = grind (arith, nat_tests) in
           (λ _. (omega arith, omega arith), λ _. at_bottom (x.end - line_start f l) x.message)
@@ -81,7 +81,7 @@ module _ (shape : MultiLabel → Shape) (at_top : (start : ℕ) → shape (Top s
 
       by_first : (b : Bool) → (first_line f x == l) ≡ b
           → (shape_of shape (lane_mark_of lane x (if b then Some (Top (x.start - line_start f l)) else if last_line f x == l then bottom else between)) ≡ Bar)
-          ↔ IsCovered f x l
+          ↔ IsBarLine f x l
       by_first true is =
           let same : first_line f x ≡ l = grind (arith, nat_tests) in
           (λ bar. absurd (at_top (x.start - line_start f l) bar), λ covered. absurd (omega (arith, covered.0)))
@@ -96,11 +96,11 @@ no_bar_in_top leading start bar = by_test (nat_le start leading) bar
 
 -- on its own lane a label has a bar on each line that it covers
 pub bars_are_labels : (layout : Layout) (s : LabeledFileModel) (l lane : ℕ) (x : LabelModel) → HasLane s lane x → first_line s.file x < last_line s.file x
-    → ((shape_in layout (SourceRow (line_at s l)) lane ≡ Bar) ↔ IsCovered s.file x l)
-    × ((shape_in layout (BreakRow (line_at s l).lanes) lane ≡ Bar) ↔ IsCovered s.file x l)
+    → ((shape_in layout (SourceRow (line_at s l)) lane ≡ Bar) ↔ IsBarLine s.file x l)
+    × ((shape_in layout (BreakRow (line_at s l).lanes) lane ≡ Bar) ↔ IsBarLine s.file x l)
 bars_are_labels layout s l lane x has several = (
   rw lane_mark_is (bar_of (source_shape (leading_whitespace (text_without_line_end (line_text s.file l)))) (no_bar_in_top _) refl (λ _ _. refl) s.file l lane x several),
-  rw lane_mark_is (bar_of plain_shape (λ start bar. cc) refl (λ _ _. refl) s.file l lane x several),
+  rw lane_mark_is (bar_of empty_shape (λ start bar. cc) refl (λ _ _. refl) s.file l lane x several),
 )
   where
     lane_mark_is : lane_mark_in (lane_marks_on s.file s.labels l) lane ≡ lane_mark_of lane x (multi_label_on s.file l x)

@@ -128,7 +128,7 @@ module _ (context : RowContext) (chars : Chars) where
   rows_as_long : character_count (start_text chars.snippet_start) ≡ character_count (start_text context.chars.snippet_start) → (row : Row)
       → AreAsLong (stream_of other row) (stream_of context row)
   unfolding empty_row break_row source_row caret_row pointer_row hanging_row underline_row first_note_row colored_text inner_gutter
-  rows_as_long e (HeaderRow at heading) = as_long _
+  rows_as_long e (HeaderRow at header_text) = as_long _
   rows_as_long e (SnippetStartRow at) = start_as_long e at
   rows_as_long e (EmptyRow lanes) =
       joined _ _ _ _ (same_after (outer_gutter context.padding) (border_left chars) (border_left context.chars) border_left_as_long) (lanes_as_long _ _ _ _ lanes)

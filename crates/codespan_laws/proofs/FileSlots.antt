@@ -157,15 +157,15 @@ piece_sum k [] = refl
 piece_sum k (p ∷ ps) =
     omega (arith, sum_by-cons (row_slots k) (FirstNoteRow p) (map LaterNoteRow ps), sum-map (row_slots k) LaterNoteRow ps, sum-zero {X = List ℕ} (λ _. 0) (λ _. refl) ps)
 
-pub rich_sum : (k : ℕ) (config : Config) (heading : HeaderText) (ps : List Locus) (ss : List LabeledFileModel) (notes : List (List ℕ)) → length ps ≡ length ss
-    → sum_by (row_slots k) (rich_rows config heading ps ss notes) ≡ sum_by (file_slots k config) ss
-rich_sum k config heading ps ss notes h =
+pub rich_sum : (k : ℕ) (config : Config) (header_text : HeaderText) (ps : List Locus) (ss : List LabeledFileModel) (notes : List (List ℕ)) → length ps ≡ length ss
+    → sum_by (row_slots k) (rich_rows config header_text ps ss notes) ≡ sum_by (file_slots k config) ss
+rich_sum k config header_text ps ss notes h =
     let inner = snippets config (has_any notes) ps ss in
     omega (
       arith,
-      sum_by-append (row_slots k) ((HeaderRow None heading ∷ inner) ++ note_rows notes) (FinalRow ∷ []),
-      sum_by-append (row_slots k) (HeaderRow None heading ∷ inner) (note_rows notes),
-      sum_by-cons (row_slots k) (HeaderRow None heading) inner,
+      sum_by-append (row_slots k) ((HeaderRow None header_text ∷ inner) ++ note_rows notes) (FinalRow ∷ []),
+      sum_by-append (row_slots k) (HeaderRow None header_text ∷ inner) (note_rows notes),
+      sum_by-cons (row_slots k) (HeaderRow None header_text) inner,
       sum_by-cons (row_slots k) FinalRow [],
       snippets_sum k config (has_any notes) ps ss h,
       sum-flat_map_zero (row_slots k) (λ note. piece_rows (lines note)) (λ note. piece_sum k (lines note)) notes,

@@ -5,7 +5,7 @@ use Rattle.std.specs.List.{range_with_len}
 use Rattle.codespan_base.specs.Labels.{LabelModel, LaneMark, MultiLabel}
 use Rattle.codespan_base.specs.Streams.{Stream, LabelMark, Reset, style_mark, space}
 use Rattle.codespan_picture.specs.declared.lanes.Shape.{Shape}
-use Rattle.codespan_picture.specs.Lanes.{Source, Plain, Below, Underline, row_shape, row_crossing, source_shape, plain_shape, below_shape, lane_mark_in, shape_of, style_of_lane_mark, lane_cells}
+use Rattle.codespan_picture.specs.Lanes.{Source, Empty, Below, Underline, row_shape, row_crossing, source_shape, empty_shape, below_shape, lane_mark_in, shape_of, style_of_lane_mark, lane_cells}
 use Rattle.codespan_picture.specs.Rows.{RowContext, Lanes, Line, Row, HeaderRow, SnippetStartRow, EmptyRow, BreakRow, SourceRow, CaretRow, PointerRow, HangingRow, UnderlineRow, FirstNoteRow, LaterNoteRow, FinalRow, trailing_label}
 use Rattle.codespan_picture.specs.RowParts.{outer_gutter, outer_gutter_number, border_left, border_left_break, label_message, inner_gutter_column, lanes_in, inner_gutter, line_metrics, line_metrics_to_end, leading_of, colored_text, carets, trailing_message, pointers, metrics_before, underline}
 use Rattle.codespan_picture.specs.RowStreams.{stream_of, empty_row, break_row, source_row, row_start, caret_row, pointer_row, hanging_row, underline_row}
@@ -47,9 +47,9 @@ shows : (context : RowContext) (row : Row) (lanes : Lanes) → Starts (before_la
     → ShowsLanes context row lanes
 shows context row lanes starts = record { after = starts.after; is = starts.is }
 
-plain_are : (context : RowContext) (lanes : Lanes) → inner_gutter context 0 Plain lanes ≡ lanes_shown context (EmptyRow lanes) lanes
+plain_are : (context : RowContext) (lanes : Lanes) → inner_gutter context 0 Empty lanes ≡ lanes_shown context (EmptyRow lanes) lanes
 unfolding inner_gutter
-plain_are context lanes = lanes_are context (λ _. None) (λ _. plain_shape) lanes
+plain_are context lanes = lanes_are context (λ _. None) (λ _. empty_shape) lanes
 
 source_are : (context : RowContext) (line : Line) → inner_gutter context (leading_of line) Source line.lanes ≡ lanes_shown context (SourceRow line) line.lanes
 unfolding inner_gutter
@@ -118,7 +118,7 @@ underline_shows context line m =
 
 -- each row that has lanes shows them
 pub lanes_are_shown : (context : RowContext) → LanesAreShown context
-lanes_are_shown context (HeaderRow at heading) lanes has = absurd (none-some lanes has)
+lanes_are_shown context (HeaderRow at header_text) lanes has = absurd (none-some lanes has)
 lanes_are_shown context (SnippetStartRow at) lanes has = absurd (none-some lanes has)
 lanes_are_shown context (EmptyRow its) lanes has = subst (ShowsLanes context (EmptyRow its)) (same_Some its lanes has) (empty_shows context its)
 lanes_are_shown context (BreakRow its) lanes has = subst (ShowsLanes context (BreakRow its)) (same_Some its lanes has) (break_shows context its)

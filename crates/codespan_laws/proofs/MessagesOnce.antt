@@ -156,16 +156,16 @@ as_many {Id} same file xs loci are =
     ∙ ap (λ ids. length (first_seen same ids)) (sym (ids_kept 0 0 xs))
     ∙ sym (length-map (file_ids same (all_slotted xs)) (labeled_file_model same file (all_slotted xs)))
 
-filled_output : {Id : Type 0} (renderer_config view_config : Config) (same : Id → Id → Bool) (file : Id → FileModel) (severity : Severity) (heading : HeaderText) (loci : List Locus) (notes : List (List ℕ)) (xs : List (InFile Id))
+filled_output : {Id : Type 0} (renderer_config view_config : Config) (same : Id → Id → Bool) (file : Id → FileModel) (severity : Severity) (header_text : HeaderText) (loci : List Locus) (notes : List (List ℕ)) (xs : List (InFile Id))
     → length loci ≡ length (labeled_file_models same file (all_slotted xs)) → IsPlain xs
-    → fill (message_text xs) (rendered Rich renderer_config view_config severity heading loci (labeled_file_models same file (all_slotted xs)) notes)
-    ≡ rendered Rich renderer_config view_config severity heading loci (labeled_file_models same file xs) notes
-filled_output {Id = Id} renderer_config view_config same file severity heading loci notes xs many plain =
-    fill_same (message_text xs) (full_text xs) (rendered Rich renderer_config view_config severity heading loci ss notes) (λ k some. by_text k (message_text xs k) refl some)
-    ∙ fill-rows (full_text xs) (full xs) context (rich_rows view_config heading loci ss notes)
-    ∙ ap (stream_of_rows context) (rich-re φ kept view_config heading loci ss notes)
-    ∙ ap (λ n. stream_of_rows (context_of renderer_config severity n) (rich_rows view_config heading loci (map (re_file φ) ss) notes)) (sym (padding-re φ kept view_config ss))
-    ∙ ap (λ ts. rendered Rich renderer_config view_config severity heading loci ts notes) (sym (files-re φ kept same file (all_slotted xs)) ∙ ap (labeled_file_models same file) whole)
+    → fill (message_text xs) (rendered Rich renderer_config view_config severity header_text loci (labeled_file_models same file (all_slotted xs)) notes)
+    ≡ rendered Rich renderer_config view_config severity header_text loci (labeled_file_models same file xs) notes
+filled_output {Id = Id} renderer_config view_config same file severity header_text loci notes xs many plain =
+    fill_same (message_text xs) (full_text xs) (rendered Rich renderer_config view_config severity header_text loci ss notes) (λ k some. by_text k (message_text xs k) refl some)
+    ∙ fill-rows (full_text xs) (full xs) context (rich_rows view_config header_text loci ss notes)
+    ∙ ap (stream_of_rows context) (rich-re φ kept view_config header_text loci ss notes)
+    ∙ ap (λ n. stream_of_rows (context_of renderer_config severity n) (rich_rows view_config header_text loci (map (re_file φ) ss) notes)) (sym (padding-re φ kept view_config ss))
+    ∙ ap (λ ts. rendered Rich renderer_config view_config severity header_text loci ts notes) (sym (files-re φ kept same file (all_slotted xs)) ∙ ap (labeled_file_models same file) whole)
   where
     ss : List LabeledFileModel
     ss = labeled_file_models same file (all_slotted xs)
@@ -188,13 +188,13 @@ filled_output {Id = Id} renderer_config view_config same file severity heading l
         zero_plus : (j : ℕ) → 0 + j ≡ j
         zero_plus j = omega arith
 
-    by_text : (k : ℕ) (t : List ℕ) → message_text xs k ≡ t → 0 < slots k (rendered Rich renderer_config view_config severity heading loci ss notes) → message_text xs k ≡ full_text xs k
+    by_text : (k : ℕ) (t : List ℕ) → message_text xs k ≡ t → 0 < slots k (rendered Rich renderer_config view_config severity header_text loci ss notes) → message_text xs k ≡ full_text xs k
     by_text k [] e some =
         absurd (omega (
           arith,
           some,
-          slots-rows k context (rich_rows view_config heading loci ss notes),
-          rich_sum k view_config heading loci ss notes many,
+          slots-rows k context (rich_rows view_config header_text loci ss notes),
+          rich_sum k view_config header_text loci ss notes many,
           files_zero k view_config same file (all_slotted xs) (unnamed xs plain k e),
         ))
     by_text k (b ∷ bs) e some = e ∙ ap nonempty (sym e)

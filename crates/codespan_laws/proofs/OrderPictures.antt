@@ -118,10 +118,10 @@ module _ {Id : Type 0} (view_config : Config) (g h : Id → LabeledFileModel) (h
   digits-same [] = refl
   digits-same (i ∷ ids) = ap₂ (λ a b. a ++ b) (have_same_rows i).digits (digits-same ids)
 
-  rich-same : (renderer_config : Config) (severity : Severity) (heading : HeaderText) (ps : List Locus) (notes : List (List ℕ)) (ids : List Id)
-      → rendered Rich renderer_config view_config severity heading ps (map g ids) notes ≡ rendered Rich renderer_config view_config severity heading ps (map h ids) notes
-  rich-same renderer_config severity heading ps notes ids =
-      ap₂ (λ padding rows. stream_of_rows (context_of renderer_config severity padding) ((HeaderRow None heading ∷ rows) ++ note_rows notes ++ (FinalRow ∷ [])))
+  rich-same : (renderer_config : Config) (severity : Severity) (header_text : HeaderText) (ps : List Locus) (notes : List (List ℕ)) (ids : List Id)
+      → rendered Rich renderer_config view_config severity header_text ps (map g ids) notes ≡ rendered Rich renderer_config view_config severity header_text ps (map h ids) notes
+  rich-same renderer_config severity header_text ps notes ids =
+      ap₂ (λ padding rows. stream_of_rows (context_of renderer_config severity padding) ((HeaderRow None header_text ∷ rows) ++ note_rows notes ++ (FinalRow ∷ [])))
       (ap (fold max 0) (digits-same ids)) (snippets-same (has_any notes) ps ids)
 
 -- ---- equal ids
@@ -147,9 +147,9 @@ module _ {Id : Type 0} (same : Id → Id → Bool) (file : Id → FileModel) (o 
 pub order_is_free : {Id : Type 0} (same : Id → Id → Bool) (file : Id → FileModel) → OrderIsFree same file
 order_is_free {Id} same file xs ys o one_file orders = record {
   same_starts = starts-same ids ∙ ap (map snippet_locus_start) others;
-  same_stream = λ renderer_config view_config severity heading loci notes.
-      rich-same view_config (labeled_file_model same file xs) (labeled_file_model same file ys) (have_same_rows view_config) renderer_config severity heading loci notes ids
-      ∙ ap (λ ss. rendered Rich renderer_config view_config severity heading loci ss notes) others;
+  same_stream = λ renderer_config view_config severity header_text loci notes.
+      rich-same view_config (labeled_file_model same file xs) (labeled_file_model same file ys) (have_same_rows view_config) renderer_config severity header_text loci notes ids
+      ∙ ap (λ ss. rendered Rich renderer_config view_config severity header_text loci ss notes) others;
 }
   where
     ids : List Id

@@ -173,8 +173,8 @@ module _ {Id : Type 0} (files : FileDatabase Id) (d : Diagnostic Id) (lawful : (
 
   -- ---- whatever the names
 
-  rows-heading : (at : Option Locus) → IfSome at (λ p. IsUtf8 p.name) → IsTextRow (HeaderRow at (header_text_of d))
-  rows-heading at named = (named, code-utf8 d.code, IsUtf8-string_bytes d.message)
+  rows-header_text : (at : Option Locus) → IfSome at (λ p. IsUtf8 p.name) → IsTextRow (HeaderRow at (header_text_of d))
+  rows-header_text at named = (named, code-utf8 d.code, IsUtf8-string_bytes d.message)
 
   rows-rich : (view_config : Config) (loci : List Locus) → NamesAreTexts loci
       → AllByRecursion IsTextRow (rich_rows view_config (header_text_of d) loci (files_of files d) (notes_of d))
@@ -182,16 +182,16 @@ module _ {Id : Type 0} (files : FileDatabase Id) (d : Diagnostic Id) (lawful : (
       let first : List Row = HeaderRow None (header_text_of d) ∷ snippets view_config (has_any (notes_of d)) loci (files_of files d) in
       all-append IsTextRow (first ++ note_rows (notes_of d)) (FinalRow ∷ [])
       (all-append IsTextRow first (note_rows (notes_of d))
-      (rows-heading None tt, rows-snippets view_config (has_any (notes_of d)) loci (files_of files d) named text-files)
+      (rows-header_text None tt, rows-snippets view_config (has_any (notes_of d)) loci (files_of files d) named text-files)
       (rows-notes (notes_of d) text-notes))
       (tt, tt)
 
   rows-headers : (loci : List Locus) → NamesAreTexts loci → AllByRecursion IsTextRow (headers (header_text_of d) loci)
   rows-headers [] named = tt
-  rows-headers (p ∷ ps) named = (rows-heading (Some p) named.0, rows-headers ps named.1)
+  rows-headers (p ∷ ps) named = (rows-header_text (Some p) named.0, rows-headers ps named.1)
 
   rows-header_rows : (loci : List Locus) → NamesAreTexts loci → AllByRecursion IsTextRow (header_rows (header_text_of d) loci)
-  rows-header_rows [] named = (rows-heading None tt, tt)
+  rows-header_rows [] named = (rows-header_text None tt, tt)
   rows-header_rows (p ∷ ps) named = rows-headers (p ∷ ps) named
 
   -- the output with any loci is a text

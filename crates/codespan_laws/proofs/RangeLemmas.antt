@@ -1,4 +1,4 @@
--- For `bars_are_labels` and `breaks_are_covered`: a multi-line label begins on an earlier line than
+-- For `bars_are_labels` and `breaks_have_bars`: a multi-line label begins on an earlier line than
 -- it ends on, where its range does.
 use Rattle.std.proofs.Common.{◌≡◌, ℕ, zero, suc, ◌+◌, ◌-◌, ◌<◌, ◌≤◌, Bool, true, false, ◌⊎◌, inl, inr, ⊎_elim, cond, not, nat_le, nat_lt, List, [], ◌∷◌, filter, length, Some, slice_get, refl, sym, ap, ◌∙◌, arith}
 use Rattle.std.specs.Prelude.{Contains}
@@ -13,7 +13,7 @@ use Rattle.codespan_base.specs.declared.term.config.Config.{Config}
 use Rattle.codespan_base.specs.Labels.{LabelModel, is_single, first_line, last_line}
 use Rattle.codespan_laws.specs.RichLaws.{StartsBeforeEnds}
 use Rattle.codespan_laws.specs.LaneLaws.{HasLane, BarsAreLabels}
-use Rattle.codespan_laws.specs.LineLaws.{BreaksAreCovered}
+use Rattle.codespan_laws.specs.LineLaws.{BreaksHaveBars}
 use Rattle.codespan_picture.specs.Lines.{shows, is_shown}
 use Rattle.codespan_picture.specs.Snippets.{LabeledFileModel}
 use Rattle.codespan_laws.proofs.BarLemmas as bars
@@ -81,8 +81,8 @@ not_between : (config : Config) (s : LabeledFileModel) (c d l : ℕ) → ((k : �
 not_between config s c d l none here =
     ⊎_elim (λ after. ⊎_elim (λ before. absurd (false≢true (sym (none l after before) ∙ here))) inr (cases_lt l d)) inl (cases_lt c l)
 
-pub breaks_are_covered : (config : Config) (layout : Layout) (s : LabeledFileModel) → StartsBeforeEnds s.labels → BreaksAreCovered config layout s
-breaks_are_covered config layout s ordered = λ c d lane x shown_c shown_d apart none has.
+pub breaks_have_bars : (config : Config) (layout : Layout) (s : LabeledFileModel) → StartsBeforeEnds s.labels → BreaksHaveBars config layout s
+breaks_have_bars config layout s ordered = λ c d lane x shown_c shown_d apart none has.
     let inside = (kept (λ x. not (is_single s.file x)) s.labels lane x has).0 in
     let several = has_lane-ordered s lane x ordered has in
     let some : 0 < line_count s.file = (let low = shown-low config s c shown_c in omega arith) in

@@ -11,7 +11,7 @@ use Rattle.codespan_picture.specs.declared.char_metrics.Metrics.{Metrics}
 use Rattle.codespan_picture.specs.Carets.{style_under, covers, max_label_end, is_overlapping}
 use Rattle.codespan_picture.specs.declared.lanes.Shape.{Shape}
 use Rattle.codespan_picture.specs.declared.lanes.Shape.TheVariants.{Space, Bar, TopCorner, BottomCorner}
-use Rattle.codespan_picture.specs.Lanes.{source_shape, plain_shape, below_shape, underline_shape, lane_mark_in, underline_char, crossing_cells, lane_cells, Source, Plain, Below, Underline}
+use Rattle.codespan_picture.specs.Lanes.{source_shape, empty_shape, below_shape, underline_shape, lane_mark_in, underline_char, crossing_cells, lane_cells, Source, Empty, Below, Underline}
 use Rattle.codespan_picture.specs.Rows.{RowContext, Lanes, Line, trailing_label, hanging_labels}
 use Rattle.codespan_picture.proofs.Rightmost.{Around, others, behind, around_with_end, around_trails, around_rightmost, trailing_of, hanging_of, trailing_is, hanging_is}
 use Rattle.codespan_picture.specs.RowParts.{styled, inner_gutter_column, lanes_in, inner_gutter, line_metrics, multi_label_covers, source_style, source_glyph, colored_text, caret_glyphs, carets, pointer_style, pointer_at, pointers, starts_in, max_label_start}
@@ -179,10 +179,10 @@ module _ (φ : Stream → Stream) (keeps : (s : Stream) → is_empty_stream (φ 
   source_shape-re leading Left = refl
   source_shape-re leading (Bottom end message) = refl
 
-  plain_shape-re : (multi_label : MultiLabel) → plain_shape (re_multi_label φ multi_label) ≡ plain_shape multi_label
-  plain_shape-re (Top start) = refl
-  plain_shape-re Left = refl
-  plain_shape-re (Bottom end message) = refl
+  empty_shape-re : (multi_label : MultiLabel) → empty_shape (re_multi_label φ multi_label) ≡ empty_shape multi_label
+  empty_shape-re (Top start) = refl
+  empty_shape-re Left = refl
+  empty_shape-re (Bottom end message) = refl
 
   below_shape-re : (layout : _) (leading : ℕ) (multi_label : MultiLabel) → below_shape layout leading (re_multi_label φ multi_label) ≡ below_shape layout leading multi_label
   below_shape-re layout leading (Top start) = refl
@@ -199,9 +199,9 @@ module _ (φ : Stream → Stream) (keeps : (s : Stream) → is_empty_stream (φ 
   unfolding inner_gutter
   source_lanes-re context leading lanes = lanes-re context (λ _. None) (λ _. None) (λ _. source_shape leading) lanes (λ _. refl) (λ _. source_shape-re leading)
 
-  pub plain_lanes-re : (context : RowContext) (lanes : Lanes) → inner_gutter context 0 Plain (re_lanes φ lanes) ≡ inner_gutter context 0 Plain lanes
+  pub plain_lanes-re : (context : RowContext) (lanes : Lanes) → inner_gutter context 0 Empty (re_lanes φ lanes) ≡ inner_gutter context 0 Empty lanes
   unfolding inner_gutter
-  plain_lanes-re context lanes = lanes-re context (λ _. None) (λ _. None) (λ _. plain_shape) lanes (λ _. refl) (λ _. plain_shape-re)
+  plain_lanes-re context lanes = lanes-re context (λ _. None) (λ _. None) (λ _. empty_shape) lanes (λ _. refl) (λ _. empty_shape-re)
 
   pub below_lanes-re : (context : RowContext) (leading : ℕ) (lanes : Lanes) → inner_gutter context leading Below (re_lanes φ lanes) ≡ inner_gutter context leading Below lanes
   unfolding inner_gutter

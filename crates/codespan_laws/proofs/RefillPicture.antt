@@ -221,14 +221,14 @@ module _ (φ : Stream → Stream) (keeps : (s : Stream) → is_empty_stream (φ 
   notes-re (note ∷ notes) =
       map-append' (re_row φ) (piece_rows (lines note)) (note_rows notes) ∙ ap₂ (λ a b. a ++ b) (piece-re (lines note)) (notes-re notes)
 
-  pub rich-re : (config : Config) (heading : HeaderText) (ps : List Locus) (ss : List LabeledFileModel) (notes : List (List ℕ))
-      → map (re_row φ) (rich_rows config heading ps ss notes) ≡ rich_rows config heading ps (map (re_file φ) ss) notes
-  rich-re config heading ps ss notes =
+  pub rich-re : (config : Config) (header_text : HeaderText) (ps : List Locus) (ss : List LabeledFileModel) (notes : List (List ℕ))
+      → map (re_row φ) (rich_rows config header_text ps ss notes) ≡ rich_rows config header_text ps (map (re_file φ) ss) notes
+  rich-re config header_text ps ss notes =
       let inner = snippets config (has_any notes) ps ss in
-      map-append' (re_row φ) ((HeaderRow None heading ∷ inner) ++ note_rows notes) (FinalRow ∷ [])
+      map-append' (re_row φ) ((HeaderRow None header_text ∷ inner) ++ note_rows notes) (FinalRow ∷ [])
       ∙ ap (λ rows. rows ++ (FinalRow ∷ []))
-      (map-append' (re_row φ) (HeaderRow None heading ∷ inner) (note_rows notes)
-      ∙ ap₂ (λ a b. (HeaderRow None heading ∷ a) ++ b) (snippets-re config (has_any notes) ps ss) (notes-re notes))
+      (map-append' (re_row φ) (HeaderRow None header_text ∷ inner) (note_rows notes)
+      ∙ ap₂ (λ a b. (HeaderRow None header_text ∷ a) ++ b) (snippets-re config (has_any notes) ps ss) (notes-re notes))
 
   -- ---- the padding
 

@@ -62,7 +62,7 @@ fill_without_slots m (Mark a ∷ s) h = ap (λ (r : Stream). Mark a ∷ r) (fill
 fill_without_slots m (Slot j ∷ s) h = let e = h j in absurd (omega (arith, e, slots-slot j s))
 
 abbrev pub re_row : (Stream → Stream) → Row → Row
-re_row φ (HeaderRow at heading) = HeaderRow at heading
+re_row φ (HeaderRow at header_text) = HeaderRow at header_text
 re_row φ (SnippetStartRow at) = SnippetStartRow at
 re_row φ (EmptyRow lanes) = EmptyRow (re_lanes φ lanes)
 re_row φ (BreakRow lanes) = BreakRow (re_lanes φ lanes)
@@ -136,7 +136,7 @@ module _ (m : ℕ → List ℕ) (full : (k : ℕ) → is_empty_stream (map Byte 
 
   pub fill-row : (context : RowContext) (row : Row) → fill m (stream_of context row) ≡ stream_of context (re_row (fill m) row)
   unfolding empty_row break_row source_row caret_row pointer_row hanging_row underline_row
-  fill-row context (HeaderRow at heading) = without_slots _ (λ k. slot.slots-stream_of k context (HeaderRow at heading)) refl
+  fill-row context (HeaderRow at header_text) = without_slots _ (λ k. slot.slots-stream_of k context (HeaderRow at header_text)) refl
   fill-row context (SnippetStartRow at) = without_slots _ (λ k. slot.slots-stream_of k context (SnippetStartRow at)) refl
   fill-row context (EmptyRow lanes) =
       without_slots (empty_row context lanes) (λ k. slot.slots-stream_of k context (EmptyRow lanes)) (ap (λ s. outer_gutter context.padding ++ border_left context.chars ++ s) (plain_lanes-re (fill m) keeps context lanes))

@@ -209,7 +209,7 @@ closes-row_start context line =
 
 closes-row : (context : RowContext) (row : Row) → Closes (stream_of context row)
 unfolding header_row snippet_start_row empty_row break_row source_row caret_row pointer_row hanging_row underline_row first_note_row later_note_row inner_gutter
-closes-row context (HeaderRow at heading) = closes-reset _
+closes-row context (HeaderRow at header_text) = closes-reset _
 closes-row context (SnippetStartRow at) =
     closes-append _ (locus at) (closes-append _ space (closes-reset _) (closes-bytes _)) (closes-locus at)
 closes-row context (EmptyRow lanes) = closes-append _ _ (closes-append _ _ (closes-outer_gutter _) (closes-border_left _)) (closes-lanes_in context _ _ lanes)

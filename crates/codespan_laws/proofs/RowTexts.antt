@@ -20,7 +20,7 @@ use Rattle.codespan_picture.specs.declared.lanes.Shape.{Shape}
 use Rattle.codespan_picture.specs.declared.lanes.Shape.TheVariants.{Space, Bar, TopCorner, BottomCorner}
 use Rattle.codespan_picture.specs.Carets.{caret_for, max_label_end, style_under}
 use Rattle.codespan_picture.specs.CharMetrics.{char_metrics, metrics_then, width_of, width_at}
-use Rattle.codespan_picture.specs.Lanes.{LaneRow, Source, Plain, Below, Underline, underline_char, crossing_cells, label_glyph, lane_cells, lane_mark_in, row_crossing, row_shape, shape_of, style_of_lane_mark}
+use Rattle.codespan_picture.specs.Lanes.{LaneRow, Source, Empty, Below, Underline, underline_char, crossing_cells, label_glyph, lane_cells, lane_mark_in, row_crossing, row_shape, shape_of, style_of_lane_mark}
 use Rattle.codespan_picture.specs.Rows.{Locus, RowContext, Lanes, Line, Row, HeaderRow, SnippetStartRow, EmptyRow, BreakRow, SourceRow, CaretRow, PointerRow, HangingRow, UnderlineRow, FirstNoteRow, LaterNoteRow, FinalRow, hanging_labels, trailing_label}
 use Rattle.codespan_picture.specs.RowParts.{locus, label_message, inner_gutter_column, inner_gutter, leading_of, line_metrics, line_metrics_to_end, source_style, source_glyph, colored_text, caret_glyphs, carets, trailing_message, starts_in, max_label_start, spaces_up_to, pointer_style, pointer_at, pointers, metrics_before, metrics_up_to, start_caret, end_caret, underline_message, underline}
 use Rattle.codespan_picture.specs.RowStreams.{bracketed, leading_locus, header_row, snippet_start_row, empty_row, break_row, source_row, row_start, caret_row, pointer_row, hanging_row, underline_row, first_note_row, later_note_row, stream_of, stream_of_rows}
@@ -110,7 +110,7 @@ pub record IsTextLine (line : Line) : Type 0 where
 
 -- what a row is of is a text
 abbrev pub IsTextRow : Row → Type 0
-IsTextRow (HeaderRow at heading) = IfSome at (λ p. IsUtf8 p.name) × IfSome heading.code IsUtf8 × IsUtf8 heading.message
+IsTextRow (HeaderRow at header_text) = IfSome at (λ p. IsUtf8 p.name) × IfSome header_text.code IsUtf8 × IsUtf8 header_text.message
 IsTextRow (SnippetStartRow at) = IsUtf8 at.name
 IsTextRow (SourceRow line) = IsUtf8 line.text
 IsTextRow (CaretRow line) = AllByRecursion (λ (x : LabelModel). IsText x.message) line.labels
@@ -229,14 +229,14 @@ module _ (context : RowContext) (ok : AreCharacters context.chars) where
   -- the stream of a row is a text where what the row is of is
   pub text-row : (row : Row) → IsTextRow row → IsText (stream_of context row)
   unfolding header_row snippet_start_row empty_row break_row source_row caret_row pointer_row hanging_row underline_row first_note_row later_note_row
-  text-row (HeaderRow at heading) h =
-      followed (followed (followed (followed (followed (followed (followed (text-leading_locus at h.0) (text-lane_mark (Header context.severity))) (text-severity context.severity)) (text-bracketed heading.code h.1)) (text-lane_mark HeaderMessage)) text-colon_space) (text-bytes heading.message h.2)) (text-lane_mark Reset)
+  text-row (HeaderRow at header_text) h =
+      followed (followed (followed (followed (followed (followed (followed (text-leading_locus at h.0) (text-lane_mark (Header context.severity))) (text-severity context.severity)) (text-bracketed header_text.code h.1)) (text-lane_mark HeaderMessage)) text-colon_space) (text-bytes header_text.message h.2)) (text-lane_mark Reset)
   text-row (SnippetStartRow at) h =
       followed (followed (followed (followed (followed (text-outer_gutter context.padding) (text-lane_mark SourceBorder)) (text-bytes (start_text context.chars.snippet_start) ok.snippet_start)) (text-lane_mark Reset)) text-space) (text-locus at h)
   text-row (EmptyRow lanes) h =
-      followed (followed (text-outer_gutter context.padding) (text-border_left context.chars ok)) (text-inner_gutter 0 Plain lanes)
+      followed (followed (text-outer_gutter context.padding) (text-border_left context.chars ok)) (text-inner_gutter 0 Empty lanes)
   text-row (BreakRow lanes) h =
-      followed (followed (text-outer_gutter context.padding) (text-border_left_break context.chars ok)) (text-inner_gutter 0 Plain lanes)
+      followed (followed (text-outer_gutter context.padding) (text-border_left_break context.chars ok)) (text-inner_gutter 0 Empty lanes)
   text-row (SourceRow line) h =
       followed (followed (followed (followed (text-outer_gutter_number context.padding line.number) (text-border_left context.chars ok)) (text-inner_gutter (leading_of line) Source line.lanes)) text-space) (text-colored line h)
   text-row (CaretRow line) h =

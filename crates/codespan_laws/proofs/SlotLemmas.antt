@@ -230,7 +230,7 @@ row_slots k _ = 0
 
 pub slots-stream_of : (k : ℕ) (context : RowContext) (row : Row) → slots k (stream_of context row) ≡ row_slots k row
 unfolding header_row snippet_start_row empty_row break_row source_row caret_row pointer_row hanging_row underline_row first_note_row later_note_row
-slots-stream_of k context (HeaderRow at heading) = simp (parts, slots-bracketed, slots-leading_locus)
+slots-stream_of k context (HeaderRow at header_text) = simp (parts, slots-bracketed, slots-leading_locus)
 slots-stream_of k context (SnippetStartRow at) = simp parts
 slots-stream_of k context (EmptyRow lanes) = simp parts
 slots-stream_of k context (BreakRow lanes) = simp parts

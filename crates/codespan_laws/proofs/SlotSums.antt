@@ -152,14 +152,14 @@ module _ {Id : Type 0} (k : ℕ) where
         sum_by-cons (λ (y : InFile Id). label_slots k y.label) (slotted n y) (slotted_from (n + 1) ys),
       )
 
-pub each_once : {Id : Type 0} (context : RowContext) (config : Config) (same : Id → Id → Bool) (file : Id → FileModel) (heading : HeaderText) (notes : List (List ℕ)) (xs : List (InFile Id)) (ps : List Locus)
+pub each_once : {Id : Type 0} (context : RowContext) (config : Config) (same : Id → Id → Bool) (file : Id → FileModel) (header_text : HeaderText) (notes : List (List ℕ)) (xs : List (InFile Id)) (ps : List Locus)
     → length ps ≡ length (labeled_file_models same file (all_slotted xs))
     → IsEquivalence same → ((id : Id) → 0 < line_count (file id)) → (k : ℕ) (x : InFile Id) → slice_get xs k ≡ Some x
-    → count_by (is_slot k) (stream_of_rows context (rich_rows config heading ps (labeled_file_models same file (all_slotted xs)) notes)) ≡ (if has_message x.label then 1 else 0)
-each_once context config same file heading notes xs ps as_many law some k x at =
+    → count_by (is_slot k) (stream_of_rows context (rich_rows config header_text ps (labeled_file_models same file (all_slotted xs)) notes)) ≡ (if has_message x.label then 1 else 0)
+each_once context config same file header_text notes xs ps as_many law some k x at =
     let ss = labeled_file_models same file (all_slotted xs) in
-    slots-is k (stream_of_rows context (rich_rows config heading ps ss notes))
-    ∙ slots-rows k context (rich_rows config heading ps ss notes)
-    ∙ rich_sum k config heading ps ss notes as_many
+    slots-is k (stream_of_rows context (rich_rows config header_text ps ss notes))
+    ∙ slots-rows k context (rich_rows config header_text ps ss notes)
+    ∙ rich_sum k config header_text ps ss notes as_many
     ∙ files_sum same law k config file some (all_slotted xs)
     ∙ one_here k 0 k xs x (omega arith) at

@@ -9,7 +9,7 @@ use Rattle.codespan_base.specs.Labels.{LabelModel, first_line, last_line, multi_
 use Rattle.codespan_base.specs.Streams.{Stream}
 use Rattle.codespan_picture.specs.declared.lanes.Shape.{Shape}
 use Rattle.codespan_picture.specs.declared.lanes.Shape.TheVariants.{Space, Bar, TopCorner, BottomCorner}
-use Rattle.codespan_picture.specs.Lanes.{LaneRow, Source, Plain, Below, Underline, row_shape, row_crossing, lane_mark_in, shape_of, style_of_lane_mark, is_unbroken, lane_cells}
+use Rattle.codespan_picture.specs.Lanes.{LaneRow, Source, Empty, Below, Underline, row_shape, row_crossing, lane_mark_in, shape_of, style_of_lane_mark, is_unbroken, lane_cells}
 use Rattle.codespan_picture.specs.Rows.{Locus, RowContext, Lanes, Line, Row, EmptyRow, BreakRow, SourceRow, CaretRow, PointerRow, HangingRow, UnderlineRow}
 use Rattle.codespan_picture.specs.RowParts.{outer_gutter, outer_gutter_number, border_left, border_left_break, leading_of}
 use Rattle.codespan_picture.specs.RowStreams.{stream_of}
@@ -37,7 +37,7 @@ kind_of (CaretRow line) = Below
 kind_of (PointerRow line) = Below
 kind_of (HangingRow line x) = Below
 kind_of (UnderlineRow line m) = Underline m
-kind_of _ = Plain
+kind_of _ = Empty
 
 -- what a row shows in a lane
 abbrev pub shape_in : Layout → Row → ℕ → Shape
@@ -50,14 +50,14 @@ abbrev pub HasLane : LabeledFileModel → ℕ → LabelModel → Type 0
 HasLane s lane x = slice_get (multi_labels s.file s.labels) lane ≡ Some x
 
 -- a label covers a line after its first one, up to its last
-abbrev pub IsCovered : FileModel → LabelModel → ℕ → Type 0
-IsCovered f x l = (first_line f x < l) × (l ≤ last_line f x)
+abbrev pub IsBarLine : FileModel → LabelModel → ℕ → Type 0
+IsBarLine f x l = (first_line f x < l) × (l ≤ last_line f x)
 
 -- on source rows and break rows a lane has a bar exactly where its label covers the line
 abbrev pub BarsAreLabels : Layout → LabeledFileModel → Type 0
 BarsAreLabels layout s = (l lane : ℕ) (x : LabelModel) → HasLane s lane x
-    → ((shape_in layout (SourceRow (line_at s l)) lane ≡ Bar) ↔ IsCovered s.file x l)
-    × ((shape_in layout (BreakRow (line_at s l).lanes) lane ≡ Bar) ↔ IsCovered s.file x l)
+    → ((shape_in layout (SourceRow (line_at s l)) lane ≡ Bar) ↔ IsBarLine s.file x l)
+    × ((shape_in layout (BreakRow (line_at s l).lanes) lane ≡ Bar) ↔ IsBarLine s.file x l)
 
 -- ---- each lane is one line
 

@@ -10,7 +10,7 @@ use Rattle.codespan_picture.specs.Lines.{drawn_lines, has_break_between, is_show
 use Rattle.codespan_picture.specs.Rows.{Lanes, Locus, Row, BreakRow, SourceRow}
 use Rattle.codespan_picture.specs.Snippets.{LabeledFileModel, rows_after, rows_of_shown, line_at, snippet}
 use Rattle.codespan_picture.specs.Padding.{padding_of, count_digits}
-use Rattle.codespan_laws.specs.LaneLaws.{shape_in, HasLane, IsCovered}
+use Rattle.codespan_laws.specs.LaneLaws.{shape_in, HasLane, IsBarLine}
 
 -- the shown lines of a file, all of which it has
 abbrev pub shown_lines : Config → LabeledFileModel → List ℕ
@@ -44,13 +44,13 @@ BreaksAreGaps config s = (locus : Locus)
     ≡ map (λ l. (line_at s l).lanes) (broken_before (shown_lines config s))
 
 -- the bars of a break row are those of the labels that cover every line that is left out
-abbrev pub BreaksAreCovered : Config → Layout → LabeledFileModel → Type 0
-BreaksAreCovered config layout s = (c d lane : ℕ) (x : LabelModel)
+abbrev pub BreaksHaveBars : Config → Layout → LabeledFileModel → Type 0
+BreaksHaveBars config layout s = (c d lane : ℕ) (x : LabelModel)
     → IsTrue (is_shown config s.file s.labels c) → IsTrue (is_shown config s.file s.labels d)
     → c + 3 ≤ d → ((l : ℕ) → c < l → l < d → is_shown config s.file s.labels l ≡ false)
     → HasLane s lane x
     → (shape_in layout (BreakRow (line_at s d).lanes) lane ≡ Bar)
-    ↔ ((l : ℕ) → c < l → l < d → IsCovered s.file x l)
+    ↔ ((l : ℕ) → c < l → l < d → IsBarLine s.file x l)
 
 -- ---- how many rows there are
 

@@ -41,10 +41,10 @@ pub record RenderSame {Id : Type 0} (same : Id → Id → Bool) (file : Id → F
     (xs ys : List (InFile Id)) : Type 0 where
   pub same_starts : locus_starts same file xs Rich ≡ locus_starts same file ys Rich
   pub same_stream : (renderer_config view_config : Config) (severity : Severity)
-      (heading : HeaderText) (loci : List Locus) (notes : List (List ℕ))
-      → rendered Rich renderer_config view_config severity heading loci
+      (header_text : HeaderText) (loci : List Locus) (notes : List (List ℕ))
+      → rendered Rich renderer_config view_config severity header_text loci
       (labeled_file_models same file xs) notes
-      ≡ rendered Rich renderer_config view_config severity heading loci
+      ≡ rendered Rich renderer_config view_config severity header_text loci
       (labeled_file_models same file ys) notes
 
 -- where `same` is an equivalence, and equal ids have one file, a reordering that keeps these orders

@@ -10,7 +10,7 @@ use Rattle.codespan_picture.specs.Padding.{padding_of}
 use Rattle.codespan_picture.specs.OutputStreams.{AreLoci, files_of, context_of}
 use Rattle.codespan_laws.specs.CaretLaws.{CaretsAreCells, StartsHaveCells, PointersAreCells}
 use Rattle.codespan_laws.specs.LaneLaws.{BarsAreLabels, LanesJoinCorners, LanesAreShown}
-use Rattle.codespan_laws.specs.LineLaws.{BreaksAreGaps, BreaksAreCovered, RowsOfShown, SourceRowsAreFew, PaddingFits}
+use Rattle.codespan_laws.specs.LineLaws.{BreaksAreGaps, BreaksHaveBars, RowsOfShown, SourceRowsAreFew, PaddingFits}
 use Rattle.codespan_laws.specs.MessageLaws.{MessagesAppearOnce}
 
 -- no label of a file starts after its end
@@ -27,7 +27,7 @@ pub record SnippetMeansLabels (view_config : Config) (context : RowContext)
   pub pointers : (l : ℕ) → StartsHaveCells (line_at s l).labels (line_metrics context (line_at s l))
       → PointersAreCells context (line_at s l)
   pub bars : StartsBeforeEnds s.labels → BarsAreLabels context.layout s
-  pub covered : StartsBeforeEnds s.labels → BreaksAreCovered view_config context.layout s
+  pub break_bars : StartsBeforeEnds s.labels → BreaksHaveBars view_config context.layout s
   pub lanes : StartsBeforeEnds s.labels → LanesJoinCorners view_config context.layout s
 
 -- what a rich output means that a view renders, whatever the loci in it

@@ -19,7 +19,7 @@ ghost use Rattle.codespan_laws.specs.ColorLaws.{ColorsChangeNoText, NoColorIsPla
 ghost use Rattle.codespan_laws.specs.CaretLaws.{CaretsAreCells, PointersAreCells, StartsHaveCells};
 ghost use Rattle.codespan_laws.specs.RichLaws.{MeansLabels, StartsBeforeEnds};
 ghost use Rattle.codespan_laws.specs.LaneLaws.{BarsAreLabels, LanesJoinCorners, LanesAreShown};
-ghost use Rattle.codespan_laws.specs.LineLaws.{BreaksAreCovered, BreaksAreGaps, RowsOfShown, PaddingFits, SourceRowsAreFew};
+ghost use Rattle.codespan_laws.specs.LineLaws.{BreaksHaveBars, BreaksAreGaps, RowsOfShown, PaddingFits, SourceRowsAreFew};
 ghost use Rattle.codespan_laws.specs.MessageLaws.{MessagesAppearOnce};
 ghost use Rattle.codespan_laws.specs.TrailingLaws.{EachTrailsOrHangs};
 ghost use Rattle.codespan_laws.specs.OrderLaws.{OrderIsFree};
@@ -58,9 +58,9 @@ pub fn breaks_are_gaps()
 
 /// States that the bars of a break row are those of the labels that go through every line that is
 /// left out, where no label of the file starts after its end.
-pub fn breaks_are_covered()
+pub fn breaks_have_bars()
     ensures { (config : Config) (layout : Layout) (s : LabeledFileModel)
-        → StartsBeforeEnds s.labels → BreaksAreCovered config layout s }
+        → StartsBeforeEnds s.labels → BreaksHaveBars config layout s }
 {}
 
 /// States that the source rows of a file number at most twice the lines that its labels may show by

@@ -12,7 +12,7 @@ use Rattle.codespan_base.specs.declared.files.Error.TheVariants.{FileMissing}
 use Rattle.codespan_base.specs.SimpleModel.{missing_file}
 use Rattle.codespan_picture.specs.OutputStreams.{labels_of}
 use Rattle.codespan_picture.specs.Types.{Config, Diagnostic, Error, DisplayStyle, Rich, Medium, Short, Layout, Classic, Unbroken}
-use Rattle.codespan_picture.specs.Lookups.{AllSucceed, looked_up_lines, lookups_of_file, early_lookups, ends_context, file_at, filled_lines, header_lookups_of, is_looked_up, label_lookups, late_lookups, locus_lookups, lookup_past_end, lookups_in, numbers_for_padding, filled_line_lookups, label_line_lookups, line_lookups, snippet_lookups}
+use Rattle.codespan_picture.specs.Lookups.{AllSucceed, looked_up_lines, lookups_of_file, early_lookups, ends_context_lines, file_at, filled_lines, header_lookups_of, is_looked_up, label_lookups, late_lookups, locus_lookups, lookup_past_end, lookups_in, numbers_for_padding, filled_line_lookups, label_line_lookups, line_lookups, snippet_lookups}
 use Rattle.codespan_picture.specs.Snippets.{InFile, file_ids, locus_start, primary_of}
 use Rattle.codespan_base.specs.Diagnostics.{DiagnosticView, LabelView}
 use Rattle.codespan_structs.specs.declared.error.Argument.TheVariants.{LabelFile}
@@ -78,7 +78,7 @@ at_index P (x ∷ xs) (suc k) d h all = at_index P xs k d (omega (arith, h)) all
 -- what is looked up of a known file
 record LookupsSucceed (failure : Lookup → Option Error) (f : FileModel) : Type 0 where
   pub line_range : (i : ℕ) → i < line_count f → failure (LineRange i) ≡ None
-  pub past_end : ends_context (failure (LineRange (line_count f))) ≡ true
+  pub past_end : ends_context_lines (failure (LineRange (line_count f))) ≡ true
   pub name : failure Name ≡ None
   pub source : failure Source ≡ None
   pub line_index : (byte : ℕ) → failure (LineIndex byte) ≡ None

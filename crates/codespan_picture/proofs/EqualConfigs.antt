@@ -33,7 +33,7 @@ module _ (config : Config) (severity : Severity) (padding : ℕ) (start other : 
   -- each row is the same
   row_equal : (row : Row) → stream_of (context start) row ≡ stream_of (context other) row
   unfolding row_definitions
-  row_equal (HeaderRow at heading) = refl
+  row_equal (HeaderRow at header_text) = refl
   row_equal (SnippetStartRow at) =
       ap (λ text. outer_gutter padding ++ style_mark SourceBorder ++ bytes text ++ style_mark Reset ++ space ++ locus at) same
   row_equal (EmptyRow lanes) = refl
@@ -53,17 +53,17 @@ module _ (config : Config) (severity : Severity) (padding : ℕ) (start other : 
   rows_equal (row ∷ rows) = cc (row_equal row, rows_equal rows)
 
 -- what is rendered is the same, in each style
-module _ (table config : Config) (equal : IsEqualConfig table config) (severity : Severity) (heading : HeaderText) (loci : List Locus) (ss : List LabeledFileModel) (notes : List (List ℕ)) where
+module _ (table config : Config) (equal : IsEqualConfig table config) (severity : Severity) (header_text : HeaderText) (loci : List Locus) (ss : List LabeledFileModel) (notes : List (List ℕ)) where
   -- rows of this padding width are the same
   all_equal : (padding : ℕ) (rows : List Row) → stream_of_rows (context_of config severity padding) rows ≡ stream_of_rows (context_of table severity padding) rows
   all_equal padding rows =
       ap (λ c. stream_of_rows (context_of c severity padding) rows) (is_with_start table config equal)
       ∙ rows_equal table severity padding config.chars.snippet_start table.chars.snippet_start equal.chars.start rows
 
-  pub rendered_equal : (style : DisplayStyle) → rendered style config config severity heading loci ss notes ≡ rendered style table table severity heading loci ss notes
+  pub rendered_equal : (style : DisplayStyle) → rendered style config config severity header_text loci ss notes ≡ rendered style table table severity header_text loci ss notes
   rendered_equal Rich =
-      ap (λ c. rendered Rich c c severity heading loci ss notes) (is_with_start table config equal)
+      ap (λ c. rendered Rich c c severity header_text loci ss notes) (is_with_start table config equal)
       ∙ rows_equal table severity (padding_of table ss) config.chars.snippet_start table.chars.snippet_start equal.chars.start
-      (rich_rows table heading loci ss notes)
-  rendered_equal Medium = all_equal 0 (header_rows heading loci ++ note_rows notes)
-  rendered_equal Short = all_equal 0 (header_rows heading loci)
+      (rich_rows table header_text loci ss notes)
+  rendered_equal Medium = all_equal 0 (header_rows header_text loci ++ note_rows notes)
+  rendered_equal Short = all_equal 0 (header_rows header_text loci)

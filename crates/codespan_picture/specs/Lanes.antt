@@ -16,9 +16,9 @@ source_shape leading (Top start) = if begins_in_source_row leading start then To
 source_shape leading _ = Bar
 
 -- what it shows in an empty row, and in a break row, which has the lane marks of the line after it
-abbrev pub plain_shape : MultiLabel → Shape
-plain_shape (Top start) = Space
-plain_shape _ = Bar
+abbrev pub empty_shape : MultiLabel → Shape
+empty_shape (Top start) = Space
+empty_shape _ = Bar
 
 -- whether a lane goes on in every row below its corner in a source row
 abbrev pub is_unbroken : Layout → Bool
@@ -44,14 +44,14 @@ underline_shape layout leading corner_lane lane (Bottom end message) =
 -- hanging row; the underline row of a lane mark
 pub data LaneRow : Type 0 where
   Source : LaneRow
-  Plain : LaneRow
+  Empty : LaneRow
   Below : LaneRow
   Underline : LaneMark → LaneRow
 
 -- the table of lanes: what a multi-line label mark shows in a kind of row
 abbrev pub row_shape : Layout → ℕ → LaneRow → ℕ → MultiLabel → Shape
 row_shape layout leading Source lane = source_shape leading
-row_shape layout leading Plain lane = plain_shape
+row_shape layout leading Empty lane = empty_shape
 row_shape layout leading Below lane = below_shape layout leading
 row_shape layout leading (Underline m) lane = underline_shape layout leading m.lane lane
 

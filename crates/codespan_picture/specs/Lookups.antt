@@ -31,16 +31,16 @@ filled_line_lookups Classic l = line_lookups l
 filled_line_lookups Unbroken l = LineRange l ∷ []
 
 -- the error ends the context of a label, and is no error of the output
-abbrev pub ends_context : Option Error → Bool
-ends_context (Some (LineTooLarge given max)) = true
-ends_context _ = false
+abbrev pub ends_context_lines : Option Error → Bool
+ends_context_lines (Some (LineTooLarge given max)) = true
+ends_context_lines _ = false
 
 -- the range of the line past the file's last one, where the context reaches it; a lookup of it that
 -- fails with `LineTooLarge` is made too, and is not listed, since it is no error of the output
 abbrev pub lookup_past_end : Config → FileModel → (Lookup → Option Error) → LabelModel → List Lookup
 lookup_past_end config f failure x =
     if nat_le (line_count f) (last_line f x + config.after_label_lines)
-    && not (ends_context (failure (LineRange (line_count f))))
+    && not (ends_context_lines (failure (LineRange (line_count f))))
     then LineRange (line_count f) ∷ [] else []
 
 -- the line is one of the label's, or is around them

@@ -92,14 +92,14 @@ context_of config severity padding = record {
 -- renderer's the characters, the tab width and the layout
 abbrev pub rendered : DisplayStyle → Config → Config → Severity → HeaderText
     → List Locus → List LabeledFileModel → List (List ℕ) → Stream
-rendered Rich renderer_config view_config severity heading loci ss notes =
+rendered Rich renderer_config view_config severity header_text loci ss notes =
     stream_of_rows (context_of renderer_config severity (padding_of view_config ss))
-    (rich_rows view_config heading loci ss notes)
-rendered Medium renderer_config view_config severity heading loci ss notes =
+    (rich_rows view_config header_text loci ss notes)
+rendered Medium renderer_config view_config severity header_text loci ss notes =
     stream_of_rows (context_of renderer_config severity 0)
-    (header_rows heading loci ++ note_rows notes)
-rendered Short renderer_config view_config severity heading loci ss notes =
-    stream_of_rows (context_of renderer_config severity 0) (header_rows heading loci)
+    (header_rows header_text loci ++ note_rows notes)
+rendered Short renderer_config view_config severity header_text loci ss notes =
+    stream_of_rows (context_of renderer_config severity 0) (header_rows header_text loci)
 
 module _ {Id : Type 0} (style : DisplayStyle) (renderer_config view_config : Config)
     (files : FileDatabase Id) (d : Diagnostic Id) where

@@ -25,7 +25,7 @@ module _ {Id : Type 0} (style : DisplayStyle) (renderer_config view_config : Con
 
 -- headers with these loci
 abbrev pub headers : HeaderText → List Locus → List Row
-headers heading loci = map (λ (locus : Locus). HeaderRow (Some locus) heading) loci
+headers header_text loci = map (λ (locus : Locus). HeaderRow (Some locus) header_text) loci
 
 -- the stream of these headers alone
 abbrev pub headers_at : {Id : Type 0} → Config → Diagnostic Id → List Locus → Stream

@@ -5,7 +5,7 @@ use Rattle.codespan_picture.specs.Types.{Severity, Chars}
 use Rattle.codespan_base.specs.Streams.{Stream, Header, HeaderMessage, NoteBullet, SourceBorder, LabelMark, Reset, style_mark, glyph, bytes, space, newline}
 use Rattle.codespan_base.specs.Labels.{LabelModel, LaneMark}
 use Rattle.codespan_base.specs.SnippetStarts.{start_text}
-use Rattle.codespan_picture.specs.Lanes.{Source, Plain, Below, Underline}
+use Rattle.codespan_picture.specs.Lanes.{Source, Empty, Below, Underline}
 use Rattle.codespan_picture.specs.Rows.{Locus, HeaderText, RowContext, Lanes, Line, Row, HeaderRow, SnippetStartRow, EmptyRow, BreakRow, SourceRow, CaretRow, PointerRow, HangingRow, UnderlineRow, FirstNoteRow, LaterNoteRow, FinalRow, trailing_label}
 use Rattle.codespan_picture.specs.RowParts.{severity_name, locus, outer_gutter, outer_gutter_number, border_left, border_left_break, label_message, inner_gutter, leading_of, line_metrics, line_metrics_to_end, colored_text, carets, trailing_message, pointers, metrics_before, underline}
 
@@ -24,10 +24,11 @@ leading_locus (Some p) = locus p ++ bytes (codes ": ")
 
 -- the header: the locus, the severity, the code and the message
 unfoldable pub header_row : Severity → Option Locus → HeaderText → Stream
-header_row severity at heading =
+header_row severity at header_text =
     leading_locus at ++ style_mark (Header severity) ++ bytes (severity_name severity)
-    ++ bracketed heading.code
-    ++ style_mark HeaderMessage ++ bytes (codes ": ") ++ bytes heading.message ++ style_mark Reset
+    ++ bracketed header_text.code
+    ++ style_mark HeaderMessage ++ bytes (codes ": ") ++ bytes header_text.message
+    ++ style_mark Reset
 
 -- the start of a file's snippet
 unfoldable pub snippet_start_row : Chars → ℕ → Locus → Stream
@@ -38,13 +39,13 @@ snippet_start_row chars padding at =
 -- an empty row of a snippet
 unfoldable pub empty_row : RowContext → Lanes → Stream
 empty_row context lanes =
-    outer_gutter context.padding ++ border_left context.chars ++ inner_gutter context 0 Plain lanes
+    outer_gutter context.padding ++ border_left context.chars ++ inner_gutter context 0 Empty lanes
 
 -- the row of a break
 unfoldable pub break_row : RowContext → Lanes → Stream
 break_row context lanes =
     outer_gutter context.padding ++ border_left_break context.chars
-    ++ inner_gutter context 0 Plain lanes
+    ++ inner_gutter context 0 Empty lanes
 
 -- a line of the source
 unfoldable pub source_row : RowContext → Line → Stream
@@ -97,7 +98,7 @@ later_note_row padding piece = outer_gutter padding ++ space ++ space ++ bytes p
 
 -- the stream of a row
 abbrev pub stream_of : RowContext → Row → Stream
-stream_of context (HeaderRow at heading) = header_row context.severity at heading
+stream_of context (HeaderRow at header_text) = header_row context.severity at header_text
 stream_of context (SnippetStartRow at) = snippet_start_row context.chars context.padding at
 stream_of context (EmptyRow lanes) = empty_row context lanes
 stream_of context (BreakRow lanes) = break_row context lanes

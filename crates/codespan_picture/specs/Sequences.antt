@@ -18,8 +18,9 @@ in_sequence line_of between own previous (x ∷ xs) =
 
 -- between two drawn lines: a break, where lines are left out, or nothing
 abbrev pub break_between : {A : Type 0} → (ℕ → List A) → ℕ → ℕ → List A
-break_between broken c d = if has_break_between c d then broken d else []
+break_between of_break c d = if has_break_between c d then of_break d else []
 
 -- between two shown lines: the one line between them, a break, or nothing
 abbrev pub gap_between : {A : Type 0} → (ℕ → List A) → (ℕ → List A) → ℕ → ℕ → List A
-gap_between filled broken c d = if d == c + 2 then filled (c + 1) else break_between broken c d
+gap_between of_filled of_break c d =
+    if d == c + 2 then of_filled (c + 1) else break_between of_break c d

@@ -128,8 +128,8 @@ note_rows notes = flat_map (λ note. piece_rows (lines note)) notes
 -- the rows of rich style, where the files' snippets have these loci
 abbrev pub rich_rows : Config → HeaderText → List Locus → List LabeledFileModel → List (List ℕ)
     → List Row
-rich_rows config heading loci ss notes =
-    (HeaderRow None heading ∷ snippets config (has_any notes) loci ss)
+rich_rows config header_text loci ss notes =
+    (HeaderRow None header_text ∷ snippets config (has_any notes) loci ss)
     ++ note_rows notes ++ (FinalRow ∷ [])
 
 -- ---- short and medium style
@@ -140,6 +140,6 @@ primary_of {Id} xs = filter (λ (x : InFile Id). is_primary x.label) xs
 
 -- a header with each of these loci, or one without a locus where there is none
 abbrev pub header_rows : HeaderText → List Locus → List Row
-header_rows heading loci =
-    if_any (map (λ (locus : Locus). HeaderRow (Some locus) heading) loci)
-    (HeaderRow None heading ∷ [])
+header_rows header_text loci =
+    if_any (map (λ (locus : Locus). HeaderRow (Some locus) header_text) loci)
+    (HeaderRow None header_text ∷ [])

@@ -11,7 +11,7 @@ pub mod LaneMarks
 pub mod LinesFound
 pub mod GroupLines
 pub mod SnippetLineViews
-pub mod SnippetStarts
+pub mod LocusStarts
 pub mod PlanFiles
 pub mod PlansFound
 pub mod PlanPadding

@@ -31,7 +31,7 @@ use Rattle.codespan_plan.specs.declared.plan.OutputPlan.{OutputPlan}
 use Rattle.codespan_plan.specs.SnippetLineViews.{IsSnippetLineIn, IsSnippetLineOf, lookups_of_line, lookups_of_lines, numbers_looked_up, snippet_line_view}
 use Rattle.codespan_annotations.specs.SourceFiles.{lookups_of_filled}
 use Rattle.codespan_plan.specs.Loci.{loci_lookups}
-use Rattle.codespan_annotations.specs.FileStarts.{start_byte}
+use Rattle.codespan_annotations.specs.LocusStarts.{locus_byte}
 use Rattle.codespan_annotations.specs.FileIndices.{IsIdAt}
 use Rattle.codespan_plan.specs.SnippetPlans.{ArePlans, ArePlansOf, IsPlan, number_lookups, plans_failure, line_digits, lines_at, width_in}
 use Rattle.codespan_plan.specs.SnippetLines.{SnippetLine, fill_of, fills_of, rows_of_lines, AreInOrder}
@@ -39,7 +39,7 @@ use Rattle.codespan_plan.proofs.PlansFound.{by_index-same}
 use Rattle.codespan_plan.proofs.SpannedPadding.{spanned-padding_width}
 use Rattle.codespan_plan.proofs.AnnotationOutput.{snippet-fills, snippet-fits, snippet-lines, snippet-rows}
 use Rattle.codespan_collect.proofs.LabelIndexing.{AreFiles}
-use Rattle.codespan_plan.proofs.SnippetStarts.{start-is}
+use Rattle.codespan_plan.proofs.LocusStarts.{start-is}
 use Rattle.codespan_plan.proofs.SnippetLineRows.{line_of_snippet_line, lines_of_snippet_lines}
 
 -- ---- one snippet line
@@ -151,13 +151,13 @@ module _ {Id : Type 0} {database : FileDatabase Id} (lawful : AreFiles database)
       by_layout Unbroken id = refl
 
   -- where a file's snippet starts
-  file_start-is : {f : RustFile Id} → HasLabels same file xs f → start_byte f.start ≡ locus_start (labeled f.id).labels
-  file_start-is {f} known = ap start_byte known.start_is ∙ start-is same file f.id xs
+  file_locus_start-is : {f : RustFile Id} → HasLabels same file xs f → locus_byte f.start ≡ locus_start (labeled f.id).labels
+  file_locus_start-is {f} known = ap locus_byte known.start_is ∙ start-is same file f.id xs
 
   -- the lookups of the loci of files are those of their snippets
   loci-lookups : (fs : List (RustFile Id)) → AllByRecursion (HasLabels same file xs) fs → loci_lookups fs ≡ flat_map (λ id. lookups_of_file id (locus_lookups database xs id)) (ids_view fs)
   loci-lookups [] known = refl
-  loci-lookups (f ∷ fs) known = λ i. lookups_of_file f.id (Name ∷ LocationAt (file_start-is known.0 i) ∷ []) ++ loci-lookups fs known.1 i
+  loci-lookups (f ∷ fs) known = λ i. lookups_of_file f.id (Name ∷ LocationAt (file_locus_start-is known.0 i) ∷ []) ++ loci-lookups fs known.1 i
 
   -- so are those of all files
   loci-are : loci_lookups collected.files.items ≡ file_locus_lookups database xs
@@ -169,7 +169,7 @@ module _ {Id : Type 0} {database : FileDatabase Id} (lawful : AreFiles database)
     file-plan : IsSnippetPlan config (labeled f.id) snippet_plan own
     file-plan = record {
       lanes_are = ap (λ (g : RustFile Id). g.num_multi_labels) is.file_is ∙ known.lanes_are;
-      locus_is = subst (λ n. IsTextLocus (file f.id, n) (locus_view snippet_plan.locus)) (file_start-is known) is.locus_is;
+      locus_is = subst (λ n. IsTextLocus (file f.id, n) (locus_view snippet_plan.locus)) (file_locus_start-is known) is.locus_is;
       count_is = is.count_is;
       each = lines_of-file config.layout (file f.id) own is.each;
       fits = subst (AreInOrder (num_multi_labels (labeled f.id))) (sym is.are) (snippet k f.id at).fits;

@@ -25,7 +25,7 @@ use Rattle.codespan_annotations.specs.Annotations.{Annotation, is_before, is_of_
 use Rattle.codespan_annotations.specs.AnnotationViews.{IsLineOf, IsOfFiles, annotation_view}
 use Rattle.codespan_plan.specs.SnippetLineViews.{AddsLines, numbers_looked_up}
 use Rattle.codespan_annotations.specs.LabeledFiles.{ids_view}
-use Rattle.codespan_plan.specs.Loci.{locus_lookups_of, loci_lookups, snippet_start_of}
+use Rattle.codespan_plan.specs.Loci.{locus_lookups_of, loci_lookups, locus_start_of}
 use Rattle.codespan_annotations.specs.TextLoci.{IsTextLocus}
 use Rattle.codespan_annotations.specs.FileIndices.{IsIdAt}
 use Rattle.codespan_plan.specs.SnippetPlans.{ArePlans, IsPlan, by_index, number_lookups, lines_at}
@@ -137,7 +137,7 @@ pub plan_found : {Id : Type 0} {files : List (RustFile Id)} {xs zs : List (RustA
     {file : Id → FileModel}
     {old new : List (RustLine Id)} (added : AddsLines layout (file f.id) old new (lines_of (map annotation_view (next_slice zs at n)))) → zs ≡ xs
     → {count : ℕ} → count ≡ length new - length old → {snippet_plan : SnippetPlan Id} → snippet_plan.file.now ≡ f
-    → IsTextLocus (snippet_start_of file f) (locus_view snippet_plan.locus) → snippet_plan.line_total ≡ count → IsPlan layout file (map annotation_view xs) k f snippet_plan added.more
+    → IsTextLocus (locus_start_of file f) (locus_view snippet_plan.locus) → snippet_plan.line_total ≡ count → IsPlan layout file (map annotation_view xs) k f snippet_plan added.more
 plan_found turn added zs_are counted same locus total = record {
   file_is = same;
   locus_is = locus;

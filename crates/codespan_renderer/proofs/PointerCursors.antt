@@ -11,7 +11,7 @@ use Rattle.codespan_picture.specs.Rows.{hanging_labels}
 use Rattle.codespan_picture.specs.RowParts.{max_label_start, starts_in}
 use Rattle.codespan_picture.proofs.HangingStarts.{any-below, any-hanging_labels, starts_in-low}
 use Rattle.std.specs.List.{list_any}
-use Rattle.codespan_renderer.specs.Private.BestStyles.{best_from, pointer_found}
+use Rattle.codespan_renderer.specs.Private.PreferredStyles.{preferred_style, pointer_found}
 use Rattle.codespan_row_parts.specs.Runs.{AreHanging}
 use Rattle.codespan_renderer.proofs.ScannedPointers.{pointer_is}
 use Rattle.codespan_picture.proofs.Consecutive.{AreConsecutive}
@@ -65,8 +65,8 @@ passing-more before after s t u v c left w early late same same2 = record {
 
 -- the style that the two cursors find
 pub found-style : (labels before after bs ds : List SingleLabelTuple) (c : Metrics) (first second : Option LabelStyle) → AreHanging labels before after → bs ≡ before → ds ≡ after
-    → first ≡ best_from (starts_in c) None (filter has_message (single_label_views bs))
-    → second ≡ best_from (starts_in c) first (filter has_message (single_label_views ds))
+    → first ≡ preferred_style (starts_in c) None (filter has_message (single_label_views bs))
+    → second ≡ preferred_style (starts_in c) first (filter has_message (single_label_views ds))
     → second ≡ pointer_found (hanging_labels (single_label_views labels)) c
 found-style labels before after bs ds c first second h e f p q = rw (q, p, e, f) (pointer_is labels before after c h)
 

@@ -15,7 +15,7 @@ use Rattle.codespan_picture.specs.Arguments.{SingleLabelTuple, single_label_view
 use Rattle.codespan_picture.specs.Lanes.{label_glyph}
 use Rattle.codespan_picture.specs.Rows.{RowContext, hanging_labels}
 use Rattle.codespan_picture.specs.RowParts.{starts_in, pointer_style, max_label_start, spaces_up_to, pointer_at, pointers, metrics_before}
-use Rattle.codespan_renderer.specs.Private.BestStyles.{primary_first, best_from, pointer_found}
+use Rattle.codespan_renderer.specs.Private.PreferredStyles.{prefer_primary, preferred_style, pointer_found}
 use Rattle.codespan_row_parts.specs.Runs.{AreHanging}
 use Rattle.codespan_renderer.proofs.Best.{best-cons, best-primary}
 use Rattle.codespan_row_parts.proofs.RowEquations.{spaces-add}
@@ -24,18 +24,18 @@ use Rattle.codespan_row_parts.proofs.Hanging.{hanging_parts, spaces_is}
 -- ---- the style of a pointer
 
 -- the best of two lists
-best_append : (p : LabelModel → Bool) (found : Option LabelStyle) (xs ys : List LabelModel) → best_from p found (xs ++ ys) ≡ best_from p (best_from p found xs) ys
+best_append : (p : LabelModel → Bool) (found : Option LabelStyle) (xs ys : List LabelModel) → preferred_style p found (xs ++ ys) ≡ preferred_style p (preferred_style p found xs) ys
 best_append p found xs ys =
-    let step = λ (best : Option LabelStyle) (x : LabelModel). primary_first best x.style in
+    let step = λ (best : Option LabelStyle) (x : LabelModel). prefer_primary best x.style in
     ap (fold step found) (filter-append p xs ys) ∙ fold-append step found (filter p xs) (filter p ys)
 
 -- after a secondary style only a primary one counts
-best_later : (c : Metrics) (xs : List LabelModel) → best_from (starts_in c) (Some Secondary) xs ≡ Some (pointer_style xs c)
+best_later : (c : Metrics) (xs : List LabelModel) → preferred_style (starts_in c) (Some Secondary) xs ≡ Some (pointer_style xs c)
 best_later c [] = refl
 best_later c (x ∷ xs) = best-cons (starts_in c) (Some Secondary) x xs ∙ by_style (best_later c xs) (starts_in c x) x.style
   where
-    by_style : best_from (starts_in c) (Some Secondary) xs ≡ Some (pointer_style xs c) → (b : Bool) (s : LabelStyle)
-        → best_from (starts_in c) (if b then primary_first (Some Secondary) s else Some Secondary) xs
+    by_style : preferred_style (starts_in c) (Some Secondary) xs ≡ Some (pointer_style xs c) → (b : Bool) (s : LabelStyle)
+        → preferred_style (starts_in c) (if b then prefer_primary (Some Secondary) s else Some Secondary) xs
         ≡ Some (if (is_primary_style s && b) || list_any (λ y. is_primary y && starts_in c y) xs then Primary else Secondary)
     by_style more true Primary = best-primary (starts_in c) xs
     by_style more true Secondary = more
@@ -43,12 +43,12 @@ best_later c (x ∷ xs) = best-cons (starts_in c) (Some Secondary) x xs ∙ by_s
     by_style more false Secondary = more
 
 -- the best style of the labels that start in the character is that of its pointer
-best_is : (c : Metrics) (xs : List LabelModel) → best_from (starts_in c) None xs ≡ pointer_found xs c
+best_is : (c : Metrics) (xs : List LabelModel) → preferred_style (starts_in c) None xs ≡ pointer_found xs c
 best_is c [] = refl
 best_is c (x ∷ xs) = best-cons (starts_in c) None x xs ∙ by_style (best_is c xs) (starts_in c x) x.style
   where
-    by_style : best_from (starts_in c) None xs ≡ pointer_found xs c → (b : Bool) (s : LabelStyle)
-        → best_from (starts_in c) (if b then primary_first None s else None) xs
+    by_style : preferred_style (starts_in c) None xs ≡ pointer_found xs c → (b : Bool) (s : LabelStyle)
+        → preferred_style (starts_in c) (if b then prefer_primary None s else None) xs
         ≡ (if b || list_any (starts_in c) xs then Some (if (is_primary_style s && b) || list_any (λ y. is_primary y && starts_in c y) xs then Primary else Secondary) else None)
     by_style more true Primary = best-primary (starts_in c) xs
     by_style more true Secondary = best_later c xs
@@ -57,23 +57,23 @@ best_is c (x ∷ xs) = best-cons (starts_in c) None x xs ∙ by_style (best_is c
 
 -- the style of a pointer is that of the labels of the one list and then of the other
 pub pointer_is : (labels before after : List SingleLabelTuple) (c : Metrics) → AreHanging labels before after
-    → best_from (starts_in c) (best_from (starts_in c) None (filter has_message (single_label_views before))) (filter has_message (single_label_views after))
+    → preferred_style (starts_in c) (preferred_style (starts_in c) None (filter has_message (single_label_views before))) (filter has_message (single_label_views after))
     ≡ pointer_found (hanging_labels (single_label_views labels)) c
 pointer_is labels before after c h =
     sym (best_append (starts_in c) None (filter has_message (single_label_views before)) (filter has_message (single_label_views after)))
-    ∙ ap (best_from (starts_in c) None) (hanging_parts labels before after h)
+    ∙ ap (preferred_style (starts_in c) None) (hanging_parts labels before after h)
     ∙ best_is c (hanging_labels (single_label_views labels))
 
 -- a step over the label at an index
 pub best_step : (c : Metrics) (found best : Option LabelStyle) (xs : List SingleLabelTuple) (i : ℕ) (d : SingleLabelTuple) (empty : Bool) → i < length xs
     → empty ≡ (length (get_or xs i d).2.now == 0)
-    → best ≡ (if not empty then (if starts_in c (single_label_view (get_or xs i d)) then primary_first found (get_or xs i d).0 else found) else found)
-    → best_from (starts_in c) best (filter has_message (single_label_views (drop (i + 1) xs))) ≡ best_from (starts_in c) found (filter has_message (single_label_views (drop i xs)))
+    → best ≡ (if not empty then (if starts_in c (single_label_view (get_or xs i d)) then prefer_primary found (get_or xs i d).0 else found) else found)
+    → preferred_style (starts_in c) best (filter has_message (single_label_views (drop (i + 1) xs))) ≡ preferred_style (starts_in c) found (filter has_message (single_label_views (drop i xs)))
 best_step c found best xs i d empty h is e = rw (drop-cons xs i d h, add-one, e, spaces_is, ← is) (by_message (get_or xs i d) (not empty))
   where
     by_message : (x : SingleLabelTuple) (b : Bool)
-        → best_from (starts_in c) (if b then (if starts_in c (single_label_view x) then primary_first found x.0 else found) else found) (filter has_message (single_label_views (drop (suc i) xs)))
-        ≡ best_from (starts_in c) found (cond b (single_label_view x ∷ filter has_message (single_label_views (drop (suc i) xs))) (filter has_message (single_label_views (drop (suc i) xs))))
+        → preferred_style (starts_in c) (if b then (if starts_in c (single_label_view x) then prefer_primary found x.0 else found) else found) (filter has_message (single_label_views (drop (suc i) xs)))
+        ≡ preferred_style (starts_in c) found (cond b (single_label_view x ∷ filter has_message (single_label_views (drop (suc i) xs))) (filter has_message (single_label_views (drop (suc i) xs))))
     by_message x true = sym (best-cons (starts_in c) found (single_label_view x) (filter has_message (single_label_views (drop (suc i) xs))))
     by_message x false = refl
 

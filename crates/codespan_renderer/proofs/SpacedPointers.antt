@@ -13,7 +13,7 @@ use Rattle.codespan_picture.specs.Lanes.{label_glyph}
 use Rattle.codespan_renderer.specs.Private.PointerLists.{pointer_under, pointers_in, pointers_before, spaced}
 use Rattle.codespan_picture.specs.Rows.{RowContext, hanging_labels}
 use Rattle.codespan_picture.specs.RowParts.{starts_in, pointer_style, max_label_start, spaces_up_to, pointers, metrics_before, metrics_up_to}
-use Rattle.codespan_renderer.specs.Private.BestStyles.{pointer_found}
+use Rattle.codespan_renderer.specs.Private.PreferredStyles.{pointer_found}
 use Rattle.std.specs.Prelude.{if◌then◌else◌}
 use Rattle.std.specs.List.{list_any}
 use Rattle.codespan_renderer.proofs.ScannedPointers.{spaces_none, spaces_due, spaces_past, spaces_last, pointer_none, pointer_some}

@@ -5,5 +5,5 @@ pub mod CursorStates
 pub mod CachedMetrics
 pub mod PointerLists
 pub mod RowWriters
-pub mod BestStyles
+pub mod PreferredStyles
 pub mod LabelCursors

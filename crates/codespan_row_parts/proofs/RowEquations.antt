@@ -9,7 +9,7 @@ use Rattle.codespan_base.specs.Streams.{Stream, bytes, spaces, repeated, glyph, 
 use Rattle.codespan_base.proofs.Writes.{bytes-append}
 use Rattle.std.proofs.lemmas.Grind.{flat_map-append}
 use Rattle.codespan_base.proofs.Repeats.{repeat-add}
-use Rattle.codespan_row_parts.specs.declared.lanes.LaneRow.TheVariants.{Source, Plain, Below}
+use Rattle.codespan_row_parts.specs.declared.lanes.LaneRow.TheVariants.{Source, Empty, Below}
 use Rattle.codespan_picture.specs.Arguments.{SingleLabelTuple, single_label_views}
 use Rattle.codespan_row_parts.specs.LineViews.{row_lanes_view}
 use Rattle.codespan_picture.specs.Rows.{RowContext, Lanes, Line, Row, SourceRow, caret_rows, hanging_labels, hanging_rows, underline_rows, rows_of}
@@ -32,7 +32,7 @@ pub source_lanes_are : (context : RowContext) (leading : ℕ) (lanes : Lanes) �
 unfolding row_lanes_view inner_gutter
 source_lanes_are context leading lanes = refl
 
-pub plain_lanes_are : (context : RowContext) (leading : ℕ) (lanes : Lanes) → row_lanes_view context leading Plain lanes ≡ inner_gutter context 0 kind.Plain lanes
+pub plain_lanes_are : (context : RowContext) (leading : ℕ) (lanes : Lanes) → row_lanes_view context leading Empty lanes ≡ inner_gutter context 0 kind.Empty lanes
 unfolding row_lanes_view inner_gutter
 plain_lanes_are context leading lanes = refl
 

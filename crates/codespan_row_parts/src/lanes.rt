@@ -27,7 +27,7 @@ pub enum LaneRow<'d> {
     /// A source row.
     Source,
     /// An empty row or a break row.
-    Plain,
+    Empty,
     /// A caret, pointer or hanging row.
     Below,
     /// The underline row of a lane mark: its lane, its style, and what its label does on the line.
@@ -53,7 +53,7 @@ fn crossing<'d>(row: LaneRow<'d>, lane: usize) -> Option<(usize, LabelStyle, Mul
             style,
             multi_label,
         )),
-        LaneRow::Source | LaneRow::Plain | LaneRow::Below | LaneRow::Underline(_, _, _) => None,
+        LaneRow::Source | LaneRow::Empty | LaneRow::Below | LaneRow::Underline(_, _, _) => None,
     }
 }
 
@@ -212,7 +212,7 @@ fn num_empty_lanes(row: LaneRow<'_>, lane: usize, until: usize) -> usize
 {
     let end = match row {
         LaneRow::Underline(corner_lane, _, _) => until.min(corner_lane.saturating_add(1)),
-        LaneRow::Source | LaneRow::Plain | LaneRow::Below => until,
+        LaneRow::Source | LaneRow::Empty | LaneRow::Below => until,
     };
     end.saturating_sub(lane).min(MAX_EMPTY_LANES)
 }

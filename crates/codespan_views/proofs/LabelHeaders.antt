@@ -87,11 +87,11 @@ no_loci R [] (p ∷ ps) is h = absurd h
 no_loci R (x ∷ xs) ps is h = cc
 
 -- where there is a label there is a locus, and a header for each
-pub some_headers : {X : Type 0} (R : X → Locus → Type 0) (heading : HeaderText) (xs : List X) (ps : List Locus) → has_any xs ≡ true → AllZip R xs ps
-    → header_rows heading ps ≡ headers heading ps
-some_headers R heading [] ps some h = cc
-some_headers R heading (x ∷ xs) [] some h = absurd h
-some_headers R heading (x ∷ xs) (p ∷ ps) some h = refl
+pub some_headers : {X : Type 0} (R : X → Locus → Type 0) (header_text : HeaderText) (xs : List X) (ps : List Locus) → has_any xs ≡ true → AllZip R xs ps
+    → header_rows header_text ps ≡ headers header_text ps
+some_headers R header_text [] ps some h = cc
+some_headers R header_text (x ∷ xs) [] some h = absurd h
+some_headers R header_text (x ∷ xs) (p ∷ ps) some h = refl
 
 -- ---- the streams
 

@@ -12,7 +12,7 @@ ghost use Rattle.codespan_views.specs.WriteCalls.{WritesStyled};
 ghost use Rattle.codespan_views.specs.Private.ViewRendering.{RendersHeadersOf, RendersInStyle};
 
 use crate::parts::{render_diagnostic_header, render_notes};
-use codespan_annotations::file_start::is_primary;
+use codespan_annotations::locus_start::is_primary;
 use codespan_annotations::source_file::SourceFile;
 use codespan_base::diagnostic::{Diagnostic, Label};
 use codespan_base::files::{Error, Files};

@@ -10,7 +10,7 @@ ghost use Rattle.codespan_annotations.specs.FileLookups.{FailsByOrFormat, failur
 ghost use Rattle.codespan_annotations.specs.Annotations.{is_before};
 ghost use Rattle.codespan_annotations.specs.AnnotationViews.{IsLineOf, IsOfFiles, annotation_view};
 ghost use Rattle.codespan_annotations.specs.LabeledFiles.{ids_view};
-ghost use Rattle.codespan_plan.specs.Loci.{locus_failure, snippet_start_of};
+ghost use Rattle.codespan_plan.specs.Loci.{locus_failure, locus_start_of};
 ghost use Rattle.codespan_plan.specs.SnippetPlans.{ArePlansOf, plans_failure};
 ghost use Rattle.codespan_plan.specs.SnippetLines.{fills_of, lines_of};
 ghost use Rattle.codespan_plan.specs.SnippetLineViews.{AddsLines, numbers_looked_up};
@@ -86,7 +86,7 @@ fn locate_snippet<'files, 'e, F: Files<'files>>(
 ) -> Result<SnippetPlan<'e, F::FileId>, Error>
     ensures file { IfOk result (λ snippet_plan. snippet_plan.file.now ≡ file.now) }
     ensures locus { IfOk result (λ snippet_plan. IsTextLocus
-        (snippet_start_of (F.database files.now).file file.now) (locus_view snippet_plan.locus)) }
+        (locus_start_of (F.database files.now).file file.now) (locus_view snippet_plan.locus)) }
     ensures line_total { IfOk result (λ snippet_plan. snippet_plan.line_total ≡ line_total) }
     ensures failed { FailsByOrFormat (locus_failure (F.database files.now).failure file.now)
         result }

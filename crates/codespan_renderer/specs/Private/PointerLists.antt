@@ -12,7 +12,7 @@ use Rattle.codespan_picture.specs.Arguments.{single_label_views, starts_from}
 use Rattle.codespan_picture.specs.Lanes.{label_glyph}
 use Rattle.codespan_picture.specs.Rows.{RowContext}
 use Rattle.codespan_picture.specs.RowParts.{starts_in}
-use Rattle.codespan_renderer.specs.Private.BestStyles.{best_from, pointer_found}
+use Rattle.codespan_renderer.specs.Private.PreferredStyles.{preferred_style, pointer_found}
 
 -- the pointer under a character, of this style
 abbrev pub pointer_under : Metrics → LabelStyle → Pointer
@@ -47,6 +47,6 @@ label_starts_left s = single_label_views (drop s.next s.labels.now)
 -- later character
 pub record HasPassedStarts (byte_index : ℕ) (s : StartCursor) : Type 0 where
   pub is : (c : Metrics) (found : Option LabelStyle) → byte_index ≤ c.byte_index
-      → best_from (starts_in c) found (filter has_message (single_label_views s.labels.now))
-      ≡ best_from (starts_in c) found (filter has_message (label_starts_left s))
+      → preferred_style (starts_in c) found (filter has_message (single_label_views s.labels.now))
+      ≡ preferred_style (starts_in c) found (filter has_message (label_starts_left s))
   pub ordered : starts_from byte_index (label_starts_left s) ≡ true

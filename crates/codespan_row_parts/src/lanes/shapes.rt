@@ -23,14 +23,14 @@ pub fn shape_in(
 {
     match (row, multi_label) {
         (LaneRow::Source, MultiLabel::Top(start)) if start <= leading => Shape::TopCorner,
-        (LaneRow::Source | LaneRow::Plain, MultiLabel::Top(_)) => Shape::Space,
+        (LaneRow::Source | LaneRow::Empty, MultiLabel::Top(_)) => Shape::Space,
         (LaneRow::Below, MultiLabel::Top(start)) if goes_on(layout, leading, start) => Shape::Bar,
         (LaneRow::Below, MultiLabel::Top(_)) => Shape::Space,
         (LaneRow::Underline(corner_lane, _, _), multi_label) => {
             underline_shape(layout, leading, corner_lane, lane, multi_label)
         }
         (
-            LaneRow::Source | LaneRow::Plain | LaneRow::Below,
+            LaneRow::Source | LaneRow::Empty | LaneRow::Below,
             MultiLabel::Left | MultiLabel::Bottom(_, _),
         ) => Shape::Bar,
     }

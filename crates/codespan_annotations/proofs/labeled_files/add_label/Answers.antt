@@ -2,9 +2,9 @@ use Rattle.std.proofs.Common.{ℕ, ◌+◌, ◌∙◌}
 use Rattle.std.proofs.lemmas.List.{set-get_or}
 use Rattle.codespan_picture.specs.OutputStreams.{label_of}
 use Rattle.codespan_annotations.specs.declared.labeled_files.LabeledFile.{LabeledFile as RustFile}
-use Rattle.codespan_annotations.specs.declared.file_start.FileStart.{FileStart}
+use Rattle.codespan_annotations.specs.declared.locus_start.LocusStart.{LocusStart}
 use Rattle.codespan_annotations.specs.LabeledFiles.{ids_view, lanes_by}
-use Rattle.codespan_annotations.specs.FileStarts.{no_start, start_with}
+use Rattle.codespan_annotations.specs.LocusStarts.{no_start, start_with}
 use Rattle.codespan_annotations.proofs.IndexedElements.{IsElementAt, map-changed}
 use Rattle.codespan_annotations.proofs.labeled_files.add_label.Given.{Over}
 use Rattle.codespan_annotations.proofs.labeled_files.add_label.Goals.{After-add}
@@ -22,7 +22,7 @@ returns-clause-ids g c =
 
 pub returns-clause-starts : goal.returns-clause-starts
 returns-clause-starts g c =
-    let start : RustFile g.row.FileId.Denot → FileStart = λ f. f.start in
+    let start : RustFile g.row.FileId.Denot → LocusStart = λ f. f.start in
     map-changed start no_start (λ s. start_with s (label_of c.args.label.now).label) (at g (goal.at.returns-clause-starts g c).After-add) c.add.new.self c.add.ensures.start
 
 pub returns-clause-lanes : goal.returns-clause-lanes

@@ -1,6 +1,6 @@
 use Rattle.std.proofs.Common.{◌≡◌, List, [], ◌∷◌, ◌++◌, sym, ap, ◌∙◌}
 use Rattle.codespan_annotations.specs.LabeledFiles.{ids_view, lane_counts, starts_view, with_file}
-use Rattle.codespan_annotations.specs.FileStarts.{no_start}
+use Rattle.codespan_annotations.specs.LocusStarts.{no_start}
 use Rattle.codespan_annotations.specs.FileIndices.{index_of_file}
 use Rattle.codespan_annotations.proofs.FileSearch.{file-added, file-unchanged}
 use Rattle.codespan_annotations.proofs.labeled_files.get_or_insert_file.Given.{Over}

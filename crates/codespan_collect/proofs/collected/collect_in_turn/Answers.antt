@@ -6,7 +6,7 @@ use Rattle.codespan_annotations.specs.declared.labeled_files.LabeledFile.{Labele
 use Rattle.codespan_collect.specs.CollectedLabels.{FindsLines, collected_label}
 use Rattle.codespan_annotations.specs.AnnotationViews.{Adds, IsOfFiles}
 use Rattle.codespan_annotations.specs.LabeledFiles.{ids_view, lane_counts, num_multi_labels_of, lanes_with_label}
-use Rattle.codespan_annotations.specs.FileStarts.{file_start}
+use Rattle.codespan_annotations.specs.LocusStarts.{file_locus_start}
 use Rattle.codespan_picture.specs.OutputStreams.{label_of}
 use Rattle.codespan_picture.specs.Snippets.{file_ids}
 use Rattle.codespan_annotations.specs.FileIndices.{AreDistinct, index_of_file}
@@ -134,7 +134,7 @@ returns-clause-collected g c =
       files = record {
         ids_are = done.ids_are;
         labels_are = each-labels same file xs c.loop-index.labeled.items
-            (done.starts_are ∙ ap (map (file_start same xs)) (sym done.ids_are))
+            (done.starts_are ∙ ap (map (file_locus_start same xs)) (sym done.ids_are))
             (done.lanes_are ∙ ap (map (num_multi_labels_of same file xs)) (sym done.ids_are));
         padding_is = done.counted;
       };

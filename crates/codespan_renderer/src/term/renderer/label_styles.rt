@@ -8,7 +8,7 @@ ghost use Rattle.codespan_picture.specs.RowParts.{starts_in};
 ghost use Rattle.codespan_picture.specs.Rows.{hanging_labels};
 ghost use Rattle.codespan_row_parts.specs.CharCursors.{is_covered};
 ghost use Rattle.codespan_row_parts.specs.Runs.{AreHanging};
-ghost use Rattle.codespan_renderer.specs.Private.BestStyles.{best_from, pointer_found, primary_first};
+ghost use Rattle.codespan_renderer.specs.Private.PreferredStyles.{preferred_style, pointer_found, prefer_primary};
 
 use crate::term::renderer::SingleLabel;
 use crate::term::renderer::char_metrics::Metrics;
@@ -24,8 +24,8 @@ fn covers(label: &SingleLabel<'_>, metrics: Metrics) -> bool
 }
 
 /// Returns which of two styles takes precedence: a primary one, or the second.
-pub fn primary_first(found: Option<LabelStyle>, style: LabelStyle) -> Option<LabelStyle>
-    ensures { result ≡ primary_first found style }
+pub fn prefer_primary(found: Option<LabelStyle>, style: LabelStyle) -> Option<LabelStyle>
+    ensures { result ≡ prefer_primary found style }
 {
     match found {
         Some(LabelStyle::Primary) => found,
@@ -40,7 +40,7 @@ pub fn style_under(labels: &[SingleLabel<'_>], metrics: Metrics) -> Option<Label
     let mut found = None;
     for label in labels {
         if covers(label, metrics) {
-            found = primary_first(found, label.0);
+            found = prefer_primary(found, label.0);
         }
     }
     found
@@ -76,12 +76,13 @@ fn start_style(
     metrics: Metrics,
 ) -> Option<LabelStyle>
     ensures { result
-        ≡ best_from (starts_in metrics) found (filter has_message (single_label_views labels.now)) }
+        ≡ preferred_style (starts_in metrics) found
+        (filter has_message (single_label_views labels.now)) }
 {
     let mut best = found;
     for label in labels {
         if !label.2.is_empty() && starts_in(metrics, label) {
-            best = primary_first(best, label.0);
+            best = prefer_primary(best, label.0);
         }
     }
     best

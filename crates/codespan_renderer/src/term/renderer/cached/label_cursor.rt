@@ -6,13 +6,13 @@ ghost use Rattle.codespan_picture.specs.Carets.{style_under};
 ghost use Rattle.codespan_picture.specs.Arguments.{single_label_view, single_label_views, starts_in_order};
 ghost use Rattle.codespan_renderer.specs.Private.PointerLists.{HasPassedStarts};
 ghost use Rattle.codespan_picture.specs.RowParts.{starts_in};
-ghost use Rattle.codespan_renderer.specs.Private.BestStyles.{best_from};
+ghost use Rattle.codespan_renderer.specs.Private.PreferredStyles.{preferred_style};
 ghost use Rattle.codespan_row_parts.specs.CharCursors.{is_covered};
 ghost use Rattle.codespan_renderer.specs.Private.LabelCursors.{end_with, HasPassedLabels};
 
 use crate::term::renderer::SingleLabel;
 use crate::term::renderer::char_metrics::Metrics;
-use crate::term::renderer::label_styles::primary_first;
+use crate::term::renderer::label_styles::prefer_primary;
 use codespan_base::diagnostic::LabelStyle;
 
 /// A cursor over the labels of a line, which passes a label at the character in which it starts, or
@@ -164,7 +164,7 @@ impl<'row, 'd> StartCursor<'row, 'd> {
         requires passed { HasPassedStarts metrics.byte_index self.old }
         ensures passed { HasPassedStarts (metrics.byte_index + metrics.bytes) self.new }
         ensures labels { self.new.labels.now ≡ self.old.labels.now }
-        ensures best { result ≡ best_from (starts_in metrics) found
+        ensures best { result ≡ preferred_style (starts_in metrics) found
             (filter has_message (single_label_views self.old.labels.now)) }
     {
         let labels = self.labels;
@@ -172,7 +172,7 @@ impl<'row, 'd> StartCursor<'row, 'd> {
         while self.next < labels.len() && begins_by(&labels[self.next], metrics) {
             let label = &labels[self.next];
             if !label.2.is_empty() {
-                best = primary_first(best, label.0);
+                best = prefer_primary(best, label.0);
             }
             self.next += 1;
         }

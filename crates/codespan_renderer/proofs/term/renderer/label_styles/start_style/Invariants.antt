@@ -2,11 +2,11 @@ use Rattle.std.proofs.Common.{◌≡◌, filter, drop}
 use Rattle.codespan_base.specs.Labels.{has_message}
 use Rattle.codespan_picture.specs.Arguments.{single_label_views}
 use Rattle.codespan_picture.specs.RowParts.{starts_in}
-use Rattle.codespan_renderer.specs.Private.BestStyles.{best_from}
+use Rattle.codespan_renderer.specs.Private.PreferredStyles.{preferred_style}
 use Rattle.codespan_renderer.proofs.term.renderer.label_styles.start_style.Given as goal
 
 -- the remaining labels improve on what was found
 abbrev pub invariant-loop-label : goal.invariant-loop-label
 invariant-loop-label l =
-    best_from (starts_in l.metrics) l.best (filter has_message (single_label_views (drop l.label-index l.labels)))
-    ≡ best_from (starts_in l.metrics) l.fn.found (filter has_message (single_label_views l.labels))
+    preferred_style (starts_in l.metrics) l.best (filter has_message (single_label_views (drop l.label-index l.labels)))
+    ≡ preferred_style (starts_in l.metrics) l.fn.found (filter has_message (single_label_views l.labels))

@@ -14,7 +14,7 @@ loop-self-preserved c =
         | then-not-is_empty w ↦
             let some = w.if-not-is_empty.true in
             start-here c.args.metrics c.loop-self.best c.if-not-is_empty.best _ c.args.self.now.labels.now c.loop-self.self.next _ _ i.same c.loop-self-test.true c.is_empty.ensures low prefix
-            (rw some (w.best-is ∙ w.primary_first-best.ensures)) ∙ i.here
+            (rw some (w.best-is ∙ w.prefer_primary-best.ensures)) ∙ i.here
         | else-not-is_empty w ↦
             let none = w.if-not-is_empty.false in
             start-here c.args.metrics c.loop-self.best c.if-not-is_empty.best _ c.args.self.now.labels.now c.loop-self.self.next _ _ i.same c.loop-self-test.true c.is_empty.ensures low prefix

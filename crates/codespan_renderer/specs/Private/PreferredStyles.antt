@@ -8,14 +8,15 @@ use Rattle.codespan_picture.specs.Rows.{hanging_labels}
 use Rattle.codespan_picture.specs.RowParts.{starts_in, pointer_style}
 
 -- of two styles a primary one takes precedence
-abbrev pub primary_first : Option LabelStyle → LabelStyle → Option LabelStyle
-primary_first (Some Primary) style = Some Primary
-primary_first _ style = Some style
+abbrev pub prefer_primary : Option LabelStyle → LabelStyle → Option LabelStyle
+prefer_primary (Some Primary) style = Some Primary
+prefer_primary _ style = Some style
 
 -- the style that takes precedence among what was found and those of the labels that pass
-abbrev pub best_from : (LabelModel → Bool) → Option LabelStyle → List LabelModel → Option LabelStyle
-best_from passes found xs =
-    fold (λ best (x : LabelModel). primary_first best x.style) found (filter passes xs)
+abbrev pub preferred_style : (LabelModel → Bool) → Option LabelStyle → List LabelModel
+    → Option LabelStyle
+preferred_style passes found xs =
+    fold (λ best (x : LabelModel). prefer_primary best x.style) found (filter passes xs)
 
 -- the style of the pointer under a character, where a label hangs from it
 abbrev pub pointer_found : List LabelModel → Metrics → Option LabelStyle

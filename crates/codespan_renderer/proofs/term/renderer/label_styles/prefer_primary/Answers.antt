@@ -1,11 +1,11 @@
 use Rattle.std.proofs.Common.{◌≡◌, Option, Some, refl, ap, ◌∙◌}
 use Rattle.codespan_base.specs.declared.diagnostic.LabelStyle.{LabelStyle}
 use Rattle.codespan_base.specs.declared.diagnostic.LabelStyle.TheVariants.{Primary}
-use Rattle.codespan_renderer.specs.Private.BestStyles.{primary_first}
-use Rattle.codespan_renderer.proofs.term.renderer.label_styles.primary_first.Goals as goal
+use Rattle.codespan_renderer.specs.Private.PreferredStyles.{prefer_primary}
+use Rattle.codespan_renderer.proofs.term.renderer.label_styles.prefer_primary.Goals as goal
 
--- no style is primary_first than a primary one
-primary_stays : (found : Option LabelStyle) (style : LabelStyle) → found ≡ Some Primary → found ≡ primary_first found style
+-- no style is prefer_primary than a primary one
+primary_stays : (found : Option LabelStyle) (style : LabelStyle) → found ≡ Some Primary → found ≡ prefer_primary found style
 primary_stays found style e = rw e refl
 
 -- a primary style stays

@@ -11,9 +11,9 @@ use Rattle.codespan_base.specs.declared.diagnostic.Label.{Label}
 use Rattle.codespan_base.specs.Labels.{is_primary}
 use Rattle.codespan_picture.specs.OutputStreams.{label_of}
 use Rattle.codespan_picture.specs.Snippets.{InFile, file_ids}
-use Rattle.codespan_annotations.specs.declared.file_start.FileStart.{FileStart}
+use Rattle.codespan_annotations.specs.declared.locus_start.LocusStart.{LocusStart}
 use Rattle.codespan_annotations.specs.LabeledFiles.{starts_with_label}
-use Rattle.codespan_annotations.specs.FileStarts.{file_start, is_locus_label, least_if_any, least_with, no_start, start_with, label_starts}
+use Rattle.codespan_annotations.specs.LocusStarts.{file_locus_start, is_locus_label, least_if_any, least_with, no_start, start_with, label_starts}
 use Rattle.codespan_annotations.specs.FileIndices.{index_of_file}
 use Rattle.codespan_laws.proofs.ListElements.{all-weaker, filter-nothing}
 use Rattle.codespan_annotations.proofs.IndexedElements.{IsElementAt}
@@ -45,14 +45,14 @@ module _ {Id : Type 0} (same : Id → Id → Bool) (xs : List (InFile Id)) (x : 
       by false = refl
 
   -- a label of another file changes nothing
-  start-others : same id x.id ≡ false → file_start same (xs ++ x ∷ []) id ≡ file_start same xs id
+  start-others : same id x.id ≡ false → file_locus_start same (xs ++ x ∷ []) id ≡ file_locus_start same xs id
   start-others f = λ i. record { primary = least_if_any (none true i); any = least_if_any (none false i) }
     where
       none : (only : Bool) → label_starts same id only (xs ++ x ∷ []) ≡ label_starts same id only xs
       none only = starts-more only ∙ ap (λ (b : Bool). label_starts same id only xs ++ own_start (b && (not only || is_primary x.label))) f ∙ append-nil (label_starts same id only xs)
 
   -- one of the file adds its start
-  start-own : same id x.id ≡ true → file_start same (xs ++ x ∷ []) id ≡ start_with (file_start same xs id) x.label
+  start-own : same id x.id ≡ true → file_locus_start same (xs ++ x ∷ []) id ≡ start_with (file_locus_start same xs id) x.label
   start-own t = λ i. record { primary = by (is_primary x.label) refl i; any = (ap least_if_any (candidates false) ∙ least-more (label_starts same id false xs) x.label.start) i }
     where
       candidates : (only : Bool) → label_starts same id only (xs ++ x ∷ []) ≡ label_starts same id only xs ++ own_start (not only || is_primary x.label)
@@ -66,7 +66,7 @@ module _ {Id : Type 0} (same : Id → Id → Bool) (xs : List (InFile Id)) (x : 
       by false is = ap least_if_any (candidates true ∙ ap (λ (c : Bool). primary ++ own_start c) is ∙ append-nil primary)
 
 -- labels of other files change nothing
-pub start-unknown : {Id : Type 0} (same : Id → Id → Bool) (xs : List (InFile Id)) (id : Id) → AllByRecursion (λ (x : InFile Id). same id x.id ≡ false) xs → file_start same xs id ≡ no_start
+pub start-unknown : {Id : Type 0} (same : Id → Id → Bool) (xs : List (InFile Id)) (id : Id) → AllByRecursion (λ (x : InFile Id). same id x.id ≡ false) xs → file_locus_start same xs id ≡ no_start
 start-unknown {Id} same xs id none = λ i. record { primary = least_if_any (starts true i); any = least_if_any (starts false i) }
   where
     starts : (only : Bool) → label_starts same id only xs ≡ []
@@ -74,7 +74,7 @@ start-unknown {Id} same xs id none = λ i. record { primary = least_if_any (star
         (all-weaker (λ (x : InFile Id). same id x.id ≡ false) (λ x. is_locus_label same id only x ≡ false) (λ x f. ap (λ (b : Bool). b && (not only || is_primary x.label)) f) xs none))
 
 -- equal ids have one start
-start-equal : {Id : Type 0} (same : Id → Id → Bool) (o : IsEquivalence same) (xs : List (InFile Id)) (i j : Id) → same i j ≡ true → file_start same xs i ≡ file_start same xs j
+start-equal : {Id : Type 0} (same : Id → Id → Bool) (o : IsEquivalence same) (xs : List (InFile Id)) (i j : Id) → same i j ≡ true → file_locus_start same xs i ≡ file_locus_start same xs j
 start-equal {Id} same o xs i j t = λ k. record { primary = least_if_any (starts true k); any = least_if_any (starts false k) }
   where
     starts : (only : Bool) → label_starts same i only xs ≡ label_starts same j only xs
@@ -86,28 +86,28 @@ module _ {Id : Type 0} {labels : List (Label Id)} {index : ℕ} {label : Label I
   ids = file_ids same (before labels (index + 1))
 
   -- the labels of a file up to the next index are those before this one, and this one
-  with_label : (j : Id) → file_start same (before labels (index + 1)) j ≡ file_start same (before labels index ++ label_of label ∷ []) j
-  with_label j = ap (λ (ys : List (InFile Id)). file_start same ys j) (before-more turn)
+  with_label : (j : Id) → file_locus_start same (before labels (index + 1)) j ≡ file_locus_start same (before labels index ++ label_of label ∷ []) j
+  with_label j = ap (λ (ys : List (InFile Id)). file_locus_start same ys j) (before-more turn)
 
   -- the label changes the start of its file, and of no other one
-  start-changed : IsChanged same label.file_id (file_start same (before labels index))
-      (file_start same (before labels (index + 1)))
-      (start_with (file_start same (before labels index) label.file_id) (label_of label).label)
+  start-changed : IsChanged same label.file_id (file_locus_start same (before labels index))
+      (file_locus_start same (before labels (index + 1)))
+      (start_with (file_locus_start same (before labels index) label.file_id) (label_of label).label)
   start-changed = record {
     own = λ j t. with_label j ∙ start-own same (before labels index) (label_of label) j t
-        ∙ ap (λ (s : FileStart). start_with s (label_of label).label) (start-equal same o (before labels index) j label.file_id t);
+        ∙ ap (λ (s : LocusStart). start_with s (label_of label).label) (start-equal same o (before labels index) j label.file_id t);
     others = λ j f. with_label j ∙ start-others same (before labels index) (label_of label) j f;
   }
 
   -- what is known of the label's file, and of all files with the label
-  pub starts-set : {starts now : List FileStart}
-      → starts ≡ map (file_start same (before labels index)) ids
+  pub starts-set : {starts now : List LocusStart}
+      → starts ≡ map (file_locus_start same (before labels index)) ids
       → now ≡ starts_with_label starts (index_of_file same ids label.file_id) (label_of label).label
-      → now ≡ map (file_start same (before labels (index + 1))) ids
+      → now ≡ map (file_locus_start same (before labels (index + 1))) ids
   starts-set {starts} are is =
       is ∙ (λ i. set (are i) (index_of_file same ids label.file_id) (start_with (known i) (label_of label).label)) ∙ set-at o start-changed ids (ids-differ turn o) (has-file turn o)
     where
-      known : get_or starts (index_of_file same ids label.file_id) no_start ≡ file_start same (before labels index) label.file_id
+      known : get_or starts (index_of_file same ids label.file_id) no_start ≡ file_locus_start same (before labels index) label.file_id
       known =
-          ap (λ (ss : List FileStart). get_or ss (index_of_file same ids label.file_id) no_start) are
-          ∙ unchanged-at o (file_start same (before labels index)) (start-equal same o (before labels index)) ids label.file_id no_start (has-file turn o)
+          ap (λ (ss : List LocusStart). get_or ss (index_of_file same ids label.file_id) no_start) are
+          ∙ unchanged-at o (file_locus_start same (before labels index)) (start-equal same o (before labels index)) ids label.file_id no_start (has-file turn o)

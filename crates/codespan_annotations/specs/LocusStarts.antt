@@ -2,7 +2,7 @@
 use Rattle.std.specs.Prelude.{ℕ, Bool, true, false, not, ◌&&◌, ◌||◌, min, List, [], ◌∷◌, map, filter, fold, if◌then◌else◌, Option, Some, None, unwrap_or}
 use Rattle.codespan_base.specs.Labels.{LabelModel, is_primary}
 use Rattle.codespan_picture.specs.Snippets.{InFile}
-use Rattle.codespan_annotations.specs.declared.file_start.FileStart.{FileStart}
+use Rattle.codespan_annotations.specs.declared.locus_start.LocusStart.{LocusStart}
 
 -- the least of some numbers, if there is one
 abbrev pub least_if_any : List ℕ → Option ℕ
@@ -19,8 +19,8 @@ label_starts {Id} same id only_primary xs =
     map (λ (x : InFile Id). x.label.start) (filter (is_locus_label same id only_primary) xs)
 
 -- where the snippet of a file starts, by these labels
-abbrev pub file_start : {Id : Type 0} → (Id → Id → Bool) → List (InFile Id) → Id → FileStart
-file_start same xs id = record {
+abbrev pub file_locus_start : {Id : Type 0} → (Id → Id → Bool) → List (InFile Id) → Id → LocusStart
+file_locus_start same xs id = record {
   primary = least_if_any (label_starts same id true xs);
   any = least_if_any (label_starts same id false xs);
 }
@@ -31,16 +31,16 @@ least_with None n = n
 least_with (Some m) n = min m n
 
 -- where there is no label
-abbrev pub no_start : FileStart
+abbrev pub no_start : LocusStart
 no_start = record { primary = None; any = None }
 
 -- where it starts with one label more
-abbrev pub start_with : FileStart → LabelModel → FileStart
+abbrev pub start_with : LocusStart → LabelModel → LocusStart
 start_with s x = record {
   primary = if is_primary x then Some (least_with s.primary x.start) else s.primary;
   any = Some (least_with s.any x.start);
 }
 
 -- the byte index: the least start of a primary label, or of any where none is primary
-abbrev pub start_byte : FileStart → ℕ
-start_byte s = unwrap_or s.primary (unwrap_or s.any 0)
+abbrev pub locus_byte : LocusStart → ℕ
+locus_byte s = unwrap_or s.primary (unwrap_or s.any 0)

@@ -3,7 +3,7 @@
 ghost use Rattle.std.specs.Prelude.{◌≡◌};
 ghost use Rattle.codespan_base.specs.Labels.{is_primary};
 ghost use Rattle.codespan_picture.specs.OutputStreams.{label_of};
-ghost use Rattle.codespan_annotations.specs.FileStarts.{least_with, no_start, start_byte, start_with};
+ghost use Rattle.codespan_annotations.specs.LocusStarts.{least_with, no_start, locus_byte, start_with};
 
 use codespan_base::diagnostic::{Label, LabelStyle};
 
@@ -26,26 +26,26 @@ fn least(known: Option<usize>, start: usize) -> usize
 
 /// The byte of a file's locus, by the labels that were added. Byte indices are 0-based.
 #[derive(Clone, Copy)]
-pub struct FileStart {
+pub struct LocusStart {
     /// The least byte index at which a primary label starts; `None` where none is primary.
     pub primary: Option<usize>,
     /// The least byte index at which any label starts; `None` where there is none.
     pub any: Option<usize>,
 }
 
-impl FileStart {
+impl LocusStart {
     /// Returns the start without any label.
-    pub fn unknown() -> FileStart
+    pub fn unknown() -> LocusStart
         ensures { result ≡ no_start }
     {
-        FileStart {
+        LocusStart {
             primary: None,
             any: None,
         }
     }
 
     /// Returns the start with one label more.
-    pub fn with<FileId>(self, label: &Label<FileId>) -> FileStart
+    pub fn with<FileId>(self, label: &Label<FileId>) -> LocusStart
         ensures { result ≡ start_with self (label_of label.now).label }
     {
         let start = label.range.start;
@@ -54,7 +54,7 @@ impl FileStart {
         } else {
             self.primary
         };
-        FileStart {
+        LocusStart {
             primary,
             any: Some(least(self.any, start)),
         }
@@ -63,7 +63,7 @@ impl FileStart {
     /// Returns the byte index of the locus: the least start of a primary label, or of any label
     /// where none is primary; 0 without labels.
     pub fn byte(self) -> usize
-        ensures { result ≡ start_byte self }
+        ensures { result ≡ locus_byte self }
     {
         match self.primary {
             Some(byte) => byte,

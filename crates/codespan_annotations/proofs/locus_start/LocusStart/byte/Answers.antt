@@ -1,5 +1,5 @@
 use Rattle.std.proofs.Common.{refl}
-use Rattle.codespan_annotations.proofs.file_start.FileStart.byte.Goals as goal
+use Rattle.codespan_annotations.proofs.locus_start.LocusStart.byte.Goals as goal
 
 -- a primary label counts before any other
 pub returns-in-Some : goal.returns-in-Some
