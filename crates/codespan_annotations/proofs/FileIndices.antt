@@ -76,7 +76,7 @@ module _ {Id : Type 0} (same : Id → Id → Bool) (o : IsEquivalence same) wher
 
   -- the id at an index of a diagnostic's files is equal to those of the labels there
   pub index_of_file-at : (xs : List (InFile Id)) (f : ℕ) (id : Id) → IsIdAt (file_ids same xs) f id → (i : Id) → (index_of_file same (file_ids same xs) i == f) ≡ same id i
-  index_of_file-at xs f id a i = index-is (file_ids same xs) f id (first_seen-differ (map (λ (x : InFile Id). x.id) xs)) a i
+  index_of_file-at xs f id a i = index-is (file_ids same xs) f id (first_seen-differ (map (λ (x : InFile Id). x.file_id) xs)) a i
 
 -- the id at an index
 pub at-get : {Id : Type 0} (ids : List Id) (f : ℕ) (d : Id) → f < length ids → IsIdAt ids f (get_or ids f d)

@@ -18,7 +18,7 @@ use Rattle.codespan_laws.proofs.ListElements.{all-append}
 module _ {Id : Type 0} {same : Id → Id → Bool} (o : IsEquivalence same) (files : List (RustFile Id)) (id : Id) {index : ℕ} (is : index ≡ index_of_file same (ids_view files) id) where
   -- how many ids these are
   ids-length : length (ids_view files) ≡ length files
-  ids-length = length-map files (λ (f : RustFile Id). f.id)
+  ids-length = length-map files (λ (f : RustFile Id). f.file_id)
 
   -- where the index is that after the files, one more is known
   pub file-added : index ≡ length files → {A : Type 0} (known : List A) (one : A) → known ++ one ∷ [] ≡ with_file same (ids_view files) id known one
@@ -43,7 +43,7 @@ module _ {Id : Type 0} {same : Id → Id → Bool} (o : IsEquivalence same) (fil
 module _ {Id : Type 0} where
   -- what names a file
   abbrev name : RustFile Id → Id
-  name f = f.id
+  name f = f.file_id
 
   -- the id is none of all files
   pub index-nowhere : {same : Id → Id → Bool} (o : IsEquivalence same) (files : List (RustFile Id))
@@ -58,14 +58,14 @@ module _ {Id : Type 0} where
 
   module _ {files : List (RustFile Id)} {k : ℕ} {f : RustFile Id} (at : IsElementAt files k f) where
     -- the file is not of the id either
-    pub none-more : (same : Id → Id → Bool) (id : Id) → AllByRecursion (λ j. same j id ≡ false) (ids_view (take k files)) → same f.id id ≡ false
+    pub none-more : (same : Id → Id → Bool) (id : Id) → AllByRecursion (λ j. same j id ≡ false) (ids_view (take k files)) → same f.file_id id ≡ false
         → AllByRecursion (λ j. same j id ≡ false) (ids_view (take (k + 1) files))
     none-more same id none apart =
         subst (λ (js : List Id). AllByRecursion (λ j. same j id ≡ false) js) (sym (ap ids_view (take-at at) ∙ map-append name (take k files) (f ∷ [])))
-        (all-append (λ j. same j id ≡ false) (ids_view (take k files)) (f.id ∷ []) none (apart, tt))
+        (all-append (λ j. same j id ≡ false) (ids_view (take k files)) (f.file_id ∷ []) none (apart, tt))
 
     -- it is the first one that is
-    pub index-first : {same : Id → Id → Bool} (o : IsEquivalence same) (id : Id) → AllByRecursion (λ j. same j id ≡ false) (ids_view (take k files)) → same f.id id ≡ true
+    pub index-first : {same : Id → Id → Bool} (o : IsEquivalence same) (id : Id) → AllByRecursion (λ j. same j id ≡ false) (ids_view (take k files)) → same f.file_id id ≡ true
         → k ≡ index_of_file same (ids_view files) id
     index-first {same} o id none is =
         let rest = drop (k + 1) files in
@@ -73,6 +73,6 @@ module _ {Id : Type 0} where
         let whole : ids_view files ≡ ids_view (take k files) ++ ids_view (f ∷ rest) =
         ap ids_view (sym (take-append-drop k files) ∙ ap (λ (gs : List (RustFile Id)). take k files ++ gs) (drop-one files k f at.inside at.is)) ∙ map-append name (take k files) (f ∷ rest) in
         let after = ap (λ js. index_of_file same js id) whole ∙ index-past same o (ids_view (take k files)) (ids_view (f ∷ rest)) id none in
-        let here = index-here same o f.id (ids_view rest) id is in
+        let here = index-here same o f.file_id (ids_view rest) id is in
         let long = length-map (take k files) name ∙ length-take-le k files (omega (arith, inside)) in
         omega (arith, after, here, long)

@@ -13,7 +13,7 @@ use Rattle.codespan_annotations.specs.LocusStarts.{file_locus_start, no_start, s
 
 -- the id of each
 abbrev pub ids_view : {Id : Type 0} → List (RustFile Id) → List Id
-ids_view {Id} files = map (λ (f : RustFile Id). f.id) files
+ids_view {Id} files = map (λ (f : RustFile Id). f.file_id) files
 
 -- where the snippet of each starts
 abbrev pub starts_view : {Id : Type 0} → List (RustFile Id) → List LocusStart
@@ -31,8 +31,8 @@ num_multi_labels_of same file xs id = num_multi_labels (labeled_file_model same 
 -- the start and the lanes of the file are those of these labels
 pub record HasLabels {Id : Type 0} (same : Id → Id → Bool) (file : Id → FileModel)
     (xs : List (InFile Id)) (f : RustFile Id) : Type 0 where
-  pub start_is : f.start ≡ file_locus_start same xs f.id
-  pub lanes_are : f.num_multi_labels ≡ num_multi_labels_of same file xs f.id
+  pub start_is : f.start ≡ file_locus_start same xs f.file_id
+  pub lanes_are : f.num_multi_labels ≡ num_multi_labels_of same file xs f.file_id
 
 -- ---- one file more
 

@@ -11,7 +11,8 @@ least_if_any (n ∷ ns) = Some (fold min n ns)
 
 -- the label is of the file, and primary if only primary ones count
 abbrev pub is_locus_label : {Id : Type 0} → (Id → Id → Bool) → Id → Bool → InFile Id → Bool
-is_locus_label same id only_primary x = same id x.id && (not only_primary || is_primary x.label)
+is_locus_label same id only_primary x =
+    same id x.file_id && (not only_primary || is_primary x.label)
 
 -- the starts of the labels of a file, or of its primary ones alone
 abbrev pub label_starts : {Id : Type 0} → (Id → Id → Bool) → Id → Bool → List (InFile Id) → List ℕ

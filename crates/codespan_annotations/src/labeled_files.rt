@@ -7,8 +7,8 @@ ghost use Rattle.codespan_annotations.specs.LabeledFiles.{ids_view, lanes_by, la
 ghost use Rattle.codespan_annotations.specs.LocusStarts.{no_start, start_with};
 ghost use Rattle.codespan_annotations.specs.FileIndices.{AreDistinct, index_of_file};
 
-use crate::locus_start::LocusStart;
 use crate::label_span::LabelSpan;
+use crate::locus_start::LocusStart;
 use codespan_base::diagnostic::Label;
 use codespan_base::files::Error;
 
@@ -16,7 +16,7 @@ use codespan_base::files::Error;
 #[derive(Drop)]
 pub struct LabeledFile<FileId> {
     /// The file's id.
-    pub id: FileId,
+    pub file_id: FileId,
     /// The byte of its locus.
     pub start: LocusStart,
     /// The number of its multi-line labels, each of which has a lane.
@@ -31,7 +31,7 @@ impl<FileId> LabeledFile<FileId> {
     /// One more lane can be counted.
     fn add(&mut self, label: &Label<FileId>, lines: LabelSpan)
         requires { self.old.num_multi_labels + 1 < 2 ^ 64 }
-        ensures id { self.new.id ≡ self.old.id }
+        ensures id { self.new.file_id ≡ self.old.file_id }
         ensures start { self.new.start ≡ start_with self.old.start (label_of label.now).label }
         ensures lanes { self.new.num_multi_labels ≡ self.old.num_multi_labels + lanes_by lines }
     {
@@ -113,7 +113,7 @@ fn push_file<FileId: Copy>(files: &mut Vec<LabeledFile<FileId>>, id: FileId) -> 
     ensures failed { OnErr result (IsErrOf result Error.OutOfMemory) }
 {
     files.push(LabeledFile {
-        id,
+        file_id: id,
         start: LocusStart::unknown(),
         num_multi_labels: 0,
     })?;
@@ -131,7 +131,7 @@ fn find_file<FileId: Copy + Eq>(files: &[LabeledFile<FileId>], previous: usize, 
     ensures { result ≡ index_of_file FileId.eq (ids_view files.now) id }
 {
     match files.get(previous) {
-        Some(file) if file.id == id => previous,
+        Some(file) if file.file_id == id => previous,
         _ => first_file(files, id),
     }
 }
@@ -144,11 +144,11 @@ fn first_file<FileId: Copy + Eq>(files: &[LabeledFile<FileId>], id: FileId) -> u
     let last = files.len().saturating_sub(1);
     let mut index = 0;
     while index < last {
-        if files[index].id == id {
+        if files[index].file_id == id {
             return index;
         }
         let next = index + 1;
-        let is_next = files[next].id == id;
+        let is_next = files[next].file_id == id;
         if is_next {
             return next;
         }
@@ -172,5 +172,9 @@ fn last_file<FileId: Copy + Eq>(files: &[LabeledFile<FileId>], index: usize, id:
     let Some(file) = files.get(index) else {
         return files.len();
     };
-    if file.id == id { index } else { files.len() }
+    if file.file_id == id {
+        index
+    } else {
+        files.len()
+    }
 }

@@ -4,7 +4,7 @@
 #![tactic(auto)]
 
 pub mod annotation;
-pub mod locus_start;
 pub mod label_span;
 pub mod labeled_files;
+pub mod locus_start;
 pub mod source_file;

@@ -22,7 +22,7 @@ pub struct SourceFile<'files, F: Files<'files>> {
     /// The file database.
     pub files: &'files F,
     /// The id of the file.
-    pub id: F::FileId,
+    pub file_id: F::FileId,
 }
 
 impl<'files, F: Files<'files>> SourceFile<'files, F> {
@@ -43,7 +43,7 @@ impl<'files, F: Files<'files>> SourceFile<'files, F> {
         ensures failed { FailsBy (failure_of F.database self.now (lookups_of_filled number index))
             result }
     {
-        let range = self.files.line_range(self.id, index)?;
+        let range = self.files.line_range(self.file_id, index)?;
         let number = match number {
             Some(number) => number,
             None => self.number(index)?,
@@ -72,7 +72,7 @@ impl<'files, F: Files<'files>> SourceFile<'files, F> {
             → EndsBefore F.database self.now index) }
         ensures failed { FailsBy (failure_unless_past_end F.database self.now last index) result }
     {
-        let range = match self.files.line_range(self.id, index) {
+        let range = match self.files.line_range(self.file_id, index) {
             Ok(range) => range,
             Err(Error::LineTooLarge { .. }) if index > last => return Ok(None),
             Err(error) => return Err(error),
@@ -97,7 +97,7 @@ impl<'files, F: Files<'files>> SourceFile<'files, F> {
             ≡ (model_of F.database self.now).line_number index) }
         ensures failed { FailsBy (failure_of F.database self.now (LineNumber index ∷ [])) result }
     {
-        self.files.line_number(self.id, index)
+        self.files.line_number(self.file_id, index)
     }
 
     /// Looks up the name of the file, and the location of a byte index in it, 0-based.
@@ -114,9 +114,9 @@ impl<'files, F: Files<'files>> SourceFile<'files, F> {
         ensures failed { FailsByOrFormat (failure_of F.database self.now
             (NameLookup ∷ LocationAt byte_index ∷ [])) result }
     {
-        let named = self.files.name(self.id)?;
+        let named = self.files.name(self.file_id)?;
         let name = display_text(alloc, named)?;
-        let location = self.files.location(self.id, byte_index)?;
+        let location = self.files.location(self.file_id, byte_index)?;
         Ok(Locus { name, location })
     }
 }

@@ -49,5 +49,5 @@ module _ {Id : Type 0} (x : CollectedLabel Id) (l : ℕ) (looked_up : is_looked_
   added-looked_up = Adds-as (ap (λ (b : Bool). if b then line_annotations x.config x.file x.at x.label l else []) looked_up)
 
   -- its lookups
-  pub succeeded-looked_up : failure_in x.failure x.id (line_lookups l) ≡ None → failure_on x l ≡ None
-  succeeded-looked_up succeeded = ap (λ (b : Bool). failure_in x.failure x.id (if b then line_lookups l else [])) looked_up ∙ succeeded
+  pub succeeded-looked_up : failure_in x.failure x.file_id (line_lookups l) ≡ None → failure_on x l ≡ None
+  succeeded-looked_up succeeded = ap (λ (b : Bool). failure_in x.failure x.file_id (if b then line_lookups l else [])) looked_up ∙ succeeded

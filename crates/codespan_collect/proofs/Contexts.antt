@@ -31,7 +31,7 @@ use Rattle.codespan_collect.proofs.RangeMaps.{flat_map_none, flat_map_more, flat
 module _ {Id : Type 0} (x : CollectedLabel Id) where
   -- what some lookups of the file fail with
   abbrev failed : List Lookup → Option Error
-  failed = failure_in x.failure x.id
+  failed = failure_in x.failure x.file_id
 
   -- the annotations of the lines below this one
   abbrev annotations_below : ℕ → List Annotation
@@ -59,11 +59,11 @@ module _ {Id : Type 0} (x : CollectedLabel Id) where
 
   -- lookups that succeed, and others after them
   succeeded_then : (ls ms : List Lookup) → failed ls ≡ None → failed (ls ++ ms) ≡ failed ms
-  succeeded_then ls ms none = ap (first_error x.failure) (map-append (λ l. (x.id, l)) ls ms) ∙ first_error-none x.failure (lookups_of_file x.id ls) (lookups_of_file x.id ms) none
+  succeeded_then ls ms none = ap (first_error x.failure) (map-append (λ l. (x.file_id, l)) ls ms) ∙ first_error-none x.failure (lookups_of_file x.file_id ls) (lookups_of_file x.file_id ms) none
 
   -- lookups that fail, and others after them
   failed_then : (ls ms : List Lookup) (e : Error) → failed ls ≡ Some e → failed (ls ++ ms) ≡ Some e
-  failed_then ls ms e some = ap (first_error x.failure) (map-append (λ l. (x.id, l)) ls ms) ∙ first_error-some x.failure (lookups_of_file x.id ls) (lookups_of_file x.id ms) e some
+  failed_then ls ms e some = ap (first_error x.failure) (map-append (λ l. (x.file_id, l)) ls ms) ∙ first_error-some x.failure (lookups_of_file x.file_id ls) (lookups_of_file x.file_id ms) e some
 
   -- a line that is not looked up is not spanned
   no_digits : (l : ℕ) → is_looked_up x.config x.file x.label l ≡ false → digits_on x.file x.label l ≡ []
@@ -149,7 +149,7 @@ module _ {Id : Type 0} {x : CollectedLabel Id} where
 
     -- the lines that are done with are all
     collected-up : annotations_of x.config x.file x.at x.label ≡ annotations_below x n → flat_map line_lookups (looked_up_lines x.config x.file x.label) ≡ lookups_below x n
-        → label_digits x.file x.label ≡ digits_below x n → lookup_past_end x.config x.file (x.failure x.id) x.label ≡ [] → CollectsLabel x xs ys
+        → label_digits x.file x.label ≡ digits_below x n → lookup_past_end x.config x.file (x.failure x.file_id) x.label ≡ [] → CollectsLabel x xs ys
     collected-up annotations_are looked_up digits no_lookup_past_end = record {
       added = Adds-as annotations_are g.added;
       counted = g.counted ∙ sym (ap (fold max xs.padding.digits) digits);
@@ -164,18 +164,18 @@ module _ {Id : Type 0} {x : CollectedLabel Id} where
         above_both (first_line x.file x.label) (last_line x.file x.label)
         x.config.before_label_lines x.config.after_label_lines l (omega arith) (omega arith)) in
         let unreached : nat_le (line_count x.file) (last_line x.file x.label + x.config.after_label_lines) ≡ false = lt-leb _ _ (omega (arith, g.within)) in
-        let no_lookup_past_end : lookup_past_end x.config x.file (x.failure x.id) x.label ≡ [] =
-        ap (λ (b : Bool). if b && not (ends_context_lines (x.failure x.id (LineRange (line_count x.file)))) then LineRange (line_count x.file) ∷ [] else []) unreached in
+        let no_lookup_past_end : lookup_past_end x.config x.file (x.failure x.file_id) x.label ≡ [] =
+        ap (λ (b : Bool). if b && not (ends_context_lines (x.failure x.file_id (LineRange (line_count x.file)))) then LineRange (line_count x.file) ∷ [] else []) unreached in
         collected-up all.0 all.1 all.2 no_lookup_past_end
 
     -- the end of the file
-    pub collected-context : line_count x.file ≤ n → ends_context_lines (x.failure x.id (LineRange n)) ≡ true
+    pub collected-context : line_count x.file ≤ n → ends_context_lines (x.failure x.file_id (LineRange n)) ≡ true
         → CollectsLabel x xs ys
     collected-context past ends =
         let here : n ≡ line_count x.file = omega (arith, g.within) in
         let all = all_collected (λ l low high. absurd (omega arith)) in
-        let ended : ends_context_lines (x.failure x.id (LineRange (line_count x.file))) ≡ true = ap (λ k. ends_context_lines (x.failure x.id (LineRange k))) (sym here) ∙ ends in
-        let no_lookup_past_end : lookup_past_end x.config x.file (x.failure x.id) x.label ≡ [] =
+        let ended : ends_context_lines (x.failure x.file_id (LineRange (line_count x.file))) ≡ true = ap (λ k. ends_context_lines (x.failure x.file_id (LineRange k))) (sym here) ∙ ends in
+        let no_lookup_past_end : lookup_past_end x.config x.file (x.failure x.file_id) x.label ≡ [] =
         ap (λ (b : Bool). if nat_le (line_count x.file) (last_line x.file x.label + x.config.after_label_lines) && not b then LineRange (line_count x.file) ∷ [] else []) ended
         ∙ neither (nat_le (line_count x.file) (last_line x.file x.label + x.config.after_label_lines)) in
         collected-up all.0 all.1 all.2 no_lookup_past_end
@@ -185,11 +185,11 @@ module _ {Id : Type 0} {x : CollectedLabel Id} where
         neither false = refl
 
     -- the end of all indices
-    collected-whole : n ≡ 2 ^ 64 → IsLawful x.file → FailsPastEnd x.file n (x.failure x.id (LineRange n))
+    collected-whole : n ≡ 2 ^ 64 → IsLawful x.file → FailsPastEnd x.file n (x.failure x.file_id (LineRange n))
         → CollectsLabel x xs ys
     collected-whole all law past_end =
         let past : line_count x.file ≤ n = omega (arith, all, lines_have_indices x.file law) in
-        collected-context past (too_large (x.failure x.id (LineRange n)) ((past_end (is_existing x.file.exists refl)).1 past))
+        collected-context past (too_large (x.failure x.file_id (LineRange n)) ((past_end (is_existing x.file.exists refl)).1 past))
       where
         too_large : (o : Option Error) → IsPastEndError o → ends_context_lines o ≡ true
         too_large (Some (LineTooLarge given last)) h = refl
@@ -211,7 +211,7 @@ module _ {Id : Type 0} {x : CollectedLabel Id} where
 
     -- the end of the context, or of all indices
     pub collected-reach : first_line x.file x.label < n → min (last_line x.file x.label + x.config.after_label_lines + 1) (2 ^ 64) ≤ n → n ≤ 2 ^ 64
-        → IsLawful x.file → FailsPastEnd x.file n (x.failure x.id (LineRange n)) → CollectsLabel x xs ys
+        → IsLawful x.file → FailsPastEnd x.file n (x.failure x.file_id (LineRange n)) → CollectsLabel x xs ys
     collected-reach first far below law past_end =
         ⊎_elim (λ (h : last_line x.file x.label + x.config.after_label_lines < n). collected-end first h)
         (λ (h : n ≤ last_line x.file x.label + x.config.after_label_lines). collected-whole (omega (arith, h, far, below)) law past_end)
@@ -219,7 +219,7 @@ module _ {Id : Type 0} {x : CollectedLabel Id} where
 
     -- a line whose lookups fail
     pub collected-failed : {e : Error} → HasEnds x → IsLookedUp x n
-        → line_failure x.file (x.failure x.id) (last_line x.file x.label) n ≡ Some e → lines_failure x ≡ Some e
+        → line_failure x.file (x.failure x.file_id) (last_line x.file x.label) n ≡ Some e → lines_failure x ≡ Some e
     collected-failed {e} there looked_up known =
         ⊎_elim (λ (h : n < line_count x.file). before_end h) (λ (h : line_count x.file ≤ n). at_end (omega (arith, g.within))) (cases_lt n (line_count x.file))
       where
@@ -232,10 +232,10 @@ module _ {Id : Type 0} {x : CollectedLabel Id} where
 
         line_error : nat_lt n (line_count x.file) ≡ true → failed x (line_lookups n) ≡ Some e
         line_error inside =
-            by_line (nat_lt (last_line x.file x.label) n && ends_context_lines (x.failure x.id (LineRange n))) (x.failure x.id (LineRange n)) (x.failure x.id (LineNumber n))
+            by_line (nat_lt (last_line x.file x.label) n && ends_context_lines (x.failure x.file_id (LineRange n))) (x.failure x.file_id (LineRange n)) (x.failure x.file_id (LineNumber n))
             (ap (λ (b : Bool). if nat_lt (last_line x.file x.label) n && ends_context_lines
-            (x.failure x.id (LineRange n)) then None else or_failure
-            (x.failure x.id (LineRange n)) (if b then x.failure x.id (LineNumber n) else None))
+            (x.failure x.file_id (LineRange n)) then None else or_failure
+            (x.failure x.file_id (LineRange n)) (if b then x.failure x.file_id (LineNumber n) else None))
             (sym inside) ∙ known)
 
         before_end : n < line_count x.file → lines_failure x ≡ Some e
@@ -251,7 +251,7 @@ module _ {Id : Type 0} {x : CollectedLabel Id} where
             ∙ flat_map_split (lookups_on x.config x.file x.label) (n + 1) (line_count x.file)
             (omega arith) in
             failed_then x (flat_map line_lookups (looked_up_lines x.config x.file x.label))
-            (lookup_past_end x.config x.file (x.failure x.id) x.label) e
+            (lookup_past_end x.config x.file (x.failure x.file_id) x.label) e
             (ap (failed x) whole ∙ failed_then x (lookups_below x (n + 1)) _ e upto)
 
         -- the range alone, where the line is past the last one
@@ -268,13 +268,13 @@ module _ {Id : Type 0} {x : CollectedLabel Id} where
             let reach : n ≤ last_line x.file x.label + x.config.after_label_lines =
             near_after (first_line x.file x.label) (last_line x.file x.label) x.config.before_label_lines x.config.after_label_lines n (omega (arith, here)) (omega (arith, here)) looked_up in
             let parts = by_range (nat_lt (last_line x.file x.label) n)
-            (ends_context_lines (x.failure x.id (LineRange n))) (nat_lt n (line_count x.file))
-            (x.failure x.id (LineRange n)) (x.failure x.id (LineNumber n))
+            (ends_context_lines (x.failure x.file_id (LineRange n))) (nat_lt n (line_count x.file))
+            (x.failure x.file_id (LineRange n)) (x.failure x.file_id (LineNumber n))
             (lt-ltb (last_line x.file x.label) n (omega (arith, here))) (le-ltb n (line_count x.file) (omega (arith, here))) known in
-            let lookup_is : lookup_past_end x.config x.file (x.failure x.id) x.label ≡ LineRange n ∷ [] =
-            ap (λ (b : Bool). if b && not (ends_context_lines (x.failure x.id (LineRange (line_count x.file)))) then LineRange (line_count x.file) ∷ [] else [])
+            let lookup_is : lookup_past_end x.config x.file (x.failure x.file_id) x.label ≡ LineRange n ∷ [] =
+            ap (λ (b : Bool). if b && not (ends_context_lines (x.failure x.file_id (LineRange (line_count x.file)))) then LineRange (line_count x.file) ∷ [] else [])
             (le-leb (line_count x.file) (last_line x.file x.label + x.config.after_label_lines) (omega (arith, reach, here)))
-            ∙ ap (λ k. if not (ends_context_lines (x.failure x.id (LineRange k))) then LineRange k ∷ [] else []) (sym here)
+            ∙ ap (λ k. if not (ends_context_lines (x.failure x.file_id (LineRange k))) then LineRange k ∷ [] else []) (sym here)
             ∙ ap (λ (b : Bool). if not b then LineRange n ∷ [] else []) parts.0 in
-            succeeded_then x (flat_map line_lookups (looked_up_lines x.config x.file x.label)) (lookup_past_end x.config x.file (x.failure x.id) x.label) (ap (failed x) all.1 ∙ g.succeeded)
+            succeeded_then x (flat_map line_lookups (looked_up_lines x.config x.file x.label)) (lookup_past_end x.config x.file (x.failure x.file_id) x.label) (ap (failed x) all.1 ∙ g.succeeded)
             ∙ ap (failed x) lookup_is ∙ parts.1

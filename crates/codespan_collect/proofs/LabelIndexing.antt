@@ -89,32 +89,32 @@ pub num_multi_labels_of-equal : {Id : Type 0} {database : FileDatabase Id} (lawf
     → num_multi_labels_of database.same database.file before i ≡ num_multi_labels_of database.same database.file before j
 num_multi_labels_of-equal {Id} lawful before i j t = λ k. num_multi_labels (record {
   file = lawful.one_file i j t k;
-  labels = map (λ (x : InFile Id). x.label) (filter (λ (x : InFile Id). lawful.equivalence.congr i j x.id t k) before);
+  labels = map (λ (x : InFile Id). x.label) (filter (λ (x : InFile Id). lawful.equivalence.congr i j x.file_id t k) before);
 })
 
 module _ {Id : Type 0} (same : Id → Id → Bool) (file : Id → FileModel) where
   -- labels of other files have no lane in a file
-  pub num_multi_labels_of-none : (xs : List (InFile Id)) (id : Id) → AllByRecursion (λ (x : InFile Id). same id x.id ≡ false) xs → num_multi_labels_of same file xs id ≡ 0
+  pub num_multi_labels_of-none : (xs : List (InFile Id)) (id : Id) → AllByRecursion (λ (x : InFile Id). same id x.file_id ≡ false) xs → num_multi_labels_of same file xs id ≡ 0
   num_multi_labels_of-none xs id none =
-      ap (λ (own : List (InFile Id)). num_multi_labels (record { file = file id; labels = map (λ (x : InFile Id). x.label) own })) (filter-nothing (λ (x : InFile Id). same id x.id) xs none)
+      ap (λ (own : List (InFile Id)). num_multi_labels (record { file = file id; labels = map (λ (x : InFile Id). x.label) own })) (filter-nothing (λ (x : InFile Id). same id x.file_id) xs none)
 
   -- a file has a lane for each label at most
   pub lanes-within : (id : Id) (xs : List (InFile Id)) → num_multi_labels_of same file xs id ≤ length xs
   lanes-within id xs =
-      let a = length-filter_both (λ (x : InFile Id). same id x.id) (λ (x : InFile Id). not (same id x.id)) (λ x. refl) xs in
-      let own = filter (λ (x : InFile Id). same id x.id) xs in
+      let a = length-filter_both (λ (x : InFile Id). same id x.file_id) (λ (x : InFile Id). not (same id x.file_id)) (λ x. refl) xs in
+      let own = filter (λ (x : InFile Id). same id x.file_id) xs in
       let b = length-filter_both (λ y. not (is_single (file id) y)) (λ y. not (not (is_single (file id) y))) (λ y. refl) (map (λ (x : InFile Id). x.label) own) in
       omega (arith, a, b, length-map own (λ (x : InFile Id). x.label))
 
   -- the lanes with one more label
   pub num_multi_labels_of-more : (before : List (InFile Id)) (x : InFile Id) (id : Id)
-      → num_multi_labels_of same file (before ++ x ∷ []) id ≡ num_multi_labels_of same file before id + (if same id x.id then label_lanes (file id) x.label else 0)
+      → num_multi_labels_of same file (before ++ x ∷ []) id ≡ num_multi_labels_of same file before id + (if same id x.file_id then label_lanes (file id) x.label else 0)
   num_multi_labels_of-more before x id =
-      ap (λ (xs : List (InFile Id)). num_multi_labels (record { file = file id; labels = map (λ (y : InFile Id). y.label) xs })) (filter-append (λ (y : InFile Id). same id y.id) before (x ∷ []))
-      ∙ by_same (same id x.id)
+      ap (λ (xs : List (InFile Id)). num_multi_labels (record { file = file id; labels = map (λ (y : InFile Id). y.label) xs })) (filter-append (λ (y : InFile Id). same id y.file_id) before (x ∷ []))
+      ∙ by_same (same id x.file_id)
     where
       own : List (InFile Id)
-      own = filter (λ (y : InFile Id). same id y.id) before
+      own = filter (λ (y : InFile Id). same id y.file_id) before
 
       labels : List LabelModel
       labels = map (λ (y : InFile Id). y.label) own
@@ -138,16 +138,16 @@ module _ {Id : Type 0} (same : Id → Id → Bool) (file : Id → FileModel) whe
   pub annotations_after-more : (config : Config) (ids : List Id) (before xs : List (InFile Id)) (x : InFile Id)
       → annotations_after same file config ids before (xs ++ x ∷ [])
       ≡ annotations_after same file config ids before xs
-      ++ annotations_of config (file x.id) (indices_after same file ids (before ++ xs) x)
+      ++ annotations_of config (file x.file_id) (indices_after same file ids (before ++ xs) x)
       x.label
   annotations_after-more config ids before [] x =
-      append-nil _ ∙ ap (λ (ys : List (InFile Id)). annotations_of config (file x.id) (indices_after same file ids ys x) x.label) (sym (append-nil before))
+      append-nil _ ∙ ap (λ (ys : List (InFile Id)). annotations_of config (file x.file_id) (indices_after same file ids ys x) x.label) (sym (append-nil before))
   annotations_after-more config ids before (y ∷ ys) x =
-      ap (λ (es : List Annotation). annotations_of config (file y.id) (indices_after same file ids before y) y.label ++ es) (annotations_after-more config ids (before ++ y ∷ []) ys x)
-      ∙ sym (append_assoc (annotations_of config (file y.id) (indices_after same file ids before y)
+      ap (λ (es : List Annotation). annotations_of config (file y.file_id) (indices_after same file ids before y) y.label ++ es) (annotations_after-more config ids (before ++ y ∷ []) ys x)
+      ∙ sym (append_assoc (annotations_of config (file y.file_id) (indices_after same file ids before y)
       y.label) (annotations_after same file config ids (before ++ y ∷ []) ys)
-      (annotations_of config (file x.id)
+      (annotations_of config (file x.file_id)
       (indices_after same file ids ((before ++ y ∷ []) ++ ys) x) x.label))
       ∙ ap (λ (zs : List (InFile Id)). annotations_after same file config ids before (y ∷ ys)
-      ++ annotations_of config (file x.id) (indices_after same file ids zs x) x.label)
+      ++ annotations_of config (file x.file_id) (indices_after same file ids zs x) x.label)
       (append_assoc before (y ∷ []) ys)

@@ -33,7 +33,7 @@ module _ {Id : Type 0} {labels : List (Label Id)} {index : ℕ} {label : Label I
         let last : get_or (before labels (index + 1)) index (label_of label) ≡ label_of label =
         get_or-map label_of (take (index + 1) labels) index label (label_of label) (omega (arith, long))
         ∙ ap label_of (get_or-take (index + 1) labels index label (omega arith) ∙ sym turn.is) in
-        ap (λ (x : InFile Id). has same o ids x.id) (sym last)
+        ap (λ (x : InFile Id). has same o ids x.file_id) (sym last)
         ∙ file_ids-has same o (before labels (index + 1)) index (label_of label) (omega (arith, long, length-map (take (index + 1) labels) label_of))
 
     -- its index is below their number
@@ -42,4 +42,4 @@ module _ {Id : Type 0} {labels : List (Label Id)} {index : ℕ} {label : Label I
 
     -- no two of the ids are the same
     pub ids-differ : Differ same o ids
-    ids-differ = first_seen-differ same o (map (λ (x : InFile Id). x.id) (before labels (index + 1)))
+    ids-differ = first_seen-differ same o (map (λ (x : InFile Id). x.file_id) (before labels (index + 1)))

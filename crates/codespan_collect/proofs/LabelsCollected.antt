@@ -164,7 +164,7 @@ module _ {Id : Type 0} {database : FileDatabase Id} (lawful : AreFiles database)
         (label_digits (file label.file_id) (label_of label).label)
         → more.padding.digits ≡ fold max 0 (all_digits file (before labels (index + 1)))
     counted-more more counts =
-        let digits : InFile Id → List ℕ = λ x. label_digits (file x.id) x.label in
+        let digits : InFile Id → List ℕ = λ x. label_digits (file x.file_id) x.label in
         counts ∙ ap (λ n. fold max n (digits (label_of label))) g.counted
         ∙ sym (greatest-append 0 (all_digits file (before labels index)) (digits (label_of label)))
         ∙ ap (λ (ns : List ℕ). fold max 0 (all_digits file (before labels index) ++ ns)) (sym (append-nil (digits (label_of label))))

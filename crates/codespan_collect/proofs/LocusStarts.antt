@@ -45,14 +45,14 @@ module _ {Id : Type 0} (same : Id → Id → Bool) (xs : List (InFile Id)) (x : 
       by false = refl
 
   -- a label of another file changes nothing
-  start-others : same id x.id ≡ false → file_locus_start same (xs ++ x ∷ []) id ≡ file_locus_start same xs id
+  start-others : same id x.file_id ≡ false → file_locus_start same (xs ++ x ∷ []) id ≡ file_locus_start same xs id
   start-others f = λ i. record { primary = least_if_any (none true i); any = least_if_any (none false i) }
     where
       none : (only : Bool) → label_starts same id only (xs ++ x ∷ []) ≡ label_starts same id only xs
       none only = starts-more only ∙ ap (λ (b : Bool). label_starts same id only xs ++ own_start (b && (not only || is_primary x.label))) f ∙ append-nil (label_starts same id only xs)
 
   -- one of the file adds its start
-  start-own : same id x.id ≡ true → file_locus_start same (xs ++ x ∷ []) id ≡ start_with (file_locus_start same xs id) x.label
+  start-own : same id x.file_id ≡ true → file_locus_start same (xs ++ x ∷ []) id ≡ start_with (file_locus_start same xs id) x.label
   start-own t = λ i. record { primary = by (is_primary x.label) refl i; any = (ap least_if_any (candidates false) ∙ least-more (label_starts same id false xs) x.label.start) i }
     where
       candidates : (only : Bool) → label_starts same id only (xs ++ x ∷ []) ≡ label_starts same id only xs ++ own_start (not only || is_primary x.label)
@@ -66,19 +66,19 @@ module _ {Id : Type 0} (same : Id → Id → Bool) (xs : List (InFile Id)) (x : 
       by false is = ap least_if_any (candidates true ∙ ap (λ (c : Bool). primary ++ own_start c) is ∙ append-nil primary)
 
 -- labels of other files change nothing
-pub start-unknown : {Id : Type 0} (same : Id → Id → Bool) (xs : List (InFile Id)) (id : Id) → AllByRecursion (λ (x : InFile Id). same id x.id ≡ false) xs → file_locus_start same xs id ≡ no_start
+pub start-unknown : {Id : Type 0} (same : Id → Id → Bool) (xs : List (InFile Id)) (id : Id) → AllByRecursion (λ (x : InFile Id). same id x.file_id ≡ false) xs → file_locus_start same xs id ≡ no_start
 start-unknown {Id} same xs id none = λ i. record { primary = least_if_any (starts true i); any = least_if_any (starts false i) }
   where
     starts : (only : Bool) → label_starts same id only xs ≡ []
     starts only = ap (map (λ (x : InFile Id). x.label.start)) (filter-nothing (is_locus_label same id only) xs
-        (all-weaker (λ (x : InFile Id). same id x.id ≡ false) (λ x. is_locus_label same id only x ≡ false) (λ x f. ap (λ (b : Bool). b && (not only || is_primary x.label)) f) xs none))
+        (all-weaker (λ (x : InFile Id). same id x.file_id ≡ false) (λ x. is_locus_label same id only x ≡ false) (λ x f. ap (λ (b : Bool). b && (not only || is_primary x.label)) f) xs none))
 
 -- equal ids have one start
 start-equal : {Id : Type 0} (same : Id → Id → Bool) (o : IsEquivalence same) (xs : List (InFile Id)) (i j : Id) → same i j ≡ true → file_locus_start same xs i ≡ file_locus_start same xs j
 start-equal {Id} same o xs i j t = λ k. record { primary = least_if_any (starts true k); any = least_if_any (starts false k) }
   where
     starts : (only : Bool) → label_starts same i only xs ≡ label_starts same j only xs
-    starts only = λ k. map (λ (y : InFile Id). y.label.start) (filter (λ (y : InFile Id). o.congr i j y.id t k && (not only || is_primary y.label)) xs)
+    starts only = λ k. map (λ (y : InFile Id). y.label.start) (filter (λ (y : InFile Id). o.congr i j y.file_id t k && (not only || is_primary y.label)) xs)
 
 module _ {Id : Type 0} {labels : List (Label Id)} {index : ℕ} {label : Label Id} (turn : IsElementAt labels index label) {same : Id → Id → Bool} (o : IsEquivalence same) where
   -- the files of the labels up to this one

@@ -22,8 +22,8 @@ use Rattle.codespan_collect.specs.SpannedDigits.{digits_on, label_digits}
 abbrev pub lookups_of_label : {Id : Type 0} → Config → FileDatabase Id → InFile Id
     → List (Id × Lookup)
 lookups_of_label config database x =
-    lookups_of_file x.id
-    (label_line_lookups config (database.file x.id) (database.failure x.id) x.label)
+    lookups_of_file x.file_id
+    (label_line_lookups config (database.file x.file_id) (database.failure x.file_id) x.label)
 
 -- what the lookups of these labels fail with
 abbrev pub labels_failure : {Id : Type 0} → Config → FileDatabase Id → List (InFile Id)
@@ -33,7 +33,7 @@ labels_failure config database xs =
 
 -- a label with its file, what lookups of the file fail with, the configuration, and its indices
 pub record CollectedLabel (Id : Type 0) : Type 0 where
-  pub id : Id
+  pub file_id : Id
   pub file : FileModel
   pub failure : Failures Id
   pub config : Config
@@ -44,7 +44,7 @@ pub record CollectedLabel (Id : Type 0) : Type 0 where
 abbrev pub collected_label : {Id : Type 0} → FileDatabase Id → Config → LabelIndices → Label Id
     → CollectedLabel Id
 collected_label database config at label = record {
-  id = label.file_id;
+  file_id = label.file_id;
   file = database.file label.file_id;
   failure = database.failure;
   config = config;
@@ -56,7 +56,7 @@ collected_label database config at label = record {
 abbrev pub label_of_collector : {F Id Name Source : Type 0} → (F → FileDatabase Id)
     → LabelCollector F Id Name Source → Label Id → CollectedLabel Id
 label_of_collector database collector label = record {
-  id = collector.file.id;
+  file_id = collector.file.file_id;
   file = model_of database collector.file;
   failure = (database collector.file.files.now).failure;
   config = collector.config.now;
@@ -92,7 +92,7 @@ module _ {Id : Type 0} (x : CollectedLabel Id) where
 
   -- what the lookups of a line fail with, where it is looked up
   abbrev pub failure_on : ℕ → Option Error
-  failure_on l = failure_in x.failure x.id (lookups_on x.config x.file x.label l)
+  failure_on l = failure_in x.failure x.file_id (lookups_on x.config x.file x.label l)
 
   -- ---- all of its lines
 
@@ -110,14 +110,15 @@ module _ {Id : Type 0} (x : CollectedLabel Id) where
   -- what the lookups of its lines fail with
   abbrev pub lines_failure : Option Error
   lines_failure =
-      failure_in x.failure x.id
+      failure_in x.failure x.file_id
       (flat_map line_lookups (looked_up_lines x.config x.file x.label)
-      ++ lookup_past_end x.config x.file (x.failure x.id) x.label)
+      ++ lookup_past_end x.config x.file (x.failure x.file_id) x.label)
 
   -- what its lookups fail with, those of the lines of its ends first
   abbrev pub label_failure : Option Error
   label_failure =
-      failure_in x.failure x.id (label_line_lookups x.config x.file (x.failure x.id) x.label)
+      failure_in x.failure x.file_id
+      (label_line_lookups x.config x.file (x.failure x.file_id) x.label)
 
 -- where the call returns that the context goes on
 abbrev pub IfContinues : Result Bool Error → Type 0 → Type 0

@@ -12,9 +12,9 @@ module _ {Id : Type 0} (same : Id → Id → Bool) (file : Id → FileModel) whe
   -- the indices of a label that comes after these
   abbrev pub indices_after : List Id → List (InFile Id) → InFile Id → LabelIndices
   indices_after ids before x = record {
-    file = index_of_file same ids x.id;
+    file = index_of_file same ids x.file_id;
     index = length before;
-    lane = num_multi_labels (labeled_file_model same file before x.id);
+    lane = num_multi_labels (labeled_file_model same file before x.file_id);
   }
 
   -- the annotations of these labels, after those before them
@@ -22,7 +22,7 @@ module _ {Id : Type 0} (same : Id → Id → Bool) (file : Id → FileModel) whe
       → List Annotation
   annotations_after config ids before [] = []
   annotations_after config ids before (x ∷ xs) =
-      annotations_of config (file x.id) (indices_after ids before x) x.label
+      annotations_of config (file x.file_id) (indices_after ids before x) x.label
       ++ annotations_after config ids (before ++ x ∷ []) xs
 
   -- the annotations of all labels of a diagnostic

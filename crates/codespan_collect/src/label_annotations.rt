@@ -287,7 +287,7 @@ pub fn collect_label<'files, 'd, F: Files<'files>>(
     let collector = LabelCollector {
         file: SourceFile {
             files,
-            id: label.file_id,
+            file_id: label.file_id,
         },
         config,
         at,

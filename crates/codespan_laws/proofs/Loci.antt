@@ -109,15 +109,15 @@ seen-each P same [] h = tt
 seen-each P same (j ∷ js) h = (h.0, all-filter P (λ other. not (same j other)) (first_seen same js) (seen-each P same js h.1))
 
 module _ {Id : Type 0} (same : Id → Id → Bool) (file : Id → FileModel) (xs : List (InFile Id)) (P : FileModel → Type 0)
-    (each : AllByRecursion (λ (x : InFile Id). P (file x.id)) xs) where
-  each_primary : AllByRecursion (λ (x : InFile Id). P (file x.id)) (primary_of xs)
-  each_primary = all-filter (λ (x : InFile Id). P (file x.id)) (λ (x : InFile Id). is_primary x.label) xs each
+    (each : AllByRecursion (λ (x : InFile Id). P (file x.file_id)) xs) where
+  each_primary : AllByRecursion (λ (x : InFile Id). P (file x.file_id)) (primary_of xs)
+  each_primary = all-filter (λ (x : InFile Id). P (file x.file_id)) (λ (x : InFile Id). is_primary x.label) xs each
 
   each_file : AllByRecursion (λ (s : LabeledFileModel). P s.file) (labeled_file_models same file xs)
   each_file =
       each_map (λ (s : LabeledFileModel). P s.file) (labeled_file_model same file xs) (file_ids same xs)
-      (seen-each (λ id. P (file id)) same (map (λ (x : InFile Id). x.id) xs)
-      (each_map (λ id. P (file id)) (λ (x : InFile Id). x.id) xs each))
+      (seen-each (λ id. P (file id)) same (map (λ (x : InFile Id). x.file_id) xs)
+      (each_map (λ id. P (file id)) (λ (x : InFile Id). x.file_id) xs each))
 
   pub each_start : (style : DisplayStyle) → AllByRecursion (λ (at : FileModel × ℕ). P at.0) (locus_starts same file xs style)
   each_start Rich = each_map (λ (at : FileModel × ℕ). P at.0) snippet_locus_start (labeled_file_models same file xs) each_file

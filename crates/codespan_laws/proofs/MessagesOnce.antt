@@ -53,7 +53,7 @@ files_zero : {Id : Type 0} (k : ℕ) (config : Config) (same : Id → Id → Boo
     → sum_by (λ (x : InFile Id). label_slots k x.label) xs ≡ 0
     → sum_by (file_slots k config) (labeled_file_models same file xs) ≡ 0
 files_zero {Id = Id} k config same file xs none =
-    let ids = first_seen same (map (λ (x : InFile Id). x.id) xs) in
+    let ids = first_seen same (map (λ (x : InFile Id). x.file_id) xs) in
     sum-map (file_slots k config) (labeled_file_model same file xs) ids
     ∙ sum-zero (λ id. file_slots k config (labeled_file_model same file xs id)) (λ id. snippet_zero k config (labeled_file_model same file xs id) (one id)) ids
   where
@@ -62,10 +62,10 @@ files_zero {Id = Id} k config same file xs none =
         omega (
           arith,
           none,
-          sum-map (label_slots k) (λ (x : InFile Id). x.label) (filter (λ (x : InFile Id). same id x.id) xs),
-          sum-filter (λ (x : InFile Id). label_slots k x.label) (λ (x : InFile Id). same id x.id) xs,
-          sum_by-le-sum_by (λ (x : InFile Id). cond (same id x.id) (label_slots k x.label) 0) (λ (x : InFile Id). label_slots k x.label) xs
-              (λ x. at_most (same id x.id) (label_slots k x.label)),
+          sum-map (label_slots k) (λ (x : InFile Id). x.label) (filter (λ (x : InFile Id). same id x.file_id) xs),
+          sum-filter (λ (x : InFile Id). label_slots k x.label) (λ (x : InFile Id). same id x.file_id) xs,
+          sum_by-le-sum_by (λ (x : InFile Id). cond (same id x.file_id) (label_slots k x.label) 0) (λ (x : InFile Id). label_slots k x.label) xs
+              (λ x. at_most (same id x.file_id) (label_slots k x.label)),
         )
 
 none_here : {Id : Type 0} (k n j : ℕ) (xs : List (InFile Id)) → n + j ≡ k → slice_get xs j ≡ None → slotted_sum k (slotted_from k n xs) ≡ 0
@@ -138,13 +138,13 @@ refilled : {Id : Type 0} (φ : Stream → Stream) (k n : ℕ) (xs : List (InFile
     → map (re_in φ) (slotted_from k n xs) ≡ xs
 refilled φ k n [] h = refl
 refilled {Id = Id} φ k n (x ∷ xs) h =
-    ap₂ {C = List (InFile Id)} (λ (s : Stream) ys. record { id = x.id; label = record x.label { message = s } } ∷ ys) (h 0 n x (omega arith) refl)
+    ap₂ {C = List (InFile Id)} (λ (s : Stream) ys. record { file_id = x.file_id; label = record x.label { message = s } } ∷ ys) (h 0 n x (omega arith) refl)
     (refilled φ k (n + 1) xs (λ j i y e at. h (suc j) i y (omega arith) at))
 
 -- the labels' files are as many whatever the messages
-ids_kept : {Id : Type 0} (k n : ℕ) (xs : List (InFile Id)) → map (λ (x : InFile Id). x.id) (slotted_from k n xs) ≡ map (λ (x : InFile Id). x.id) xs
+ids_kept : {Id : Type 0} (k n : ℕ) (xs : List (InFile Id)) → map (λ (x : InFile Id). x.file_id) (slotted_from k n xs) ≡ map (λ (x : InFile Id). x.file_id) xs
 ids_kept k n [] = refl
-ids_kept k n (x ∷ xs) = ap (λ ids. x.id ∷ ids) (ids_kept k (n + 1) xs)
+ids_kept k n (x ∷ xs) = ap (λ ids. x.file_id ∷ ids) (ids_kept k (n + 1) xs)
 
 -- a locus for each file is one for each file with slots
 as_many : {Id : Type 0} (same : Id → Id → Bool) (file : Id → FileModel) (xs : List (InFile Id)) (loci : List Locus)

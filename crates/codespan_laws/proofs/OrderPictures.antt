@@ -132,7 +132,7 @@ module _ {Id : Type 0} (same : Id → Id → Bool) (file : Id → FileModel) (o 
   file-equal : (i j : Id) → same i j ≡ true → labeled_file_model same file xs i ≡ labeled_file_model same file xs j
   file-equal i j t = ap₂ {C = LabeledFileModel}
       (λ f (named : InFile Id → Bool). record { file = f; labels = map (λ (x : InFile Id). x.label) (filter named xs) })
-      (one_file i j t) (fun_ext (λ (x : InFile Id). o.congr i j x.id t))
+      (one_file i j t) (fun_ext (λ (x : InFile Id). o.congr i j x.file_id t))
 
   -- ids that are equal one by one have the same files
   files-equal : (is js : List Id) → pointwise same is js ≡ true → map (labeled_file_model same file xs) is ≡ map (labeled_file_model same file xs) js
@@ -153,7 +153,7 @@ order_is_free {Id} same file xs ys o one_file orders = record {
 }
   where
     ids : List Id
-    ids = first_seen same (map (λ (x : InFile Id). x.id) xs)
+    ids = first_seen same (map (λ (x : InFile Id). x.file_id) xs)
 
     others : map (labeled_file_model same file ys) ids ≡ labeled_file_models same file ys
     others = files-equal same file o one_file ys _ _ orders.files

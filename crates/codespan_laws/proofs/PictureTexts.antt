@@ -161,8 +161,8 @@ module _ {Id : Type 0} (files : FileDatabase Id) (d : Diagnostic Id) (lawful : (
   text-file : (id : Id) → IsTextFile (labeled_file_model files.same files.file (labels_of d) id)
   text-file id = record {
     lawful = lawful id;
-    labels = each_map HasTextMessage (λ (x : InFile Id). x.label) (filter (λ (x : InFile Id). files.same id x.id) (labels_of d))
-        (all-filter (λ (x : InFile Id). HasTextMessage x.label) (λ (x : InFile Id). files.same id x.id) (labels_of d) (text_message-given d.labels.items));
+    labels = each_map HasTextMessage (λ (x : InFile Id). x.label) (filter (λ (x : InFile Id). files.same id x.file_id) (labels_of d))
+        (all-filter (λ (x : InFile Id). HasTextMessage x.label) (λ (x : InFile Id). files.same id x.file_id) (labels_of d) (text_message-given d.labels.items));
   }
 
   text-files : AllByRecursion IsTextFile (files_of files d)
@@ -218,4 +218,4 @@ module _ {Id : Type 0} (style : DisplayStyle) (renderer_config view_config : Con
       text-output files d lawful style renderer_config view_config ok (stated_loci files d style)
       (stated_texts (locus_starts files.same files.file (labels_of d) style)
       (each_start files.same files.file (labels_of d) (λ (f : FileModel). IfSome f.name IsUtf8)
-      (each_all (λ (x : InFile Id). IfSome (files.file x.id).name IsUtf8) (labels_of d) (λ x. named x.id)) style))
+      (each_all (λ (x : InFile Id). IfSome (files.file x.file_id).name IsUtf8) (labels_of d) (λ x. named x.file_id)) style))

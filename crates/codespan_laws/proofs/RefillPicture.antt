@@ -254,16 +254,16 @@ module _ (φ : Stream → Stream) (keeps : (s : Stream) → is_empty_stream (φ 
   pub files-re : {Id : Type 0} (same : Id → Id → Bool) (file : Id → FileModel) (xs : List (InFile Id))
       → labeled_file_models same file (map (re_in φ) xs) ≡ map (re_file φ) (labeled_file_models same file xs)
   files-re {Id = Id} same file xs =
-      ap (λ ids. map (labeled_file_model same file (map (re_in φ) xs)) (first_seen same ids)) (map-map (λ (x : InFile Id). x.id) (re_in φ) xs)
+      ap (λ ids. map (labeled_file_model same file (map (re_in φ) xs)) (first_seen same ids)) (map-map (λ (x : InFile Id). x.file_id) (re_in φ) xs)
       ∙ map-ext (labeled_file_model same file (map (re_in φ) xs)) (λ id. re_file φ (labeled_file_model same file xs id)) one ids
       ∙ sym (map-map (re_file φ) (labeled_file_model same file xs) ids)
     where
       ids : List Id
-      ids = first_seen same (map (λ (x : InFile Id). x.id) xs)
+      ids = first_seen same (map (λ (x : InFile Id). x.file_id) xs)
 
       one : (id : Id) → labeled_file_model same file (map (re_in φ) xs) id ≡ re_file φ (labeled_file_model same file xs id)
       one id =
           ap {B = LabeledFileModel} (λ ys. record { file = file id; labels = ys })
-          (ap (map (λ (x : InFile Id). x.label)) (filter-map (λ (x : InFile Id). same id x.id) (re_in φ) xs)
-          ∙ map-map (λ (x : InFile Id). x.label) (re_in φ) (filter (λ (x : InFile Id). same id x.id) xs)
-          ∙ sym (map-map (re φ) (λ (x : InFile Id). x.label) (filter (λ (x : InFile Id). same id x.id) xs)))
+          (ap (map (λ (x : InFile Id). x.label)) (filter-map (λ (x : InFile Id). same id x.file_id) (re_in φ) xs)
+          ∙ map-map (λ (x : InFile Id). x.label) (re_in φ) (filter (λ (x : InFile Id). same id x.file_id) xs)
+          ∙ sym (map-map (re φ) (λ (x : InFile Id). x.label) (filter (λ (x : InFile Id). same id x.file_id) xs)))

@@ -63,34 +63,34 @@ module _ {Id : Type 0} (same : Id → Id → Bool) (law : IsEquivalence same) wh
 
   -- what each label weighs, its file weighs
   all_seen : (w : InFile Id → ℕ) (ids : List Id) (xs : List (InFile Id))
-      → ((z : Id) → list_any (λ id. same id z) (map (λ (x : InFile Id). x.id) xs) ≡ true → list_any (λ id. same id z) ids ≡ true)
-      → sum_by (λ (x : InFile Id). sum_by (λ id. cond (same id x.id) (w x) 0) (first_seen same ids)) xs ≡ sum_by w xs
+      → ((z : Id) → list_any (λ id. same id z) (map (λ (x : InFile Id). x.file_id) xs) ≡ true → list_any (λ id. same id z) ids ≡ true)
+      → sum_by (λ (x : InFile Id). sum_by (λ id. cond (same id x.file_id) (w x) 0) (first_seen same ids)) xs ≡ sum_by w xs
   all_seen w ids [] h = refl
   all_seen w ids (x ∷ xs) h =
-      let here = h x.id (or_left (same x.id x.id) (list_any (λ id. same id x.id) (map (λ (y : InFile Id). y.id) xs)) (law.refl x.id)) in
+      let here = h x.file_id (or_left (same x.file_id x.file_id) (list_any (λ id. same id x.file_id) (map (λ (y : InFile Id). y.file_id) xs)) (law.refl x.file_id)) in
       let e = ap {B = ℕ} (λ b. cond b (w x) 0) here in
       omega (
         arith,
         e,
-        once_seen (w x) x.id ids,
-        all_seen w ids xs (λ z any. h z (or_right (same x.id z) (list_any (λ id. same id z) (map (λ (y : InFile Id). y.id) xs)) any)),
-        sum_by-cons (λ (x : InFile Id). sum_by (λ id. cond (same id x.id) (w x) 0) (first_seen same ids)) x xs,
+        once_seen (w x) x.file_id ids,
+        all_seen w ids xs (λ z any. h z (or_right (same x.file_id z) (list_any (λ id. same id z) (map (λ (y : InFile Id). y.file_id) xs)) any)),
+        sum_by-cons (λ (x : InFile Id). sum_by (λ id. cond (same id x.file_id) (w x) 0) (first_seen same ids)) x xs,
         sum_by-cons w x xs,
       )
 
   files_sum : (k : ℕ) (config : Config) (file : Id → FileModel) → ((id : Id) → 0 < line_count (file id)) → (xs : List (InFile Id))
       → sum_by (file_slots k config) (labeled_file_models same file xs) ≡ sum_by (λ (x : InFile Id). label_slots k x.label) xs
   files_sum k config file some xs =
-      let ids = first_seen same (map (λ (x : InFile Id). x.id) xs) in
+      let ids = first_seen same (map (λ (x : InFile Id). x.file_id) xs) in
       sum-map (file_slots k config) (labeled_file_model same file xs) ids
       ∙ sum-ext (λ id. file_slots k config (labeled_file_model same file xs id))
-      (λ id. sum_by (λ (x : InFile Id). cond (same id x.id) (label_slots k x.label) 0) xs)
+      (λ id. sum_by (λ (x : InFile Id). cond (same id x.file_id) (label_slots k x.label) 0) xs)
       (λ id. snippet_sum k config (labeled_file_model same file xs id) (some id)
-      ∙ sum-map (label_slots k) (λ (x : InFile Id). x.label) (filter (λ (x : InFile Id). same id x.id) xs)
-      ∙ sum-filter (λ (x : InFile Id). label_slots k x.label) (λ (x : InFile Id). same id x.id) xs)
+      ∙ sum-map (label_slots k) (λ (x : InFile Id). x.label) (filter (λ (x : InFile Id). same id x.file_id) xs)
+      ∙ sum-filter (λ (x : InFile Id). label_slots k x.label) (λ (x : InFile Id). same id x.file_id) xs)
       ids
-      ∙ sum-swap (λ id (x : InFile Id). cond (same id x.id) (label_slots k x.label) 0) ids xs
-      ∙ all_seen (λ x. label_slots k x.label) (map (λ (x : InFile Id). x.id) xs) xs (λ z any. any)
+      ∙ sum-swap (λ id (x : InFile Id). cond (same id x.file_id) (label_slots k x.label) 0) ids xs
+      ∙ all_seen (λ x. label_slots k x.label) (map (λ (x : InFile Id). x.file_id) xs) xs (λ z any. any)
 
 -- ---- slots instead of messages
 

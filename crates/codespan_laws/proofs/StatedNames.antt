@@ -25,7 +25,7 @@ use Rattle.codespan_laws.proofs.Loci.{each_of, each_start, zip_stated}
 
 -- whether both lookups of a header succeed
 abbrev lookup_succeeds : {Id : Type 0} → Failures Id → InFile Id → Bool
-lookup_succeeds failure x = is_none (failure x.id Name) && is_none (failure x.id (LocationAt x.label.start))
+lookup_succeeds failure x = is_none (failure x.file_id Name) && is_none (failure x.file_id (LocationAt x.label.start))
 
 -- where neither of the two fails, each succeeds
 both_succeed : (o p : Option Error) → or_failure o (or_failure p None) ≡ None → (is_none o && is_none p) ≡ true
@@ -76,7 +76,7 @@ module _ {Id : Type 0} (files : FileDatabase Id) (d : Diagnostic Id) (named : Na
   pub loci_stated : (style : DisplayStyle) (loci : List Locus) → AreLoci files d style loci → loci ≡ stated_loci files d style
   loci_stated style loci are =
       zip_stated (locus_starts files.same files.file (labels_of d) style) loci are
-      (each_start files.same files.file (labels_of d) (λ (f : FileModel). IsSome f.name) (each_of (λ (x : InFile Id). IsSome (files.file x.id).name) (labels_of d) named) style)
+      (each_start files.same files.file (labels_of d) (λ (f : FileModel). IsSome f.name) (each_of (λ (x : InFile Id). IsSome (files.file x.file_id).name) (labels_of d) named) style)
 
   -- so the output is the picture
   pub output_stated : (style : DisplayStyle) (renderer_config view_config : Config) (loci : List Locus) → AreLoci files d style loci

@@ -16,12 +16,12 @@ labels_before_failure {Id} failure xs = take_while lookup_succeeds (primary_of x
   where
     lookup_succeeds : InFile Id → Bool
     lookup_succeeds x =
-        is_none (failure x.id Name) && is_none (failure x.id (LocationAt x.label.start))
+        is_none (failure x.file_id Name) && is_none (failure x.file_id (LocationAt x.label.start))
 
 module _ {Id : Type 0} (files : FileDatabase Id) (d : Diagnostic Id) where
   -- the names of the labels' files are stated
   abbrev pub NamesAreStated : Type 0
-  NamesAreStated = (x : InFile Id) → Contains (labels_of d) x → IsSome (files.file x.id).name
+  NamesAreStated = (x : InFile Id) → Contains (labels_of d) x → IsSome (files.file x.file_id).name
 
   -- the output with any loci is the picture
   abbrev pub OutputIsPicture : Type 0

@@ -158,7 +158,7 @@ module _ (ss : List SourceView) where
   lookups_are_found id ls all = each_map (λ l. (id, l)) IsFound (λ l. fails id l ≡ None) ls (λ l e. e) all
 
   abbrev InKnown : InFile ℕ → Type 0
-  InKnown x = IsKnown x.id
+  InKnown x = IsKnown x.file_id
 
   module _ (config : Config) (xs : List (InFile ℕ)) (known : Each InKnown xs) where
     abbrev files : FileDatabase ℕ
@@ -166,14 +166,14 @@ module _ (ss : List SourceView) where
 
     ids_known : Each IsKnown (file_ids files.same xs)
     ids_known =
-        each_first_seen files.same IsKnown (map (λ (x : InFile ℕ). x.id) xs)
-        (each_map (λ (x : InFile ℕ). x.id) IsKnown InKnown xs (λ x h. h) known)
+        each_first_seen files.same IsKnown (map (λ (x : InFile ℕ). x.file_id) xs)
+        (each_map (λ (x : InFile ℕ). x.file_id) IsKnown InKnown xs (λ x h. h) known)
 
     labels_found : Each IsFound (label_lookups config files xs)
     labels_found =
-        each_flat_map (λ (x : InFile ℕ). lookups_of_file x.id (label_line_lookups config (files.file x.id) (files.failure x.id) x.label))
+        each_flat_map (λ (x : InFile ℕ). lookups_of_file x.file_id (label_line_lookups config (files.file x.file_id) (files.failure x.file_id) x.label))
         IsFound InKnown xs
-        (λ x h. lookups_are_found x.id (label_line_lookups config (files.file x.id) (files.failure x.id) x.label) (of_label_found (fails x.id) (files.file x.id) (lookups_succeed_at x.id h) config x.label)) known
+        (λ x h. lookups_are_found x.file_id (label_line_lookups config (files.file x.file_id) (files.failure x.file_id) x.label) (of_label_found (fails x.file_id) (files.file x.file_id) (lookups_succeed_at x.file_id h) config x.label)) known
 
     of_ids : (lookups_for : ℕ → List Lookup) → ((id : ℕ) → IsKnown id → Each (λ l. fails id l ≡ None) (lookups_for id))
         → Each IsFound (flat_map (λ id. lookups_of_file id (lookups_for id)) (file_ids files.same xs))
@@ -211,7 +211,7 @@ module _ (ss : List SourceView) where
     header_found : Each IsFound (flat_map header_lookups_of (primary_of xs))
     header_found =
         each_flat_map header_lookups_of IsFound InKnown (primary_of xs)
-        (λ x h. ((lookups_succeed_at x.id h).name, ((lookups_succeed_at x.id h).location x.label.start, tt)))
+        (λ x h. ((lookups_succeed_at x.file_id h).name, ((lookups_succeed_at x.file_id h).location x.label.start, tt)))
         (each_filter (λ (x : InFile ℕ). is_primary x.label) InKnown xs known)
 
   succeed : (ls : List (ℕ × Lookup)) → Each IsFound ls → AllSucceed fails ls

@@ -34,7 +34,7 @@ use Rattle.codespan_native.specs.RenderedStreams.{stream_of_output}
 
 -- the names of the files are stated
 pub stated : (ss : List SourceView) (d : Diagnostic ℕ) → NamesAreStated (database_of ss) d
-stated ss d x contains = named x.id
+stated ss d x contains = named x.file_id
   where
     named : (id : ℕ) → IsSome ((database_of ss).file id).name
     named id =

@@ -24,7 +24,7 @@ header_text_in d = record { code = d.code; message = d.message }
 -- a label, as outputs read it
 abbrev pub label_in : LabelView ℕ → InFile ℕ
 label_in l = record {
-  id = l.file_id;
+  file_id = l.file_id;
   label = record {
     style = l.style;
     start = l.range.start;

@@ -76,7 +76,8 @@ abbrev pub label_lookups : {Id : Type 0}
     → Config → FileDatabase Id → List (InFile Id) → List (Id × Lookup)
 label_lookups {Id} config files xs =
     flat_map (λ (x : InFile Id).
-    lookups_of_file x.id (label_line_lookups config (files.file x.id) (files.failure x.id) x.label))
+    lookups_of_file x.file_id
+    (label_line_lookups config (files.file x.file_id) (files.failure x.file_id) x.label))
     xs
 
 module _ {Id : Type 0} (files : FileDatabase Id) (xs : List (InFile Id)) where
@@ -114,7 +115,7 @@ module _ {Id : Type 0} (files : FileDatabase Id) (xs : List (InFile Id)) where
 -- in short and medium style, those of a label's header: the name of its file, and the location of
 -- its start
 abbrev pub header_lookups_of : {Id : Type 0} → InFile Id → List (Id × Lookup)
-header_lookups_of x = lookups_of_file x.id (Name ∷ LocationAt x.label.start ∷ [])
+header_lookups_of x = lookups_of_file x.file_id (Name ∷ LocationAt x.label.start ∷ [])
 
 -- all lookups of an output in a style: in short and medium style those of all primary labels
 abbrev pub lookups_in : {Id : Type 0}

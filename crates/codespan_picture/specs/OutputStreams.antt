@@ -16,7 +16,7 @@ use Rattle.codespan_picture.specs.Snippets.{InFile, LabeledFileModel, header_row
 -- a label
 abbrev pub label_of : {Id : Type 0} → Label Id → InFile Id
 label_of x = record {
-  id = x.file_id;
+  file_id = x.file_id;
   label = record {
     style = x.style;
     start = x.range.start;
@@ -58,7 +58,7 @@ snippet_locus_start s = (s.file, locus_start s.labels)
 
 -- the byte of a file at which a label starts
 abbrev pub label_locus_start : {Id : Type 0} → (Id → FileModel) → InFile Id → FileModel × ℕ
-label_locus_start file x = (file x.id, x.label.start)
+label_locus_start file x = (file x.file_id, x.label.start)
 
 module _ {Id : Type 0} (same : Id → Id → Bool) (file : Id → FileModel) (xs : List (InFile Id)) where
   -- the bytes of files whose loci the output shows: in rich style that of each file's snippet, in

@@ -16,7 +16,7 @@ pub record LabeledFileModel : Type 0 where
 
 -- a label of the diagnostic, in a file
 pub record InFile (Id : Type 0) : Type 0 where
-  pub id : Id
+  pub file_id : Id
   pub label : LabelModel
 
 -- one file with its labels
@@ -24,12 +24,12 @@ abbrev pub labeled_file_model : {Id : Type 0}
     → (Id → Id → Bool) → (Id → FileModel) → List (InFile Id) → Id → LabeledFileModel
 labeled_file_model {Id} same file labels id = record {
   file = file id;
-  labels = map (λ (x : InFile Id). x.label) (filter (λ (x : InFile Id). same id x.id) labels);
+  labels = map (λ (x : InFile Id). x.label) (filter (λ (x : InFile Id). same id x.file_id) labels);
 }
 
 -- the ids of the labels' files, in the order of their first label
 abbrev pub file_ids : {Id : Type 0} → (Id → Id → Bool) → List (InFile Id) → List Id
-file_ids {Id} same labels = first_seen same (map (λ (x : InFile Id). x.id) labels)
+file_ids {Id} same labels = first_seen same (map (λ (x : InFile Id). x.file_id) labels)
 
 -- the files in that order
 abbrev pub labeled_file_models : {Id : Type 0}

@@ -36,7 +36,7 @@ module _ {Id : Type 0} {same : Id → Id → Bool} {file : Id → FileModel} {id
 
   -- the labels that are of the file
   abbrev own : List (InFile Id) → List (InFile Id)
-  own xs = filter (λ (x : InFile Id). same id x.id) xs
+  own xs = filter (λ (x : InFile Id). same id x.file_id) xs
 
   -- they, without their ids
   abbrev pub labels_in : List (InFile Id) → List LabelModel
@@ -53,21 +53,21 @@ module _ {Id : Type 0} {same : Id → Id → Bool} {file : Id → FileModel} {id
   annotations-below [] before = tt
   annotations-below (x ∷ xs) before =
       all-append (λ e. is_of_file f e ≡ true → e.line < line_count own_file)
-      (annotations_of config (file x.id) (indices_after same file ids before x) x.label) (annotations_after same file config ids (before ++ x ∷ []) xs)
+      (annotations_of config (file x.file_id) (indices_after same file ids before x) x.label) (annotations_after same file config ids (before ++ x ∷ []) xs)
       (⊎_elim
-      (λ (t : same id x.id ≡ true). all-weaker (λ e. e.line < line_count (file x.id)) (λ e. is_of_file f e ≡ true → e.line < line_count own_file)
-      (λ e h _. subst (λ m. e.line < line_count m) (here.one_file x.id t) h)
-      (annotations_of config (file x.id) (indices_after same file ids before x) x.label)
-      (all-below config (file x.id) (indices_after same file ids before x) x.label))
-      (λ (t : same id x.id ≡ false). all-weaker (λ e. e.file ≡ index_of_file same ids x.id) (λ e. is_of_file f e ≡ true → e.line < line_count own_file)
+      (λ (t : same id x.file_id ≡ true). all-weaker (λ e. e.line < line_count (file x.file_id)) (λ e. is_of_file f e ≡ true → e.line < line_count own_file)
+      (λ e h _. subst (λ m. e.line < line_count m) (here.one_file x.file_id t) h)
+      (annotations_of config (file x.file_id) (indices_after same file ids before x) x.label)
+      (all-below config (file x.file_id) (indices_after same file ids before x) x.label))
+      (λ (t : same id x.file_id ≡ false). all-weaker (λ e. e.file ≡ index_of_file same ids x.file_id) (λ e. is_of_file f e ≡ true → e.line < line_count own_file)
       (λ e h k. absurd (other x t e h k))
-      (annotations_of config (file x.id) (indices_after same file ids before x) x.label)
-      (all-of_file config (file x.id) (indices_after same file ids before x) x.label))
-      (cases_Bool (same id x.id)))
+      (annotations_of config (file x.file_id) (indices_after same file ids before x) x.label)
+      (all-of_file config (file x.file_id) (indices_after same file ids before x) x.label))
+      (cases_Bool (same id x.file_id)))
       (annotations-below xs (before ++ x ∷ []))
     where
-      other : (x : InFile Id) → same id x.id ≡ false → (e : Annotation) → e.file ≡ index_of_file same ids x.id → is_of_file f e ≡ true → ⊥
-      other x t e h k = let both = sym k ∙ ap (λ i. i == f) h ∙ here.index x.id ∙ t in cc
+      other : (x : InFile Id) → same id x.file_id ≡ false → (e : Annotation) → e.file ≡ index_of_file same ids x.file_id → is_of_file f e ≡ true → ⊥
+      other x t e h k = let both = sym k ∙ ap (λ i. i == f) h ∙ here.index x.file_id ∙ t in cc
 
   module _ (l : ℕ) where
     -- where a label of the file is after these
@@ -76,7 +76,7 @@ module _ {Id : Type 0} {same : Id → Id → Bool} {file : Id → FileModel} {id
 
     -- the annotations of a label on the line
     abbrev line_annotations_of : List (InFile Id) → InFile Id → List Annotation
-    line_annotations_of before x = cond (same id x.id && nat_lt l (line_count own_file)) (line_annotations config own_file (indices_at before) x.label l) []
+    line_annotations_of before x = cond (same id x.file_id && nat_lt l (line_count own_file)) (line_annotations config own_file (indices_at before) x.label l) []
 
     -- the annotations of labels after these on the line
     abbrev pub line_annotations_after : List (InFile Id) → List (InFile Id) → List Annotation
@@ -85,31 +85,31 @@ module _ {Id : Type 0} {same : Id → Id → Bool} {file : Id → FileModel} {id
 
     -- a label's annotations of the line of the file
     one-line_annotations : (before : List (InFile Id)) (x : InFile Id)
-        → filter (is_on_line l) (filter (is_of_file f) (annotations_of config (file x.id) (indices_after same file ids before x) x.label)) ≡ line_annotations_of before x
+        → filter (is_on_line l) (filter (is_of_file f) (annotations_of config (file x.file_id) (indices_after same file ids before x) x.label)) ≡ line_annotations_of before x
     one-line_annotations before x =
         ⊎_elim
-        (λ (t : same id x.id ≡ true).
-        let at : index_of_file same ids x.id ≡ f = eqb-true (index_of_file same ids x.id) f (here.index x.id ∙ t) in
-        ap (filter (is_on_line l)) (filter-whole (is_of_file f) es (all-weaker (λ e. e.file ≡ index_of_file same ids x.id) (λ e. is_of_file f e ≡ true) (λ e h. eq-eqb e.file f (h ∙ at)) es of))
-        ∙ (λ i. filter (is_on_line l) (annotations_of config (here.one_file x.id t i) (record { file = at i; index = length before; lane = here.lanes before x.id t i }) x.label))
+        (λ (t : same id x.file_id ≡ true).
+        let at : index_of_file same ids x.file_id ≡ f = eqb-true (index_of_file same ids x.file_id) f (here.index x.file_id ∙ t) in
+        ap (filter (is_on_line l)) (filter-whole (is_of_file f) es (all-weaker (λ e. e.file ≡ index_of_file same ids x.file_id) (λ e. is_of_file f e ≡ true) (λ e h. eq-eqb e.file f (h ∙ at)) es of))
+        ∙ (λ i. filter (is_on_line l) (annotations_of config (here.one_file x.file_id t i) (record { file = at i; index = length before; lane = here.lanes before x.file_id t i }) x.label))
         ∙ annotations-on_line config own_file (indices_at before) x.label l
         ∙ sym (ap (λ b. cond (b && nat_lt l (line_count own_file)) (line_annotations config own_file (indices_at before) x.label l) []) t))
-        (λ (t : same id x.id ≡ false).
-        ap (filter (is_on_line l)) (filter-nothing (is_of_file f) es (all-weaker (λ e. e.file ≡ index_of_file same ids x.id) (λ e. is_of_file f e ≡ false) (λ e h. ap (λ i. i == f) h ∙ here.index x.id ∙ t) es of))
+        (λ (t : same id x.file_id ≡ false).
+        ap (filter (is_on_line l)) (filter-nothing (is_of_file f) es (all-weaker (λ e. e.file ≡ index_of_file same ids x.file_id) (λ e. is_of_file f e ≡ false) (λ e h. ap (λ i. i == f) h ∙ here.index x.file_id ∙ t) es of))
         ∙ sym (ap (λ b. cond (b && nat_lt l (line_count own_file)) (line_annotations config own_file (indices_at before) x.label l) []) t))
-        (cases_Bool (same id x.id))
+        (cases_Bool (same id x.file_id))
       where
         es : List Annotation
-        es = annotations_of config (file x.id) (indices_after same file ids before x) x.label
+        es = annotations_of config (file x.file_id) (indices_after same file ids before x) x.label
 
-        of : AllByRecursion (λ e. e.file ≡ index_of_file same ids x.id) es
-        of = all-of_file config (file x.id) (indices_after same file ids before x) x.label
+        of : AllByRecursion (λ e. e.file ≡ index_of_file same ids x.file_id) es
+        of = all-of_file config (file x.file_id) (indices_after same file ids before x) x.label
 
     -- all annotations of the line of the file
     pub all-line_annotations : (xs before : List (InFile Id)) → filter (is_on_line l) (filter (is_of_file f) (annotations_after same file config ids before xs)) ≡ line_annotations_after before xs
     all-line_annotations [] before = refl
     all-line_annotations (x ∷ xs) before =
-        let es = annotations_of config (file x.id) (indices_after same file ids before x) x.label in
+        let es = annotations_of config (file x.file_id) (indices_after same file ids before x) x.label in
         let rest = annotations_after same file config ids (before ++ x ∷ []) xs in
         ap (filter (is_on_line l)) (filter-append (is_of_file f) es rest)
         ∙ filter-append (is_on_line l) (filter (is_of_file f) es) (filter (is_of_file f) rest)
@@ -138,11 +138,11 @@ module _ {Id : Type 0} {same : Id → Id → Bool} {file : Id → FileModel} {id
     -- the annotations of the labels inside the line, where their indices begin here
     abbrev pub single_labels_from : ℕ → List (InFile Id) → List Annotation
     single_labels_from k [] = []
-    single_labels_from k (x ∷ xs) = cond (same id x.id && on x.label) (single_label_at k x.label ∷ []) [] ++ single_labels_from (k + 1) xs
+    single_labels_from k (x ∷ xs) = cond (same id x.file_id && on x.label) (single_label_at k x.label ∷ []) [] ++ single_labels_from (k + 1) xs
 
     -- the annotation of one of them
-    one-single : (before : List (InFile Id)) (x : InFile Id) → filter (is_kind 1) (line_annotations_of before x) ≡ cond (same id x.id && on x.label) (single_label_at (length before) x.label ∷ []) []
-    one-single before x = by_tests (same id x.id) (nat_lt l (line_count own_file)) refl
+    one-single : (before : List (InFile Id)) (x : InFile Id) → filter (is_kind 1) (line_annotations_of before x) ≡ cond (same id x.file_id && on x.label) (single_label_at (length before) x.label ∷ []) []
+    one-single before x = by_tests (same id x.file_id) (nat_lt l (line_count own_file)) refl
       where
         by_tests : (s t : Bool) → nat_lt l (line_count own_file) ≡ t
             → filter (is_kind 1) (cond (s && t) (line_annotations config own_file (indices_at before) x.label l) []) ≡ cond (s && on x.label) (single_label_at (length before) x.label ∷ []) []
@@ -157,13 +157,13 @@ module _ {Id : Type 0} {same : Id → Id → Bool} {file : Id → FileModel} {id
         let one = length-append before (x ∷ []) in
         let more : length (before ++ x ∷ []) ≡ k + 1 = omega (arith, one, e) in
         filter-append (is_kind 1) (line_annotations_of before x) (line_annotations_after (before ++ x ∷ []) xs)
-        ∙ ap (λ (r : List Annotation). r ++ filter (is_kind 1) (line_annotations_after (before ++ x ∷ []) xs)) (one-single before x ∙ ap (λ n. cond (same id x.id && on x.label) (single_label_at n x.label ∷ []) []) e)
-        ∙ ap (λ (r : List Annotation). cond (same id x.id && on x.label) (single_label_at k x.label ∷ []) [] ++ r) (all-single_labels xs (before ++ x ∷ []) (k + 1) more)
+        ∙ ap (λ (r : List Annotation). r ++ filter (is_kind 1) (line_annotations_after (before ++ x ∷ []) xs)) (one-single before x ∙ ap (λ n. cond (same id x.file_id && on x.label) (single_label_at n x.label ∷ []) []) e)
+        ∙ ap (λ (r : List Annotation). cond (same id x.file_id && on x.label) (single_label_at k x.label ∷ []) [] ++ r) (all-single_labels xs (before ++ x ∷ []) (k + 1) more)
 
     -- the labels of those annotations
     pub single_labels-labels : (k : ℕ) (xs : List (InFile Id)) → single_labels_in (single_labels_from k xs) ≡ map (drawn_label own_file) (filter on (labels_in xs))
     single_labels-labels k [] = refl
-    single_labels-labels k (x ∷ xs) = by_tests (same id x.id) (on x.label) refl (single_labels-labels (k + 1) xs)
+    single_labels-labels k (x ∷ xs) = by_tests (same id x.file_id) (on x.label) refl (single_labels-labels (k + 1) xs)
       where
         by_tests : (s t : Bool) → on x.label ≡ t → single_labels_in (single_labels_from (k + 1) xs) ≡ map (drawn_label own_file) (filter on (labels_in xs))
             → single_labels_in (cond (s && on x.label) (single_label_at k x.label ∷ []) [] ++ single_labels_from (k + 1) xs)
@@ -180,7 +180,7 @@ module _ {Id : Type 0} {same : Id → Id → Bool} {file : Id → FileModel} {id
     single_labels-below : (start end k j : ℕ) (a : LabelModel) → k < j → has_range start end (drawn_label own_file a) ≡ true → (xs : List (InFile Id))
         → AllByRecursion (λ e. is_before e (single_label_at k a) ≡ true) (filter (is_of_range start end) (single_labels_from j xs))
     single_labels-below start end k j a h t [] = tt
-    single_labels-below start end k j a h t (x ∷ xs) = by_test (same id x.id && on x.label) (single_labels-below start end k (j + 1) a (omega arith) t xs)
+    single_labels-below start end k j a h t (x ∷ xs) = by_test (same id x.file_id && on x.label) (single_labels-below start end k (j + 1) a (omega arith) t xs)
       where
         IsLower : Annotation → Type 0
         IsLower e = is_before e (single_label_at k a) ≡ true
@@ -203,7 +203,7 @@ module _ {Id : Type 0} {same : Id → Id → Bool} {file : Id → FileModel} {id
     -- the annotations of the labels of a range fall
     pub single_labels-fall : (start end k : ℕ) (xs : List (InFile Id)) → Falls is_before (filter (is_of_range start end) (single_labels_from k xs))
     single_labels-fall start end k [] = tt
-    single_labels-fall start end k (x ∷ xs) = by_test (same id x.id && on x.label) (single_labels-fall start end (k + 1) xs)
+    single_labels-fall start end k (x ∷ xs) = by_test (same id x.file_id && on x.label) (single_labels-fall start end (k + 1) xs)
       where
         by_range : (b : Bool) → has_range start end (drawn_label own_file x.label) ≡ b → Falls is_before (filter (is_of_range start end) (single_labels_from (k + 1) xs))
             → Falls is_before (cond b (single_label_at k x.label ∷ filter (is_of_range start end) (single_labels_from (k + 1) xs)) (filter (is_of_range start end) (single_labels_from (k + 1) xs)))
@@ -235,8 +235,8 @@ module _ {Id : Type 0} {same : Id → Id → Bool} {file : Id → FileModel} {id
 
     -- the lane mark of a label that comes after these
     one-lane_mark : (before : List (InFile Id)) (x : InFile Id)
-        → filter (is_kind 2) (line_annotations_of before x) ≡ cond (same id x.id) (multi_annotations_if (is_single own_file x.label) (lane_mark_of (num_multi_labels_of same file before id) x.label (multi_label_on own_file l x.label))) []
-    one-lane_mark before x = by_tests (same id x.id) (nat_lt l (line_count own_file)) refl
+        → filter (is_kind 2) (line_annotations_of before x) ≡ cond (same id x.file_id) (multi_annotations_if (is_single own_file x.label) (lane_mark_of (num_multi_labels_of same file before id) x.label (multi_label_on own_file l x.label))) []
+    one-lane_mark before x = by_tests (same id x.file_id) (nat_lt l (line_count own_file)) refl
       where
         lane : ℕ
         lane = num_multi_labels_of same file before id
@@ -257,9 +257,9 @@ module _ {Id : Type 0} {same : Id → Id → Bool} {file : Id → FileModel} {id
     all-lane_marks [] before n e = refl
     all-lane_marks (x ∷ xs) before n e =
         filter-append (is_kind 2) (line_annotations_of before x) (line_annotations_after (before ++ x ∷ []) xs)
-        ∙ (λ i. (one-lane_mark before x ∙ ap (λ k. cond (same id x.id) (multi_annotations_if (is_single own_file x.label) (lane_mark_of k x.label (multi_label_on own_file l x.label))) []) e) i
-        ++ all-lane_marks xs (before ++ x ∷ []) (n + (if same id x.id then label_lanes own_file x.label else 0)) (num_multi_labels_of-more same file before x id ∙ ap (λ k. k + (if same id x.id then label_lanes own_file x.label else 0)) e) i)
-        ∙ by_tests (same id x.id) (is_single own_file x.label) refl
+        ∙ (λ i. (one-lane_mark before x ∙ ap (λ k. cond (same id x.file_id) (multi_annotations_if (is_single own_file x.label) (lane_mark_of k x.label (multi_label_on own_file l x.label))) []) e) i
+        ++ all-lane_marks xs (before ++ x ∷ []) (n + (if same id x.file_id then label_lanes own_file x.label else 0)) (num_multi_labels_of-more same file before x id ∙ ap (λ k. k + (if same id x.file_id then label_lanes own_file x.label else 0)) e) i)
+        ∙ by_tests (same id x.file_id) (is_single own_file x.label) refl
       where
         later : ℕ → List Annotation
         later k = map (lane_mark_annotation f l) (marks_from own_file l k (multi_labels own_file (labels_in xs)))
@@ -286,7 +286,7 @@ module _ {Id : Type 0} {same : Id → Id → Bool} {file : Id → FileModel} {id
     any-line_annotations (x ∷ xs) before =
         list_any-append shows_line (line_annotations_of before x) (line_annotations_after (before ++ x ∷ []) xs)
         ∙ ap (λ b. list_any shows_line (line_annotations_of before x) || b) (any-line_annotations xs (before ++ x ∷ []))
-        ∙ by_tests (same id x.id) (nat_lt l (line_count own_file))
+        ∙ by_tests (same id x.file_id) (nat_lt l (line_count own_file))
       where
         shows_it : LabelModel → Bool
         shows_it y = shows config (first_line own_file y) (last_line own_file y) l

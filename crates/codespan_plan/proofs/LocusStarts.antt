@@ -16,10 +16,10 @@ module _ {Id : Type 0} (same : Id → Id → Bool) (file : Id → FileModel) (id
   -- the starts of the primary labels of the file
   primary-starts : (xs : List (InFile Id)) → label_starts same id true xs ≡ map (λ (x : LabelModel). x.start) (filter is_primary (labeled_file_model same file xs id).labels)
   primary-starts [] = refl
-  primary-starts (x ∷ xs) = by (same id x.id) (primary-starts xs)
+  primary-starts (x ∷ xs) = by (same id x.file_id) (primary-starts xs)
     where
       own : List (InFile Id)
-      own = filter (λ (y : InFile Id). same id y.id) xs
+      own = filter (λ (y : InFile Id). same id y.file_id) xs
 
       candidates : List (InFile Id)
       candidates = filter (is_locus_label same id true) xs
@@ -39,11 +39,11 @@ module _ {Id : Type 0} (same : Id → Id → Bool) (file : Id → FileModel) (id
   -- the starts of all its labels
   all-starts : (xs : List (InFile Id)) → label_starts same id false xs ≡ map (λ (x : LabelModel). x.start) (labeled_file_model same file xs id).labels
   all-starts [] = refl
-  all-starts (x ∷ xs) = by (same id x.id) (all-starts xs)
+  all-starts (x ∷ xs) = by (same id x.file_id) (all-starts xs)
     where
       by : (b : Bool) → label_starts same id false xs ≡ map (λ (x : LabelModel). x.start) (labeled_file_model same file xs id).labels
           → map (λ (x : InFile Id). x.label.start) (cond (b && true) (x ∷ filter (is_locus_label same id false) xs) (filter (is_locus_label same id false) xs))
-          ≡ map (λ (x : LabelModel). x.start) (map (λ (x : InFile Id). x.label) (cond b (x ∷ filter (λ (x : InFile Id). same id x.id) xs) (filter (λ (x : InFile Id). same id x.id) xs)))
+          ≡ map (λ (x : LabelModel). x.start) (map (λ (x : InFile Id). x.label) (cond b (x ∷ filter (λ (x : InFile Id). same id x.file_id) xs) (filter (λ (x : InFile Id). same id x.file_id) xs)))
       by true rest = ap (λ (ns : List ℕ). x.label.start ∷ ns) rest
       by false rest = rest
 

@@ -151,39 +151,39 @@ module _ {Id : Type 0} {database : FileDatabase Id} (lawful : AreFiles database)
       by_layout Unbroken id = refl
 
   -- where a file's snippet starts
-  file_locus_start-is : {f : RustFile Id} → HasLabels same file xs f → locus_byte f.start ≡ locus_start (labeled f.id).labels
-  file_locus_start-is {f} known = ap locus_byte known.start_is ∙ start-is same file f.id xs
+  file_locus_start-is : {f : RustFile Id} → HasLabels same file xs f → locus_byte f.start ≡ locus_start (labeled f.file_id).labels
+  file_locus_start-is {f} known = ap locus_byte known.start_is ∙ start-is same file f.file_id xs
 
   -- the lookups of the loci of files are those of their snippets
   loci-lookups : (fs : List (RustFile Id)) → AllByRecursion (HasLabels same file xs) fs → loci_lookups fs ≡ flat_map (λ id. lookups_of_file id (locus_lookups database xs id)) (ids_view fs)
   loci-lookups [] known = refl
-  loci-lookups (f ∷ fs) known = λ i. lookups_of_file f.id (Name ∷ LocationAt (file_locus_start-is known.0 i) ∷ []) ++ loci-lookups fs known.1 i
+  loci-lookups (f ∷ fs) known = λ i. lookups_of_file f.file_id (Name ∷ LocationAt (file_locus_start-is known.0 i) ∷ []) ++ loci-lookups fs known.1 i
 
   -- so are those of all files
   loci-are : loci_lookups collected.files.items ≡ file_locus_lookups database xs
   loci-are = loci-lookups collected.files.items all.files.labels_are ∙ ap (flat_map (λ id. lookups_of_file id (locus_lookups database xs id))) all.files.ids_are
 
-  module _ {k : ℕ} {f : RustFile Id} (at : IsIdAt (file_ids same xs) k f.id) (known : HasLabels same file xs f) {snippet_plan : SnippetPlan Id} {own : List (RustLine Id)}
+  module _ {k : ℕ} {f : RustFile Id} (at : IsIdAt (file_ids same xs) k f.file_id) (known : HasLabels same file xs f) {snippet_plan : SnippetPlan Id} {own : List (RustLine Id)}
       (is : IsPlan config.layout file es k f snippet_plan own) where
     -- it is a file of the output
-    file-plan : IsSnippetPlan config (labeled f.id) snippet_plan own
+    file-plan : IsSnippetPlan config (labeled f.file_id) snippet_plan own
     file-plan = record {
       lanes_are = ap (λ (g : RustFile Id). g.num_multi_labels) is.file_is ∙ known.lanes_are;
-      locus_is = subst (λ n. IsTextLocus (file f.id, n) (locus_view snippet_plan.locus)) (file_locus_start-is known) is.locus_is;
+      locus_is = subst (λ n. IsTextLocus (file f.file_id, n) (locus_view snippet_plan.locus)) (file_locus_start-is known) is.locus_is;
       count_is = is.count_is;
-      each = lines_of-file config.layout (file f.id) own is.each;
-      fits = subst (AreInOrder (num_multi_labels (labeled f.id))) (sym is.are) (snippet k f.id at).fits;
-      rows = ap (rows_of_lines (file f.id) (num_multi_labels (labeled f.id))) is.are ∙ (snippet k f.id at).rows;
-      lookups = snippet_lines-lookups config.layout (file f.id) own is.each ∙ ap (λ (snippet_lines : List SnippetLine). flat_map (filled_line_lookups config.layout) (fills_of snippet_lines)) is.are
-          ∙ ap (λ (ls : List ℕ). flat_map (filled_line_lookups config.layout) ls) (snippet k f.id at).fills;
+      each = lines_of-file config.layout (file f.file_id) own is.each;
+      fits = subst (AreInOrder (num_multi_labels (labeled f.file_id))) (sym is.are) (snippet k f.file_id at).fits;
+      rows = ap (rows_of_lines (file f.file_id) (num_multi_labels (labeled f.file_id))) is.are ∙ (snippet k f.file_id at).rows;
+      lookups = snippet_lines-lookups config.layout (file f.file_id) own is.each ∙ ap (λ (snippet_lines : List SnippetLine). flat_map (filled_line_lookups config.layout) (fills_of snippet_lines)) is.are
+          ∙ ap (λ (ls : List ℕ). flat_map (filled_line_lookups config.layout) ls) (snippet k f.file_id at).fills;
     }
 
     -- in the unbroken layout the digits of its numbers are those that the padding fits
-    file-digits : config.layout ≡ Unbroken → flat_map line_digits own ≡ digits_of (labeled f.id) (numbered_lines config (labeled f.id))
+    file-digits : config.layout ≡ Unbroken → flat_map line_digits own ≡ digits_of (labeled f.file_id) (numbered_lines config (labeled f.file_id))
     file-digits unbroken =
-        snippet_lines-digits (file f.id) own (subst (λ (layout : Layout). AllByRecursion (IsSnippetLineIn layout (file f.id)) own) unbroken is.each)
-        ∙ ap (λ (snippet_lines : List SnippetLine). digits_of (labeled f.id) (lines_of_snippet_lines snippet_lines)) is.are
-        ∙ ap (digits_of (labeled f.id)) ((snippet k f.id at).lines ∙ sym (numbered config unbroken (labeled f.id)))
+        snippet_lines-digits (file f.file_id) own (subst (λ (layout : Layout). AllByRecursion (IsSnippetLineIn layout (file f.file_id)) own) unbroken is.each)
+        ∙ ap (λ (snippet_lines : List SnippetLine). digits_of (labeled f.file_id) (lines_of_snippet_lines snippet_lines)) is.are
+        ∙ ap (digits_of (labeled f.file_id)) ((snippet k f.file_id at).lines ∙ sym (numbered config unbroken (labeled f.file_id)))
 
   -- the ids from an index on are at their indices
   abbrev AreAt : ℕ → List Id → Type 0
@@ -208,7 +208,7 @@ module _ {Id : Type 0} {database : FileDatabase Id} (lawful : AreFiles database)
   ids-from k [] [] snippet_lines h = refl
   ids-from k [] (snippet_plan ∷ snippet_plans) snippet_lines h = absurd h
   ids-from k (f ∷ fs) [] snippet_lines h = absurd h
-  ids-from k (f ∷ fs) (snippet_plan ∷ snippet_plans) snippet_lines h = λ i. (h.0.file_is i).id ∷ ids-from (k + 1) fs snippet_plans (drop snippet_plan.line_total snippet_lines) h.1 i
+  ids-from k (f ∷ fs) (snippet_plan ∷ snippet_plans) snippet_lines h = λ i. (h.0.file_is i).file_id ∷ ids-from (k + 1) fs snippet_plans (drop snippet_plan.line_total snippet_lines) h.1 i
 
   -- plans are those of their files
   plans-from : (k : ℕ) (fs : List (RustFile Id)) (snippet_plans : List (SnippetPlan Id)) (snippet_lines : List (RustLine Id)) → AreAt k (ids_view fs) → AllByRecursion (HasLabels same file xs) fs
@@ -217,8 +217,8 @@ module _ {Id : Type 0} {database : FileDatabase Id} (lawful : AreFiles database)
   plans-from k [] (snippet_plan ∷ snippet_plans) snippet_lines at known h = absurd h
   plans-from k (f ∷ fs) [] snippet_lines at known h = absurd h
   plans-from k (f ∷ fs) (snippet_plan ∷ snippet_plans) snippet_lines at known h = (
-    subst (λ (g : RustFile Id). IsSnippetPlan config (labeled g.id) snippet_plan (take snippet_plan.line_total snippet_lines)) (sym h.0.file_is) (file-plan (are_at-here k f.id (ids_view fs) at) known.0 h.0),
-    plans-from (k + 1) fs snippet_plans (drop snippet_plan.line_total snippet_lines) (are_at-next k f.id (ids_view fs) at) known.1 h.1,
+    subst (λ (g : RustFile Id). IsSnippetPlan config (labeled g.file_id) snippet_plan (take snippet_plan.line_total snippet_lines)) (sym h.0.file_is) (file-plan (are_at-here k f.file_id (ids_view fs) at) known.0 h.0),
+    plans-from (k + 1) fs snippet_plans (drop snippet_plan.line_total snippet_lines) (are_at-next k f.file_id (ids_view fs) at) known.1 h.1,
   )
 
   -- in the unbroken layout the digits of their snippet lines are those that the padding fits
@@ -232,7 +232,7 @@ module _ {Id : Type 0} {database : FileDatabase Id} (lawful : AreFiles database)
       let own = take snippet_plan.line_total snippet_lines in
       let later = drop snippet_plan.line_total snippet_lines in
       ap (flat_map line_digits) (sym (take-append-drop snippet_plan.line_total snippet_lines)) ∙ flat_map-append line_digits own later
-      ∙ (λ i. file-digits (are_at-here k f.id (ids_view fs) at) known.0 h.0 unbroken i ++ digits-from unbroken (k + 1) fs snippet_plans later (are_at-next k f.id (ids_view fs) at) known.1 h.1 i)
+      ∙ (λ i. file-digits (are_at-here k f.file_id (ids_view fs) at) known.0 h.0 unbroken i ++ digits-from unbroken (k + 1) fs snippet_plans later (are_at-next k f.file_id (ids_view fs) at) known.1 h.1 i)
 
   module _ (snippet_plans : List (SnippetPlan Id)) (snippet_lines : List (RustLine Id)) (found : ArePlans config.layout file es 0 collected.files.items snippet_plans snippet_lines) where
     -- the ids are at their indices

@@ -98,23 +98,23 @@ module _ {Id : Type 0} {files : List (RustFile Id)} {xs : List (RustAnnotation I
     own_annotations = ap (λ (es : List (RustAnnotation Id)). map annotation_view (next_slice es at n)) same ∙ own_slice.own
 
     -- its lines are the file's
-    pub own_lines : (file : Id → FileModel) → AllByRecursion (IsOfFiles file (ids_view files)) xs → All (λ e. IsLineOf (file f.id) e.line) (next_slice zs at n)
+    pub own_lines : (file : Id → FileModel) → AllByRecursion (IsOfFiles file (ids_view files)) xs → All (λ e. IsLineOf (file f.file_id) e.line) (next_slice zs at n)
     own_lines file lines =
         let inside = turn.here.inside in
-        let there : IsIdAt (ids_view files) k f.id =
-        subst (IsIdAt (ids_view files) k) (get_or-map (λ (g : RustFile Id). g.id) files k f f.id inside ∙ ap (λ (g : RustFile Id). g.id) (sym turn.here.is))
-        (at-get (ids_view files) k f.id (omega (arith, inside, length-map files (λ (g : RustFile Id). g.id)))) in
-        All-from_recursion (λ e. IsLineOf (file f.id) e.line) (next_slice zs at n)
-        (slice-lines file (ids_view files) zs at (at + n - at) k f.id (map annotation_view xs) there (subst (AllByRecursion (IsOfFiles file (ids_view files))) (sym same) lines) own_annotations)
+        let there : IsIdAt (ids_view files) k f.file_id =
+        subst (IsIdAt (ids_view files) k) (get_or-map (λ (g : RustFile Id). g.file_id) files k f f.file_id inside ∙ ap (λ (g : RustFile Id). g.file_id) (sym turn.here.is))
+        (at-get (ids_view files) k f.file_id (omega (arith, inside, length-map files (λ (g : RustFile Id). g.file_id)))) in
+        All-from_recursion (λ e. IsLineOf (file f.file_id) e.line) (next_slice zs at n)
+        (slice-lines file (ids_view files) zs at (at + n - at) k f.file_id (map annotation_view xs) there (subst (AllByRecursion (IsOfFiles file (ids_view files))) (sym same) lines) own_annotations)
 
     -- so are its snippet lines
     own_snippet_lines : lines_of (map annotation_view (next_slice zs at n)) ≡ lines_at (map annotation_view xs) k
     own_snippet_lines = ap lines_of own_annotations
 
     -- and what they look up
-    pub own_lookups : (layout : Layout) (failure : Failures Id) → first_error failure (lookups_of_file f.id (numbers_looked_up layout (fills_of (lines_of (map annotation_view (next_slice zs at n))))))
-        ≡ first_error failure (lookups_of_file f.id (numbers_looked_up layout (fills_of (lines_at (map annotation_view xs) k))))
-    own_lookups layout failure = ap (λ snippet_lines. first_error failure (lookups_of_file f.id (numbers_looked_up layout (fills_of snippet_lines)))) own_snippet_lines
+    pub own_lookups : (layout : Layout) (failure : Failures Id) → first_error failure (lookups_of_file f.file_id (numbers_looked_up layout (fills_of (lines_of (map annotation_view (next_slice zs at n))))))
+        ≡ first_error failure (lookups_of_file f.file_id (numbers_looked_up layout (fills_of (lines_at (map annotation_view xs) k))))
+    own_lookups layout failure = ap (λ snippet_lines. first_error failure (lookups_of_file f.file_id (numbers_looked_up layout (fills_of snippet_lines)))) own_snippet_lines
 
   -- the next file's turn is after it
   pub next_inside : at + n ≤ length xs
@@ -135,7 +135,7 @@ added-count {old = old} added = let whole = ap length added.whole in omega (arit
 pub plan_found : {Id : Type 0} {files : List (RustFile Id)} {xs zs : List (RustAnnotation Id)}
     {at n k : ℕ} {f : RustFile Id} (turn : IsAtFile files xs at n k f) {layout : Layout}
     {file : Id → FileModel}
-    {old new : List (RustLine Id)} (added : AddsLines layout (file f.id) old new (lines_of (map annotation_view (next_slice zs at n)))) → zs ≡ xs
+    {old new : List (RustLine Id)} (added : AddsLines layout (file f.file_id) old new (lines_of (map annotation_view (next_slice zs at n)))) → zs ≡ xs
     → {count : ℕ} → count ≡ length new - length old → {snippet_plan : SnippetPlan Id} → snippet_plan.file.now ≡ f
     → IsTextLocus (locus_start_of file f) (locus_view snippet_plan.locus) → snippet_plan.line_total ≡ count → IsPlan layout file (map annotation_view xs) k f snippet_plan added.more
 plan_found turn added zs_are counted same locus total = record {
@@ -214,8 +214,8 @@ module _ {Id : Type 0} {files : List (RustFile Id)} {k : ℕ} {f : RustFile Id} 
   files_before = let inside = here.inside in length-take-le k files (omega (arith, inside))
 
   -- the ids of these, and its own
-  ids-more : ids_view (take (k + 1) files) ≡ ids_view (take k files) ++ f.id ∷ []
-  ids-more = ap ids_view (take-at here) ∙ map-append (λ (g : RustFile Id). g.id) (take k files) (f ∷ [])
+  ids-more : ids_view (take (k + 1) files) ≡ ids_view (take k files) ++ f.file_id ∷ []
+  ids-more = ap ids_view (take-at here) ∙ map-append (λ (g : RustFile Id). g.file_id) (take k files) (f ∷ [])
 
   -- the loci of these, and its own
   loci-more : loci_lookups (take (k + 1) files) ≡ loci_lookups (take k files) ++ locus_lookups_of f
@@ -235,10 +235,10 @@ module _ {Id : Type 0} {files : List (RustFile Id)} {k : ℕ} {f : RustFile Id} 
     lookups_at i id = lookups_of_file id (numbers_looked_up layout (fills_of (lines_at es i)))
 
     -- the lookups with this one's
-    lookups-more : first_error failure (number_lookups layout es (ids_view (take (k + 1) files))) ≡ first_error failure (lookups_at k f.id)
+    lookups-more : first_error failure (number_lookups layout es (ids_view (take (k + 1) files))) ≡ first_error failure (lookups_at k f.file_id)
     lookups-more =
-        ap (first_error failure) (by_index-more lookups_at k (ids_view (take k files)) (ids_view (take (k + 1) files)) f.id (length-map (take k files) _ ∙ files_before) ids-more)
-        ∙ first_error-none failure (number_lookups layout es (ids_view (take k files))) (lookups_at k f.id) before.succeeded
+        ap (first_error failure) (by_index-more lookups_at k (ids_view (take k files)) (ids_view (take (k + 1) files)) f.file_id (length-map (take k files) _ ∙ files_before) ids-more)
+        ∙ first_error-none failure (number_lookups layout es (ids_view (take k files))) (lookups_at k f.file_id) before.succeeded
 
     -- the plans with this one
     plans-with : {new : List (SnippetPlan Id)} {snippet_plan : SnippetPlan Id} {all own : List (RustLine Id)} → new ≡ now ++ snippet_plan ∷ [] → all ≡ snippet_lines ++ own → IsPlan layout file es k f snippet_plan own
@@ -251,7 +251,7 @@ module _ {Id : Type 0} {files : List (RustFile Id)} {k : ℕ} {f : RustFile Id} 
 
     -- it is planned too
     pub planned-more : {new : List (SnippetPlan Id)} {snippet_plan : SnippetPlan Id} {all own : List (RustLine Id)} → new ≡ now ++ snippet_plan ∷ [] → all ≡ snippet_lines ++ own → IsPlan layout file es k f snippet_plan own
-        → first_error failure (lookups_at k f.id) ≡ None → first_error failure (locus_lookups_of f) ≡ None
+        → first_error failure (lookups_at k f.file_id) ≡ None → first_error failure (locus_lookups_of f) ≡ None
         → ArePlanned layout file es failure (take (k + 1) files) new all located
     planned-more {new} {all = all} whole whole_steps is succeeded there = record {
       succeeded = lookups-more ∙ succeeded;
@@ -264,7 +264,7 @@ module _ {Id : Type 0} {files : List (RustFile Id)} {k : ℕ} {f : RustFile Id} 
     }
 
     -- its numbers have been looked up, and the lookups of its locus fail
-    pub planned-unlocated : {all : List (RustLine Id)} {e : Error} → first_error failure (lookups_at k f.id) ≡ None
+    pub planned-unlocated : {all : List (RustLine Id)} {e : Error} → first_error failure (lookups_at k f.file_id) ≡ None
         → (e ≢ OutOfMemory → e ≢ FormatError → first_error failure (locus_lookups_of f) ≡ Some e)
         → ArePlanned layout file es failure (take (k + 1) files) now all (result_and located (Err e))
     planned-unlocated {all} {e} succeeded known = record {
@@ -274,11 +274,11 @@ module _ {Id : Type 0} {files : List (RustFile Id)} {k : ℕ} {f : RustFile Id} 
     }
 
     -- what its numbers fail with fails all
-    pub planned-fails : {e : Error} → first_error failure (lookups_at k f.id) ≡ Some e
+    pub planned-fails : {e : Error} → first_error failure (lookups_at k f.file_id) ≡ Some e
         → first_error failure (number_lookups layout es (ids_view files) ++ loci_lookups files) ≡ Some e
     planned-fails {e} known =
         let rest = drop (k + 1) files in
-        let whole = ap ids_view (sym (take-append-drop (k + 1) files)) ∙ map-append (λ (g : RustFile Id). g.id) (take (k + 1) files) rest in
+        let whole = ap ids_view (sym (take-append-drop (k + 1) files)) ∙ map-append (λ (g : RustFile Id). g.file_id) (take (k + 1) files) rest in
         first_error-some failure (number_lookups layout es (ids_view files)) (loci_lookups files) e
         (ap (λ ids. first_error failure (number_lookups layout es ids)) whole
         ∙ ap (first_error failure) (by_index-append lookups_at 0 (ids_view (take (k + 1) files)) (ids_view rest))

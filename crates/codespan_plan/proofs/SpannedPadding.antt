@@ -108,24 +108,24 @@ module _ {Id : Type 0} (same : Id → Id → Bool) (file : Id → FileModel) (o 
   numbered-spanned s = ap (λ v. numbered_lines (record config { layout = v }) s) classic
 
   -- whether some label of a file spans a line
-  spans-any : (id : Id) (l : ℕ) → list_any (λ x. spans (file id) x l) (labeled id).labels ≡ list_any (λ (x : InFile Id). same id x.id && spans (file id) x.label l) xs
+  spans-any : (id : Id) (l : ℕ) → list_any (λ x. spans (file id) x l) (labeled id).labels ≡ list_any (λ (x : InFile Id). same id x.file_id && spans (file id) x.label l) xs
   spans-any id l =
-      any-map (λ x. spans (file id) x l) (λ (x : InFile Id). x.label) (filter (λ (x : InFile Id). same id x.id) xs)
-      ∙ any-filtered (λ (x : InFile Id). spans (file id) x.label l) (λ (x : InFile Id). same id x.id) xs
+      any-map (λ x. spans (file id) x l) (λ (x : InFile Id). x.label) (filter (λ (x : InFile Id). same id x.file_id) xs)
+      ∙ any-filtered (λ (x : InFile Id). spans (file id) x.label l) (λ (x : InFile Id). same id x.file_id) xs
 
   -- the number of a line that a label spans fits the padding
-  line-fits : (k : ℕ) (d : InFile Id) → k < length xs → (l : ℕ) → l < line_count (file (get_or xs k d).id) → spans (file (get_or xs k d).id) (get_or xs k d).label l ≡ true
-      → count_digits ((file (get_or xs k d).id).line_number l) ≤ padding_width
+  line-fits : (k : ℕ) (d : InFile Id) → k < length xs → (l : ℕ) → l < line_count (file (get_or xs k d).file_id) → spans (file (get_or xs k d).file_id) (get_or xs k d).label l ≡ true
+      → count_digits ((file (get_or xs k d).file_id).line_number l) ≤ padding_width
   line-fits k d inside l low t =
       let y = get_or xs k d in
-      let f = index_of_file same ids y.id in
-      let id = get_or ids f y.id in
-      let at : IsIdAt ids f id = at-get ids f y.id (has-index same o ids y.id (file_ids-has same o xs k d inside)) in
-      let equal : same id y.id ≡ true = sym (index_of_file-at same o xs f id at y.id) ∙ eq-eqb f f refl in
-      let model : file y.id ≡ file id = sym (one_file id y.id equal) in
+      let f = index_of_file same ids y.file_id in
+      let id = get_or ids f y.file_id in
+      let at : IsIdAt ids f id = at-get ids f y.file_id (has-index same o ids y.file_id (file_ids-has same o xs k d inside)) in
+      let equal : same id y.file_id ≡ true = sym (index_of_file-at same o xs f id at y.file_id) ∙ eq-eqb f f refl in
+      let model : file y.file_id ≡ file id = sym (one_file id y.file_id equal) in
       let here : spans (file id) y.label l ≡ true = subst (λ m. spans m y.label l ≡ true) model t in
-      let own : (same id y.id && spans (file id) y.label l) ≡ true = ap (λ b. b && spans (file id) y.label l) equal ∙ here in
-      let any = spans-any id l ∙ list_any_at (λ (x : InFile Id). same id x.id && spans (file id) x.label l) xs k d inside own in
+      let own : (same id y.file_id && spans (file id) y.label l) ≡ true = ap (λ b. b && spans (file id) y.label l) equal ∙ here in
+      let any = spans-any id l ∙ list_any_at (λ (x : InFile Id). same id x.file_id && spans (file id) x.label l) xs k d inside own in
       let count : l < line_count (file id) = subst (λ m. l < line_count m) model low in
       subst (λ m. count_digits (m.line_number l) ≤ padding_width) (sym model)
       (numbered-fits config (labeled_file_models same file xs) (labeled id) l (index-contained labeled ids f id at)
@@ -136,26 +136,26 @@ module _ {Id : Type 0} (same : Id → Id → Bool) (file : Id → FileModel) (o 
   -- so have those of all lines of labels
   labels-fit : AllByRecursion (λ n. n ≤ padding_width) (all_digits file xs)
   labels-fit =
-      all-elements (λ n. n ≤ padding_width) (λ (x : InFile Id). label_digits (file x.id) x.label) xs
-      (recursion_from_All (λ (x : InFile Id). AllByRecursion (λ n. n ≤ padding_width) (label_digits (file x.id) x.label)) xs
-      (λ k d inside. digits-fit (file (get_or xs k d).id) (get_or xs k d).label padding_width (line_count (file (get_or xs k d).id)) 0
+      all-elements (λ n. n ≤ padding_width) (λ (x : InFile Id). label_digits (file x.file_id) x.label) xs
+      (recursion_from_All (λ (x : InFile Id). AllByRecursion (λ n. n ≤ padding_width) (label_digits (file x.file_id) x.label)) xs
+      (λ k d inside. digits-fit (file (get_or xs k d).file_id) (get_or xs k d).label padding_width (line_count (file (get_or xs k d).file_id)) 0
       (λ l low t. line-fits k d inside l (omega (arith, low)) t)))
 
   -- the number of a line that some label of the file spans is counted
-  some-counted : (id : Id) (l : ℕ) → l < line_count (file id) → (ys : List (InFile Id)) → list_any (λ (x : InFile Id). same id x.id && spans (file id) x.label l) ys ≡ true
+  some-counted : (id : Id) (l : ℕ) → l < line_count (file id) → (ys : List (InFile Id)) → list_any (λ (x : InFile Id). same id x.file_id && spans (file id) x.label l) ys ≡ true
       → count_digits ((file id).line_number l) ≤ fold max 0 (all_digits file ys)
   some-counted id l low [] any = absurd (true≢false (sym any))
   some-counted id l low (y ∷ ys) any =
       ⊎_elim
-      (λ (t : (same id y.id && spans (file id) y.label l) ≡ true).
-      let parts = and_parts (same id y.id) (spans (file id) y.label l) t in
-      in-first (count_digits ((file id).line_number l)) (label_digits (file y.id) y.label) (all_digits file ys)
-      (subst (λ m. count_digits ((file id).line_number l) ≤ fold max 0 (label_digits m y.label)) (one_file id y.id parts.0)
+      (λ (t : (same id y.file_id && spans (file id) y.label l) ≡ true).
+      let parts = and_parts (same id y.file_id) (spans (file id) y.label l) t in
+      in-first (count_digits ((file id).line_number l)) (label_digits (file y.file_id) y.label) (all_digits file ys)
+      (subst (λ m. count_digits ((file id).line_number l) ≤ fold max 0 (label_digits m y.label)) (one_file id y.file_id parts.0)
       (line-counted (file id) y.label l (line_count (file id)) 0 (omega arith) (omega (arith, low)) parts.1)))
-      (λ (t : (same id y.id && spans (file id) y.label l) ≡ false).
-      in-second (count_digits ((file id).line_number l)) (label_digits (file y.id) y.label) (all_digits file ys)
-      (some-counted id l low ys (sym (ap (λ b. b || list_any (λ (x : InFile Id). same id x.id && spans (file id) x.label l) ys) t) ∙ any)))
-      (cases_Bool (same id y.id && spans (file id) y.label l))
+      (λ (t : (same id y.file_id && spans (file id) y.label l) ≡ false).
+      in-second (count_digits ((file id).line_number l)) (label_digits (file y.file_id) y.label) (all_digits file ys)
+      (some-counted id l low ys (sym (ap (λ b. b || list_any (λ (x : InFile Id). same id x.file_id && spans (file id) x.label l) ys) t) ∙ any)))
+      (cases_Bool (same id y.file_id && spans (file id) y.label l))
 
   -- so is that of each spanned line of the output
   lines-counted : AllByRecursion (λ n. n ≤ fold max 0 (all_digits file xs)) (flat_map (λ (s : LabeledFileModel). digits_of s (numbered_lines config s)) (labeled_file_models same file xs))

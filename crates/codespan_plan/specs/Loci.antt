@@ -9,11 +9,11 @@ use Rattle.codespan_annotations.specs.LocusStarts.{locus_byte}
 
 -- a file, and the byte index at which its snippet starts
 abbrev pub locus_start_of : {Id : Type 0} → (Id → FileModel) → RustFile Id → FileModel × ℕ
-locus_start_of file f = (file f.id, locus_byte f.start)
+locus_start_of file f = (file f.file_id, locus_byte f.start)
 
 -- the lookups of the locus at which a file's snippet starts
 abbrev pub locus_lookups_of : {Id : Type 0} → RustFile Id → List (Id × Lookup)
-locus_lookups_of f = lookups_of_file f.id (Name ∷ LocationAt (locus_byte f.start) ∷ [])
+locus_lookups_of f = lookups_of_file f.file_id (Name ∷ LocationAt (locus_byte f.start) ∷ [])
 
 -- those of all files
 abbrev pub loci_lookups : {Id : Type 0} → List (RustFile Id) → List (Id × Lookup)

@@ -23,7 +23,7 @@ loci_of {Id} snippet_plans = map (λ (snippet_plan : SnippetPlan Id). locus_view
 
 -- the id of each file
 abbrev pub ids_of : {Id : Type 0} → List (SnippetPlan Id) → List Id
-ids_of {Id} snippet_plans = map (λ (snippet_plan : SnippetPlan Id). snippet_plan.file.now.id)
+ids_of {Id} snippet_plans = map (λ (snippet_plan : SnippetPlan Id). snippet_plan.file.now.file_id)
     snippet_plans
 
 -- the plan is that of a file with its labels: its lanes, its locus, the rows of its lines, and
@@ -49,7 +49,7 @@ module _ {Id : Type 0} (database : FileDatabase Id) where
   AreSnippetPlans config xs [] snippet_lines = Unit {0}
   AreSnippetPlans config xs (snippet_plan ∷ snippet_plans) snippet_lines =
       IsSnippetPlan config
-      (labeled_file_model database.same database.file xs snippet_plan.file.now.id)
+      (labeled_file_model database.same database.file xs snippet_plan.file.now.file_id)
       snippet_plan (take snippet_plan.line_total snippet_lines)
       × AreSnippetPlans config xs snippet_plans (drop snippet_plan.line_total snippet_lines)
 

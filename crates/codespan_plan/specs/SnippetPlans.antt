@@ -40,10 +40,10 @@ module _ {Id : Type 0} (layout : Layout) (file : Id → FileModel) (es : List An
   pub record IsPlan (k : ℕ) (f : RustFile Id) (snippet_plan : SnippetPlan Id)
       (own : List (RustLine Id)) : Type 0 where
     pub file_is : snippet_plan.file.now ≡ f
-    pub locus_is : IsTextLocus (file f.id, locus_byte f.start) (locus_view snippet_plan.locus)
+    pub locus_is : IsTextLocus (file f.file_id, locus_byte f.start) (locus_view snippet_plan.locus)
     pub count_is : snippet_plan.line_total ≡ length own
     pub are : map snippet_line_view own ≡ lines_at es k
-    pub each : AllByRecursion (IsSnippetLineIn layout (file f.id)) own
+    pub each : AllByRecursion (IsSnippetLineIn layout (file f.file_id)) own
 
   -- the plans are those of the files from an index on, and these are all their lines, those of the
   -- first file in front

@@ -88,7 +88,9 @@ pub fn is_plain(line: Line<'_, '_>) -> bool
     ensures { result ≡ true → (context : RowContextSpec)
         → colored_text context (line_view line.entry) ≡ bytes line.entry.text.now }
 {
-    !has_primary(line.labels) && !has_primary_lane_mark(line.lanes.lane_marks) && !has_tab(line.text)
+    !has_primary(line.labels)
+        && !has_primary_lane_mark(line.lanes.lane_marks)
+        && !has_tab(line.text)
 }
 
 /// Returns the byte index from which on the text of a line is written unchanged: no primary label

@@ -70,7 +70,7 @@ module _ {F Id Name Source : Type 0} (database : F → FileDatabase Id) (snippet
   -- the lookups of snippet lines, one after another
   lookups-append : (xs ys : List (RustLine Id)) → lookups_all (xs ++ ys) ≡ or_failure (lookups_all xs) (lookups_all ys)
   lookups-append xs ys =
-      ap lookups (flat_map-append lookups_of_line xs ys) ∙ first_error-lookups (database snippet.file.files.now).failure snippet.file.id (lookups_of_lines xs) (lookups_of_lines ys)
+      ap lookups (flat_map-append lookups_of_line xs ys) ∙ first_error-lookups (database snippet.file.files.now).failure snippet.file.file_id (lookups_of_lines xs) (lookups_of_lines ys)
 
 module _ {F Id Name Source : Type 0} {database : F → FileDatabase Id} {snippet : Snippet F Id Name Source} {config : Config} where
   -- nothing is rendered

@@ -129,13 +129,13 @@ module _ {Id : Type 0} {database : FileDatabase Id} {view_config : RichDiagnosti
       no-rows (p ∷ ps) = refl
 
   module _ {snippet_plan : SnippetPlan Id} {snippet_lines : List (RustLine Id)} {notes next : Bool} {now : Config} (at : IsElementAt output_plan.snippet_plans.items k snippet_plan)
-      (is : IsSnippetPlan (view_config_of view_config) (labeled database view_config snippet_plan.file.now.id) snippet_plan
+      (is : IsSnippetPlan (view_config_of view_config) (labeled database view_config snippet_plan.file.now.file_id) snippet_plan
       snippet_lines) (notes_are : notes ≡ has_notes)
       (next_is : next ≡ nat_lt (k + 1) (length output_plan.snippet_plans.items))
       (equal : now ≡ renderer_config) where
     -- the file with its labels
     abbrev own : LabeledFileModel
-    own = labeled database view_config snippet_plan.file.now.id
+    own = labeled database view_config snippet_plan.file.now.file_id
 
     -- the rows of the file at the index
     abbrev rows_here : List Row
@@ -143,12 +143,12 @@ module _ {Id : Type 0} {database : FileDatabase Id} {view_config : RichDiagnosti
 
     -- its lookups
     abbrev lookups_here : List (Id × Lookup)
-    lookups_here = snippet_lookups_of database view_config snippet_plan.file.now.id
+    lookups_here = snippet_lookups_of database view_config snippet_plan.file.now.file_id
 
     -- these rows come first among those that are left
     rows-next : rest k ≡ rows_here ++ rest (k + 1)
     rows-next = ap (λ (ps : List Locus). rows_at ps (drop k ids)) (drop-one loci k (locus_view snippet_plan.locus) (locus-inside at) (locus-at at))
-        ∙ ap (rows_at (locus_view snippet_plan.locus ∷ drop (k + 1) loci)) (drop-one ids k snippet_plan.file.now.id (id-inside at) (id-at at))
+        ∙ ap (rows_at (locus_view snippet_plan.locus ∷ drop (k + 1) loci)) (drop-one ids k snippet_plan.file.now.file_id (id-inside at) (id-at at))
         ∙ ap (λ (b : Bool). (snippet (view_config_of view_config) (locus_view snippet_plan.locus) own ++ row_after b own) ++ rest (k + 1)) (followed-mapped (drop (k + 1) ids))
       where
         followed-mapped : (js : List Id) → (has_any (map (labeled database view_config) js) || has_notes) ≡ (has_any js || has_notes)
@@ -157,7 +157,7 @@ module _ {Id : Type 0} {database : FileDatabase Id} {view_config : RichDiagnosti
 
     -- and so do its lookups
     lookups-next : lookups_from k ≡ lookups_here ++ lookups_from (k + 1)
-    lookups-next = ap (flat_map (snippet_lookups_of database view_config)) (drop-one ids k snippet_plan.file.now.id (id-inside at) (id-at at))
+    lookups-next = ap (flat_map (snippet_lookups_of database view_config)) (drop-one ids k snippet_plan.file.now.file_id (id-inside at) (id-at at))
 
     -- something follows the file
     abbrev follows : Bool
@@ -165,22 +165,22 @@ module _ {Id : Type 0} {database : FileDatabase Id} {view_config : RichDiagnosti
 
     -- the rows of its snippet, and the row after it
     abbrev snippet_stream : Stream
-    snippet_stream = stream_of_rows context (rows_in snippet_plan (database.file snippet_plan.file.now.id) snippet_lines)
+    snippet_stream = stream_of_rows context (rows_in snippet_plan (database.file snippet_plan.file.now.file_id) snippet_lines)
 
     abbrev end_stream : Stream
     end_stream = stream_of_rows context (trailing_border_rows snippet_plan follows)
 
     -- its lookups, as its snippet lines make them
     abbrev snippet_lines_failure : Option Error
-    snippet_lines_failure = first_error database.failure (lookups_of_file snippet_plan.file.now.id (lookups_with snippet_lines))
+    snippet_lines_failure = first_error database.failure (lookups_of_file snippet_plan.file.now.file_id (lookups_with snippet_lines))
 
     -- the snippet is rendered, by an equal configuration
     snippet-here : {r : Result (Unit {0}) Error} {new : Sink}
         → WritesWithLookups snippet_lines_failure mid
-        (stream_of_rows (context_by now) (rows_in snippet_plan (database.file snippet_plan.file.now.id) snippet_lines)) r
+        (stream_of_rows (context_by now) (rows_in snippet_plan (database.file snippet_plan.file.now.file_id) snippet_lines)) r
         new
         → IsLookupRun snippet_lines_failure mid snippet_stream r new
-    snippet-here renders = run_as refl (λ i. stream_of_rows (context_by (equal i)) (rows_in snippet_plan (database.file snippet_plan.file.now.id) snippet_lines)) (record { renders = renders })
+    snippet-here renders = run_as refl (λ i. stream_of_rows (context_by (equal i)) (rows_in snippet_plan (database.file snippet_plan.file.now.file_id) snippet_lines)) (record { renders = renders })
 
     -- both are the rows and the lookups at the index
     rendered-here : {r : Result (Unit {0}) Error} {new : Sink} → IsLookupRun (or_failure snippet_lines_failure None) mid (snippet_stream ++ end_stream) r new
@@ -188,8 +188,8 @@ module _ {Id : Type 0} {database : FileDatabase Id} {view_config : RichDiagnosti
     rendered-here both =
         let followed : follows ≡ (has_any (drop (k + 1) ids) || has_notes) =
         (λ i. notes_are i || (next_is ∙ ap (nat_lt (k + 1)) (sym (ids-count output_plan.snippet_plans.items))) i) ∙ sym (followed-at has_notes ids k) in
-        run_as (or_failure-none snippet_lines_failure ∙ ap (λ (ls : List Lookup). first_error database.failure (lookups_of_file snippet_plan.file.now.id (Source ∷ ls))) is.lookups)
-        (sym (rows-two context (rows_in snippet_plan (database.file snippet_plan.file.now.id) snippet_lines) (trailing_border_rows snippet_plan follows))
+        run_as (or_failure-none snippet_lines_failure ∙ ap (λ (ls : List Lookup). first_error database.failure (lookups_of_file snippet_plan.file.now.file_id (Source ∷ ls))) is.lookups)
+        (sym (rows-two context (rows_in snippet_plan (database.file snippet_plan.file.now.file_id) snippet_lines) (trailing_border_rows snippet_plan follows))
         ∙ ap (stream_of_rows context) (rows-are is follows)
         ∙ ap (λ (b : Bool). stream_of_rows context (snippet (view_config_of view_config) (locus_view snippet_plan.locus) own ++ row_after b own)) followed)
         both
@@ -227,11 +227,11 @@ module _ {Id : Type 0} {database : FileDatabase Id} {view_config : RichDiagnosti
         (run_then left.rendered (run_cut after (stream_of_rows context (rest (k + 1))) rendered))).renders
 
     -- the snippet was cut short
-    pub cut-in_snippet : {new : Sink} {e : Error} → WritesWithLookups snippet_lines_failure mid (stream_of_rows (context_by now) (rows_in snippet_plan (database.file snippet_plan.file.now.id) snippet_lines)) (Err e) new
+    pub cut-in_snippet : {new : Sink} {e : Error} → WritesWithLookups snippet_lines_failure mid (stream_of_rows (context_by now) (rows_in snippet_plan (database.file snippet_plan.file.now.file_id) snippet_lines)) (Err e) new
         → WritesWithLookups all_failure old (stream_of_rows context all_rows) (Err e) new
     cut-in_snippet renders = left-cut (rendered-here (run_cut None end_stream (snippet-here renders)))
 
-    module _ {inner : Sink} (renders : WritesWithLookups snippet_lines_failure mid (stream_of_rows (context_by now) (rows_in snippet_plan (database.file snippet_plan.file.now.id) snippet_lines)) (Ok tt) inner)
+    module _ {inner : Sink} (renders : WritesWithLookups snippet_lines_failure mid (stream_of_rows (context_by now) (rows_in snippet_plan (database.file snippet_plan.file.now.file_id) snippet_lines)) (Ok tt) inner)
         {after : Config} (equal_after : after ≡ now) where
       -- then the row after it was rendered, by an equal configuration, however that ends
       end-here : {r : Result (Unit {0}) Error} {new : Sink} → Writes inner (stream_of_rows (context_by after) (trailing_border_rows snippet_plan follows)) r new → IfErr r IsIo

@@ -47,15 +47,15 @@ followed-at has_notes xs k =
 
 -- there are as many ids as plans
 pub ids-count : {Id : Type 0} (snippet_plans : List (SnippetPlan Id)) → length (ids_of snippet_plans) ≡ length snippet_plans
-ids-count {Id} snippet_plans = length-map snippet_plans (λ (snippet_plan : SnippetPlan Id). snippet_plan.file.now.id)
+ids-count {Id} snippet_plans = length-map snippet_plans (λ (snippet_plan : SnippetPlan Id). snippet_plan.file.now.file_id)
 
 module _ {Id : Type 0} {snippet_plans : List (SnippetPlan Id)} {k : ℕ} {snippet_plan : SnippetPlan Id} (at : IsElementAt snippet_plans k snippet_plan) where
   -- its id and its locus are at the same index
   pub id-inside : k < length (ids_of snippet_plans)
   id-inside = omega (arith, at.inside, ids-count snippet_plans)
 
-  pub id-at : snippet_plan.file.now.id ≡ get_or (ids_of snippet_plans) k snippet_plan.file.now.id
-  id-at = ap (λ (snippet_plan : SnippetPlan Id). snippet_plan.file.now.id) at.is ∙ sym (get_or-map (λ (snippet_plan : SnippetPlan Id). snippet_plan.file.now.id) snippet_plans k snippet_plan snippet_plan.file.now.id at.inside)
+  pub id-at : snippet_plan.file.now.file_id ≡ get_or (ids_of snippet_plans) k snippet_plan.file.now.file_id
+  id-at = ap (λ (snippet_plan : SnippetPlan Id). snippet_plan.file.now.file_id) at.is ∙ sym (get_or-map (λ (snippet_plan : SnippetPlan Id). snippet_plan.file.now.file_id) snippet_plans k snippet_plan snippet_plan.file.now.file_id at.inside)
 
   pub locus-inside : k < length (loci_of snippet_plans)
   locus-inside = omega (arith, at.inside, length-map snippet_plans (λ (snippet_plan : SnippetPlan Id). locus_view snippet_plan.locus))
@@ -68,7 +68,7 @@ module _ {Id : Type 0} (database : FileDatabase Id) (config : Config) (xs : List
   -- of the files after it
   abbrev pub IsFirstFile : List (SnippetPlan Id) → SnippetPlan Id → List (RustLine Id) → Type 0
   IsFirstFile later snippet_plan snippet_lines =
-      IsSnippetPlan config (labeled_file_model database.same database.file xs snippet_plan.file.now.id) snippet_plan
+      IsSnippetPlan config (labeled_file_model database.same database.file xs snippet_plan.file.now.file_id) snippet_plan
       (take snippet_plan.line_total snippet_lines)
       × AreSnippetPlans database config xs later (drop snippet_plan.line_total snippet_lines)
 
@@ -94,8 +94,8 @@ module _ {Id : Type 0} {database : FileDatabase Id} {config : Config} {xs : List
 
   -- it is the file of its labels, with these snippet lines
   pub own-snippet_lines : {own : List (RustLine Id)} → own ≡ take snippet_plan.line_total (drop start snippet_lines)
-      → IsSnippetPlan config (labeled_file_model database.same database.file xs snippet_plan.file.now.id) snippet_plan own
-  own-snippet_lines is = subst (IsSnippetPlan config (labeled_file_model database.same database.file xs snippet_plan.file.now.id) snippet_plan) (sym is) files-at.0
+      → IsSnippetPlan config (labeled_file_model database.same database.file xs snippet_plan.file.now.file_id) snippet_plan own
+  own-snippet_lines is = subst (IsSnippetPlan config (labeled_file_model database.same database.file xs snippet_plan.file.now.file_id) snippet_plan) (sym is) files-at.0
 
   -- the later files are those of their labels, with the snippet lines after these
   pub later-files : AreFilesFrom database config xs snippet_plans (k + 1) snippet_lines (start + snippet_plan.line_total)

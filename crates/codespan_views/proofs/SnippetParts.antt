@@ -35,7 +35,7 @@ write_at f same s t r writes = subst (λ (x : _). Writes s (f x) r t) same write
 module _ {F Id : Type 0} (database : F → FileDatabase Id) (context : SnippetContext F) (snippet_plan : SnippetPlan Id) (own : List (SnippetLine Id)) (config : Config) where
   -- the source of its file was looked up, and so it is rendered
   pub record IsOpen : Type 0 where
-    pub succeeded : (database context.files.now).failure snippet_plan.file.now.id Source ≡ None
+    pub succeeded : (database context.files.now).failure snippet_plan.file.now.file_id Source ≡ None
 
 module _ {F Id : Type 0} {database : F → FileDatabase Id} {context : SnippetContext F} {snippet_plan : SnippetPlan Id} {own : List (SnippetLine Id)} {config : Config}
     (opened : IsOpen database context snippet_plan own config) where
@@ -49,11 +49,11 @@ module _ {F Id : Type 0} {database : F → FileDatabase Id} {context : SnippetCo
 
   -- the rows of its lines
   abbrev line_rows : List Row
-  line_rows = rows_of_lines ((database context.files.now).file snippet_plan.file.now.id) snippet_plan.file.now.num_multi_labels (map snippet_line_view own)
+  line_rows = rows_of_lines ((database context.files.now).file snippet_plan.file.now.file_id) snippet_plan.file.now.num_multi_labels (map snippet_line_view own)
 
   -- the error of the lookups of these snippet lines
   abbrev lookups_failure : List (SnippetLine Id) → Option Error
-  lookups_failure snippet_lines = first_error (database context.files.now).failure (lookups_of_file snippet_plan.file.now.id (lookups_of_lines snippet_lines))
+  lookups_failure snippet_lines = first_error (database context.files.now).failure (lookups_of_file snippet_plan.file.now.file_id (lookups_of_lines snippet_lines))
 
   -- the streams of its first rows, and of its lines
   abbrev at_start : Stream
@@ -65,7 +65,7 @@ module _ {F Id : Type 0} {database : F → FileDatabase Id} {context : SnippetCo
   -- a call renders all of it, and makes all its lookups
   abbrev RendersWhole : Sink → Result (Unit {0}) Error → Sink → Type 0
   RendersWhole s r t =
-      WritesWithLookups (or_failure ((database context.files.now).failure snippet_plan.file.now.id Source) (lookups_failure own)) s (stream (start_rows snippet_plan ++ line_rows)) r t
+      WritesWithLookups (or_failure ((database context.files.now).failure snippet_plan.file.now.file_id Source) (lookups_failure own)) s (stream (start_rows snippet_plan ++ line_rows)) r t
 
   -- a call renders its lines, and makes their lookups
   abbrev RendersItsLines : Sink → Result (Unit {0}) Error → Sink → Type 0

@@ -12,10 +12,10 @@ use Rattle.codespan_picture.specs.Snippets.{InFile, primary_of}
 -- one of these lookups fails with this error
 pub record FailsWith {Id : Type 0} (files : FileDatabase Id) (lookups : List (Id × Lookup))
     (error : Error) : Type 0 where
-  pub id : Id
+  pub file_id : Id
   pub lookup : Lookup
-  pub is_made : Contains lookups (id, lookup)
-  pub fails : files.failure id lookup ≡ Some error
+  pub is_made : Contains lookups (file_id, lookup)
+  pub fails : files.failure file_id lookup ≡ Some error
 
 -- one of these lookups fails
 abbrev pub SomeFails : {Id : Type 0} → FileDatabase Id → List (Id × Lookup) → Type 0

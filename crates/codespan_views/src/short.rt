@@ -200,7 +200,7 @@ fn label_locus<'files, F: Files<'files>>(
     let alloc = *diagnostic.labels.allocator();
     let file = SourceFile {
         files,
-        id: label.file_id,
+        file_id: label.file_id,
     };
     file.locus(alloc, label.range.start)
 }

@@ -60,19 +60,20 @@ pub fn render_snippet<'files, 'd, F: Files<'files>, W: WriteStyle>(
     snippet_plan: &SnippetPlan<'_, F::FileId>,
     snippet_lines: &[SnippetLine<'_, 'd, F::FileId>],
 ) -> Result<(), Error>
-    requires { AreLinesOf ((F.database context.now.files.now).file snippet_plan.now.file.now.id)
+    requires { AreLinesOf
+        ((F.database context.now.files.now).file snippet_plan.now.file.now.file_id)
         snippet_plan.now.file.now.num_multi_labels snippet_lines.now }
     ensures { RendersSnippet W.sink F.database context.now snippet_plan.now snippet_lines.now
         renderer.old
         result renderer.new }
 {
-    let source = context.files.source(snippet_plan.file.id)?;
+    let source = context.files.source(snippet_plan.file.file_id)?;
     render_start(context, renderer, snippet_plan)?;
     let snippet = Snippet {
         context,
         file: SourceFile {
             files: context.files,
-            id: snippet_plan.file.id,
+            file_id: snippet_plan.file.file_id,
         },
         text: source.as_str(),
         num_multi_labels: snippet_plan.file.num_multi_labels,

@@ -33,7 +33,7 @@ text_file name text = simple_file (Some (encode_utf8_all name)) (encode_utf8_all
 -- a label of these bytes in the file of a number
 abbrev pub label : LabelStyle → ℕ → ℕ → ℕ → List ℕ → InFile ℕ
 label style id start end message = record {
-  id = id;
+  file_id = id;
   label = record {
     style = style;
     start = start;

@@ -27,8 +27,8 @@ module _ {Id : Type 0} (config : Config) (files : FileDatabase Id) (d : Diagnost
   stated_runs runs (Err error) emits stated = tt
 
 -- the names of the files of a database are stated
-pub stated_in_database : (files : List BorrowedFile) (diagnostic : Diagnostic ℕ) (x : InFile ℕ) → Contains (labels_of diagnostic) x → IsSome (database_file (λ name. Some name.now) (λ source. source.now) files x.id).name
-stated_in_database files diagnostic x contains = stated x.id
+pub stated_in_database : (files : List BorrowedFile) (diagnostic : Diagnostic ℕ) (x : InFile ℕ) → Contains (labels_of diagnostic) x → IsSome (database_file (λ name. Some name.now) (λ source. source.now) files x.file_id).name
+stated_in_database files diagnostic x contains = stated x.file_id
   where
     stated : (id : ℕ) → IsSome (database_file (λ name. Some name.now) (λ source. source.now) files id).name
     stated id =

@@ -28,7 +28,7 @@ view_heading diagnostic = record { code = diagnostic.code; message = diagnostic.
 -- a label, as the definition of the output takes it
 abbrev pub view_label : LabelView (Unit {0}) → InFile (Unit {0})
 view_label label = record {
-  id = label.file_id;
+  file_id = label.file_id;
   label = record {
     style = label.style;
     start = label.range.start;

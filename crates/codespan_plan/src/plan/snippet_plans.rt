@@ -63,7 +63,7 @@ fn push_snippet<'files, 'e, 'd, F: Files<'files>>(
         result }
 {
     let planner = LinePlanner {
-        file: SourceFile { files, id },
+        file: SourceFile { files, file_id: id },
         layout,
     };
     let before = snippet_lines.len();
@@ -91,7 +91,10 @@ fn locate_snippet<'files, 'e, F: Files<'files>>(
     ensures failed { FailsByOrFormat (locus_failure (F.database files.now).failure file.now)
         result }
 {
-    let source = SourceFile { files, id: file.id };
+    let source = SourceFile {
+        files,
+        file_id: file.file_id,
+    };
     let locus = source.locus(alloc, file.start.byte())?;
     Ok(SnippetPlan {
         file,
@@ -148,7 +151,7 @@ pub fn plan_snippets<'files, 'e, 'd, F: Files<'files>>(
     for (index, file) in collected.files.iter().enumerate() {
         let len = count_in_file(&collected.annotations[start..], index);
         let own = &collected.annotations[start..start + len];
-        let line_total = push_snippet(files, file.id, layout, own, snippet_lines)?;
+        let line_total = push_snippet(files, file.file_id, layout, own, snippet_lines)?;
         start += len;
         match locate_snippet(alloc, files, file, line_total) {
             Ok(snippet_plan) => snippet_plans.push(snippet_plan)?,

@@ -47,7 +47,7 @@ module _ {W F Id : Type 0} (sink : W → Sink) (database : F → FileDatabase Id
       → Result (Unit {0}) Error → Renderer W → Type 0
   RendersSnippet snippet_plan snippet_lines =
       let t = database context.files.now in
-      let id = snippet_plan.file.now.id in
+      let id = snippet_plan.file.now.file_id in
       RendersRowsWithLookups sink (failure_in t.failure id (lookups_with snippet_lines))
       context.severity context.padding
       (rows_in snippet_plan (t.file id) snippet_lines)

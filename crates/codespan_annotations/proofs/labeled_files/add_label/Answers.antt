@@ -16,7 +16,7 @@ at g c = record { inside = c.requires.index; is = c.index_mut.ensures.value }
 
 pub returns-clause-ids : goal.returns-clause-ids
 returns-clause-ids g c =
-    let name : RustFile g.row.FileId.Denot → g.row.FileId.Denot = λ f. f.id in
+    let name : RustFile g.row.FileId.Denot → g.row.FileId.Denot = λ f. f.file_id in
     map-changed name (name c.index_mut.result.now) (λ id. id) (at g (goal.at.returns-clause-ids g c).After-add) c.add.new.self c.add.ensures.id
     ∙ set-get_or (ids_view c.args.files.now.items) c.args.index (name c.index_mut.result.now)
 

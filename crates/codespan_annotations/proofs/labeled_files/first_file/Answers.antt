@@ -21,7 +21,7 @@ none_here : (g : Over) (c : Else-eq g) → IsElementAt c.args.files.now c.loop-i
     → AllByRecursion (λ j. g.FileId.PartialEq.eq j c.args.id ≡ false) (ids_view (take (c.loop-index.index + 1) c.args.files.now))
 none_here g c at =
     let same = g.FileId.PartialEq.eq in
-    none-more at same c.args.id c.loop-index.invariant.none (ap (λ (f : RustFile g.row.FileId.Denot). same f.id c.args.id) c.index-files-index.is ∙ sym c.eq.ensures ∙ c.if-eq.false)
+    none-more at same c.args.id c.loop-index.invariant.none (ap (λ (f : RustFile g.row.FileId.Denot). same f.file_id c.args.id) c.index-files-index.is ∙ sym c.eq.ensures ∙ c.if-eq.false)
 
 -- the file after it
 next : (g : Over) (c : After-index-files-next g) → c.loop-index.index + 1 < length c.args.files.now
@@ -34,7 +34,7 @@ loop-index-preserved g c =
     let index = (goal.at.loop-index-preserved g c).After-index-files-index in
     let at = next g (goal.at.loop-index-preserved g c).After-index-files-next (more g index) in
     let none = none_here g (goal.at.loop-index-preserved g c).Else-eq (here g index) in
-    let second = ap (λ (f : RustFile g.row.FileId.Denot). same f.id c.args.id) c.index-files-next.is ∙ sym c.eq-is_next.ensures ∙ c.if-is_next.false in
+    let second = ap (λ (f : RustFile g.row.FileId.Denot). same f.file_id c.args.id) c.index-files-next.is ∙ sym c.eq-is_next.ensures ∙ c.if-is_next.false in
     let two : c.loop-index.index + 1 + 1 ≡ c.loop-index.index + 2 = omega arith in
     let inside = at.inside in
     record {
@@ -44,7 +44,7 @@ loop-index-preserved g c =
 
 pub returns-then-eq : goal.returns-then-eq
 returns-then-eq g c =
-    let first = ap (λ (f : RustFile g.row.FileId.Denot). g.FileId.PartialEq.eq f.id c.args.id) c.index-files-index.is ∙ sym c.eq.ensures ∙ c.if-eq.true in
+    let first = ap (λ (f : RustFile g.row.FileId.Denot). g.FileId.PartialEq.eq f.file_id c.args.id) c.index-files-index.is ∙ sym c.eq.ensures ∙ c.if-eq.true in
     index-first (here g (goal.at.returns-then-eq g c).After-index-files-index) g.met.FileId.Eq.laws c.args.id c.loop-index.invariant.none first
 
 pub returns-then-is_next : goal.returns-then-is_next
@@ -52,5 +52,5 @@ returns-then-is_next g c =
     let index = (goal.at.returns-then-is_next g c).After-index-files-index in
     let at = next g (goal.at.returns-then-is_next g c).After-index-files-next (more g index) in
     let none = none_here g (goal.at.returns-then-is_next g c).Else-eq (here g index) in
-    let second = ap (λ (f : RustFile g.row.FileId.Denot). g.FileId.PartialEq.eq f.id c.args.id) c.index-files-next.is ∙ sym c.eq-is_next.ensures ∙ c.if-is_next.true in
+    let second = ap (λ (f : RustFile g.row.FileId.Denot). g.FileId.PartialEq.eq f.file_id c.args.id) c.index-files-next.is ∙ sym c.eq-is_next.ensures ∙ c.if-is_next.true in
     index-first at g.met.FileId.Eq.laws c.args.id none second

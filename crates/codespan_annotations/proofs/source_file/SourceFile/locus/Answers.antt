@@ -12,10 +12,10 @@ use Rattle.codespan_annotations.proofs.source_file.SourceFile.locus.Goals as goa
 
 -- the name has been looked up, and the location decides the rest
 location-are_known : (g : Over) (c : In_ok-named g) {o : Option Error}
-    → let failure = (g.F.Files.database c.args.self.now.files.now).failure c.args.self.now.id in
+    → let failure = (g.F.Files.database c.args.self.now.files.now).failure c.args.self.now.file_id in
     failure (LocationAt c.args.byte_index) ≡ o → or_failure (failure Name) (or_failure (failure (LocationAt c.args.byte_index)) None) ≡ or_failure o None
 location-are_known g c is =
-    let failure = (g.F.Files.database c.args.self.now.files.now).failure c.args.self.now.id in
+    let failure = (g.F.Files.database c.args.self.now.files.now).failure c.args.self.now.file_id in
     ap (λ o. or_failure o (or_failure (failure (LocationAt c.args.byte_index)) None)) c.in_ok-named.ensures.failed ∙ ap (λ o. or_failure o None) is
 
 pub returns-in_err-location-clause-failed : goal.returns-in_err-location-clause-failed

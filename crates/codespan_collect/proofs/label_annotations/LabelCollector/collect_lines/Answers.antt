@@ -25,7 +25,7 @@ module _ (g : Over) where
       → HasEnds (collector_label collector label)
   has_ends κs claim collector label =
       let x = collector_label collector label in
-      let some = ((g.met.F.Files κs claim).lawful collector.file.files.now x.id).some_line in
+      let some = ((g.met.F.Files κs claim).lawful collector.file.files.now x.file_id).some_line in
       record { first = line_of_below x.file.starts x.label.start some; last = line_of_below x.file.starts x.label.end some }
 
 pub loop-index-init : goal.loop-index-init
@@ -51,7 +51,7 @@ returns-in_err-collect_line-clause-failed g c =
     let p = err_from_is_err_and c.from_residual.result c.from_residual.ensures.1 in
     rw (p.1 ∙ ap Err p.2) (λ known. let failed = c.in_err-collect_line.ensures.failed known in
     collected-failed {x = x} c.loop-index.invariant (has_ends g c.lifetimes (search rules) c.args.self.now c.args.label.now) failed.0
-    (ap (λ k. line_failure x.file (x.failure x.id) k c.loop-index.index) c.requires.last ∙ failed.1))
+    (ap (λ k. line_failure x.file (x.failure x.file_id) k c.loop-index.index) c.requires.last ∙ failed.1))
 
 -- the file has no more lines
 no_more : (g : Over) (c : goal.Then-not-branch g) → CollectsLabel (collector_label g c.args.self.now c.args.label.now) c.args.found.now c.collect_line.new.found
@@ -94,7 +94,7 @@ all_done g c at_last =
     (omega (arith, at_last, c.max-index-end.ensures, c.requires.first))
     (omega (arith, at_last, c.max-index-end.ensures, c.saturating_add-last.ensures, c.requires.last))
     (omega (arith, c.max-index-end.ensures, c.loop-index-test.true))
-    (files.lawful c.args.self.now.file.files.now x.id) (files.past_end c.args.self.now.file.files.now x.id _)
+    (files.lawful c.args.self.now.file.files.now x.file_id) (files.past_end c.args.self.now.file.files.now x.file_id _)
 
 pub returns-else-not-branch-clause-added : goal.returns-else-not-branch-clause-added
 returns-else-not-branch-clause-added g c = (all_done g (goal.at.returns-else-not-branch-clause-added g c).Else-not-branch (search rules)).added

@@ -11,7 +11,7 @@ abbrev pub invariant-loop-at : goal.invariant-loop-at
 invariant-loop-at g l = record {
   within : l.at ≤ length l.annotations;
   hidden_within : l.hidden ≤ l.at;
-  left : LinesLeft (g.F.Files.database l.self.file.files.now).failure l.self.file.id l.self.layout
+  left : LinesLeft (g.F.Files.database l.self.file.files.now).failure l.self.file.file_id l.self.layout
       (model_of g.F.Files.database l.self.file) (lines_of (map annotation_view l.annotations))
       (lines_left l.annotations l.hidden l.at l.previous) l.fn.snippet_lines.items
       l.snippet_lines.items;
