@@ -264,16 +264,11 @@ fn inner_gutter_columns<W: PutStyle>(
             lane += empty;
         } else {
             let (lane_mark, after) = take_lane_mark(lanes.lane_marks, next, lane);
-            inner_gutter_column(
-                w,
-                context,
-                leading,
-                row,
-                Lane {
-                    index: lane,
-                    lane_mark,
-                },
-            )?;
+            let own = Lane {
+                index: lane,
+                lane_mark,
+            };
+            inner_gutter_column(w, context, leading, row, own)?;
             next = after;
             lane += 1;
         }
