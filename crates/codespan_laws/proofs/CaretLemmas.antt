@@ -60,7 +60,7 @@ map-constant x a (suc n) = ap (λ xs. x ∷ xs) (map-constant x (a + 1) n)
 abbrev pub AreAdjacent : ℕ → ℕ → List Metrics → Type 0
 AreAdjacent byte_index column [] = Unit {0}
 AreAdjacent byte_index column (c ∷ cs) =
-    (c.byte_index ≡ byte_index) × (c.column ≡ column) × AreAdjacent (byte_index + c.bytes) (column + c.width) cs
+    (c.byte_index ≡ byte_index) × (c.column ≡ column) × AreAdjacent (byte_index + c.bytes) (column + c.unicode_width) cs
 
 pub char_metrics_to_end-adjacent : (tab byte_index column : ℕ) (codes : List ℕ) → AreAdjacent byte_index column (metrics_then placeholder tab byte_index column codes)
 char_metrics_to_end-adjacent tab byte_index column [] = (refl, refl, tt)
@@ -70,7 +70,7 @@ char_metrics_to_end-adjacent tab byte_index column (c ∷ cs) = (refl, refl, cha
 
 -- the codes that a character shows: as many carets as it has cells, if it begins before the end
 abbrev pub codes_of : Chars → ℕ → Option LabelStyle → Metrics → List ℕ
-codes_of chars end style c = cond (nat_lt c.byte_index end) (replicate c.width (caret_for chars style)) []
+codes_of chars end style c = cond (nat_lt c.byte_index end) (replicate c.unicode_width (caret_for chars style)) []
 
 text_of-caret_glyphs : (chars : Chars) (end : ℕ) (style : Option LabelStyle) (c : Metrics)
     → ((s : LabelStyle) → style ≡ Some s → c.byte_index < end)
@@ -78,12 +78,12 @@ text_of-caret_glyphs : (chars : Chars) (end : ℕ) (style : Option LabelStyle) (
 unfolding caret_glyphs
 text_of-caret_glyphs chars end None c below = by_test (nat_lt c.byte_index end)
   where
-    by_test : (b : Bool) → text_of (cond b (spaces c.width) []) ≡ encode_utf8_all (cond b (replicate c.width 32) [])
-    by_test true = text_of-spaces c.width ∙ sym (encode_utf8_all-spaces c.width)
+    by_test : (b : Bool) → text_of (cond b (spaces c.unicode_width) []) ≡ encode_utf8_all (cond b (replicate c.unicode_width 32) [])
+    by_test true = text_of-spaces c.unicode_width ∙ sym (encode_utf8_all-spaces c.unicode_width)
     by_test false = refl
 text_of-caret_glyphs chars end (Some style) c below =
     let low : c.byte_index < end = below style refl in
-    rw lt-ltb (text_of-repeated c.width (caret_for chars (Some style)))
+    rw lt-ltb (text_of-repeated c.unicode_width (caret_for chars (Some style)))
 
 -- ---- the caret cells, from the characters
 
@@ -92,10 +92,10 @@ encode_utf8_all-flat_map f [] = refl
 encode_utf8_all-flat_map f (c ∷ cs) =
     encode_utf8_all-append (f c) (flat_map f cs) ∙ ap (λ s. encode_utf8_all (f c) ++ s) (encode_utf8_all-flat_map f cs)
 
-owns-inside : (k : ℕ) (c : Metrics) → c.column ≤ k → k < c.column + c.width → owns k c ≡ true
+owns-inside : (k : ℕ) (c : Metrics) → c.column ≤ k → k < c.column + c.unicode_width → owns k c ≡ true
 owns-inside k c low high = grind (arith, nat_tests)
 
-owns-after : (k : ℕ) (c : Metrics) → c.column + c.width ≤ k → owns k c ≡ false
+owns-after : (k : ℕ) (c : Metrics) → c.column + c.unicode_width ≤ k → owns k c ≡ false
 owns-after k c high = grind (arith, nat_tests)
 
 -- from the greatest end on nothing is shown
@@ -104,7 +104,7 @@ none-after : (chars : Chars) (labels : List LabelModel) (end byte_index column :
 none-after chars labels end byte_index column [] adjacent after = (refl, refl)
 none-after chars labels end byte_index column (c ∷ cs) adjacent after =
     let past : nat_lt c.byte_index end ≡ false = (let same = adjacent.0 in grind (arith, nat_tests)) in
-    let rest = none-after chars labels end (byte_index + c.bytes) (column + c.width) cs adjacent.2 (omega arith) in
+    let rest = none-after chars labels end (byte_index + c.bytes) (column + c.unicode_width) cs adjacent.2 (omega arith) in
     (simp past rest.0, simp past rest.1)
 
 caret_codes : (chars : Chars) (labels : List LabelModel) (byte_index column : ℕ) (cs : List Metrics) → AreAdjacent byte_index column cs
@@ -112,7 +112,7 @@ caret_codes : (chars : Chars) (labels : List LabelModel) (byte_index column : �
     ≡ flat_map (λ c. codes_of chars (max_label_end labels) (style_under labels c) c) cs
 caret_codes chars labels byte_index column [] adjacent = refl
 caret_codes chars labels byte_index column (c ∷ cs) adjacent =
-    by_test (caret_codes chars labels (byte_index + c.bytes) (column + c.width) cs adjacent.2) (nat_lt c.byte_index (max_label_end labels)) refl
+    by_test (caret_codes chars labels (byte_index + c.bytes) (column + c.unicode_width) cs adjacent.2) (nat_lt c.byte_index (max_label_end labels)) refl
   where
     at_cell : ℕ → ℕ
     at_cell k = caret_for chars (style_at labels (c ∷ cs) k)
@@ -120,21 +120,21 @@ caret_codes chars labels byte_index column (c ∷ cs) adjacent =
     later : List Metrics
     later = filter (λ (d : Metrics). nat_lt d.byte_index (max_label_end labels)) cs
 
-    by_test : map (λ k. caret_for chars (style_at labels cs k)) (range_with_len (column + c.width) (width_of later))
+    by_test : map (λ k. caret_for chars (style_at labels cs k)) (range_with_len (column + c.unicode_width) (width_of later))
         ≡ flat_map (λ d. codes_of chars (max_label_end labels) (style_under labels d) d) cs
         → (b : Bool) → nat_lt c.byte_index (max_label_end labels) ≡ b
         → map at_cell (range_with_len column (width_of (cond b (c ∷ later) later)))
-        ≡ cond b (replicate c.width (caret_for chars (style_under labels c))) []
+        ≡ cond b (replicate c.unicode_width (caret_for chars (style_under labels c))) []
         ++ flat_map (λ d. codes_of chars (max_label_end labels) (style_under labels d) d) cs
     by_test rest true before =
-        ap (λ n. map at_cell (range_with_len column n)) (sum_by-cons (λ (d : Metrics). d.width) c later)
-        ∙ ap (map at_cell) (range_with_len-append column c.width (width_of later))
-        ∙ map-append at_cell (range_with_len column c.width) (range_with_len (column + c.width) (width_of later))
+        ap (λ n. map at_cell (range_with_len column n)) (sum_by-cons (λ (d : Metrics). d.unicode_width) c later)
+        ∙ ap (map at_cell) (range_with_len-append column c.unicode_width (width_of later))
+        ∙ map-append at_cell (range_with_len column c.unicode_width) (range_with_len (column + c.unicode_width) (width_of later))
         ∙ ap₂ (λ xs ys. xs ++ ys)
-        (map-range_with_len at_cell (λ _. caret_for chars (style_under labels c)) column c.width
+        (map-range_with_len at_cell (λ _. caret_for chars (style_under labels c)) column c.unicode_width
         (λ k low high. let same = adjacent.1 in simp (owns-inside k c (omega arith) (omega arith)))
-        ∙ map-constant (caret_for chars (style_under labels c)) column c.width)
-        (map-range_with_len at_cell (λ k. caret_for chars (style_at labels cs k)) (column + c.width) (width_of later)
+        ∙ map-constant (caret_for chars (style_under labels c)) column c.unicode_width)
+        (map-range_with_len at_cell (λ k. caret_for chars (style_at labels cs k)) (column + c.unicode_width) (width_of later)
         (λ k low high. let same = adjacent.1 in simp (owns-after k c (omega arith)))
         ∙ rest)
     by_test rest false after =

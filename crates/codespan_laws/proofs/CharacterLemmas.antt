@@ -92,7 +92,7 @@ module _ (context : RowContext) (chars : Chars) where
   caret_glyphs_as_long : (end : ℕ) (style : Option LabelStyle) (c : Metrics) → AreAsLong (caret_glyphs chars end style c) (caret_glyphs context.chars end style c)
   unfolding caret_glyphs
   caret_glyphs_as_long end None c = as_long _
-  caret_glyphs_as_long end (Some style) c = repeats c.width _ _
+  caret_glyphs_as_long end (Some style) c = repeats c.unicode_width _ _
 
   carets_as_long : (labels : List LabelModel) (cs : List Metrics) → AreAsLong (carets other labels cs) (carets context labels cs)
   unfolding carets
@@ -108,7 +108,7 @@ module _ (context : RowContext) (chars : Chars) where
   unfolding pointers pointer_at
   pointers_as_long labels cs =
       flat_as_long _ _ (λ c. pointed (list_any (starts_in c) (hanging_labels labels)) (pointer_style (hanging_labels labels) c)
-      (spaces_up_to (max_label_start labels) c (c.width - 1)) (spaces_up_to (max_label_start labels) c c.width)) cs
+      (spaces_up_to (max_label_start labels) c (c.unicode_width - 1)) (spaces_up_to (max_label_start labels) c c.unicode_width)) cs
 
   underline_as_long : (style : LabelStyle) (cs : List Metrics) (multi_label : MultiLabel) → AreAsLong (underline chars style cs multi_label) (underline context.chars style cs multi_label)
   unfolding underline

@@ -47,7 +47,7 @@ byte_index-low : (byte_index column : ℕ) (cs : List Metrics) (c : Metrics) →
 byte_index-low byte_index column [] c adjacent h = absurd (omega (arith, h.1))
 byte_index-low byte_index column (d ∷ ds) c adjacent (zero, h, e) = let same = ap (λ (y : Metrics). y.byte_index) e in omega (arith, same, adjacent.0)
 byte_index-low byte_index column (d ∷ ds) c adjacent (suc k, h, e) =
-    let more = byte_index-low (byte_index + d.bytes) (column + d.width) ds c adjacent.3 (k, omega (arith, h), e) in omega (arith, more)
+    let more = byte_index-low (byte_index + d.bytes) (column + d.unicode_width) ds c adjacent.3 (k, omega (arith, h), e) in omega (arith, more)
 
 -- the widths of the characters before one sum to its column
 column-at : (byte_index column : ℕ) (cs : List Metrics) (c : Metrics) → AreConsecutive byte_index column cs → Contains cs c
@@ -60,10 +60,10 @@ column-at byte_index column (d ∷ ds) c adjacent (zero, h, e) =
     none-before (λ q. nat_lt q c.byte_index) byte_index column (d ∷ ds) adjacent (λ q low. let at_byte_index = adjacent.0 in grind (arith, nat_tests)) in
     rw none (omega (arith, same_column, adjacent.1))
 column-at byte_index column (d ∷ ds) c adjacent (suc k, h, e) =
-    let low = byte_index-low (byte_index + d.bytes) (column + d.width) ds c adjacent.3 (k, omega (arith, h), e) in
+    let low = byte_index-low (byte_index + d.bytes) (column + d.unicode_width) ds c adjacent.3 (k, omega (arith, h), e) in
     let before : nat_lt d.byte_index c.byte_index ≡ true = (let at_byte_index = adjacent.0 in let some = adjacent.2 in grind (arith, nat_tests)) in
-    let more = column-at (byte_index + d.bytes) (column + d.width) ds c adjacent.3 (k, omega (arith, h), e) in
-    rw before (omega (arith, more, sum_by-cons (λ (y : Metrics). y.width) d (metrics_before c.byte_index ds)))
+    let more = column-at (byte_index + d.bytes) (column + d.unicode_width) ds c adjacent.3 (k, omega (arith, h), e) in
+    rw before (omega (arith, more, sum_by-cons (λ (y : Metrics). y.unicode_width) d (metrics_before c.byte_index ds)))
 
 -- ---- what the characters show
 
@@ -77,8 +77,8 @@ module _ (chars : Chars) (labels : List LabelModel) where
   -- the codes of one character
   abbrev pub codes_at : Metrics → List ℕ
   codes_at c =
-      cond (points c) (chars.pointer_left ∷ cond (nat_le c.byte_index reach) (replicate (c.width - 1) 32) [])
-      (cond (nat_le c.byte_index reach) (replicate c.width 32) [])
+      cond (points c) (chars.pointer_left ∷ cond (nat_le c.byte_index reach) (replicate (c.unicode_width - 1) 32) [])
+      (cond (nat_le c.byte_index reach) (replicate c.unicode_width 32) [])
 
   -- the code of one cell
   abbrev pub code_of : List Metrics → ℕ → ℕ
@@ -86,7 +86,7 @@ module _ (chars : Chars) (labels : List LabelModel) where
 
   abbrev pub IsWide : List Metrics → Type 0
   IsWide [] = Unit {0}
-  IsWide (c ∷ cs) = (points c ≡ true → 0 < c.width) × IsWide cs
+  IsWide (c ∷ cs) = (points c ≡ true → 0 < c.unicode_width) × IsWide cs
 
   points-near : (c : Metrics) → points c ≡ true → c.byte_index ≤ reach
   points-near c h = any-below 0 c.byte_index (starts_in c) labels (starts_in-low c) (any-hanging_labels (starts_in c) labels h)
@@ -96,20 +96,20 @@ module _ (chars : Chars) (labels : List LabelModel) where
   points-later byte_index column k [] adjacent low = refl
   points-later byte_index column k (c ∷ cs) adjacent low =
       let other : (c.column == k) ≡ false = (let at_column = adjacent.1 in grind (arith, nat_tests)) in
-      simp other (points-later (byte_index + c.bytes) (column + c.width) k cs adjacent.3 (omega arith))
+      simp other (points-later (byte_index + c.bytes) (column + c.unicode_width) k cs adjacent.3 (omega arith))
 
   -- the cells of the first character
-  first-codes : (byte_index column : ℕ) (c : Metrics) (cs : List Metrics) → AreConsecutive byte_index column (c ∷ cs) → (points c ≡ true → 0 < c.width) → c.byte_index ≤ reach
-      → map (code_of (c ∷ cs)) (range_with_len column c.width) ≡ codes_at c
+  first-codes : (byte_index column : ℕ) (c : Metrics) (cs : List Metrics) → AreConsecutive byte_index column (c ∷ cs) → (points c ≡ true → 0 < c.unicode_width) → c.byte_index ≤ reach
+      → map (code_of (c ∷ cs)) (range_with_len column c.unicode_width) ≡ codes_at c
   first-codes byte_index column c cs adjacent wide low = by_points (points c) refl
     where
       near : nat_le c.byte_index reach ≡ true
       near = grind (arith, nat_tests)
 
-      no_later : (k : ℕ) → k < column + c.width → points_at labels cs k ≡ false
-      no_later k high = points-later (byte_index + c.bytes) (column + c.width) k cs adjacent.3 high
+      no_later : (k : ℕ) → k < column + c.unicode_width → points_at labels cs k ≡ false
+      no_later k high = points-later (byte_index + c.bytes) (column + c.unicode_width) k cs adjacent.3 high
 
-      by_width : (w : ℕ) → c.width ≡ w → points c ≡ true → 0 < w
+      by_width : (w : ℕ) → c.unicode_width ≡ w → points c ≡ true → 0 < w
           → map (code_of (c ∷ cs)) (range_with_len column w) ≡ chars.pointer_left ∷ replicate (w - 1) 32
       by_width zero is holds some = absurd (omega arith)
       by_width (suc v) is holds some =
@@ -124,16 +124,16 @@ module _ (chars : Chars) (labels : List LabelModel) where
           simp (other, later))
           ∙ map-constant 32 (column + 1) v))
 
-      by_points : (b : Bool) → points c ≡ b → map (code_of (c ∷ cs)) (range_with_len column c.width)
-          ≡ cond b (chars.pointer_left ∷ cond (nat_le c.byte_index reach) (replicate (c.width - 1) 32) []) (cond (nat_le c.byte_index reach) (replicate c.width 32) [])
-      by_points true holds = rw near (by_width c.width refl holds (wide holds))
+      by_points : (b : Bool) → points c ≡ b → map (code_of (c ∷ cs)) (range_with_len column c.unicode_width)
+          ≡ cond b (chars.pointer_left ∷ cond (nat_le c.byte_index reach) (replicate (c.unicode_width - 1) 32) []) (cond (nat_le c.byte_index reach) (replicate c.unicode_width 32) [])
+      by_points true holds = rw near (by_width c.unicode_width refl holds (wide holds))
       by_points false fails =
-          rw near (map-range_with_len (code_of (c ∷ cs)) (λ _. 32) column c.width
+          rw near (map-range_with_len (code_of (c ∷ cs)) (λ _. 32) column c.unicode_width
           (λ k low high.
           let later = no_later k high in
           let none : ((c.column == k) && points c) ≡ false = rw fails (and-false (c.column == k)) in
           simp (none, later))
-          ∙ map-constant 32 column c.width)
+          ∙ map-constant 32 column c.unicode_width)
 
   -- the cells of the characters that begin near enough
   char_metrics-codes : (near : ℕ → Bool) → ((q : ℕ) → near q ≡ true → q ≤ reach) → ((p q : ℕ) → near p ≡ false → p ≤ q → near q ≡ false)
@@ -142,21 +142,21 @@ module _ (chars : Chars) (labels : List LabelModel) where
       ≡ flat_map codes_at (filter (λ (c : Metrics). near c.byte_index) cs)
   char_metrics-codes near low down byte_index column [] adjacent wide = refl
   char_metrics-codes near low down byte_index column (c ∷ cs) adjacent wide =
-      by_test (char_metrics-codes near low down (byte_index + c.bytes) (column + c.width) cs adjacent.3 wide.1) (near c.byte_index) refl
+      by_test (char_metrics-codes near low down (byte_index + c.bytes) (column + c.unicode_width) cs adjacent.3 wide.1) (near c.byte_index) refl
     where
       later : List Metrics
       later = filter (λ (d : Metrics). near d.byte_index) cs
 
-      by_test : map (code_of cs) (range_with_len (column + c.width) (width_of later)) ≡ flat_map codes_at later
+      by_test : map (code_of cs) (range_with_len (column + c.unicode_width) (width_of later)) ≡ flat_map codes_at later
           → (b : Bool) → near c.byte_index ≡ b
           → map (code_of (c ∷ cs)) (range_with_len column (width_of (cond b (c ∷ later) later))) ≡ flat_map codes_at (cond b (c ∷ later) later)
       by_test rest true is =
-          ap (λ n. map (code_of (c ∷ cs)) (range_with_len column n)) (sum_by-cons (λ (d : Metrics). d.width) c later)
-          ∙ ap (map (code_of (c ∷ cs))) (range_with_len-append column c.width (width_of later))
-          ∙ map-append (code_of (c ∷ cs)) (range_with_len column c.width) (range_with_len (column + c.width) (width_of later))
+          ap (λ n. map (code_of (c ∷ cs)) (range_with_len column n)) (sum_by-cons (λ (d : Metrics). d.unicode_width) c later)
+          ∙ ap (map (code_of (c ∷ cs))) (range_with_len-append column c.unicode_width (width_of later))
+          ∙ map-append (code_of (c ∷ cs)) (range_with_len column c.unicode_width) (range_with_len (column + c.unicode_width) (width_of later))
           ∙ ap₂ (λ xs ys. xs ++ ys)
           (first-codes byte_index column c cs adjacent wide.0 (low c.byte_index is))
-          (map-range_with_len (code_of (c ∷ cs)) (code_of cs) (column + c.width) (width_of later)
+          (map-range_with_len (code_of (c ∷ cs)) (code_of cs) (column + c.unicode_width) (width_of later)
           (λ k after high. ap (λ b. cond b chars.pointer_left 32) (past k after))
           ∙ rest)
         where
@@ -165,14 +165,14 @@ module _ (chars : Chars) (labels : List LabelModel) where
           and_second true false h = refl
           and_second false d h = refl
 
-          past : (k : ℕ) → column + c.width ≤ k → points_at labels (c ∷ cs) k ≡ points_at labels cs k
+          past : (k : ℕ) → column + c.unicode_width ≤ k → points_at labels (c ∷ cs) k ≡ points_at labels cs k
           past k after =
               let none : ((c.column == k) && points c) ≡ false =
               and_second (c.column == k) (points c) (λ holds. let some = wide.0 holds in let at_column = adjacent.1 in grind (arith, nat_tests)) in
               simp none
       by_test rest false is =
           let none : later ≡ [] =
-          none-before near (byte_index + c.bytes) (column + c.width) cs adjacent.3 (λ q after. down c.byte_index q is (let at_byte_index = adjacent.0 in omega arith)) in
+          none-before near (byte_index + c.bytes) (column + c.unicode_width) cs adjacent.3 (λ q after. down c.byte_index q is (let at_byte_index = adjacent.0 in omega arith)) in
           rw none refl
 
   -- what begins too far shows nothing
@@ -187,7 +187,7 @@ module _ (chars : Chars) (labels : List LabelModel) where
       by_test rest false is = ap (λ s. s ++ flat_map codes_at cs) nothing ∙ rest
         where
           by_points : (d : Bool) → points c ≡ d
-              → cond d (chars.pointer_left ∷ cond (nat_le c.byte_index reach) (replicate (c.width - 1) 32) []) (cond (nat_le c.byte_index reach) (replicate c.width 32) []) ≡ []
+              → cond d (chars.pointer_left ∷ cond (nat_le c.byte_index reach) (replicate (c.unicode_width - 1) 32) []) (cond (nat_le c.byte_index reach) (replicate c.unicode_width 32) []) ≡ []
           by_points true holds = let low = points-near c holds in absurd (grind (arith, nat_tests))
           by_points false fails = rw is refl
 
@@ -217,12 +217,12 @@ module _ (context : RowContext) (labels : List LabelModel) where
   text_of-pointer_at c = by_points (points context.chars labels c)
     where
       by_points : (b : Bool)
-          → text_of (cond b (label_glyph context.severity (pointer_style (hanging_labels labels) c) context.chars.pointer_left ++ spaces_up_to (max_label_start labels) c (c.width - 1)) (spaces_up_to (max_label_start labels) c c.width))
-          ≡ encode_utf8_all (cond b (context.chars.pointer_left ∷ cond (nat_le c.byte_index (max_label_start labels)) (replicate (c.width - 1) 32) []) (cond (nat_le c.byte_index (max_label_start labels)) (replicate c.width 32) []))
+          → text_of (cond b (label_glyph context.severity (pointer_style (hanging_labels labels) c) context.chars.pointer_left ++ spaces_up_to (max_label_start labels) c (c.unicode_width - 1)) (spaces_up_to (max_label_start labels) c c.unicode_width))
+          ≡ encode_utf8_all (cond b (context.chars.pointer_left ∷ cond (nat_le c.byte_index (max_label_start labels)) (replicate (c.unicode_width - 1) 32) []) (cond (nat_le c.byte_index (max_label_start labels)) (replicate c.unicode_width 32) []))
       by_points true =
-          text_of-append (label_glyph context.severity (pointer_style (hanging_labels labels) c) context.chars.pointer_left) (spaces_up_to (max_label_start labels) c (c.width - 1))
-          ∙ ap₂ (λ s t. s ++ t) (text_of-label_glyph context.severity (pointer_style (hanging_labels labels) c) context.chars.pointer_left) (text_of-spaces_up_to (max_label_start labels) (c.width - 1) c)
-      by_points false = text_of-spaces_up_to (max_label_start labels) c.width c
+          text_of-append (label_glyph context.severity (pointer_style (hanging_labels labels) c) context.chars.pointer_left) (spaces_up_to (max_label_start labels) c (c.unicode_width - 1))
+          ∙ ap₂ (λ s t. s ++ t) (text_of-label_glyph context.severity (pointer_style (hanging_labels labels) c) context.chars.pointer_left) (text_of-spaces_up_to (max_label_start labels) (c.unicode_width - 1) c)
+      by_points false = text_of-spaces_up_to (max_label_start labels) c.unicode_width c
 
   text_of-all : (cs : List Metrics) → text_of (flat_map (pointer_at context labels (hanging_labels labels)) cs) ≡ encode_utf8_all (flat_map (codes_at context.chars labels) cs)
   text_of-all [] = refl

@@ -127,17 +127,17 @@ ends_reset-source_glyph : (closed : Bool) (c : Metrics) → ends_reset closed (s
 unfolding source_glyph
 ends_reset-source_glyph closed c = by_test (c.code == 9)
   where
-    by_test : (b : Bool) → ends_reset closed (if b then spaces c.width else glyph c.code) ≡ closed
-    by_test true = ends_reset-spaces closed c.width
+    by_test : (b : Bool) → ends_reset closed (if b then spaces c.unicode_width else glyph c.code) ≡ closed
+    by_test true = ends_reset-spaces closed c.unicode_width
     by_test false = ends_reset-bytes closed _
 
 ends_reset-caret_glyphs : (chars : Chars) (end : ℕ) (style : Option LabelStyle) (closed : Bool) (c : Metrics) → ends_reset closed (caret_glyphs chars end style c) ≡ closed
 unfolding caret_glyphs
-ends_reset-caret_glyphs chars end (Some style) closed c = ends_reset-repeated closed c.width _
+ends_reset-caret_glyphs chars end (Some style) closed c = ends_reset-repeated closed c.unicode_width _
 ends_reset-caret_glyphs chars end None closed c = by_test (nat_lt c.byte_index end)
   where
-    by_test : (b : Bool) → ends_reset closed (if b then spaces c.width else []) ≡ closed
-    by_test true = ends_reset-spaces closed c.width
+    by_test : (b : Bool) → ends_reset closed (if b then spaces c.unicode_width else []) ≡ closed
+    by_test true = ends_reset-spaces closed c.unicode_width
     by_test false = refl
 
 closes-carets : (context : RowContext) (labels : List LabelModel) (cs : List Metrics) → Closes (carets context labels cs)
@@ -173,9 +173,9 @@ closes-pointer_at : (context : RowContext) (labels xs : List LabelModel) (c : Me
 unfolding pointer_at
 closes-pointer_at context labels xs c = by_test (list_any (starts_in c) xs)
   where
-    by_test : (b : Bool) → Closes (if b then label_glyph context.severity (pointer_style xs c) context.chars.pointer_left ++ spaces_up_to (max_label_start labels) c (c.width - 1) else spaces_up_to (max_label_start labels) c c.width)
-    by_test true = closes-append (label_glyph context.severity (pointer_style xs c) context.chars.pointer_left) (spaces_up_to (max_label_start labels) c (c.width - 1)) (closes-label_glyph context.severity (pointer_style xs c) context.chars.pointer_left) (closes-spaces_up_to (max_label_start labels) c (c.width - 1))
-    by_test false = closes-spaces_up_to (max_label_start labels) c c.width
+    by_test : (b : Bool) → Closes (if b then label_glyph context.severity (pointer_style xs c) context.chars.pointer_left ++ spaces_up_to (max_label_start labels) c (c.unicode_width - 1) else spaces_up_to (max_label_start labels) c c.unicode_width)
+    by_test true = closes-append (label_glyph context.severity (pointer_style xs c) context.chars.pointer_left) (spaces_up_to (max_label_start labels) c (c.unicode_width - 1)) (closes-label_glyph context.severity (pointer_style xs c) context.chars.pointer_left) (closes-spaces_up_to (max_label_start labels) c (c.unicode_width - 1))
+    by_test false = closes-spaces_up_to (max_label_start labels) c c.unicode_width
 
 closes-pointers : (context : RowContext) (labels : List LabelModel) (cs : List Metrics) → Closes (pointers context labels cs)
 unfolding pointers

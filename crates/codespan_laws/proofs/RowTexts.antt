@@ -91,8 +91,8 @@ text-source_glyph : (c : Metrics) → IsScalar c.code → IsText (source_glyph c
 unfolding source_glyph
 text-source_glyph c s = by (c.code == 9)
   where
-    by : (b : Bool) → IsText (if b then spaces c.width else glyph c.code)
-    by true = text-spaces c.width
+    by : (b : Bool) → IsText (if b then spaces c.unicode_width else glyph c.code)
+    by true = text-spaces c.unicode_width
     by false = text-glyph c.code s
 
 -- ---- what a row is of
@@ -179,8 +179,8 @@ module _ (context : RowContext) (ok : AreCharacters context.chars) where
   -- the carets
   text-caret_glyphs : (end : ℕ) (style : Option LabelStyle) (c : Metrics) → IsText (caret_glyphs context.chars end style c)
   unfolding caret_glyphs
-  text-caret_glyphs end None c = cond_both (nat_lt c.byte_index end) (spaces c.width) [] IsText (λ _. text-spaces c.width) (λ _. text-none)
-  text-caret_glyphs end (Some style) c = text-repeated c.width (caret_for context.chars (Some style)) (scalar-caret_for context.chars ok (Some style))
+  text-caret_glyphs end None c = cond_both (nat_lt c.byte_index end) (spaces c.unicode_width) [] IsText (λ _. text-spaces c.unicode_width) (λ _. text-none)
+  text-caret_glyphs end (Some style) c = text-repeated c.unicode_width (caret_for context.chars (Some style)) (scalar-caret_for context.chars ok (Some style))
 
   text-carets : (labels : List LabelModel) (cs : List Metrics) → IsText (carets context labels cs)
   unfolding carets
@@ -196,11 +196,11 @@ module _ (context : RowContext) (ok : AreCharacters context.chars) where
   text-pointer_at : (labels hanging_labels : List LabelModel) (c : Metrics) → IsText (pointer_at context labels hanging_labels c)
   unfolding pointer_at
   text-pointer_at labels hanging_labels c =
-      let here : Stream = label_glyph context.severity (pointer_style hanging_labels c) context.chars.pointer_left ++ spaces_up_to (max_label_start labels) c (c.width - 1) in
-      cond_both (list_any (starts_in c) hanging_labels) here (spaces_up_to (max_label_start labels) c c.width) IsText
-      (λ _. text-both (label_glyph context.severity (pointer_style hanging_labels c) context.chars.pointer_left) (spaces_up_to (max_label_start labels) c (c.width - 1))
-      (text-label_glyph context.severity (pointer_style hanging_labels c) context.chars.pointer_left ok.pointer_left) (text-spaces_up_to (max_label_start labels) c (c.width - 1)))
-      (λ _. text-spaces_up_to (max_label_start labels) c c.width)
+      let here : Stream = label_glyph context.severity (pointer_style hanging_labels c) context.chars.pointer_left ++ spaces_up_to (max_label_start labels) c (c.unicode_width - 1) in
+      cond_both (list_any (starts_in c) hanging_labels) here (spaces_up_to (max_label_start labels) c c.unicode_width) IsText
+      (λ _. text-both (label_glyph context.severity (pointer_style hanging_labels c) context.chars.pointer_left) (spaces_up_to (max_label_start labels) c (c.unicode_width - 1))
+      (text-label_glyph context.severity (pointer_style hanging_labels c) context.chars.pointer_left ok.pointer_left) (text-spaces_up_to (max_label_start labels) c (c.unicode_width - 1)))
+      (λ _. text-spaces_up_to (max_label_start labels) c c.unicode_width)
 
   text-pointers : (labels : List LabelModel) (cs : List Metrics) → IsText (pointers context labels cs)
   unfolding pointers

@@ -134,8 +134,8 @@ pub slots-source_glyph : (k : ℕ) (c : Metrics) → slots k (source_glyph c) �
 unfolding source_glyph
 slots-source_glyph k c = by_test (c.code == 9)
   where
-    by_test : (b : Bool) → slots k (if b then spaces c.width else glyph c.code) ≡ 0
-    by_test true = slots-spaces k c.width
+    by_test : (b : Bool) → slots k (if b then spaces c.unicode_width else glyph c.code) ≡ 0
+    by_test true = slots-spaces k c.unicode_width
     by_test false = slots-bytes k _
 
 pub slots-colored_text : (k : ℕ) (context : RowContext) (line : Line) → slots k (colored_text context line) ≡ 0
@@ -146,10 +146,10 @@ pub slots-caret_glyphs : (k : ℕ) (chars : Chars) (end : ℕ) (style : Option L
 unfolding caret_glyphs
 slots-caret_glyphs k chars end None c = by_test (nat_lt c.byte_index end)
   where
-    by_test : (b : Bool) → slots k (if b then spaces c.width else []) ≡ 0
-    by_test true = slots-spaces k c.width
+    by_test : (b : Bool) → slots k (if b then spaces c.unicode_width else []) ≡ 0
+    by_test true = slots-spaces k c.unicode_width
     by_test false = slots-nil k
-slots-caret_glyphs k chars end (Some style) c = slots-repeated k c.width _
+slots-caret_glyphs k chars end (Some style) c = slots-repeated k c.unicode_width _
 
 pub slots-carets : (k : ℕ) (context : RowContext) (labels : List LabelModel) (cs : List Metrics) → slots k (carets context labels cs) ≡ 0
 unfolding carets
@@ -170,9 +170,9 @@ unfolding pointer_at
 slots-pointer_at k context labels hanging_labels c = by_test (list_any (starts_in c) hanging_labels)
   where
     by_test : (b : Bool)
-        → slots k (if b then label_glyph context.severity (pointer_style hanging_labels c) context.chars.pointer_left ++ spaces_up_to (max_label_start labels) c (c.width - 1) else spaces_up_to (max_label_start labels) c c.width) ≡ 0
+        → slots k (if b then label_glyph context.severity (pointer_style hanging_labels c) context.chars.pointer_left ++ spaces_up_to (max_label_start labels) c (c.unicode_width - 1) else spaces_up_to (max_label_start labels) c c.unicode_width) ≡ 0
     by_test true = simp (slots-append, slots-label_glyph, slots-spaces_up_to)
-    by_test false = slots-spaces_up_to k (max_label_start labels) c c.width
+    by_test false = slots-spaces_up_to k (max_label_start labels) c c.unicode_width
 
 pub slots-pointers : (k : ℕ) (context : RowContext) (labels : List LabelModel) (cs : List Metrics) → slots k (pointers context labels cs) ≡ 0
 unfolding pointers

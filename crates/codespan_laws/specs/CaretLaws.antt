@@ -34,7 +34,8 @@ pointer_cells chars labels cs n =
 -- no hanging label starts in a character that owns no cell
 abbrev pub StartsHaveCells : List LabelModel → List Metrics → Type 0
 StartsHaveCells labels cs = (c : Metrics) (x : LabelModel)
-    → Contains cs c → Contains (hanging_labels labels) x → IsTrue (starts_in c x) → 0 < c.width
+    → Contains cs c → Contains (hanging_labels labels) x → IsTrue (starts_in c x)
+    → 0 < c.unicode_width
 
 -- pointers are in the first cells of the characters in which hanging labels start; a message that
 -- hangs from a character begins in that character's first cell

@@ -30,7 +30,7 @@ max_label_end labels = fold (λ m (x : LabelModel). max m x.end) 0 labels
 
 -- the cell is one of the character
 abbrev pub owns : ℕ → Metrics → Bool
-owns k c = nat_le c.column k && nat_lt k (c.column + c.width)
+owns k c = nat_le c.column k && nat_lt k (c.column + c.unicode_width)
 
 -- the style of a cell is that of the labels over its owner
 abbrev pub style_at : List LabelModel → List Metrics → ℕ → Option LabelStyle

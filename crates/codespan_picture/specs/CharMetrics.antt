@@ -31,7 +31,7 @@ metrics_then after tab byte_index column (c ∷ cs) =
       byte_index = byte_index;
       bytes = len_utf8 c;
       column = column;
-      width = width_at tab column c;
+      unicode_width = width_at tab column c;
     }
     ∷ metrics_then after tab (byte_index + len_utf8 c) (column + width_at tab column c) cs
 
@@ -42,7 +42,8 @@ char_metrics tab line = metrics_then (λ _ _. []) tab 0 0 (chars line)
 -- the placeholder after the last character: one more, of one byte and one cell
 abbrev pub placeholder : ℕ → ℕ → List Metrics
 placeholder byte_index column =
-    record { code = 32; byte_index = byte_index; bytes = 1; column = column; width = 1 } ∷ []
+    record { code = 32; byte_index = byte_index; bytes = 1; column = column; unicode_width = 1 }
+    ∷ []
 
 -- the same, and the placeholder after the last one
 abbrev pub char_metrics_to_end : ℕ → List ℕ → List Metrics
@@ -50,7 +51,7 @@ char_metrics_to_end tab line = metrics_then placeholder tab 0 0 (chars line)
 
 -- the widths of these characters together
 abbrev pub width_of : List Metrics → ℕ
-width_of cs = sum_by (λ (c : Metrics). c.width) cs
+width_of cs = sum_by (λ (c : Metrics). c.unicode_width) cs
 
 -- the bytes of the white space that the line begins with
 abbrev pub leading_whitespace : List ℕ → ℕ

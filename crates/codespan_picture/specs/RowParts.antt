@@ -121,7 +121,7 @@ source_style line c =
 
 -- a tab is written as spaces
 unfoldable pub source_glyph : Metrics → Stream
-source_glyph c = if c.code == 9 then spaces c.width else glyph c.code
+source_glyph c = if c.code == 9 then spaces c.unicode_width else glyph c.code
 
 -- the text of a source row
 unfoldable pub colored_text : RowContext → Line → Stream
@@ -130,8 +130,8 @@ colored_text context line =
 
 -- one character's carets, or its spaces up to the greatest end
 unfoldable pub caret_glyphs : Chars → ℕ → Option LabelStyle → Metrics → Stream
-caret_glyphs chars end None c = if nat_lt c.byte_index end then spaces c.width else []
-caret_glyphs chars end (Some style) c = repeated c.width (caret_for chars (Some style))
+caret_glyphs chars end None c = if nat_lt c.byte_index end then spaces c.unicode_width else []
+caret_glyphs chars end (Some style) c = repeated c.unicode_width (caret_for chars (Some style))
 
 -- the carets under these characters
 unfoldable pub carets : RowContext → List LabelModel → List Metrics → Stream
@@ -168,8 +168,8 @@ unfoldable pub pointer_at : RowContext → List LabelModel → List LabelModel �
 pointer_at context labels hanging_labels c =
     if list_any (starts_in c) hanging_labels then
     label_glyph context.severity (pointer_style hanging_labels c) context.chars.pointer_left
-    ++ spaces_up_to (max_label_start labels) c (c.width - 1)
-    else spaces_up_to (max_label_start labels) c c.width
+    ++ spaces_up_to (max_label_start labels) c (c.unicode_width - 1)
+    else spaces_up_to (max_label_start labels) c c.unicode_width
 
 -- the pointers of these characters
 unfoldable pub pointers : RowContext → List LabelModel → List Metrics → Stream

@@ -12,5 +12,5 @@ pub struct Metrics {
     /// The first cell that it owns, counted from the line's start.
     pub column: u128,
     /// How many cells it owns.
-    pub width: usize,
+    pub unicode_width: usize,
 }

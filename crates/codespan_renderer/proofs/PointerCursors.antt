@@ -33,7 +33,7 @@ pub record IsPassingAt (before after : List SingleLabelTuple) (s t : StartCursor
   pub late : HasPassedStarts c.byte_index t
   pub same_early : s.labels.now ≡ before
   pub same_late : t.labels.now ≡ after
-  pub consecutive : AreConsecutive (c.byte_index + c.bytes) (c.column + c.width) left
+  pub consecutive : AreConsecutive (c.byte_index + c.bytes) (c.column + c.unicode_width) left
 
 pub passing-at : (before after : List SingleLabelTuple) (s t : StartCursor) (cs left : List Metrics) (c : Metrics) → cs ≡ c ∷ left → IsPassing before after s t cs
     → IsPassingAt before after s t c left
@@ -55,7 +55,7 @@ pub passing-more : (before after : List SingleLabelTuple) (s t u v : StartCursor
     → IsPassing before after u v left
 passing-more before after s t u v c left w early late same same2 = record {
   byte_index = c.byte_index + c.bytes;
-  column = c.column + c.width;
+  column = c.column + c.unicode_width;
   early = early;
   late = late;
   same_early = same ∙ w.same_early;
@@ -118,7 +118,7 @@ pointers-past : (labels : List LabelModel) (byte_index column : ℕ) (cs : List 
 pointers-past labels byte_index column [] consecutive past = refl
 pointers-past labels byte_index column (c ∷ cs) consecutive past =
     let there : max_label_start labels < c.byte_index = omega (arith, consecutive.0) in
-    rw (none-past labels c there) (pointers-past labels (byte_index + c.bytes) (column + c.width) cs consecutive.3 (omega arith))
+    rw (none-past labels c there) (pointers-past labels (byte_index + c.bytes) (column + c.unicode_width) cs consecutive.3 (omega arith))
 
 -- the next cell begins past the starts, and so do all that follow
 pub pointers-past-at : (labels before after : List SingleLabelTuple) (s t : StartCursor) (last : ℕ) (cs left : List Metrics) (c : Metrics) → cs ≡ c ∷ left

@@ -94,25 +94,25 @@ pointers_next context labels before c cs h =
 
 -- no label hangs from the character
 pub pointer_none : (context : RowContext) (labels : List LabelModel) (c : Metrics) → pointer_found (hanging_labels labels) c ≡ None
-    → pointer_at context labels (hanging_labels labels) c ≡ spaces_up_to (max_label_start labels) c c.width
+    → pointer_at context labels (hanging_labels labels) c ≡ spaces_up_to (max_label_start labels) c c.unicode_width
 unfolding pointer_at
 pointer_none context labels c h = by_test (list_any (starts_in c) (hanging_labels labels)) refl h
   where
     by_test : (b : Bool) → list_any (starts_in c) (hanging_labels labels) ≡ b → (if b then Some (pointer_style (hanging_labels labels) c) else None) ≡ None
-        → pointer_at context labels (hanging_labels labels) c ≡ spaces_up_to (max_label_start labels) c c.width
+        → pointer_at context labels (hanging_labels labels) c ≡ spaces_up_to (max_label_start labels) c c.unicode_width
     by_test true is h = cc
     by_test false is h = rw is refl
 
 -- a label of this style hangs from it
 pub pointer_some : (context : RowContext) (labels : List LabelModel) (c : Metrics) (style : LabelStyle) → pointer_found (hanging_labels labels) c ≡ Some style
     → pointer_at context labels (hanging_labels labels) c
-    ≡ label_glyph context.severity style context.chars.pointer_left ++ spaces_up_to (max_label_start labels) c (c.width - 1)
+    ≡ label_glyph context.severity style context.chars.pointer_left ++ spaces_up_to (max_label_start labels) c (c.unicode_width - 1)
 unfolding pointer_at
 pointer_some context labels c style h = by_test (list_any (starts_in c) (hanging_labels labels)) refl h
   where
     by_test : (b : Bool) → list_any (starts_in c) (hanging_labels labels) ≡ b → (if b then Some (pointer_style (hanging_labels labels) c) else None) ≡ Some style
         → pointer_at context labels (hanging_labels labels) c
-        ≡ label_glyph context.severity style context.chars.pointer_left ++ spaces_up_to (max_label_start labels) c (c.width - 1)
+        ≡ label_glyph context.severity style context.chars.pointer_left ++ spaces_up_to (max_label_start labels) c (c.unicode_width - 1)
     by_test true is h = let same : pointer_style (hanging_labels labels) c ≡ style = cc in rw (is, same) refl
     by_test false is h = cc
 
@@ -136,7 +136,7 @@ pub pointer_first : (context : RowContext) (labels : List LabelModel) (before re
     → reach ≡ max_label_start labels → left ≡ c ∷ cs → c.byte_index < before → pointer_found (hanging_labels labels) c ≡ Some style
     → spaces pending ++ pointers context labels (metrics_before before left)
     ≡ (spaces pending ++ label_glyph context.severity style context.chars.pointer_left)
-    ++ (spaces_up_to reach c (c.width - 1) ++ pointers context labels (metrics_before before cs))
+    ++ (spaces_up_to reach c (c.unicode_width - 1) ++ pointers context labels (metrics_before before cs))
 pointer_first context labels before reach left c cs pending style far step h found =
     rw (far, step, pointers_next context labels before c cs h, pointer_some context labels c style found) (simp append_assoc)
 
@@ -144,7 +144,7 @@ pointer_first context labels before reach left c cs pending style far step h fou
 pub spaces_first : (context : RowContext) (labels : List LabelModel) (before reach : ℕ) (left : List Metrics) (c : Metrics) (cs : List Metrics) (pending : ℕ)
     → reach ≡ max_label_start labels → left ≡ c ∷ cs → c.byte_index < before → pointer_found (hanging_labels labels) c ≡ None
     → spaces pending ++ pointers context labels (metrics_before before left)
-    ≡ spaces pending ++ (spaces_up_to reach c c.width ++ pointers context labels (metrics_before before cs))
+    ≡ spaces pending ++ (spaces_up_to reach c c.unicode_width ++ pointers context labels (metrics_before before cs))
 spaces_first context labels before reach left c cs pending far step h found =
     rw (far, step, pointers_next context labels before c cs h, pointer_none context labels c found) refl
 

@@ -22,8 +22,8 @@ end-by : (byte_index from column : ℕ) (cs : List Metrics) (n : ℕ) (d : Metri
 end-by byte_index from column [] n d adjacent h low = absurd (omega arith)
 end-by byte_index from column (c ∷ cs) zero d adjacent h low = tt
 end-by byte_index from column (c ∷ cs) (suc n) d adjacent h low =
-    let later = consecutive-low (from + c.bytes) (column + c.width) cs n d adjacent.3 (omega arith) in
-    (omega (arith, adjacent.0, later, low), end-by byte_index (from + c.bytes) (column + c.width) cs n d adjacent.3 (omega arith) low)
+    let later = consecutive-low (from + c.bytes) (column + c.unicode_width) cs n d adjacent.3 (omega arith) in
+    (omega (arith, adjacent.0, later, low), end-by byte_index (from + c.bytes) (column + c.unicode_width) cs n d adjacent.3 (omega arith) low)
 
 -- its column is their width
 column-past : (from column : ℕ) (cs : List Metrics) (n : ℕ) (d : Metrics) → AreConsecutive from column cs → n < length cs
@@ -31,8 +31,8 @@ column-past : (from column : ℕ) (cs : List Metrics) (n : ℕ) (d : Metrics) �
 column-past from column [] n d adjacent h = absurd (omega arith)
 column-past from column (c ∷ cs) zero d adjacent h = adjacent.1 ∙ sym (add-zero column)
 column-past from column (c ∷ cs) (suc n) d adjacent h =
-    column-past (from + c.bytes) (column + c.width) cs n d adjacent.3 (omega arith)
-    ∙ omega (arith, sum_by-cons (λ (x : Metrics). x.width) c (take n cs))
+    column-past (from + c.bytes) (column + c.unicode_width) cs n d adjacent.3 (omega arith)
+    ∙ omega (arith, sum_by-cons (λ (x : Metrics). x.unicode_width) c (take n cs))
 
 module _ (tab : ℕ) (text : List ℕ) (cached : List Metrics) (rest : CharMetrics) (are : AreCached tab text cached rest) where
   adjacent : AreConsecutive 0 0 cached

@@ -67,13 +67,13 @@ far-char_metrics : (context : RowContext) (labels : List LabelModel) (byte_index
 unfolding pointers
 far-char_metrics context labels byte_index column [] adjacent far = record { drawn = refl; found = refl; width = refl }
 far-char_metrics context labels byte_index column (c ∷ cs) adjacent far =
-    by_found (let here = adjacent.0 in omega arith) (far-char_metrics context labels (byte_index + c.bytes) (column + c.width) cs adjacent.3 (omega arith))
+    by_found (let here = adjacent.0 in omega arith) (far-char_metrics context labels (byte_index + c.bytes) (column + c.unicode_width) cs adjacent.3 (omega arith))
     (pointer_found (hanging_labels labels) c) refl
   where
     by_found : max_label_start labels < c.byte_index → ShowsNothing context labels cs → (o : Option LabelStyle) → pointer_found (hanging_labels labels) c ≡ o
         → ShowsNothing context labels (c ∷ cs)
     by_found past rest None is = record {
-      drawn = rw (pointer_none context labels c is, spaces_past (max_label_start labels) c c.width (pointers context labels cs) past) rest.drawn;
+      drawn = rw (pointer_none context labels c is, spaces_past (max_label_start labels) c c.unicode_width (pointers context labels cs) past) rest.drawn;
       found = rw is rest.found;
       width = width-out (max_label_start labels) c cs past ∙ rest.width;
     }
@@ -89,11 +89,11 @@ pub spaced-char_metrics : (context : RowContext) (labels : List LabelModel) (byt
 unfolding pointers
 spaced-char_metrics context labels byte_index column at [] adjacent low = let e : column + 0 ≡ column = omega arith in rw e (append-nil (spaces (column - at)))
 spaced-char_metrics context labels byte_index column at (c ∷ cs) adjacent low =
-    by_reach (λ from h. spaced-char_metrics context labels (byte_index + c.bytes) (column + c.width) from cs adjacent.3 h) (nat_le c.byte_index (max_label_start labels)) refl
+    by_reach (λ from h. spaced-char_metrics context labels (byte_index + c.bytes) (column + c.unicode_width) from cs adjacent.3 h) (nat_le c.byte_index (max_label_start labels)) refl
   where
-    by_reach : ((from : ℕ) → from ≤ column + c.width
-        → spaces (column + c.width - from) ++ pointers context labels cs
-        ≡ spaced context (column + c.width + width_of (metrics_up_to (max_label_start labels) cs)) from (pointers_in (hanging_labels labels) cs))
+    by_reach : ((from : ℕ) → from ≤ column + c.unicode_width
+        → spaces (column + c.unicode_width - from) ++ pointers context labels cs
+        ≡ spaced context (column + c.unicode_width + width_of (metrics_up_to (max_label_start labels) cs)) from (pointers_in (hanging_labels labels) cs))
         → (b : Bool) → nat_le c.byte_index (max_label_start labels) ≡ b
         → spaces (column - at) ++ pointers context labels (c ∷ cs)
         ≡ spaced context (column + width_of (metrics_up_to (max_label_start labels) (c ∷ cs))) at (pointers_in (hanging_labels labels) (c ∷ cs))
@@ -102,31 +102,31 @@ spaced-char_metrics context labels byte_index column at (c ∷ cs) adjacent low 
         low_byte_index : c.byte_index ≤ max_label_start labels
         low_byte_index = grind (arith, nat_tests)
 
-        edges : column + width_of (metrics_up_to (max_label_start labels) (c ∷ cs)) ≡ column + c.width + width_of (metrics_up_to (max_label_start labels) cs)
+        edges : column + width_of (metrics_up_to (max_label_start labels) (c ∷ cs)) ≡ column + c.unicode_width + width_of (metrics_up_to (max_label_start labels) cs)
         edges = omega (arith, width-in (max_label_start labels) c cs low_byte_index)
 
         by_found : (o : Option LabelStyle) → pointer_found (hanging_labels labels) c ≡ o
             → spaces (column - at) ++ pointers context labels (c ∷ cs)
             ≡ spaced context (column + width_of (metrics_up_to (max_label_start labels) (c ∷ cs))) at (pointers_in (hanging_labels labels) (c ∷ cs))
         by_found None is =
-            let more : column - at + c.width ≡ column + c.width - at = omega arith in
-            rw (pointer_none context labels c is, spaces_due (max_label_start labels) c (column - at) c.width (pointers context labels cs) low_byte_index, is, edges, more)
+            let more : column - at + c.unicode_width ≡ column + c.unicode_width - at = omega arith in
+            rw (pointer_none context labels c is, spaces_due (max_label_start labels) c (column - at) c.unicode_width (pointers context labels cs) low_byte_index, is, edges, more)
             (again at (omega arith))
         by_found (Some style) is =
             let lane_mark = label_glyph context.severity style context.chars.pointer_left in
             let rest = pointers context labels cs in
-            let far_edge = column + c.width + width_of (metrics_up_to (max_label_start labels) cs) in
-            let more : 0 + (c.width - 1) ≡ column + c.width - (column + min c.width 1) = omega arith in
+            let far_edge = column + c.unicode_width + width_of (metrics_up_to (max_label_start labels) cs) in
+            let more : 0 + (c.unicode_width - 1) ≡ column + c.unicode_width - (column + min c.unicode_width 1) = omega arith in
             let drawn : spaces (column - at) ++ pointers context labels (c ∷ cs)
-            ≡ spaced context (column + c.width + width_of (metrics_up_to (max_label_start labels) cs)) at (pointers_in (hanging_labels labels) (c ∷ cs)) =
+            ≡ spaced context (column + c.unicode_width + width_of (metrics_up_to (max_label_start labels) cs)) at (pointers_in (hanging_labels labels) (c ∷ cs)) =
             rw (pointer_some context labels c style is, is)
-            (regroup_pointer (spaces (column - at)) lane_mark (spaces_up_to (max_label_start labels) c (c.width - 1)) rest
+            (regroup_pointer (spaces (column - at)) lane_mark (spaces_up_to (max_label_start labels) c (c.unicode_width - 1)) rest
             ∙ ap (λ s. spaces (column - at) ++ lane_mark ++ s)
-            (sym (spaces_none (spaces_up_to (max_label_start labels) c (c.width - 1) ++ rest))
-            ∙ spaces_due (max_label_start labels) c 0 (c.width - 1) rest low_byte_index
+            (sym (spaces_none (spaces_up_to (max_label_start labels) c (c.unicode_width - 1) ++ rest))
+            ∙ spaces_due (max_label_start labels) c 0 (c.unicode_width - 1) rest low_byte_index
             ∙ ap (λ n. spaces n ++ rest) more
-            ∙ again (column + min c.width 1) (omega arith))
-            ∙ ap (λ k. spaces (k - at) ++ lane_mark ++ spaced context far_edge (k + min c.width 1) (pointers_in (hanging_labels labels) cs)) (sym adjacent.1)) in
+            ∙ again (column + min c.unicode_width 1) (omega arith))
+            ∙ ap (λ k. spaces (k - at) ++ lane_mark ++ spaced context far_edge (k + min c.unicode_width 1) (pointers_in (hanging_labels labels) cs)) (sym adjacent.1)) in
             drawn ∙ ap (λ n. spaced context n at (pointers_in (hanging_labels labels) (c ∷ cs))) (sym edges)
     by_reach again false far =
         let none = far-char_metrics context labels byte_index column (c ∷ cs) adjacent (let here = adjacent.0 in grind (arith, nat_tests)) in
@@ -146,14 +146,14 @@ spaced-line context labels cs adjacent =
 -- they lie as all do
 before-consecutive : (before byte_index column : ℕ) (cs : List Metrics) → AreConsecutive byte_index column cs → AreConsecutive byte_index column (metrics_before before cs)
 before-consecutive before byte_index column [] adjacent = tt
-before-consecutive before byte_index column (c ∷ cs) adjacent = by_test (before-consecutive before (byte_index + c.bytes) (column + c.width) cs adjacent.3) (nat_lt c.byte_index before) refl
+before-consecutive before byte_index column (c ∷ cs) adjacent = by_test (before-consecutive before (byte_index + c.bytes) (column + c.unicode_width) cs adjacent.3) (nat_lt c.byte_index before) refl
   where
-    by_test : AreConsecutive (byte_index + c.bytes) (column + c.width) (metrics_before before cs) → (b : Bool) → nat_lt c.byte_index before ≡ b
+    by_test : AreConsecutive (byte_index + c.bytes) (column + c.unicode_width) (metrics_before before cs) → (b : Bool) → nat_lt c.byte_index before ≡ b
         → AreConsecutive byte_index column (cond b (c ∷ metrics_before before cs) (metrics_before before cs))
     by_test rest true is = (adjacent.0, adjacent.1, adjacent.2, rest)
     by_test rest false is =
         let none : metrics_before before cs ≡ [] =
-        none-before (λ q. nat_lt q before) (byte_index + c.bytes) (column + c.width) cs adjacent.3 (λ q low. (let here = adjacent.0 in grind (arith, nat_tests))) in
+        none-before (λ q. nat_lt q before) (byte_index + c.bytes) (column + c.unicode_width) cs adjacent.3 (λ q low. (let here = adjacent.0 in grind (arith, nat_tests))) in
         rw none tt
 
 -- their pointers are those before the byte index
@@ -210,7 +210,7 @@ spaced-near context labels cs ps before edge adjacent near found wide =
 left-consecutive : (top byte_index column : ℕ) (cs : List Metrics) → ConsecutiveWithin top byte_index column cs → AreConsecutive byte_index column cs
 left-consecutive top byte_index column [] within = tt
 left-consecutive top byte_index column (c ∷ cs) within =
-    let here = within.0 in (here.here, here.at, omega (arith, here.some), left-consecutive top (byte_index + c.bytes) (column + c.width) cs within.1)
+    let here = within.0 in (here.here, here.at, omega (arith, here.some), left-consecutive top (byte_index + c.bytes) (column + c.unicode_width) cs within.1)
 
 -- where the next character does not begin before the byte index, or begins past the greatest
 -- start, only the pending spaces are still to be written

@@ -20,7 +20,7 @@ use Rattle.codespan_row_parts.proofs.Widths.{width-in}
 
 -- any cell, for an index past the end of the list
 abbrev pub space_column : Metrics
-space_column = record { code = 0; byte_index = 0; bytes = 0; column = 0; width = 0 }
+space_column = record { code = 0; byte_index = 0; bytes = 0; column = 0; unicode_width = 0 }
 
 -- ---- how characters lie
 
@@ -29,7 +29,7 @@ pub consecutive-low : (byte_index column : ℕ) (cs : List Metrics) (j : ℕ) (d
 consecutive-low byte_index column [] j d adjacent h = absurd (omega arith)
 consecutive-low byte_index column (c ∷ cs) zero d adjacent h = let here = adjacent.0 in omega arith
 consecutive-low byte_index column (c ∷ cs) (suc j) d adjacent h =
-    let more = consecutive-low (byte_index + c.bytes) (column + c.width) cs j d adjacent.3 (omega arith) in omega arith
+    let more = consecutive-low (byte_index + c.bytes) (column + c.unicode_width) cs j d adjacent.3 (omega arith) in omega arith
 
 -- they begin one after another
 pub consecutive-ascends : (byte_index column : ℕ) (cs : List Metrics) (d : Metrics) → AreConsecutive byte_index column cs
@@ -38,12 +38,12 @@ consecutive-ascends byte_index column [] d adjacent i j low h = absurd (omega ar
 consecutive-ascends byte_index column (c ∷ cs) d adjacent zero j low h = let here = adjacent.0 in let more = consecutive-low byte_index column (c ∷ cs) j d adjacent h in omega arith
 consecutive-ascends byte_index column (c ∷ cs) d adjacent (suc i) zero low h = absurd (omega arith)
 consecutive-ascends byte_index column (c ∷ cs) d adjacent (suc i) (suc j) low h =
-    consecutive-ascends (byte_index + c.bytes) (column + c.width) cs d adjacent.3 i j (omega arith) (omega arith)
+    consecutive-ascends (byte_index + c.bytes) (column + c.unicode_width) cs d adjacent.3 i j (omega arith) (omega arith)
 
 -- so do the first ones
 pub consecutive-front : (byte_index column : ℕ) (xs ys : List Metrics) → AreConsecutive byte_index column (xs ++ ys) → AreConsecutive byte_index column xs
 consecutive-front byte_index column [] ys adjacent = tt
-consecutive-front byte_index column (x ∷ xs) ys adjacent = (adjacent.0, adjacent.1, adjacent.2, consecutive-front (byte_index + x.bytes) (column + x.width) xs ys adjacent.3)
+consecutive-front byte_index column (x ∷ xs) ys adjacent = (adjacent.0, adjacent.1, adjacent.2, consecutive-front (byte_index + x.bytes) (column + x.unicode_width) xs ys adjacent.3)
 
 -- so do those of a line and the placeholder
 pub consecutive-to_end : (tab byte_index column : ℕ) (codes : List ℕ) → AreConsecutive byte_index column (metrics_then placeholder tab byte_index column codes)
@@ -68,7 +68,7 @@ width-cut byte_index from column d (x ∷ xs) ys zero adjacent h low high =
     let none = ap width_of (past-none byte_index from column (x ∷ xs ++ ys) adjacent (omega arith)) in
     omega (arith, none, at)
 width-cut byte_index from column d (x ∷ xs) ys (suc next) adjacent h low high =
-    let rest = width-cut byte_index (from + x.bytes) (column + x.width) d xs ys next adjacent.3 (omega arith) (λ k less. low (suc k) (omega arith)) high in
+    let rest = width-cut byte_index (from + x.bytes) (column + x.unicode_width) d xs ys next adjacent.3 (omega arith) (λ k less. low (suc k) (omega arith)) high in
     omega (arith, width-in byte_index x (xs ++ ys) (low 0 (omega arith)), rest)
 
 -- the column of the first one of a line and the placeholder
@@ -82,7 +82,7 @@ pub width-past : (byte_index from column : ℕ) (d : Metrics) (xs ys : List Metr
     → q + width_of (metrics_up_to byte_index ys) ≡ column + width_of (metrics_up_to byte_index (xs ++ ys))
 width-past byte_index from column d [] ys tab p q codes adjacent low = let at = head-column tab p q codes from column adjacent in omega (arith, at)
 width-past byte_index from column d (x ∷ xs) ys tab p q codes adjacent low =
-    let rest = width-past byte_index (from + x.bytes) (column + x.width) d xs ys tab p q codes adjacent.3 (λ k less. low (suc k) (omega arith)) in
+    let rest = width-past byte_index (from + x.bytes) (column + x.unicode_width) d xs ys tab p q codes adjacent.3 (λ k less. low (suc k) (omega arith)) in
     omega (arith, width-in byte_index x (xs ++ ys) (low 0 (omega arith)), rest)
 
 -- ---- of a cached line

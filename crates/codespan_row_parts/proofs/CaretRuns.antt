@@ -33,13 +33,13 @@ carets-start context labels cs = refl
 
 -- how many cells of carets or spaces a character has under it, where they reach to this end
 abbrev pub caret_count : ℕ → Option LabelStyle → Metrics → ℕ
-caret_count end None c = if nat_lt c.byte_index end then c.width else 0
-caret_count end (Some style) c = c.width
+caret_count end None c = if nat_lt c.byte_index end then c.unicode_width else 0
+caret_count end (Some style) c = c.unicode_width
 
 spaces-count : (chars : Chars) (end : ℕ) (c : Metrics) (run : ℕ) (b : Bool) → nat_lt c.byte_index end ≡ b
     → caret_run chars None (run + caret_count end None c) ≡ caret_run chars None run ++ caret_glyphs chars end None c
 unfolding caret_run caret_glyphs
-spaces-count chars end c run true e = rw e (spaces-add run c.width)
+spaces-count chars end c run true e = rw e (spaces-add run c.unicode_width)
 spaces-count chars end c run false e = rw e (ap spaces (add-zero run) ∙ sym (append-nil (spaces run)))
 
 -- a run that has no cell yet
@@ -53,7 +53,7 @@ pub run-counts : (chars : Chars) (end : ℕ) (style : Option LabelStyle) (c : Me
     → caret_run chars style (run + caret_count end style c) ≡ caret_run chars style run ++ caret_glyphs chars end style c
 unfolding caret_run caret_glyphs
 run-counts chars end None c run = spaces-count chars end c run _ refl
-run-counts chars end (Some style) c run = repeated-add run c.width (caret_for chars (Some style))
+run-counts chars end (Some style) c run = repeated-add run c.unicode_width (caret_for chars (Some style))
 
 -- ---- the remaining characters
 
@@ -135,6 +135,6 @@ carets-past context labels previous run byte_index left follow past =
     ap (λ (l : Stream). caret_run context.chars previous run ++ l) (sym (glyphs_left-past context labels previous byte_index left follow past))
 
 -- a cell before that has all its cells counted
-pub counts-all : (style : Option LabelStyle) (end : ℕ) (c : Metrics) → c.byte_index < end → c.width ≡ caret_count end style c
+pub counts-all : (style : Option LabelStyle) (end : ℕ) (c : Metrics) → c.byte_index < end → c.unicode_width ≡ caret_count end style c
 counts-all None end c h = let low : nat_lt c.byte_index end ≡ true = lt-ltb c.byte_index end h in rw low refl
 counts-all (Some style) end c h = refl

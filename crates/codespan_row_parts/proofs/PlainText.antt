@@ -75,7 +75,7 @@ plain-left : (context : RowContext) (line : Line) (tab byte_index column : ℕ) 
 unfolding change bytes
 plain-left context line tab byte_index column [] none e = refl
 plain-left context line tab byte_index column (c ∷ cs) none e =
-    let here : Metrics = record { code = c; byte_index = byte_index; bytes = len_utf8 c; column = column; width = width_at tab column c } in
+    let here : Metrics = record { code = c; byte_index = byte_index; bytes = len_utf8 c; column = column; unicode_width = width_at tab column c } in
     let parts = no-tab c cs e in
     rw (none here, as_is here parts.0, plain-left context line tab (byte_index + len_utf8 c) (column + width_at tab column c) cs none parts.1)
     (sym (bytes-append (encode_utf8 c) (encodes cs)))
@@ -132,7 +132,7 @@ plain-past : (context : RowContext) (line : Line) (tab byte_index column from to
 unfolding bytes
 plain-past context line tab byte_index column from top previous [] low high none e = sym (append-nil (change context.severity previous None))
 plain-past context line tab byte_index column from top previous (c ∷ cs) low high none e =
-    let here : Metrics = record { code = c; byte_index = byte_index; bytes = len_utf8 c; column = column; width = width_at tab column c } in
+    let here : Metrics = record { code = c; byte_index = byte_index; bytes = len_utf8 c; column = column; unicode_width = width_at tab column c } in
     let parts = no-tab c cs e in
     let some = (len_utf8_bounds c).0 in
     let size = length-append (encode_utf8 c) (encodes cs) in

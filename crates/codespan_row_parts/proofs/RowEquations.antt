@@ -110,7 +110,7 @@ all_below top limit byte_index column [] h l = refl
 all_below top limit byte_index column (x ∷ cs) h l =
     let here = l.0 in
     let before : nat_lt x.byte_index limit ≡ true = lt-ltb x.byte_index limit (omega (arith, here.here, here.room, here.some)) in
-    rw before (ap (λ (ys : List Metrics). x ∷ ys) (all_below top limit (byte_index + x.bytes) (column + x.width) cs h l.1))
+    rw before (ap (λ (ys : List Metrics). x ∷ ys) (all_below top limit (byte_index + x.bytes) (column + x.unicode_width) cs h l.1))
 
 pub all_before : (tab : ℕ) (text : List ℕ) → IsUtf8 text → length text < 2 ^ 64 → metrics_before (2 ^ 64 - 1) (char_metrics tab text) ≡ char_metrics tab text
 all_before tab text u h =

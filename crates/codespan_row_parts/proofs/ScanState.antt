@@ -19,7 +19,7 @@ pub record IsMetricsAt (top byte_index column : ℕ) (x : Metrics) : Type 0 wher
 -- characters follow one another from a byte index and a column on
 abbrev pub ConsecutiveWithin : ℕ → ℕ → ℕ → List Metrics → Type 0
 ConsecutiveWithin top byte_index column [] = Unit {0}
-ConsecutiveWithin top byte_index column (x ∷ cs) = IsMetricsAt top byte_index column x × ConsecutiveWithin top (byte_index + x.bytes) (column + x.width) cs
+ConsecutiveWithin top byte_index column (x ∷ cs) = IsMetricsAt top byte_index column x × ConsecutiveWithin top (byte_index + x.bytes) (column + x.unicode_width) cs
 
 -- a loop has not reached them, and has counted `run` of the cells behind it
 pub record ScanState (top run : ℕ) (cs : List Metrics) : Type 0 where
@@ -32,7 +32,7 @@ pub record ScanState (top run : ℕ) (cs : List Metrics) : Type 0 where
 -- they follow one another
 pub consecutive_within-follow : (top byte_index column : ℕ) (cs : List Metrics) → ConsecutiveWithin top byte_index column cs → Follow byte_index cs
 consecutive_within-follow top byte_index column [] l = tt
-consecutive_within-follow top byte_index column (x ∷ cs) l = (l.0.here, l.0.some, consecutive_within-follow top (byte_index + x.bytes) (column + x.width) cs l.1)
+consecutive_within-follow top byte_index column (x ∷ cs) l = (l.0.here, l.0.some, consecutive_within-follow top (byte_index + x.bytes) (column + x.unicode_width) cs l.1)
 
 -- ---- the start of a loop
 
@@ -78,18 +78,18 @@ scan_state-char_metrics tab text u = record {
 -- ---- a turn of a loop
 
 -- one more cell can be counted
-pub scan_state-fits : (top run : ℕ) (x : Metrics) (cs : List Metrics) → top ≤ 2 ^ 64 → x.width < 2 ^ 64 → ScanState top run (x ∷ cs) → run + x.width < 2 ^ 128
+pub scan_state-fits : (top run : ℕ) (x : Metrics) (cs : List Metrics) → top ≤ 2 ^ 64 → x.unicode_width < 2 ^ 64 → ScanState top run (x ∷ cs) → run + x.unicode_width < 2 ^ 128
 scan_state-fits top run x cs t w l =
     let here = l.consecutive_within.0 in
     omega (arith, here.room, here.some, l.narrow, l.small)
 
 -- how many cells are counted after it, at the most with it
-pub scan_state-more : (top run counted : ℕ) (x : Metrics) (cs : List Metrics) → x.width < 2 ^ 64 → counted ≤ run + x.width → ScanState top run (x ∷ cs) → ScanState top counted cs
+pub scan_state-more : (top run counted : ℕ) (x : Metrics) (cs : List Metrics) → x.unicode_width < 2 ^ 64 → counted ≤ run + x.unicode_width → ScanState top run (x ∷ cs) → ScanState top counted cs
 scan_state-more top run counted x cs w h l =
     let here = l.consecutive_within.0 in
     record {
       byte_index = l.byte_index + x.bytes;
-      column = l.column + x.width;
+      column = l.column + x.unicode_width;
       consecutive_within = l.consecutive_within.1;
       narrow = omega (arith, here.some, l.narrow);
       small = omega (arith, l.small);

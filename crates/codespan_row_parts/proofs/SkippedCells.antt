@@ -50,9 +50,9 @@ carets-more context labels top byte_index column run (c ∷ cs) left consecutive
     let least = least-le (max_label_end labels) labels in
     let low : c.byte_index < max_label_end labels = omega (arith, consecutive_within.0.some, ended.0) in
     let none = bare (max_label_end labels) labels c ended.0 in
-    carets-same context labels None None run c.width c (c ∷ cs ++ left) (cs ++ left) refl (sym none) (counts-all None (max_label_end labels) c low) refl
-    ∙ carets-more context labels top (byte_index + c.bytes) (column + c.width) (run + c.width) cs left consecutive_within.1 ended.1
-    ∙ ap (λ n. carets_left context labels None n left) (omega (arith, sum_by-cons (λ (x : Metrics). x.width) c cs))
+    carets-same context labels None None run c.unicode_width c (c ∷ cs ++ left) (cs ++ left) refl (sym none) (counts-all None (max_label_end labels) c low) refl
+    ∙ carets-more context labels top (byte_index + c.bytes) (column + c.unicode_width) (run + c.unicode_width) cs left consecutive_within.1 ended.1
+    ∙ ap (λ n. carets_left context labels None n left) (omega (arith, sum_by-cons (λ (x : Metrics). x.unicode_width) c cs))
 
 pub carets-prefix : (context : RowContext) (labels : List LabelModel) (top column : ℕ) (all left : List Metrics) (scan_state : ScanState top 0 all)
     → LeavesOut (least_start (max_label_end labels) labels) all column left → carets_left context labels None column left ≡ carets context labels all
@@ -68,7 +68,7 @@ carets-prefix context labels top column all left scan_state out =
 -- each of the characters has fewer cells than a `usize` counts
 abbrev AreNarrow : List Metrics → Type 0
 AreNarrow [] = Unit {0}
-AreNarrow (c ∷ cs) = (c.width < 2 ^ 64) × AreNarrow cs
+AreNarrow (c ∷ cs) = (c.unicode_width < 2 ^ 64) × AreNarrow cs
 
 width_at-narrow : (tab column c : ℕ) → tab < 2 ^ 64 → width_at tab column c < 2 ^ 64
 width_at-narrow tab column c h = by_test (c == 9) (tab == 0)
@@ -85,8 +85,8 @@ then-narrow tab byte_index column (c ∷ cs) h = (width_at-narrow tab column c h
 scan_state-past : (top run : ℕ) (before left : List Metrics) → AreNarrow (before ++ left) → ScanState top run (before ++ left) → ScanState top (run + width_of before) left
 scan_state-past top run [] left narrow l = subst (λ n. ScanState top n left) (sym (add-zero run)) l
 scan_state-past top run (c ∷ cs) left narrow l =
-    subst (λ n. ScanState top n left) (omega (arith, sum_by-cons (λ (x : Metrics). x.width) c cs))
-    (scan_state-past top (run + c.width) cs left narrow.1 (scan_state-more top run (run + c.width) c (cs ++ left) narrow.0 (omega arith) l))
+    subst (λ n. ScanState top n left) (omega (arith, sum_by-cons (λ (x : Metrics). x.unicode_width) c cs))
+    (scan_state-past top (run + c.unicode_width) cs left narrow.1 (scan_state-more top run (run + c.unicode_width) c (cs ++ left) narrow.0 (omega arith) l))
 
 -- a walk over those that are left of a line and the placeholder after the last one
 pub scan_state-left : (tab : ℕ) (text : List ℕ) (byte_index column top : ℕ) (left : List Metrics) → tab < 2 ^ 64 → ScanState top 0 (char_metrics_to_end tab text)

@@ -48,7 +48,7 @@ over-cons : (tab : ℕ) (text : List ℕ) (byte_index column : ℕ) (x : Metrics
     → x ∷ left ≡ metrics_then (λ _ _. []) tab byte_index column codes → drop byte_index text ≡ encodes codes → byte_index ≤ length text → IsNext tab text byte_index x left
 over-cons tab text byte_index column x left [] e t w = absurd (omega (arith, ap length e))
 over-cons tab text byte_index column x left (c ∷ cs) e t w =
-    let same : x ≡ record { code = c; byte_index = byte_index; bytes = len_utf8 c; column = column; width = width_at tab column c } = ap (first x) e in
+    let same : x ≡ record { code = c; byte_index = byte_index; bytes = len_utf8 c; column = column; unicode_width = width_at tab column c } = ap (first x) e in
     let past : drop (byte_index + len_utf8 c) text ≡ encodes cs = drop_past_char text (encodes cs) byte_index c t in
     rw same record {
       text_left = t ∙ ap (λ (l : List ℕ). encode_utf8 c ++ l) (sym past);
@@ -97,7 +97,7 @@ shown : (c : Metrics) → (c.code ≡ 9 → ⊥) → source_glyph c ≡ glyph c.
 unfolding source_glyph
 shown c h = rw (ne_eqb c.code 9 h) refl
 
-tab_shown : (c : Metrics) → c.code ≡ 9 → source_glyph c ≡ spaces c.width
+tab_shown : (c : Metrics) → c.code ≡ 9 → source_glyph c ≡ spaces c.unicode_width
 unfolding source_glyph
 tab_shown c h = rw (eq-eqb c.code 9 h) refl
 
@@ -125,14 +125,14 @@ text-same context line previous style run c left cs l s h e =
 -- it is a tab
 pub text-tab : (context : RowContext) (line : Line) (previous style : Option LabelStyle) (run : List ℕ) (c : Metrics) (left cs : List Metrics)
     → left ≡ c ∷ cs → style ≡ source_style line c → c.code ≡ 9
-    → text_rest context line previous run left ≡ bytes run ++ change context.severity previous style ++ spaces c.width ++ text_rest context line style [] cs
+    → text_rest context line previous run left ≡ bytes run ++ change context.severity previous style ++ spaces c.unicode_width ++ text_rest context line style [] cs
 unfolding bytes
 text-tab context line previous style run c left cs l s h =
     let st = styled context.severity (source_style line) source_glyph (source_style line c) cs in
     rw (l, s)
     (regroup (bytes run) (change context.severity previous (source_style line c)) (source_glyph c) st
     ∙ ap (λ (g : Stream). bytes run ++ change context.severity previous (source_style line c) ++ (g ++ st)) (tab_shown c h)
-    ∙ sym (append_assoc (bytes run ++ change context.severity previous (source_style line c)) (spaces c.width) st))
+    ∙ sym (append_assoc (bytes run ++ change context.severity previous (source_style line c)) (spaces c.unicode_width) st))
 
 -- none remains
 pub text-end : (context : RowContext) (line : Line) (previous : Option LabelStyle) (run : List ℕ) (left : List Metrics)

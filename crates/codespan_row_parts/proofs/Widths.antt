@@ -9,8 +9,8 @@ use Rattle.codespan_picture.specs.CharMetrics.{width_of}
 use Rattle.codespan_picture.specs.RowParts.{metrics_before, metrics_up_to}
 
 -- a character that begins at the byte index or before it is counted
-pub width-in : (byte_index : ℕ) (x : Metrics) (cs : List Metrics) → x.byte_index ≤ byte_index → width_of (metrics_up_to byte_index (x ∷ cs)) ≡ x.width + width_of (metrics_up_to byte_index cs)
-width-in byte_index x cs h = let e : nat_le x.byte_index byte_index ≡ true = le-leb x.byte_index byte_index h in rw e (sum_by-cons (λ (c : Metrics). c.width) x (metrics_up_to byte_index cs))
+pub width-in : (byte_index : ℕ) (x : Metrics) (cs : List Metrics) → x.byte_index ≤ byte_index → width_of (metrics_up_to byte_index (x ∷ cs)) ≡ x.unicode_width + width_of (metrics_up_to byte_index cs)
+width-in byte_index x cs h = let e : nat_le x.byte_index byte_index ≡ true = le-leb x.byte_index byte_index h in rw e (sum_by-cons (λ (c : Metrics). c.unicode_width) x (metrics_up_to byte_index cs))
 
 -- a later one is not
 pub width-out : (byte_index : ℕ) (x : Metrics) (cs : List Metrics) → byte_index < x.byte_index → width_of (metrics_up_to byte_index (x ∷ cs)) ≡ width_of (metrics_up_to byte_index cs)

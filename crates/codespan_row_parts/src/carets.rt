@@ -107,7 +107,7 @@ fn write_carets<W: PutStyle, S: LineCharacters>(
             run = 0;
             previous = style;
         }
-        run += metrics.width as u128;
+        run += metrics.unicode_width as u128;
     }
     end_caret_run(w, context, previous, run, None)
 }

@@ -51,7 +51,7 @@ fn write_colored_text<W: PutStyle, C: CharCursor>(
         let next = end + metrics.bytes;
         if metrics.code == '\t' {
             end_text_run(w, context, &text[start..end], previous, style)?;
-            put_spaces(w, metrics.width)?;
+            put_spaces(w, metrics.unicode_width)?;
             start = next;
             previous = style;
         } else if style != previous {

@@ -35,7 +35,7 @@ pub record GoesOver (c : Metrics) (old new : CharMetrics) : Type 0 where
   pub at : c.column ≡ old.column
   pub some : 1 ≤ c.bytes
   pub byte_index : new.byte_index ≡ old.byte_index + c.bytes
-  pub column : new.column ≡ old.column + c.width
+  pub column : new.column ≡ old.column + c.unicode_width
 
 -- the iterator has gone over all characters, and stays where it is
 pub record IsPastLast (old new : CharMetrics) : Type 0 where

@@ -19,7 +19,7 @@ abbrev pub pointer_under : Metrics → LabelStyle → Pointer
 pointer_under c style = record {
   byte_index = c.byte_index;
   column = c.column;
-  after = c.column + min c.width 1;
+  after = c.column + min c.unicode_width 1;
   style = style;
 }
 

@@ -100,10 +100,10 @@ impl<'text> CharMetrics<'text> {
                     byte_index: self.byte_index,
                     bytes: left - self.chars.as_str().len(),
                     column: self.column,
-                    width: width_at(self.tab_width, self.column, code),
+                    unicode_width: width_at(self.tab_width, self.column, code),
                 };
                 self.byte_index += metrics.bytes;
-                self.column += metrics.width as u128;
+                self.column += metrics.unicode_width as u128;
                 Some(metrics)
             }
             None => None,
@@ -168,7 +168,7 @@ impl<'text> Iterator for CharMetrics<'text> {
                     byte_index: self.byte_index,
                     bytes: 1,
                     column: self.column,
-                    width: 1,
+                    unicode_width: 1,
                 })
             }
             None => None,

@@ -134,7 +134,7 @@ fn scanned_caret_pointers<W: PutStyle>(
         if metrics.byte_index >= before || metrics.byte_index > reach {
             break;
         }
-        let mut width = metrics.width;
+        let mut width = metrics.unicode_width;
         if let Some(style) = pointer_in(line.labels, messages, metrics) {
             caret_pointer(w, context, pending, style)?;
             pending = 0;

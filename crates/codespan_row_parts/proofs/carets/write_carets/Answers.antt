@@ -36,14 +36,14 @@ few : (g : Over) (c : goal.After-row_known-1 g) → c.if-ne.run ≤ c.loop-metri
 few g c = elim c.if-ne.branch [ then-ne+in_ok-end_caret_run w ↦ omega (arith, w.run-is) | else-ne w ↦ omega (arith, w.run-is) ]
 
 -- all its cells are counted, since it begins before the greatest end
-counted : (g : Over) (c : goal.After-row_known-1 g) → c.in-Some.metrics.width ≡ caret_count (max_label_end (single_label_views c.args.line.labels.now)) c.style_under-style.result c.in-Some.metrics
+counted : (g : Over) (c : goal.After-row_known-1 g) → c.in-Some.metrics.unicode_width ≡ caret_count (max_label_end (single_label_views c.args.line.labels.now)) c.style_under-style.result c.in-Some.metrics
 counted g c = counts-all c.style_under-style.result _ c.in-Some.metrics (subst (λ end. c.in-Some.metrics.byte_index < end) c.max_label_end-end.ensures c.if-metrics-end.false)
 
 pub overflow_add-run : goal.overflow_add-run
 overflow_add-run g c =
     let l : ScanState (length c.args.line.text.now + 1) c.loop-metrics.run (c.in-Some.metrics ∷ g.S.Cursor.CharCursor.left c.next_metrics.new.self) = rw c.in-Some.ensures.next at c.loop-metrics.invariant.scan_state in
     let fits = scan_state-fits _ _ c.in-Some.metrics _ (omega arith) (omega arith) l in
-    let sum : Fits w128 (c.if-ne.run + c.in-Some.metrics.width) = omega (arith, few g c) in
+    let sum : Fits w128 (c.if-ne.run + c.in-Some.metrics.unicode_width) = omega (arith, few g c) in
     sum
 
 pub returns-in_err-end_caret_run : goal.returns-in_err-end_caret_run
@@ -62,10 +62,10 @@ loop-metrics-preserved g c =
     rw c.style_under-style.ensures.left record {
       written_so_far = elim c.if-ne.branch [
         | then-ne+in_ok-end_caret_run w ↦ rw (w.w-is, w.previous-is, w.run-is) (StillToWrite-more _ _ _ _ _ _ _ c.loop-metrics.invariant.written_so_far w.in_ok-end_caret_run.ensures
-            (carets-turn context labels c.loop-metrics.previous c.style_under-style.result c.loop-metrics.run c.in-Some.metrics.width c.in-Some.metrics _ (g.S.Cursor.CharCursor.left c.next_metrics.new.self) c.in-Some.ensures.next style count))
+            (carets-turn context labels c.loop-metrics.previous c.style_under-style.result c.loop-metrics.run c.in-Some.metrics.unicode_width c.in-Some.metrics _ (g.S.Cursor.CharCursor.left c.next_metrics.new.self) c.in-Some.ensures.next style count))
         | else-ne w ↦
             let same : c.loop-metrics.previous ≡ c.style_under-style.result = search rules in
-            let rest = carets-same context labels c.loop-metrics.previous c.style_under-style.result c.loop-metrics.run c.in-Some.metrics.width c.in-Some.metrics _ (g.S.Cursor.CharCursor.left c.next_metrics.new.self) c.in-Some.ensures.next style count same in
+            let rest = carets-same context labels c.loop-metrics.previous c.style_under-style.result c.loop-metrics.run c.in-Some.metrics.unicode_width c.in-Some.metrics _ (g.S.Cursor.CharCursor.left c.next_metrics.new.self) c.in-Some.ensures.next style count same in
             rw (w.w-is, w.previous-is ∙ same, w.run-is) (rw rest at c.loop-metrics.invariant.written_so_far)
       ];
       scan_state = scan_state-more _ _ _ _ _ (omega arith) (omega (arith, few g c)) l;

@@ -113,13 +113,13 @@ pub fn find_pointers(
 
 /// Returns the pointer under a character.
 fn pointer_under(metrics: Metrics, style: LabelStyle) -> Pointer
-    requires { metrics.column + metrics.width < 2 ^ 128 }
+    requires { metrics.column + metrics.unicode_width < 2 ^ 128 }
     ensures { result ≡ pointer_under metrics style }
 {
     Pointer {
         byte_index: metrics.byte_index,
         column: metrics.column,
-        after: metrics.column + metrics.width.min(1) as u128,
+        after: metrics.column + metrics.unicode_width.min(1) as u128,
         style,
     }
 }

@@ -31,7 +31,7 @@ loop-metrics-preserved g c =
     let step = c.in-Some.ensures.steps in
     let near : c.in-Some.metrics.byte_index ≤ c.max_label_start-reach.result = omega arith in
     elim c.match-pointer_in.branch [
-      | in-Some-pointer_in+in_ok-caret_pointer w ↦ let narrower : w.saturating_sub-width.result ≡ c.in-Some.metrics.width - 1 = w.saturating_sub-width.ensures in rw (w.w-is, w.pending-is, w.width-is, narrower) record {
+      | in-Some-pointer_in+in_ok-caret_pointer w ↦ let narrower : w.saturating_sub-width.result ≡ c.in-Some.metrics.unicode_width - 1 = w.saturating_sub-width.ensures in rw (w.w-is, w.pending-is, w.width-is, narrower) record {
         scan_state = scan_state-more _ _ _ _ _ (omega arith) (omega arith) (rw step at i.scan_state);
         with_written = StillToWrite-same _ _ _ _ _ (sym (spaces_none _) ∙ spaces_due _ _ 0 _ _ near)
             (StillToWrite-more _ _ _ _ _ _ _ i.with_written w.in_ok-caret_pointer.ensures
