@@ -20,10 +20,11 @@ use Rattle.codespan_structs.specs.declared.raw.RawConfig.{RawConfig}
 use Rattle.codespan_structs.specs.declared.raw.RawDiagnostic.{RawDiagnostic}
 use Rattle.codespan_structs.specs.declared.raw.RawFile.{RawFile}
 use Rattle.codespan_structs.specs.declared.raw.RawLabel.{RawLabel}
-use Rattle.codespan_native.specs.Meaning.{NoLookupFails, label_in}
+use Rattle.codespan_native.specs.Meaning.{NoLookupFails}
 use Rattle.codespan_structs.specs.Converted.{converted_label, source_in}
 use Rattle.codespan_structs.specs.Validity.{AreValid}
-use Rattle.codespan_native.proofs.Rendered.{labels_equal}
+use Rattle.codespan_picture.specs.ViewPictures.{label_of_view}
+use Rattle.codespan_picture.proofs.ViewPictures.{labels-of_view}
 use Rattle.codespan_sources.specs.SourceTexts.{SourceView, database_of, native_failure, native_file_model}
 
 -- ---- facts of each element of a list
@@ -237,15 +238,15 @@ pub none_fails : (files : List RawFile) (diagnostic : RawDiagnostic) (raw : RawC
     → AreValid files diagnostic raw → NoLookupFails files diagnostic
 none_fails files diagnostic raw valid d config viewed =
     let ss = map source_in files in
-    let same : map label_in (map (converted_label files) diagnostic.labels.now) ≡ labels_of d =
-    ap (λ (v : DiagnosticView ℕ). map label_in v.labels) (sym viewed) ∙ sym (labels_equal d.labels.items) in
+    let same : map label_of_view (map (converted_label files) diagnostic.labels.now) ≡ labels_of d =
+    ap (λ (v : DiagnosticView ℕ). map label_of_view v.labels) (sym viewed) ∙ sym (labels-of_view d.labels.items) in
     let count : length files ≡ length ss = sym (length-map files source_in) in
     let known : Each (λ (l : RawLabel). l.file < length ss) diagnostic.labels.now =
     each_from_all (λ (l : RawLabel). l.file < length ss) diagnostic.labels.now
     (λ k l h. let below = valid LabelFile k l h in omega (arith, below, count)) in
     all_succeed ss config.display_style config d
     (subst (Each (InKnown ss)) same
-    (each_map label_in (InKnown ss) (λ (v : LabelView ℕ). v.file_id < length ss)
+    (each_map label_of_view (InKnown ss) (λ (v : LabelView ℕ). v.file_id < length ss)
     (map (converted_label files) diagnostic.labels.now) (λ v h. h)
     (each_map (converted_label files) (λ (v : LabelView ℕ). v.file_id < length ss)
     (λ (l : RawLabel). l.file < length ss) diagnostic.labels.now (λ l h. h) known)))

@@ -1,15 +1,12 @@
 -- What is rendered, for the clauses `value` of `render` and of `output_of`.
-use Rattle.std.proofs.Common.{◌≡◌, ℕ, true, List, [], ◌∷◌, ◌++◌, map, IsSome, None, Some, Result, Ok, Err, OnOk, IfOk, Vec, Global, refl, sym, subst, ◌∙◌, ap}
+use Rattle.std.proofs.Common.{◌≡◌, ℕ, true, List, ◌++◌, map, IsSome, None, Some, Result, Ok, Err, OnOk, IfOk, Vec, Global, refl, sym, subst, ◌∙◌, ap}
 use Rattle.std.specs.List.{slice_get}
 use Rattle.std.specs.Option.{option_map_or}
 use Rattle.codespan_base.specs.declared.diagnostic.Diagnostic.{Diagnostic}
-use Rattle.codespan_base.specs.declared.diagnostic.Label.{Label}
 use Rattle.codespan_base.specs.declared.files.Error.{Error}
 use Rattle.codespan_base.specs.declared.term.config.Config.{Config}
-use Rattle.codespan_base.specs.declared.term.config.DisplayStyle.{DisplayStyle}
 use Rattle.codespan_base.specs.declared.term.config.DisplayStyle.TheVariants.{Rich}
-use Rattle.codespan_base.specs.Diagnostics.{DiagnosticView, diagnostic_view, label_view}
-use Rattle.codespan_base.specs.FileModel.{FileDatabase}
+use Rattle.codespan_base.specs.Diagnostics.{DiagnosticView, diagnostic_view}
 use Rattle.codespan_base.specs.ConfigEquality.{IsEqualConfig}
 use Rattle.codespan_base.specs.SimpleModel.{missing_file}
 use Rattle.codespan_base.specs.Streams.{Spelling, Stream, spelled}
@@ -18,16 +15,14 @@ use Rattle.codespan_base.specs.Writers.{fresh_sink}
 use Rattle.codespan_laws.specs.RichLaws.{MeansLabels}
 use Rattle.codespan_laws.specs.StatedNames.{NamesAreStated}
 use Rattle.codespan_laws.proofs.StatedNames.{output_stated}
-use Rattle.codespan_picture.proofs.EqualConfigs.{rendered_equal}
-use Rattle.codespan_picture.specs.OutputStreams.{header_text_of, label_of, labels_of, notes_of, rendered, locus_starts}
-use Rattle.codespan_picture.specs.Snippets.{InFile, labeled_file_models}
-use Rattle.codespan_picture.specs.Picture.{stated_locus}
+use Rattle.codespan_picture.specs.ViewPictures.{picture_of_view}
+use Rattle.codespan_picture.proofs.ViewPictures.{picture-of_view}
 use Rattle.codespan_views.specs.WriteCalls.{WritesStyled}
 use Rattle.codespan_sources.specs.declared.error.OutOfMemory.{OutOfMemory}
 use Rattle.codespan_structs.specs.declared.raw.RawConfig.{RawConfig}
 use Rattle.codespan_structs.specs.declared.raw.RawDiagnostic.{RawDiagnostic}
 use Rattle.codespan_structs.specs.declared.raw.RawFile.{RawFile}
-use Rattle.codespan_native.specs.Meaning.{Means, label_in, output_bytes, output_in}
+use Rattle.codespan_native.specs.Meaning.{Means, output_bytes}
 use Rattle.codespan_structs.specs.Converted.{converted_config, display_style_of, source_in, spelling_of, view_of}
 use Rattle.codespan_sources.specs.SourceTexts.{SourceView, database_of, native_file_model}
 use Rattle.codespan_native.specs.RenderedStreams.{stream_of_output}
@@ -70,32 +65,14 @@ pub fresh_known : (spelling : Spelling) (old : Sink) (first : List ℕ)
 unfolding is_known are_known
 fresh_known spelling old first fresh = ap (λ (s : Sink). is_known s) fresh
 
--- labels as outputs read them are those of their views
-pub labels_equal : (xs : List (Label ℕ)) → map label_of xs ≡ map label_in (map label_view xs)
-labels_equal [] = refl
-labels_equal (x ∷ xs) = ap (λ rest. label_of x ∷ rest) (labels_equal xs)
-
--- what is rendered of a diagnostic, by its labels
-abbrev rendered_of : DisplayStyle → Config → FileDatabase ℕ → Diagnostic ℕ → List (InFile ℕ) → Stream
-rendered_of style config files d xs =
-    rendered style config config d.severity (header_text_of d)
-    (map stated_locus (locus_starts files.same files.file xs style))
-    (labeled_file_models files.same files.file xs) (notes_of d)
-
 -- the output of a configuration, of files and of a diagnostic is that of what they stand for
 pub output_is : (expected config : Config) (ss ts : List SourceView) (d : Diagnostic ℕ)
     (v : DiagnosticView ℕ) → IsEqualConfig expected config → ss ≡ ts → diagnostic_view d ≡ v
-    → stream_of_output config ss d ≡ output_in expected (database_of ts) v
+    → stream_of_output config ss d ≡ picture_of_view expected (database_of ts).same (database_of ts).file v
 output_is expected config ss ts d v alike same viewed =
-    let files = database_of ss in
-    ap (λ (style : DisplayStyle). rendered_of style config files d (labels_of d))
-    (ap (λ (c : Config). c.display_style) alike.others)
-    ∙ rendered_equal expected config alike d.severity (header_text_of d)
-    (map stated_locus (locus_starts files.same files.file (labels_of d) expected.display_style))
-    (labeled_file_models files.same files.file (labels_of d)) (notes_of d) expected.display_style
-    ∙ ap (λ xs. rendered_of expected.display_style expected files d xs) (labels_equal d.labels.items)
-    ∙ ap (λ ss. output_in expected (database_of ss) (diagnostic_view d)) same
-    ∙ ap (λ v. output_in expected (database_of ts) v) viewed
+    picture-of_view expected config (database_of ss) d alike
+    ∙ ap (λ ss. picture_of_view expected (database_of ss).same (database_of ss).file (diagnostic_view d)) same
+    ∙ ap (λ v. picture_of_view expected (database_of ts).same (database_of ts).file v) viewed
 
 -- the bytes that are rendered are those that the structs describe
 pub bytes_are : (spelling : Spelling) (config : Config) (ss : List SourceView) (d : Diagnostic ℕ)

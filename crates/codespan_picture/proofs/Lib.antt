@@ -1,4 +1,5 @@
 pub mod EqualConfigs
+pub mod ViewPictures
 pub mod Rightmost
 pub mod HangingStarts
 pub mod Consecutive

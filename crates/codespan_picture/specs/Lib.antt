@@ -31,6 +31,7 @@ pub mod Snippets
 pub mod Padding
 pub mod OutputStreams
 pub mod Picture
+pub mod ViewPictures
 pub mod Lookups
 -- labels, lane marks and loci as calls take them
 pub mod Arguments

@@ -1,16 +1,13 @@
 -- The output of a diagnostic over one file, and what a run renders.
-use Rattle.std.specs.Prelude.{◌≡◌, ℕ, true, List, map, Some, Result, Ok, Err, codes, string_bytes}
+use Rattle.std.specs.Prelude.{◌≡◌, ℕ, true, List, Some, Result, Ok, Err, codes, string_bytes}
 use Rattle.codespan_base.specs.declared.term.config.Config.{Config}
 use Rattle.codespan_base.specs.declared.term.config.DisplayStyle.{DisplayStyle}
 use Rattle.codespan_base.specs.Defaults.{default_config}
-use Rattle.codespan_base.specs.Diagnostics.{DiagnosticView, LabelView}
+use Rattle.codespan_base.specs.Diagnostics.{DiagnosticView}
 use Rattle.codespan_base.specs.FileModel.{FileModel}
 use Rattle.codespan_base.specs.SimpleModel.{simple_file}
-use Rattle.codespan_base.specs.Streams.{bytes, text_of}
-use Rattle.codespan_picture.specs.Rows.{HeaderText}
-use Rattle.codespan_picture.specs.OutputStreams.{rendered, locus_starts}
-use Rattle.codespan_picture.specs.Picture.{stated_locus}
-use Rattle.codespan_picture.specs.Snippets.{InFile, labeled_file_models}
+use Rattle.codespan_base.specs.Streams.{text_of}
+use Rattle.codespan_picture.specs.ViewPictures.{picture_of_view}
 use Rattle.report_runs.specs.declared.run_error.RunError.{RunError}
 use Rattle.report_runs.specs.declared.run_error.RunError.TheVariants as run_error
 use Rattle.report_script.specs.declared.script.Fault.{Fault}
@@ -20,26 +17,6 @@ use Rattle.report_script.specs.Requests.RequestView.{OneLabel, OfScript}
 use Rattle.report_script.specs.Scripts.{ScriptView, read_script}
 
 -- ---- the output of a diagnostic
-
--- the header
-abbrev pub view_heading : DiagnosticView (Unit {0}) → HeaderText
-view_heading diagnostic = record { code = diagnostic.code; message = diagnostic.message }
-
--- a label, as the definition of the output takes it
-abbrev pub view_label : LabelView (Unit {0}) → InFile (Unit {0})
-view_label label = record {
-  file_id = label.file_id;
-  label = record {
-    style = label.style;
-    start = label.range.start;
-    end = label.range.end;
-    message = bytes label.message;
-  };
-}
-
--- the labels in their order
-abbrev pub view_labels : DiagnosticView (Unit {0}) → List (InFile (Unit {0}))
-view_labels diagnostic = map view_label diagnostic.labels
 
 -- the configuration: the default one, in this display style
 abbrev pub report_config : DisplayStyle → Config
@@ -52,12 +29,8 @@ only_file name source id = simple_file (Some name) source
 -- the text of the diagnostic's output, in a style, over the file of a name and a source
 unfoldable pub output_text : DisplayStyle → List ℕ → List ℕ → DiagnosticView (Unit {0}) → List ℕ
 output_text style name source diagnostic =
-    text_of (rendered style (report_config style) (report_config style) diagnostic.severity
-    (view_heading diagnostic)
-    (map stated_locus
-    (locus_starts (λ i j. true) (only_file name source) (view_labels diagnostic) style))
-    (labeled_file_models (λ i j. true) (only_file name source) (view_labels diagnostic))
-    diagnostic.notes)
+    text_of
+    (picture_of_view (report_config style) (λ i j. true) (only_file name source) diagnostic)
 
 -- ---- what a run renders
 

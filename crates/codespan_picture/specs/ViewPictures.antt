@@ -1,0 +1,38 @@
+-- The picture of a diagnostic by its view, whose texts are bytes.
+use Rattle.std.specs.Prelude.{Bool, List, map}
+use Rattle.codespan_picture.specs.Types.{Config}
+use Rattle.codespan_base.specs.Diagnostics.{DiagnosticView, LabelView}
+use Rattle.codespan_base.specs.FileModel.{FileModel}
+use Rattle.codespan_base.specs.Streams.{Stream, bytes}
+use Rattle.codespan_picture.specs.Rows.{HeaderText}
+use Rattle.codespan_picture.specs.Snippets.{InFile, labeled_file_models}
+use Rattle.codespan_picture.specs.OutputStreams.{locus_starts, rendered}
+use Rattle.codespan_picture.specs.Picture.{stated_locus}
+
+-- a label
+abbrev pub label_of_view : {Id : Type 0} → LabelView Id → InFile Id
+label_of_view x = record {
+  file_id = x.file_id;
+  label = record {
+    style = x.style;
+    start = x.range.start;
+    end = x.range.end;
+    message = bytes x.message;
+  };
+}
+
+-- the labels in the order given
+abbrev pub labels_of_view : {Id : Type 0} → DiagnosticView Id → List (InFile Id)
+labels_of_view d = map label_of_view d.labels
+
+-- the code and the message
+abbrev pub header_text_of_view : {Id : Type 0} → DiagnosticView Id → HeaderText
+header_text_of_view d = record { code = d.code; message = d.message }
+
+-- the picture by a configuration, over files: which ids are equal, and the file of an id
+abbrev pub picture_of_view : {Id : Type 0}
+    → Config → (Id → Id → Bool) → (Id → FileModel) → DiagnosticView Id → Stream
+picture_of_view config same file d =
+    rendered config.display_style config config d.severity (header_text_of_view d)
+    (map stated_locus (locus_starts same file (labels_of_view d) config.display_style))
+    (labeled_file_models same file (labels_of_view d)) d.notes
