@@ -94,7 +94,7 @@ const INITIAL: Texts<'_> = Texts {
     notes: &["n"],
 };
 
-/// The same, as the calls read them.
+/// The initial texts, as a static that the calls borrow.
 static BEFORE: Texts<'_> = INITIAL;
 
 /// The texts with a code.

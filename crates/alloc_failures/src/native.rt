@@ -1,4 +1,4 @@
-//! The call of `codespan_native`, which takes the structs of C and writes into given memory.
+//! The call of `codespan_native`, which takes the structs of C and writes to the caller's memory.
 
 use crate::outcome::{Outcome, Wrong, judge_made};
 use codespan_native::emit::emit;

@@ -1,4 +1,4 @@
--- The style sheet of documents, by the colors and the weights of a `Styles`.
+-- The style sheet of HTML elements, by the colors and the weights of a `Styles`.
 use Rattle.std.specs.Prelude.{ℕ, Bool, List, [], ◌∷◌, ◌++◌, codes, Option, Some, None, if◌then◌else◌}
 use Rattle.std.specs.List.{flat_map}
 use Rattle.codespan_base.specs.declared.diagnostic.LabelStyle.TheVariants.{Primary, Secondary}

@@ -101,7 +101,7 @@ texts_from pen (glyph ∷ glyphs) =
 
 -- ---- the document
 
--- its width and its height: those of the rows, and a margin on each side
+-- its width and its height, in pixels: those of the rows, and a margin on each side
 abbrev pub width : CellPosition → ℕ
 width extent = 24 + 9 * extent.column
 

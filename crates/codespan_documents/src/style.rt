@@ -4,7 +4,8 @@ use codespan_base::diagnostic::{LabelStyle, Severity};
 
 /// The style of a part of an output: plain, or that of the style mark before it.
 ///
-/// Which color a style has is decided where the text is shown: in a document by its style sheet.
+/// Which color a style has is decided where the text is shown: an HTML element has a class for it,
+/// an SVG document and a text for a terminal the color that a `Styles` has.
 #[derive(Clone, Copy, Debug, PartialEq, Eq)]
 pub enum Style {
     /// Text outside all the others: source text without a primary label, names, notes, spaces.

@@ -1,4 +1,4 @@
-//! The style sheet of documents.
+//! The style sheet of HTML elements.
 
 ghost use Rattle.std.specs.Prelude.{◌≡◌, ◌++◌, IfErr, IfOk, OnOk, flat_map, if◌then◌else◌, string_bytes};
 ghost use Rattle.codespan_documents.specs.StyleSheet.{bright_color, color_declaration, declarations, normal_color, rule, spec_of, style_sheet, weight_declaration};
@@ -29,7 +29,7 @@ const CLASSED_STYLES: [Style; 15] = [
     Style::NoteBullet,
 ];
 
-/// Returns a style sheet for the documents of [`to_html`](crate::to_html): a rule for each class,
+/// Returns a style sheet for the elements of [`to_html`](crate::to_html): a rule for each class,
 /// with the colors and the weight that `styles` has for it.
 ///
 /// The colors are those that xterm shows by default, the bright one where a style is `intense`, on

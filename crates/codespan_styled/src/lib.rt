@@ -1,8 +1,8 @@
-//! A diagnostic as text in runs, each in one style, as an HTML or an SVG document, and as safe text
-//! for a terminal.
+//! A diagnostic as text in runs, each in one style, as an HTML element, as an SVG document, and as
+//! safe text for a terminal.
 //!
-//! [`styled_text`] renders a diagnostic to a [`StyledText`], [`to_html`] and [`to_svg`] make a
-//! document of it, and [`to_terminal`] a text that is safe to print.
+//! [`styled_text`] renders a diagnostic to a [`StyledText`]; [`to_html`] makes an element of it,
+//! [`to_svg`] a document, and [`to_terminal`] a text that is safe to print.
 #![tactic(auto)]
 
 mod recorder;

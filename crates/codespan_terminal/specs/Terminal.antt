@@ -59,15 +59,15 @@ terminal_text styles (first ∷ rest) =
 
 -- ---- what a terminal shows
 
--- what a terminal reads: text, a sequence of styles after its first character or from its
--- parameters on, or anything else, after which nothing is claimed
+-- the state of a terminal: in text, in a sequence of styles after its first character or from its
+-- parameters on, or after anything else, of which nothing is claimed
 pub data Reading : Type 0 where
   Text : Reading
   Escape : Reading
   Parameters : Reading
   Unknown : Reading
 
--- what it reads after the next character: a sequence is an escape character (0x1b), `[` (91),
+-- its state after the next character: a sequence is an escape character (0x1b), `[` (91),
 -- digits and `;` (59), and `m` (109); any other control character but tab and newline, and each
 -- directional control, is unknown
 abbrev pub next_reading : Reading → ℕ → Reading
@@ -77,7 +77,7 @@ next_reading Parameters c =
     if c == 109 then Text else if is_ascii_digit c || (c == 59) then Parameters else Unknown
 next_reading Unknown c = Unknown
 
--- what it reads after these characters
+-- its state after these characters
 abbrev pub reading_after : Reading → List ℕ → Reading
 reading_after reading [] = reading
 reading_after reading (c ∷ cs) = reading_after (next_reading reading c) cs

@@ -68,7 +68,7 @@ pub fn is_safe(c: char) -> bool
     c == '\t' || c == '\n' || !(c.is_control() || is_bidi_control(c))
 }
 
-/// Appends the text for a terminal of runs.
+/// Appends the text for a terminal that shows runs.
 fn push_text(
     alloc: Global,
     terminal: &mut String,

@@ -1,7 +1,7 @@
 //! `gallery < CASES` writes the rendered diagnostic of each case of a list, under its name.
 //! `gallery svg NAME < CASES` writes that of the first case of a name in colors, as an SVG
 //! document, `gallery html NAME` as an HTML element, and `gallery terminal NAME` as text that is
-//! safe to print on a terminal. `gallery styles < CASES` writes the style sheet of HTML documents.
+//! safe to print on a terminal. `gallery styles < CASES` writes the style sheet of HTML elements.
 //!
 //! [`gallery_script::cases`] documents the input, and `tools/gallery/README.md` how the cases of
 //! the file `stdin` and their expected outputs were made.

@@ -1,4 +1,4 @@
--- Documents in colors of the output of a case.
+-- Documents: the output of a case in colors, as SVG, as an HTML element or as text for a terminal.
 use Rattle.std.specs.Prelude.{◌≡◌, ℕ, List, ◌++◌}
 use Rattle.codespan_base.specs.declared.term.config.Config.{Config}
 use Rattle.codespan_base.specs.declared.diagnostic.Diagnostic.{Diagnostic}

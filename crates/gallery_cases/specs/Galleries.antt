@@ -26,7 +26,7 @@ shown_byte b =
 abbrev pub with_escapes : List ℕ → List ℕ
 with_escapes output = flat_map shown_byte output
 
--- the line of an error: nothing if there is none, else a line with the error's text
+-- the line of a case that failed: nothing if it did not, else a line with the error's text
 abbrev pub IsErrorLine : Result (Unit {0}) Error → List ℕ → Type 0
 IsErrorLine (Ok done) error_line = error_line ≡ []
 IsErrorLine (Err error) error_line =

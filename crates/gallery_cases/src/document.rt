@@ -1,4 +1,4 @@
-//! A rendered case as a document in colors.
+//! A rendered case as a document in colors: SVG, an HTML element or text for a terminal.
 
 ghost use Rattle.std.specs.Prelude.{◌≡◌, IfOk, string_bytes};
 ghost use Rattle.codespan_base.specs.StyleTables.{default_styles};
@@ -13,7 +13,7 @@ use gallery_script::case::Case;
 use gallery_script::request::Format;
 use std::alloc::Global;
 
-/// Returns the document of the rendered case, whatever colors it states.
+/// Returns the document of the rendered case in a format, whatever colors the case states.
 ///
 /// # Errors
 ///

@@ -7,7 +7,7 @@ use Rattle.gallery_script.specs.declared.request.Format.TheVariants.{Html, Svg, 
 use Rattle.gallery_script.specs.declared.request.Request.{Request}
 use Rattle.gallery_script.specs.declared.request.Request.TheVariants as requests
 
--- the form of a name
+-- the format of this name
 abbrev pub format_named : List ℕ → Option Format
 format_named name =
     if bytes_eq name (codes "svg") then Some Svg
@@ -15,21 +15,21 @@ format_named name =
     else if bytes_eq name (codes "terminal") then Some Terminal
     else None
 
--- a request: every case, the style sheet of HTML documents, or a document of the case of a name
+-- a request: every case, the style sheet of HTML elements, or a document of the case of a name
 pub data RequestView : Type 0 where
   All : RequestView
   Styles : RequestView
   Document : Format → List ℕ → RequestView
 
 -- the request of the arguments: without any every case, for `styles` the style sheet, and for
--- `FORM NAME` that document of the case; nothing for any others
+-- `FORMAT NAME` that document of the case; nothing for any others
 abbrev pub request_of : List (List ℕ) → Option RequestView
 request_of [] = Some All
 request_of (word ∷ []) = if bytes_eq word (codes "styles") then Some Styles else None
 request_of (word ∷ name ∷ []) = option_map (λ format. Document format name) (format_named word)
 request_of (word ∷ name ∷ more ∷ rest) = None
 
--- the same of a request
+-- a request, its name as bytes
 abbrev pub request_view : Request → RequestView
 request_view requests.All = All
 request_view requests.Styles = Styles

@@ -4,7 +4,7 @@ ghost use Rattle.std.specs.Prelude.{◌≡◌, map, string_bytes};
 ghost use Rattle.std.specs.Option.{option_map};
 ghost use Rattle.gallery_script.specs.Requests.{format_named};
 
-/// The form of a document.
+/// The format of a document.
 #[derive(Clone, Copy)]
 pub enum Format {
     /// An SVG document, in the default styles.
@@ -16,7 +16,7 @@ pub enum Format {
 }
 
 impl Format {
-    /// Returns the form of a name; `None` for any other.
+    /// Returns the format of this name; `None` for any other.
     pub fn named(name: &str) -> Option<Format>
         ensures { result ≡ format_named name.now }
     {

@@ -17,7 +17,7 @@ pub record LabelRequestView : Type 0 where
   pub end : ℕ
   pub message : List ℕ
 
--- a request by its fields
+-- the fields of a request
 abbrev pub label_request_view : LabelRequest → LabelRequestView
 label_request_view label_request = record {
   style = label_request.style;
@@ -55,7 +55,7 @@ pub data RequestView : Type 0 where
   OneLabel : LabelRequestView → RequestView
   OfScript : DisplayStyle → List ℕ → RequestView
 
--- the same, of the program's value
+-- a request, its texts as bytes
 abbrev pub request_view : Request → RequestView
 request_view (variants.OneLabel label_request) = OneLabel (label_request_view label_request)
 request_view (variants.OfScript style name) = OfScript style name.now

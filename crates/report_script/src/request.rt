@@ -57,8 +57,8 @@ pub enum Request<'args> {
 impl<'args> Request<'args> {
     ghost use Rattle.report_script.specs.Requests.{request_of, request_view};
 
-    /// Parses the arguments `STYLE NAME`, or those of a [`LabelRequest`]; `None` if their number or form
-    /// is another.
+    /// Parses the arguments `STYLE NAME`, or those of a [`LabelRequest`]; `None` if their number or
+    /// form is another.
     pub fn from_arguments(args: &'args [String]) -> Option<Request<'args>>
         ensures { option_map request_view result ≡ request_of (map string_bytes args.now) }
     {

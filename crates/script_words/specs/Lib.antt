@@ -1,4 +1,4 @@
 -- the fields of a line
 pub mod Fields
--- the names of styles and severities
+-- the names of display styles and severities
 pub mod Names

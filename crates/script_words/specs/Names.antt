@@ -1,4 +1,4 @@
--- The names of styles and severities.
+-- The names of display styles and severities.
 use Rattle.std.specs.Prelude.{ℕ, List, Option, Some, None, codes, if◌then◌else◌}
 use Rattle.std.specs.Str.{bytes_eq}
 use Rattle.codespan_base.specs.declared.diagnostic.Severity.{Severity}
@@ -7,7 +7,7 @@ use Rattle.codespan_base.specs.declared.diagnostic.Severity.TheVariants.{Note, H
 use Rattle.codespan_base.specs.declared.term.config.DisplayStyle.{DisplayStyle}
 use Rattle.codespan_base.specs.declared.term.config.DisplayStyle.TheVariants.{Rich, Medium, Short}
 
--- the style of this name
+-- the display style of this name
 unfoldable pub display_style_named : List ℕ → Option DisplayStyle
 display_style_named text =
     if bytes_eq text (codes "rich") then Some Rich

@@ -1,5 +1,5 @@
 //! What the scripts of `report` and the cases of `gallery` have in common: the fields of a line,
-//! and the names of styles and severities.
+//! and the names of display styles and severities.
 #![tactic(auto)]
 
 pub mod fields;

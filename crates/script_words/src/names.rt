@@ -1,4 +1,4 @@
-//! The names of styles and severities.
+//! The names of display styles and severities.
 
 ghost use Rattle.std.specs.Prelude.{◌≡◌};
 ghost use Rattle.script_words.specs.Names.{display_style_named, severity_named};
@@ -6,7 +6,7 @@ ghost use Rattle.script_words.specs.Names.{display_style_named, severity_named};
 use codespan_base::diagnostic::Severity;
 use codespan_base::term::DisplayStyle;
 
-/// Returns the style of this name, or `None`.
+/// Returns the display style of this name, or `None`.
 #[tactic(auto, unfolding(crate::specs::Names::display_style_named))]
 pub fn parse_display_style(text: &str) -> Option<DisplayStyle>
     ensures { result ≡ display_style_named text.now }

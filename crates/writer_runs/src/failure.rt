@@ -62,12 +62,14 @@ pub enum ProgramError {
     CannotWriteOutput,
 }
 
+/// Converts an error of reading the input.
 impl From<InputError> for ProgramError {
     fn from(error: InputError) -> ProgramError {
         ProgramError::NoText(error)
     }
 }
 
+/// Converts an error of writing the output.
 impl From<io::Error> for ProgramError {
     fn from(_error: io::Error) -> ProgramError {
         ProgramError::CannotWriteOutput
@@ -86,6 +88,7 @@ impl fmt::Display for ProgramError {
     }
 }
 
+/// Converts an error of a call or an allocation to `Failed`.
 impl From<Error> for Failure {
     fn from(error: Error) -> Failure {
         Failure::Failed(error)

@@ -128,8 +128,8 @@ impl<'input> WorkedOutput<'input> {
         self.text(TextKind::plain(style))
     }
 
-    /// Returns what is expected of the text in escape sequences in a style: nothing if the plain text
-    /// of the style is not expected.
+    /// Returns what is expected of the text in escape sequences in a style: nothing if the plain
+    /// text of the style is not expected.
     pub fn colors(&self, style: DisplayStyle) -> ExpectedColors<'_> {
         if self.plain_text(style).is_none() {
             return ExpectedColors::End("");

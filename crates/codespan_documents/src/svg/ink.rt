@@ -1,4 +1,4 @@
-//! Inks: what a style is in a document.
+//! Inks: what a style is in an SVG document.
 
 ghost use Rattle.std.specs.Prelude.{◌≡◌};
 ghost use Rattle.codespan_documents.specs.Inks.{ink_of};

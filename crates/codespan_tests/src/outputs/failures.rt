@@ -102,6 +102,10 @@ fn failed_lookups(rt: HostRuntime) {
 }
 
 /// Returns a diagnostic with a label of the first byte.
+///
+/// # Errors
+///
+/// `OutOfMemory`: an allocation fails.
 pub fn with_label(alloc: Global) -> Result<Diagnostic<()>, Error> {
     Diagnostic::error(alloc).with_label(Label::primary(alloc, (), 0..1))
 }

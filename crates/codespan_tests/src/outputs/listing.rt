@@ -34,7 +34,11 @@ pub struct Listing<'text> {
 }
 
 impl<'text> Listing<'text> {
-    /// Returns the text under this name, with these failing lookups; fails with `OutOfMemory`.
+    /// Returns the text under this name, with these failing lookups.
+    ///
+    /// # Errors
+    ///
+    /// `OutOfMemory`: an allocation fails.
     pub fn new(
         alloc: Global,
         name: &'text str,

@@ -5,7 +5,7 @@ use std::alloc::Global;
 use std::panic::Expect;
 use std::process::Abort;
 
-/// Makes a styled text.
+/// Returns the styled text whose runs have these styles and texts.
 pub fn text_of(rt: &impl Abort, alloc: Global, parts: &[(Style, &str)]) -> StyledText {
     let mut runs = Vec::new(alloc);
     for (style, part) in parts {

@@ -21,7 +21,7 @@ pub enum Key {
     Timeout,
 }
 
-/// The key, as it is written in the settings.
+/// Writes the key as it is written in the settings.
 impl fmt::Display for Key {
     fn fmt<W: Write>(&self, f: &mut fmt::Formatter<W>) -> fmt::Result {
         match self {

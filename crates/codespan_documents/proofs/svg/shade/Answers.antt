@@ -1,6 +1,6 @@
 use Rattle.std.proofs.Common.{refl}
 use Rattle.codespan_documents.proofs.svg.shade.Goals as goal
 
--- red has a shade of its own
+-- red has a color of its own
 pub returns-in-Red : goal.returns-in-Red
 returns-in-Red c = rw c.in-Red.is refl
