@@ -5,7 +5,7 @@ use Rattle.codespan_files.specs.Settings.{set_index_at, IsStrictlySorted}
 use Rattle.codespan_files.specs.MappedModel.{setting, with_number}
 use Rattle.codespan_files.specs.FileLaws.{setting_after}
 
--- the step of the next lemma, from the setting among the later ones
+-- the step of the next lemma, from the set number among the later ones
 found_step : (b : ℕ) (x : ℕ × ℕ) (l : List (ℕ × ℕ)) (i : ℕ) (t : ℕ × ℕ) → b < x.0 → (o : Option (ℕ × ℕ)) → setting l i ≡ o → ((u : ℕ × ℕ) → setting l i ≡ Some u → b < u.0) → setting (x ∷ l) i ≡ Some t → b < t.0
 found_step b x l i t first (Some u) same later found =
     let above : b < u.0 = later u same in
@@ -18,14 +18,14 @@ found_above b [] i t above found = absurd (cc)
 found_above b (x ∷ l) i t above found =
     found_step b x l i t (above 0 (omega arith)) (setting l i) refl (λ u e. found_above b l i u (λ j h. above (suc j) (omega arith)) e) found
 
--- the step of the next lemma, from what it says of the later settings
+-- the step of the next lemma, from what it says of the later set numbers
 set_step : (x : ℕ × ℕ) (l : List (ℕ × ℕ)) (k v i : ℕ) (o : Option (ℕ × ℕ)) → setting l i ≡ o → ((t : ℕ × ℕ) → setting l i ≡ Some t → x.0 < t.0) → setting (with_number k v l) i ≡ setting_after k v i (setting l i) → setting (with_number k v (x ∷ l)) i ≡ setting_after k v i (setting (x ∷ l) i)
 set_step x l k v i (Some t) same later rest =
     let after : x.0 < t.0 = later t same in
     grind (arith, nat_tests)
 set_step x l k v i None same later rest = grind (arith, nat_tests)
 
--- the setting that a line counts from, once a number more is set
+-- the set number that a line counts from, once a number more is set
 pub setting_set : (l : List (ℕ × ℕ)) (k v i : ℕ) → IsStrictlySorted l → setting (with_number k v l) i ≡ setting_after k v i (setting l i)
 setting_set [] k v i sorted = grind (arith, nat_tests)
 setting_set (x ∷ l) k v i sorted =

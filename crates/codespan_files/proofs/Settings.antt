@@ -1,5 +1,5 @@
 -- For the clauses of `search`, `nearest` and `set_line` of `MappedFile`: what a search finds among
--- settings, and what an edit at that index does.
+-- set numbers, and what an edit at that index does.
 use Rattle.std.proofs.Common.{◌≡◌, ℕ, zero, suc, ◌+◌, ◌-◌, ◌<◌, ◌≤◌, Bool, true, false, if◌then◌else◌, List, [], ◌∷◌, length, length-set, get_or, set, Some, None, Result, Ok, Err, IfOk, IfErr, refl, sym, ap, subst, arith}
 use Rattle.std.specs.List.{insert}
 use Rattle.std.specs.List.Sorted.{IsSearchInRange, IsBinarySearchResult, IsNonDecreasingBy}
@@ -18,7 +18,7 @@ module _ (l : List (ℕ × ℕ)) (sorted : IsStrictlySorted l) (k : ℕ) where
       let keys_rise : set_index_at l i ≤ set_index_at l j = grind (arith, sorted i j, λ (same : i ≡ j). ap (set_index_at l) same) in
       grind (arith, nat_tests))
 
-  -- a binary search ends at the index, or at the gap for it
+  -- a binary search ends at the index, or at the point where it would be inserted
   pub searched : (r : Result ℕ ℕ) → IsSearchInRange r (length l) → IsBinarySearchResult (λ pair. nat_cmp pair.0 k) l r → record { found : IfOk r (IsAt l k); absent : IfErr r (IsGapFor l k) }
   searched (Ok at) in_range equal = record { found = record { in_range = in_range; has_index = ranked _ k _ (sym (equal (0, 0))) }; absent = tt }
   searched (Err at) in_range parted = record {
@@ -30,7 +30,7 @@ module _ (l : List (ℕ × ℕ)) (sorted : IsStrictlySorted l) (k : ℕ) where
     };
   }
 
--- writing over the setting of an index
+-- writing over the set number of an index
 replaced : (l : List (ℕ × ℕ)) (k v at : ℕ) → at < length l → ((j : ℕ) → j < at → set_index_at l j < k) → set_index_at l at ≡ k → set l at (k, v) ≡ with_number k v l
 replaced [] k v at low below here = absurd (omega arith)
 replaced (x ∷ l) k v zero low below here = grind (arith, nat_tests)
@@ -47,7 +47,7 @@ kept (x ∷ l) zero k v low here (suc q) = refl
 kept (x ∷ l) (suc at) k v low here zero = refl
 kept (x ∷ l) (suc at) k v low here (suc q) = kept l at k v (omega arith) here q
 
--- a new one in the gap
+-- a new one at the point where it is inserted
 put_in_gap : (l : List (ℕ × ℕ)) (k v at : ℕ) → at ≤ length l → ((j : ℕ) → j < at → set_index_at l j < k) → (at < length l → k < set_index_at l at) → insert l at (k, v) ≡ with_number k v l
 put_in_gap [] k v zero low below above = refl
 put_in_gap [] k v (suc at) low below above = absurd (omega arith)
@@ -59,7 +59,7 @@ put_in_gap (x ∷ l) k v (suc at) low below above =
     let later : insert l at (k, v) ≡ with_number k v l = put_in_gap l k v at (omega arith) (λ j h. below (suc j) (omega arith)) (λ h. above (omega arith)) in
     grind (arith, nat_tests)
 
--- where all indices are above the line, none is its setting
+-- where all indices are above the line, it counts from none
 none_set : (l : List (ℕ × ℕ)) (k : ℕ) → ((j : ℕ) → j < length l → k < set_index_at l j) → setting l k ≡ None
 none_set [] k above = refl
 none_set (x ∷ l) k above =
@@ -67,7 +67,7 @@ none_set (x ∷ l) k above =
     let rest : setting l k ≡ None = none_set l k (λ j h. above (suc j) (omega arith)) in
     grind (arith, nat_tests)
 
--- the last index not above the line is its setting
+-- the line counts from the last index that is not above it
 last_set : (l : List (ℕ × ℕ)) (k at : ℕ) → at < length l → set_index_at l at ≤ k → ((j : ℕ) → at < j → j < length l → k < set_index_at l j) → setting l k ≡ Some (get_or l at (0, 0))
 last_set [] k at low here above = absurd (omega arith)
 last_set (x ∷ l) k zero low here above =
@@ -78,7 +78,7 @@ last_set (x ∷ l) k (suc at) low here above =
     grind (arith, nat_tests)
 
 module _ (l : List (ℕ × ℕ)) (sorted : IsStrictlySorted l) (k at : ℕ) (is_at : IsAt l k at) where
-  -- writing over the setting is setting the number
+  -- writing over the set number is setting the number
   pub set_replaces : (v : ℕ) → set l at (k, v) ≡ with_number k v l
   set_replaces v = replaced l k v at is_at.in_range (λ j h. omega (arith, sorted j at h is_at.in_range, is_at.has_index)) is_at.has_index
 
@@ -93,7 +93,7 @@ module _ (l : List (ℕ × ℕ)) (sorted : IsStrictlySorted l) (k at : ℕ) (is_
   setting_at = last_set l k at is_at.in_range (omega (arith, is_at.has_index)) (λ j g h. omega (arith, sorted at j g h, is_at.has_index))
 
 module _ (l : List (ℕ × ℕ)) (k at : ℕ) (gap : IsGapFor l k at) where
-  -- inserting in the gap is setting the number
+  -- inserting at the point is setting the number
   pub insert_adds : (v : ℕ) → insert l at (k, v) ≡ with_number k v l
   insert_adds v = put_in_gap l k v at gap.in_range gap.smaller_before (λ h. gap.greater_after at (omega arith) h)
 
@@ -101,12 +101,12 @@ module _ (l : List (ℕ × ℕ)) (k at : ℕ) (gap : IsGapFor l k at) where
   pub setting_before_all : at ≡ 0 → setting l k ≡ None
   setting_before_all e = none_set l k (λ j h. gap.greater_after j (omega arith) h)
 
-  -- any other line counts from the set one before the gap
+  -- any other line counts from the set one before the point
   pub setting_in_gap : 0 < at → setting l k ≡ Some (get_or l (at - 1) (0, 0))
   setting_in_gap some = last_set l k (at - 1) (omega (arith, gap.in_range)) (omega (arith, gap.smaller_before (at - 1) (omega arith))) (λ j g h. gap.greater_after j (omega arith) h)
 
-  -- it keeps the order: each new index is an old one below the gap, k at it, or an old one moved up
-  -- by one
+  -- it keeps the order: each new index is an old one below the point, k at it, or an old one moved
+  -- up by one
   pub sorted_insert : (v : ℕ) → IsStrictlySorted l → IsStrictlySorted (insert l at (k, v))
   sorted_insert v sorted i j lt in_range =
       let new = insert l at (k, v) in
@@ -122,6 +122,6 @@ module _ (l : List (ℕ × ℕ)) (k at : ℕ) (gap : IsGapFor l k at) where
   sorted_either v sorted true xs e = rw e (sorted_insert v sorted)
   sorted_either v sorted false xs e = rw e sorted
 
--- no settings are in order
+-- no set numbers are in order
 pub sorted_none : (l : List (ℕ × ℕ)) → l ≡ [] → IsStrictlySorted l
 sorted_none l none i j lt in_range = absurd (omega (arith, rw none at in_range))

@@ -27,7 +27,7 @@ abbrev pub ColumnsRise : Type 0
 ColumnsRise = (text : List ℕ) (start end byte later : ℕ) → byte ≤ later
     → column_index_of text start end byte ≤ column_index_of text start end later
 
--- the setting that line i counts from once `line` has `number`, from the one before: lines above
+-- the set number that line i counts from once `line` has `number`, from the one before: lines above
 -- stay, and so do those that count from a line further down
 abbrev pub setting_after : ℕ → ℕ → ℕ → Option (ℕ × ℕ) → Option (ℕ × ℕ)
 setting_after line number i None = if nat_lt i line then None else Some (line, number)

@@ -14,7 +14,8 @@ use Rattle.codespan_files.specs.SimpleModel.{simple_file, line_failure}
 abbrev pub mapped_ends : List ℕ → List ℕ
 mapped_ends text = map (λ s. s - 1) (starts_after 0 text) ++ length text ∷ []
 
--- the set index nearest to the line, at it or above it, with its number; the indices ascend
+-- the set number that line i counts from, with its index: the nearest at the line or above it; the
+-- indices ascend
 abbrev pub setting : List (ℕ × ℕ) → ℕ → Option (ℕ × ℕ)
 setting [] i = None
 setting (s ∷ ss) i = nearer (setting ss i) (if nat_le s.0 i then Some s else None)
@@ -23,7 +24,7 @@ setting (s ∷ ss) i = nearer (setting ss i) (if nat_le s.0 i then Some s else N
     nearer (Some later) earlier = Some later
     nearer None earlier = earlier
 
--- the settings with one more, which replaces an earlier one of the same index
+-- the set numbers with one more, which replaces an earlier one of the same index
 abbrev pub with_number : ℕ → ℕ → List (ℕ × ℕ) → List (ℕ × ℕ)
 with_number i number [] = (i, number) ∷ []
 with_number i number (s ∷ ss) =
@@ -31,13 +32,13 @@ with_number i number (s ∷ ss) =
     else if nat_lt i s.0 then (i, number) ∷ s ∷ ss
     else s ∷ with_number i number ss
 
--- the number of a line, from its setting
+-- the number of line i, from the set number that it counts from
 abbrev pub number_from : Option (ℕ × ℕ) → ℕ → ℕ
 number_from None i = i + 1
 number_from (Some s) i = s.1 + (i - s.0)
 
--- what the lookup of a line's number fails with, from its setting: a number past the greatest
--- `usize` does
+-- what the lookup of the number of line i fails with, from the set number that it counts from: a
+-- number past the greatest `usize` does
 abbrev pub number_failure : Option (ℕ × ℕ) → ℕ → Option Error
 number_failure None i = line_number_failure i
 number_failure (Some s) i =
@@ -57,7 +58,7 @@ mapped_location text settings byte =
       column_number = mapped_column text i byte;
     }
 
--- the file of a name, a text and settings
+-- the file of a name, a text and set numbers
 abbrev pub mapped_file : Option (List ℕ) → List ℕ → List (ℕ × ℕ) → FileModel
 mapped_file name text settings = record (simple_file name text) {
   ends = mapped_ends text;

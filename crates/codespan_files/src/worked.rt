@@ -53,7 +53,7 @@ fn mapped_overflow()
     ensures no_line { line_failure (codes "a\nb\nc\nd") 4 ≡ Some (LineTooLarge 4 3) }
 {}
 
-/// Computes the settings after a number is set again: the later one replaces the earlier one.
+/// Computes the set numbers after a number is set again: the later one replaces the earlier one.
 fn set_again()
     ensures { with_number 2 7 (with_number 1 5 (with_number 2 100 [])) ≡ (1, 5) ∷ (2, 7) ∷ [] }
 {}

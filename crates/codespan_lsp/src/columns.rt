@@ -11,7 +11,8 @@ use codespan_base::files::Error;
 use std::ops::Range;
 
 impl PositionEncoding {
-    /// Returns the number of code units of a line of the text before a byte.
+    /// Returns the number of code units of a line of the text before a byte. `line` and
+    /// `byte_index` are in bytes of the text, from 0; the end of `line` is exclusive.
     ///
     /// # Errors
     ///
@@ -47,8 +48,8 @@ impl PositionEncoding {
         Ok(self.code_units(&text[line.start..byte_index]))
     }
 
-    /// Returns the byte index of a character of a line, whose text starts at the byte `line_start`:
-    /// the one after `character` code units.
+    /// Returns the byte index, from 0, of a character of a line, whose text starts at the byte
+    /// `line_start`: the one after `character` code units.
     ///
     /// # Errors
     ///

@@ -22,7 +22,7 @@ pub use text::SourceText;
 pub struct NativeFile<'a> {
     /// The text, with its name and its lines.
     text: SourceText<'a>,
-    /// Byte index in the file of the first byte of the text.
+    /// Byte index in the file, from 0, of the first byte of the text.
     first_byte: usize,
     /// The locations of the caller, in ascending order of their bytes.
     locations: &'a [RawLocation],
@@ -69,21 +69,22 @@ impl<'a> NativeFile<'a> {
         self.text.source()
     }
 
-    /// Returns the index of the byte's line.
+    /// Returns the index of the byte's line, from 0. The byte index counts from 0, in the source.
     pub fn line_index(&self, byte_index: usize) -> usize
         ensures { result ≡ line_of (source_view self.now).cut.starts byte_index }
     {
         self.text.line_index(byte_index)
     }
 
-    /// Returns the number of the line of this index.
+    /// Returns the number of the line of this index, which counts from 0.
     pub fn line_number(&self, line_index: usize) -> usize
         ensures { result ≡ (source_view self.now).cut.number line_index }
     {
         self.text.line_number(line_index)
     }
 
-    /// Returns the bytes of the line of this index.
+    /// Returns the bytes of the line of this index, in the source, from 0, with an exclusive end.
+    /// The line index counts from 0.
     ///
     /// # Errors
     ///
@@ -95,7 +96,8 @@ impl<'a> NativeFile<'a> {
         self.text.line_range(line_index)
     }
 
-    /// Returns the column number of a byte on the line of this index, in characters from 1.
+    /// Returns the column number of a byte on the line of this index, in characters from 1. Both
+    /// indices count from 0.
     ///
     /// # Errors
     ///
@@ -129,7 +131,8 @@ impl<'a> NativeFile<'a> {
         }
     }
 
-    /// Returns the location of a byte: that of the caller, or else the computed one.
+    /// Returns the location of a byte: that of the caller, or else the computed one. The byte index
+    /// counts from 0, in the source.
     ///
     /// # Errors
     ///

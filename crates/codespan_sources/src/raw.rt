@@ -5,9 +5,9 @@
 #[derive(Drop)]
 #[repr(C)]
 pub struct RawLine {
-    /// Byte index in the file.
+    /// Byte index in the file, from 0.
     pub start: usize,
-    /// Byte index in the file, exclusive.
+    /// Byte index in the file, from 0, exclusive.
     pub end: usize,
     /// The line number that is shown.
     pub number: usize,
@@ -17,7 +17,7 @@ pub struct RawLine {
 #[derive(Drop)]
 #[repr(C)]
 pub struct RawLocation {
-    /// Byte index in the file.
+    /// Byte index in the file, from 0.
     pub byte: usize,
     /// The line number.
     pub line_number: usize,

@@ -27,7 +27,7 @@ pub struct RawFile<'a> {
     pub name: &'a [u8],
     /// Its source, or a window of it, in UTF-8.
     pub source: &'a [u8],
-    /// Byte index in the file of the first byte of `source`.
+    /// Byte index in the file, from 0, of the first byte of `source`.
     pub first_byte: usize,
     /// The number of lines of the file before `source`; not read where there are `lines`.
     pub first_line: usize,
@@ -45,9 +45,9 @@ pub struct RawLabel<'a> {
     pub style: u32,
     /// The index of its file, from 0.
     pub file: usize,
-    /// Byte index in the file.
+    /// Byte index in the file, from 0.
     pub start: usize,
-    /// Byte index in the file, exclusive.
+    /// Byte index in the file, from 0, exclusive.
     pub end: usize,
     /// Its message, in UTF-8.
     pub message: &'a [u8],

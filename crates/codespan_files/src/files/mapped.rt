@@ -100,8 +100,8 @@ impl<Name, Source: AsStr> MappedFile<Name, Source> {
         }
     }
 
-    /// Returns the index at which the line's number is set, or as `Err` that at which it would be
-    /// inserted.
+    /// Returns the index, among the set numbers, of that of the line, or as `Err` the index at
+    /// which it would be inserted.
     fn search(&self, line_index: usize) -> Result<usize, usize>
         ensures found { IfOk result (IsAt (settings_of self.now) line_index) }
         ensures absent { IfErr result (IsGapFor (settings_of self.now) line_index) }
@@ -110,8 +110,8 @@ impl<Name, Source: AsStr> MappedFile<Name, Source> {
             .binary_search_by_key(&line_index, |&(index, _)| index)
     }
 
-    /// Returns the set line that this line counts from, with its number; `None` where none is set
-    /// at it or above it.
+    /// Returns the set number that this line counts from, with its line index; `None` where none is
+    /// set at it or above it.
     fn nearest(&self, line_index: usize) -> Option<(usize, usize)>
         ensures value { result ≡ setting (settings_of self.now) line_index }
         ensures below { IfSome result (λ s. s.0 ≤ line_index) }

@@ -57,14 +57,15 @@ impl<'a> NewlineText<'a> {
         *self.file.source()
     }
 
-    /// Returns the number of the line of this index, which need not exist.
+    /// Returns the number of the line of this index, which counts from 0 and need not exist.
     pub fn line_number(&self, line_index: usize) -> usize
         ensures { result ≡ (newline_of self.now).number line_index }
     {
         self.first_line.saturating_add(line_index).saturating_add(1)
     }
 
-    /// Returns the index of the byte's line. The lookup of a file of one text does not fail.
+    /// Returns the index of the byte's line, from 0. The byte index counts from 0, in the source.
+    /// The lookup of a file of one text does not fail.
     pub fn line_index(&self, byte_index: usize) -> usize
         ensures { result ≡ line_of (newline_of self.now).starts byte_index }
     {
@@ -74,7 +75,8 @@ impl<'a> NewlineText<'a> {
         }
     }
 
-    /// Returns the bytes of the line of this index.
+    /// Returns the bytes of the line of this index, in the source, from 0, with an exclusive end.
+    /// The line index counts from 0.
     ///
     /// # Errors
     ///

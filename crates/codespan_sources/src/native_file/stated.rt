@@ -18,7 +18,7 @@ pub struct StatedText<'a> {
     name: &'a str,
     /// The text itself.
     source: &'a str,
-    /// Byte index in the file of the first byte of `source`.
+    /// Byte index in the file, from 0, of the first byte of `source`.
     first_byte: usize,
     /// The lines, with byte indices in the file.
     lines: &'a [RawLine],
@@ -67,7 +67,8 @@ impl<'a> StatedText<'a> {
         self.source
     }
 
-    /// Returns the index of the byte's line, by binary search.
+    /// Returns the index of the byte's line, from 0, by binary search. The byte index counts from
+    /// 0, in the source.
     pub fn line_index(&self, byte_index: usize) -> usize
         ensures { result ≡ line_of (stated_of self.now).starts byte_index }
     {
@@ -77,7 +78,7 @@ impl<'a> StatedText<'a> {
             - 1
     }
 
-    /// Returns the number of the line of this index; 0 where there is none.
+    /// Returns the number of the line of this index, which counts from 0; 0 where there is none.
     pub fn line_number(&self, line_index: usize) -> usize
         ensures { result ≡ (stated_of self.now).number line_index }
     {
@@ -87,7 +88,8 @@ impl<'a> StatedText<'a> {
         }
     }
 
-    /// Returns the bytes of the line of this index.
+    /// Returns the bytes of the line of this index, in the source, from 0, with an exclusive end.
+    /// The line index counts from 0.
     ///
     /// # Errors
     ///

@@ -41,7 +41,7 @@ impl<'a> SourceText<'a> {
         }
     }
 
-    /// Returns the index of the byte's line.
+    /// Returns the index of the byte's line, from 0. The byte index counts from 0, in the source.
     pub fn line_index(&self, byte_index: usize) -> usize
         ensures { result ≡ line_of (cut_of self.now).starts byte_index }
     {
@@ -51,7 +51,7 @@ impl<'a> SourceText<'a> {
         }
     }
 
-    /// Returns the number of the line of this index.
+    /// Returns the number of the line of this index, which counts from 0.
     pub fn line_number(&self, line_index: usize) -> usize
         ensures { result ≡ (cut_of self.now).number line_index }
     {
@@ -61,7 +61,8 @@ impl<'a> SourceText<'a> {
         }
     }
 
-    /// Returns the bytes of the line of this index.
+    /// Returns the bytes of the line of this index, in the source, from 0, with an exclusive end.
+    /// The line index counts from 0.
     ///
     /// # Errors
     ///

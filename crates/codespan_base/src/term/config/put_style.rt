@@ -26,39 +26,79 @@ pub trait PutStyle {
     /// The spelling, the flag and the bytes of the writer, as contracts see them.
     ghost sink: { Self → Sink };
 
-    /// Returns the error of a text of which a `put` has taken nothing.
+    /// Returns the error of a `put` of some bytes that has taken none of them: of an [`io::Error`]
+    /// the one with [`ErrorKind::WriteZero`].
     fn write_zero() -> Self::Error;
 
     /// Does what [`WriteStyle::set_header`] does.
+    ///
+    /// # Errors
+    ///
+    /// The writer's error where a write fails or takes none of its bytes; a prefix of the style
+    /// mark's spelling has then been written.
     fn set_header(&mut self, severity: Severity) -> Result<(), Self::Error>
         ensures { Writes (sink self.old) (style_mark (Header severity)) result (sink self.new) };
 
     /// Does what [`WriteStyle::set_header_message`] does.
+    ///
+    /// # Errors
+    ///
+    /// The writer's error where a write fails or takes none of its bytes; a prefix of the style
+    /// mark's spelling has then been written.
     fn set_header_message(&mut self) -> Result<(), Self::Error>
         ensures { Writes (sink self.old) (style_mark HeaderMessage) result (sink self.new) };
 
     /// Does what [`WriteStyle::set_line_number`] does.
+    ///
+    /// # Errors
+    ///
+    /// The writer's error where a write fails or takes none of its bytes; a prefix of the style
+    /// mark's spelling has then been written.
     fn set_line_number(&mut self) -> Result<(), Self::Error>
         ensures { Writes (sink self.old) (style_mark LineNumber) result (sink self.new) };
 
     /// Does what [`WriteStyle::set_note_bullet`] does.
+    ///
+    /// # Errors
+    ///
+    /// The writer's error where a write fails or takes none of its bytes; a prefix of the style
+    /// mark's spelling has then been written.
     fn set_note_bullet(&mut self) -> Result<(), Self::Error>
         ensures { Writes (sink self.old) (style_mark NoteBullet) result (sink self.new) };
 
     /// Does what [`WriteStyle::set_source_border`] does.
+    ///
+    /// # Errors
+    ///
+    /// The writer's error where a write fails or takes none of its bytes; a prefix of the style
+    /// mark's spelling has then been written.
     fn set_source_border(&mut self) -> Result<(), Self::Error>
         ensures { Writes (sink self.old) (style_mark SourceBorder) result (sink self.new) };
 
     /// Does what [`WriteStyle::set_label`] does.
+    ///
+    /// # Errors
+    ///
+    /// The writer's error where a write fails or takes none of its bytes; a prefix of the style
+    /// mark's spelling has then been written.
     fn set_label(&mut self, severity: Severity, label_style: LabelStyle) -> Result<(), Self::Error>
         ensures { Writes (sink self.old) (style_mark (LabelMark severity label_style))
             result (sink self.new) };
 
     /// Does what [`WriteStyle::reset`] does.
+    ///
+    /// # Errors
+    ///
+    /// The writer's error where a write fails or takes none of its bytes; a prefix of the style
+    /// mark's spelling has then been written.
     fn reset(&mut self) -> Result<(), Self::Error>
         ensures { Writes (sink self.old) (style_mark Reset) result (sink self.new) };
 
     /// Does what [`WriteStyle::put`] does.
+    ///
+    /// # Errors
+    ///
+    /// The writer's error where the write fails; none of the bytes has then been taken.
     fn put(&mut self, bytes: &[u8]) -> Result<usize, Self::Error>
         ensures bound { WritesAtMost result bytes.now }
         ensures took { Puts (sink self.old) bytes.now result (sink self.new) };

@@ -79,40 +79,67 @@ pub trait WriteStyle: Write {
     ///
     /// # Errors
     ///
-    /// An [`io::Error`] if a write fails or takes none of its bytes; a prefix of the style mark's
-    /// spelling has then been written.
+    /// An [`io::Error`] where a write fails or takes none of its bytes; a prefix of the style
+    /// mark's spelling has then been written.
     fn set_header(&mut self, severity: Severity) -> io::Result<()>
         ensures { Writes (sink self.old) (style_mark (Header severity)) result (sink self.new) };
 
-    /// Writes the style mark before the message of a header. Fails as
-    /// [`set_header`](Self::set_header) does.
+    /// Writes the style mark before the message of a header.
+    ///
+    /// # Errors
+    ///
+    /// An [`io::Error`] where a write fails or takes none of its bytes; a prefix of the style
+    /// mark's spelling has then been written.
     fn set_header_message(&mut self) -> io::Result<()>
         ensures { Writes (sink self.old) (style_mark HeaderMessage) result (sink self.new) };
 
-    /// Writes the style mark before a line number. Fails as [`set_header`](Self::set_header) does.
+    /// Writes the style mark before a line number.
+    ///
+    /// # Errors
+    ///
+    /// An [`io::Error`] where a write fails or takes none of its bytes; a prefix of the style
+    /// mark's spelling has then been written.
     fn set_line_number(&mut self) -> io::Result<()>
         ensures { Writes (sink self.old) (style_mark LineNumber) result (sink self.new) };
 
-    /// Writes the style mark before the bullet of a note. Fails as [`set_header`](Self::set_header)
-    /// does.
+    /// Writes the style mark before the bullet of a note.
+    ///
+    /// # Errors
+    ///
+    /// An [`io::Error`] where a write fails or takes none of its bytes; a prefix of the style
+    /// mark's spelling has then been written.
     fn set_note_bullet(&mut self) -> io::Result<()>
         ensures { Writes (sink self.old) (style_mark NoteBullet) result (sink self.new) };
 
     /// Writes the style mark before the border left of the source, and before the start of a
-    /// snippet. Fails as [`set_header`](Self::set_header) does.
+    /// snippet.
+    ///
+    /// # Errors
+    ///
+    /// An [`io::Error`] where a write fails or takes none of its bytes; a prefix of the style
+    /// mark's spelling has then been written.
     fn set_source_border(&mut self) -> io::Result<()>
         ensures { Writes (sink self.old) (style_mark SourceBorder) result (sink self.new) };
 
     /// Writes the style mark before a label's carets, pointers, lanes, underline and message, and
-    /// before the source text that a primary label covers. Fails as
-    /// [`set_header`](Self::set_header) does.
+    /// before the source text that a primary label covers.
+    ///
+    /// # Errors
+    ///
+    /// An [`io::Error`] where a write fails or takes none of its bytes; a prefix of the style
+    /// mark's spelling has then been written.
     fn set_label(&mut self, severity: Severity, label_style: LabelStyle) -> io::Result<()>
         ensures { Writes (sink self.old) (style_mark (LabelMark severity label_style))
             result (sink self.new) };
 
     /// Writes the style mark that ends the style. A style mark also ends the style before it: there
     /// is no reset between `set_header` and `set_header_message`, nor between adjacent carets of
-    /// two styles. Fails as [`set_header`](Self::set_header) does.
+    /// two styles.
+    ///
+    /// # Errors
+    ///
+    /// An [`io::Error`] where a write fails or takes none of its bytes; a prefix of the style
+    /// mark's spelling has then been written.
     fn reset(&mut self) -> io::Result<()>
         ensures { Writes (sink self.old) (style_mark Reset) result (sink self.new) };
 

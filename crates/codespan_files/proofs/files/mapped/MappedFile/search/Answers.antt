@@ -3,7 +3,7 @@ use Rattle.std.proofs.lemmas.List.Sorted.{answers_always}
 use Rattle.codespan_files.proofs.Settings.{searched}
 use Rattle.codespan_files.proofs.files.mapped.MappedFile.search.Goals as goal
 
--- the closure returns a setting's index
+-- the closure returns a set number's index
 pub returns : goal.returns
 returns g c =
     let facts = c.binary_search_by_key.ensures in
