@@ -66,8 +66,8 @@ first_seen same [] = []
 first_seen same (id ∷ ids) = id ∷ filter (λ other. not (same id other)) (first_seen same ids)
 
 -- the labels that end on another line than they begin on; each one's index in this list is its lane
-abbrev pub multi_labels : FileModel → List LabelModel → List LabelModel
-multi_labels f labels = filter (λ x. not (is_single f x)) labels
+abbrev pub multi_line_labels : FileModel → List LabelModel → List LabelModel
+multi_line_labels f labels = filter (λ x. not (is_single f x)) labels
 
 -- by their starts, and by their ends where these are equal
 abbrev pub range_precedes : LabelModel → LabelModel → Bool
@@ -129,4 +129,4 @@ abbrev pub lane_marks_on : FileModel → List LabelModel → ℕ → List LaneMa
 lane_marks_on f labels l =
     filter_map
     (λ (entry : ℕ × LabelModel). lane_mark_of entry.0 entry.1 (multi_label_on f l entry.1))
-    (enumerate_from 0 (multi_labels f labels))
+    (enumerate_from 0 (multi_line_labels f labels))

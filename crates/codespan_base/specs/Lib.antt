@@ -6,7 +6,7 @@ pub use Rattle.codespan_files.specs.FileModel
 pub use Rattle.codespan_files.specs.LawfulFiles
 pub use Rattle.codespan_files.specs.SimpleModel
 pub use Rattle.codespan_files.specs.MappedModel
-pub use Rattle.codespan_files.specs.Settings
+pub use Rattle.codespan_files.specs.SetLineNumbers
 pub use Rattle.codespan_files.specs.ErrorText
 pub use Rattle.codespan_files.specs.Errors
 pub use Rattle.codespan_files.specs.FileLaws

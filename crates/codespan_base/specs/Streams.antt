@@ -13,7 +13,7 @@ pub data StyleMark : Type 0 where
   LineNumber : StyleMark
   NoteBullet : StyleMark
   SourceBorder : StyleMark
-  LabelMark : Severity → LabelStyle → StyleMark
+  LabelStyleMark : Severity → LabelStyle → StyleMark
   Reset : StyleMark
 
 -- bytes, style marks, and slots, each of which names a label by its index in the diagnostic's list
@@ -74,8 +74,8 @@ abbrev pub text_of : Stream → List ℕ
 text_of s = spelled no_style_marks s
 
 -- the stream with each slot filled by its label's message
-abbrev pub filled : (ℕ → List ℕ) → Stream → Stream
-filled message [] = []
-filled message (Slot k ∷ s) = map Byte (message k) ++ filled message s
-filled message (Byte b ∷ s) = Byte b ∷ filled message s
-filled message (Mark m ∷ s) = Mark m ∷ filled message s
+abbrev pub with_messages : (ℕ → List ℕ) → Stream → Stream
+with_messages message [] = []
+with_messages message (Slot k ∷ s) = map Byte (message k) ++ with_messages message s
+with_messages message (Byte b ∷ s) = Byte b ∷ with_messages message s
+with_messages message (Mark m ∷ s) = Mark m ∷ with_messages message s

@@ -3,7 +3,7 @@ pub use Rattle.codespan_config.specs.PartStyles.{bright, colored, default_styles
 use Rattle.std.specs.Prelude.{ℕ, List}
 use Rattle.codespan_config.specs.declared.config.color.ColorSpec.{ColorSpec}
 use Rattle.codespan_config.specs.declared.config.styles.Styles.{Styles}
-use Rattle.codespan_base.specs.Streams.{StyleMark, Header, HeaderMessage, LineNumber, NoteBullet, SourceBorder, LabelMark, Reset, Spelling}
+use Rattle.codespan_base.specs.Streams.{StyleMark, Header, HeaderMessage, LineNumber, NoteBullet, SourceBorder, LabelStyleMark, Reset, Spelling}
 use Rattle.codespan_base.specs.Ansi.{ansi_reset, ansi_style}
 
 -- how a writer of colors spells a style mark, by its bytes for each style and for the reset
@@ -13,7 +13,8 @@ spelling_by styles set reset HeaderMessage = set styles.header_message
 spelling_by styles set reset LineNumber = set styles.line_number
 spelling_by styles set reset NoteBullet = set styles.note_bullet
 spelling_by styles set reset SourceBorder = set styles.source_border
-spelling_by styles set reset (LabelMark severity style) = set (label_style styles severity style)
+spelling_by styles set reset (LabelStyleMark severity style) =
+    set (label_style styles severity style)
 spelling_by styles set reset Reset = reset
 
 -- how `Ansi` spells style marks in these styles

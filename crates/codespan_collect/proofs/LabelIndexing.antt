@@ -11,7 +11,7 @@ use Rattle.std.proofs.lemmas.List.Filters.{length-filter_both}
 use Rattle.codespan_base.specs.declared.term.config.Config.{Config}
 use Rattle.codespan_base.specs.FileModel.{FileDatabase, FileModel, line_count}
 use Rattle.codespan_base.specs.LawfulFiles.{IsLawful}
-use Rattle.codespan_base.specs.Labels.{LabelModel, first_line, is_single, last_line, multi_labels}
+use Rattle.codespan_base.specs.Labels.{LabelModel, first_line, is_single, last_line, multi_line_labels}
 use Rattle.codespan_annotations.specs.declared.label_span.LabelSpan.{LabelSpan}
 use Rattle.codespan_annotations.specs.Annotations.{Annotation}
 use Rattle.codespan_collect.specs.LabelAnnotations.{annotations_of}
@@ -128,7 +128,7 @@ module _ {Id : Type 0} (same : Id → Id → Bool) (file : Id → FileModel) whe
       by_same true =
           ap (λ (ls : List LabelModel). num_multi_labels (record { file = file id; labels = ls })) (map-append (λ (y : InFile Id). y.label) own (x ∷ []))
           ∙ ap (λ (ls : List LabelModel). length ls) (filter-append (λ y. not (is_single (file id) y)) labels (x.label ∷ []))
-          ∙ length-append (multi_labels (file id) labels) (multi_labels (file id) (x.label ∷ []))
+          ∙ length-append (multi_line_labels (file id) labels) (multi_line_labels (file id) (x.label ∷ []))
           ∙ ap (λ n. num_multi_labels_of same file before id + n) (one (is_single (file id) x.label))
       by_same false =
           ap (λ (xs : List (InFile Id)). num_multi_labels (record { file = file id; labels = map (λ (y : InFile Id). y.label) xs })) (append-nil own)

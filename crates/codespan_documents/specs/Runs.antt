@@ -3,7 +3,7 @@ use Rattle.std.specs.Prelude.{ℕ, Bool, true, false, List, [], ◌∷◌, ◌++
 use Rattle.std.specs.List.{AllByRecursion, flat_map}
 use Rattle.std.specs.Str.{IsUtf8, chars}
 use Rattle.codespan_base.specs.Streams.{Stream, StyleMark, Byte, Mark, Slot}
-use Rattle.codespan_base.specs.Streams.{Header, HeaderMessage, LineNumber, NoteBullet, SourceBorder, LabelMark, Reset}
+use Rattle.codespan_base.specs.Streams.{Header, HeaderMessage, LineNumber, NoteBullet, SourceBorder, LabelStyleMark, Reset}
 use Rattle.codespan_documents.specs.declared.style.Style.{Style}
 use Rattle.codespan_documents.specs.declared.style.Style.TheVariants as Kinds
 use Rattle.codespan_documents.specs.declared.text.Run.{Run}
@@ -26,7 +26,7 @@ style_after HeaderMessage = Kinds.HeaderMessage
 style_after LineNumber = Kinds.LineNumber
 style_after NoteBullet = Kinds.NoteBullet
 style_after SourceBorder = Kinds.SourceBorder
-style_after (LabelMark severity style) = Kinds.Label severity style
+style_after (LabelStyleMark severity style) = Kinds.Label severity style
 style_after Reset = Kinds.Plain
 
 -- the runs of a stream that continues a run of this style, with this text so far: a byte belongs to

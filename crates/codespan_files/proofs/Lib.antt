@@ -1,9 +1,9 @@
 -- columns, line numbers and line starts
 pub mod ColumnLemmas
-pub mod Settings
-pub mod SetNumbers
+pub mod SetLineNumbers
+pub mod NumbersCountOn
 pub mod LineCuts
 pub mod LineCounts
 pub mod LineRuns
-pub mod LineFailures
+pub mod PastEndFailures
 pub mod Numbers

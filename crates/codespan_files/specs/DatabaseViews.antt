@@ -19,24 +19,25 @@ module _ {Name Source : Type 0} {texts : Ghosts Source} where
   source_of file = file.source
 
   -- the text of a file
-  abbrev pub text_of : SimpleFile Name Source texts → List ℕ
-  text_of file = texts.text file.source
+  abbrev pub file_text_of : SimpleFile Name Source texts → List ℕ
+  file_text_of file = texts.text file.source
 
   -- the file that its lookups return, where `output` is what names display
   abbrev pub file_of : (Name → Option (List ℕ)) → SimpleFile Name Source texts → FileModel
-  file_of output file = simple_file (output (name_of file)) (text_of file)
+  file_of output file = simple_file (output (name_of file)) (file_text_of file)
 
   -- the names and sources of a database's files, in the order of their ids
   abbrev pub entries : SimpleFiles Name Source texts → List (Name × Source)
   entries database = map (λ file. (name_of file, source_of file)) database.files.items
 
   -- the file of an id in a database, where `output` is what names display
-  abbrev pub file_in : (Name → Option (List ℕ)) → SimpleFiles Name Source texts → ℕ → FileModel
-  file_in output database id = database_file output texts.text (entries database) id
+  abbrev pub database_file_of : (Name → Option (List ℕ)) → SimpleFiles Name Source texts → ℕ
+      → FileModel
+  database_file_of output database id = database_file output texts.text (entries database) id
 
   -- what a lookup of an id in a database fails with
-  abbrev pub error_in : SimpleFiles Name Source texts → ℕ → Lookup → Option Error
-  error_in database id lookup = database_failure texts.text (entries database) id lookup
+  abbrev pub database_failure_of : SimpleFiles Name Source texts → ℕ → Lookup → Option Error
+  database_failure_of database id lookup = database_failure texts.text (entries database) id lookup
 
   -- the name of a file whose line numbers are set
   abbrev pub mapped_name_of : MappedFile Name Source texts → Name
@@ -48,18 +49,18 @@ module _ {Name Source : Type 0} {texts : Ghosts Source} where
 
   -- the text of a file whose line numbers are set
   abbrev pub mapped_text_of : MappedFile Name Source texts → List ℕ
-  mapped_text_of file = text_of file.file
+  mapped_text_of file = file_text_of file.file
 
   -- the line indices whose numbers are set, ascending, with these numbers
-  abbrev pub settings_of : MappedFile Name Source texts → List (ℕ × ℕ)
-  settings_of file = file.numbers.items
+  abbrev pub set_numbers_of : MappedFile Name Source texts → List (ℕ × ℕ)
+  set_numbers_of file = file.numbers.items
 
   -- the file that the lookups of one whose line numbers are set return, where `output` is what
   -- names display
   abbrev pub mapped_file_of : (Name → Option (List ℕ)) → MappedFile Name Source texts → FileModel
   mapped_file_of output file =
-      mapped_file (output (mapped_name_of file)) (mapped_text_of file) (settings_of file)
+      mapped_file (output (mapped_name_of file)) (mapped_text_of file) (set_numbers_of file)
 
   -- what a lookup of a file whose line numbers are set fails with
-  abbrev pub mapped_error_of : MappedFile Name Source texts → Lookup → Option Error
-  mapped_error_of file lookup = mapped_failure (mapped_text_of file) (settings_of file) lookup
+  abbrev pub mapped_failure_of : MappedFile Name Source texts → Lookup → Option Error
+  mapped_failure_of file lookup = mapped_failure (mapped_text_of file) (set_numbers_of file) lookup

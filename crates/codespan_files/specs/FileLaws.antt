@@ -29,7 +29,7 @@ ColumnsRise = (text : List ℕ) (start end byte later : ℕ) → byte ≤ later
 
 -- the set number that line i counts from once `line` has `number`, from the one before: lines above
 -- stay, and so do those that count from a line further down
-abbrev pub setting_after : ℕ → ℕ → ℕ → Option (ℕ × ℕ) → Option (ℕ × ℕ)
-setting_after line number i None = if nat_lt i line then None else Some (line, number)
-setting_after line number i (Some s) =
+abbrev pub nearest_set_after : ℕ → ℕ → ℕ → Option (ℕ × ℕ) → Option (ℕ × ℕ)
+nearest_set_after line number i None = if nat_lt i line then None else Some (line, number)
+nearest_set_after line number i (Some s) =
     if nat_lt i line || nat_lt line s.0 then Some s else Some (line, number)

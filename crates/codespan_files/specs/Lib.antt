@@ -5,7 +5,7 @@ pub mod FileModel
 pub mod LawfulFiles
 pub mod SimpleModel
 pub mod MappedModel
-pub mod Settings
+pub mod SetLineNumbers
 pub mod ErrorText
 pub mod Errors
 pub mod FileLaws

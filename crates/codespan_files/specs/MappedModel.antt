@@ -8,7 +8,7 @@ use Rattle.codespan_files.specs.FileModel.{FileModel, Lookup, line_of}
 use Rattle.codespan_files.specs.LawfulFiles.{line_number_failure}
 use Rattle.codespan_files.specs.FileModel.Lookup.{LineNumber, ColumnNumber, LocationAt, LineRange}
 use Rattle.codespan_files.specs.Lines.{line_starts_of, starts_after, column_number_of}
-use Rattle.codespan_files.specs.SimpleModel.{simple_file, line_failure}
+use Rattle.codespan_files.specs.SimpleModel.{simple_file, past_end_failure}
 
 -- the ends of the lines, before their newlines
 abbrev pub mapped_ends : List ℕ → List ℕ
@@ -16,9 +16,9 @@ mapped_ends text = map (λ s. s - 1) (starts_after 0 text) ++ length text ∷ []
 
 -- the set number that line i counts from, with its index: the nearest at the line or above it; the
 -- indices ascend
-abbrev pub setting : List (ℕ × ℕ) → ℕ → Option (ℕ × ℕ)
-setting [] i = None
-setting (s ∷ ss) i = nearer (setting ss i) (if nat_le s.0 i then Some s else None)
+abbrev pub nearest_set : List (ℕ × ℕ) → ℕ → Option (ℕ × ℕ)
+nearest_set [] i = None
+nearest_set (s ∷ ss) i = nearer (nearest_set ss i) (if nat_le s.0 i then Some s else None)
   where
     nearer : Option (ℕ × ℕ) → Option (ℕ × ℕ) → Option (ℕ × ℕ)
     nearer (Some later) earlier = Some later
@@ -51,27 +51,27 @@ mapped_column text = column_number_of text (line_starts_of text) (mapped_ends te
 
 -- the number of the byte's line, and its column number there
 abbrev pub mapped_location : List ℕ → List (ℕ × ℕ) → ℕ → Location
-mapped_location text settings byte =
+mapped_location text set_numbers byte =
     let i = line_of (line_starts_of text) byte in
     record {
-      line_number = number_from (setting settings i) i;
+      line_number = number_from (nearest_set set_numbers i) i;
       column_number = mapped_column text i byte;
     }
 
 -- the file of a name, a text and set numbers
 abbrev pub mapped_file : Option (List ℕ) → List ℕ → List (ℕ × ℕ) → FileModel
-mapped_file name text settings = record (simple_file name text) {
+mapped_file name text set_numbers = record (simple_file name text) {
   ends = mapped_ends text;
-  line_number = λ i. number_from (setting settings i) i;
+  line_number = λ i. number_from (nearest_set set_numbers i) i;
   column_number = mapped_column text;
-  location = mapped_location text settings;
+  location = mapped_location text set_numbers;
 }
 
 -- what a lookup fails with
 abbrev pub mapped_failure : List ℕ → List (ℕ × ℕ) → Lookup → Option Error
-mapped_failure text settings (LineNumber i) = number_failure (setting settings i) i
-mapped_failure text settings (ColumnNumber i byte) = line_failure text i
-mapped_failure text settings (LineRange i) = line_failure text i
-mapped_failure text settings (LocationAt byte) =
-    let i = line_of (line_starts_of text) byte in number_failure (setting settings i) i
-mapped_failure text settings _ = None
+mapped_failure text set_numbers (LineNumber i) = number_failure (nearest_set set_numbers i) i
+mapped_failure text set_numbers (ColumnNumber i byte) = past_end_failure text i
+mapped_failure text set_numbers (LineRange i) = past_end_failure text i
+mapped_failure text set_numbers (LocationAt byte) =
+    let i = line_of (line_starts_of text) byte in number_failure (nearest_set set_numbers i) i
+mapped_failure text set_numbers _ = None

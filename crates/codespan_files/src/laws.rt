@@ -6,9 +6,9 @@
 ghost use Rattle.std.specs.Prelude.{◌≡◌, ℕ, List, Option};
 ghost use Rattle.std.specs.Iterator.{IsFinite, Drains};
 ghost use Rattle.std.specs.Str.{IsUtf8};
-ghost use Rattle.codespan_files.specs.FileLaws.{LinesJoin, LineCountsNewlines, ColumnsRise, setting_after};
-ghost use Rattle.codespan_files.specs.MappedModel.{setting, with_number};
-ghost use Rattle.codespan_files.specs.Settings.{IsStrictlySorted};
+ghost use Rattle.codespan_files.specs.FileLaws.{LinesJoin, LineCountsNewlines, ColumnsRise, nearest_set_after};
+ghost use Rattle.codespan_files.specs.MappedModel.{nearest_set, with_number};
+ghost use Rattle.codespan_files.specs.SetLineNumbers.{IsStrictlySorted};
 ghost use Rattle.codespan_files.specs.LineStarts.{starts_left};
 ghost use Rattle.codespan_files.specs.SimpleModel.{simple_file};
 ghost use Rattle.codespan_files.specs.declared.files.starts.LineStarts.{LineStarts};
@@ -34,9 +34,9 @@ pub fn line_counts_newlines()
 /// [`MappedFile`](codespan_reporting::files::MappedFile), that line and the lines after it count
 /// from there, up to the next line whose number is set; the lines above count as before.
 pub fn set_numbers_count_on()
-    ensures { (settings : List (ℕ × ℕ)) (line number i : ℕ) → IsStrictlySorted settings →
-        setting (with_number line number settings) i
-        ≡ setting_after line number i (setting settings i) }
+    ensures { (set_numbers : List (ℕ × ℕ)) (line number i : ℕ) → IsStrictlySorted set_numbers →
+        nearest_set (with_number line number set_numbers) i
+        ≡ nearest_set_after line number i (nearest_set set_numbers i) }
 {}
 
 /// States that on a line a later byte has no smaller column.

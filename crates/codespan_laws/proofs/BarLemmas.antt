@@ -4,7 +4,7 @@ use Rattle.std.specs.List.{enumerate_from, cons_option}
 use Rattle.std.proofs.lemmas.Bool.Decides.{nat_tests}
 use Rattle.codespan_base.specs.FileModel.{FileModel, line_start, line_text}
 use Rattle.codespan_base.specs.declared.term.config.Layout.{Layout}
-use Rattle.codespan_base.specs.Labels.{LabelModel, first_line, last_line, multi_label_on, lane_mark_of, lane_marks_on, multi_labels, LaneMark, MultiLabel, Top, Left, Bottom}
+use Rattle.codespan_base.specs.Labels.{LabelModel, first_line, last_line, multi_label_on, lane_mark_of, lane_marks_on, multi_line_labels, LaneMark, MultiLabel, Top, Left, Bottom}
 use Rattle.codespan_picture.specs.declared.lanes.Shape.{Shape}
 use Rattle.codespan_picture.specs.declared.lanes.Shape.TheVariants.{Space, Bar, TopCorner}
 use Rattle.codespan_picture.specs.Lanes.{source_shape, empty_shape, lane_mark_in, shape_of}
@@ -106,4 +106,4 @@ bars_are_labels layout s l lane x has several = (
     lane_mark_is : lane_mark_in (lane_marks_on s.file s.labels l) lane ≡ lane_mark_of lane x (multi_label_on s.file l x)
     lane_mark_is =
         ap (lane_mark_in (lane_marks_on s.file s.labels l)) (sym (zero-add lane))
-        ∙ lane_mark_in-from s.file l 0 lane (multi_labels s.file s.labels) ∙ rw (zero-add, has)
+        ∙ lane_mark_in-from s.file l 0 lane (multi_line_labels s.file s.labels) ∙ rw (zero-add, has)

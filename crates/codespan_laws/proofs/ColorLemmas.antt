@@ -2,7 +2,7 @@
 use Rattle.std.proofs.Common.{◌≡◌, ℕ, false, List, [], ◌∷◌, ◌++◌, map, filter, refl, ap, ap₂, ◌∙◌}
 use Rattle.std.proofs.lemmas.List.{map-append}
 use Rattle.codespan_base.specs.declared.term.config.styles.Styles.{Styles}
-use Rattle.codespan_base.specs.Streams.{Stream, Spelling, StyleMark, Byte, Mark, Slot, Header, HeaderMessage, LineNumber, NoteBullet, SourceBorder, LabelMark, Reset, spelled, text_of}
+use Rattle.codespan_base.specs.Streams.{Stream, Spelling, StyleMark, Byte, Mark, Slot, Header, HeaderMessage, LineNumber, NoteBullet, SourceBorder, LabelStyleMark, Reset, spelled, text_of}
 use Rattle.codespan_base.specs.StyleTables.{spelling_by}
 use Rattle.codespan_laws.specs.ColorLaws.{ColorsChangeNoText, NoColorIsPlain, WrittenByte, written_bytes}
 
@@ -48,7 +48,7 @@ nothing styles HeaderMessage = refl
 nothing styles LineNumber = refl
 nothing styles NoteBullet = refl
 nothing styles SourceBorder = refl
-nothing styles (LabelMark severity style) = refl
+nothing styles (LabelStyleMark severity style) = refl
 nothing styles Reset = refl
 
 pub no_color_is_plain : (styles : Styles) (s : Stream) → NoColorIsPlain styles s

@@ -7,7 +7,7 @@ use Rattle.std.proofs.lemmas.List.Sums.{count_by-le-length}
 use Rattle.codespan_base.specs.declared.term.config.Config.{Config}
 use Rattle.codespan_base.specs.declared.term.config.Layout.{Layout}
 use Rattle.codespan_base.specs.FileModel.{FileModel, line_start, line_of, line_count}
-use Rattle.codespan_base.specs.Labels.{LabelModel, is_single, first_line, last_line, multi_label_on, lane_mark_of, lane_marks_on, multi_labels, LaneMark, MultiLabel, Top, Left, Bottom}
+use Rattle.codespan_base.specs.Labels.{LabelModel, is_single, first_line, last_line, multi_label_on, lane_mark_of, lane_marks_on, multi_line_labels, LaneMark, MultiLabel, Top, Left, Bottom}
 use Rattle.codespan_picture.specs.declared.lanes.Shape.TheVariants.{Space, Bar}
 use Rattle.codespan_picture.specs.Lanes.{empty_shape, lane_mark_in, shape_of}
 use Rattle.codespan_picture.specs.Lines.{is_shown, is_drawn, drawn_lines, has_break_between}
@@ -124,10 +124,10 @@ module _ (layout : Layout) (s : LabeledFileModel) (lane : ℕ) (x : LabelModel) 
   lane_mark_at : (l : ℕ) (multi_label : Option MultiLabel) → multi_label_on s.file l x ≡ multi_label → lane_mark_in (lane_marks_on s.file s.labels l) lane ≡ lane_mark_of lane x multi_label
   lane_mark_at l multi_label is =
       ap (lane_mark_in (lane_marks_on s.file s.labels l)) (sym (zero-add lane))
-      ∙ lane_mark_in-from s.file l 0 lane (multi_labels s.file s.labels) ∙ rw (zero-add, has) (ap (lane_mark_of lane x) is)
+      ∙ lane_mark_in-from s.file l 0 lane (multi_line_labels s.file s.labels) ∙ rw (zero-add, has) (ap (lane_mark_of lane x) is)
 
   split_on : (l : ℕ) (multi_label : MultiLabel) → multi_label_on s.file l x ≡ Some multi_label → Split lane (lane_mark_with lane x.style multi_label) (lane_marks_on s.file s.labels l)
-  split_on l multi_label is = split_from s.file l lane 0 lane (multi_labels s.file s.labels) x multi_label (zero-add lane) has is
+  split_on l multi_label is = split_from s.file l lane 0 lane (multi_line_labels s.file s.labels) x multi_label (zero-add lane) has is
 
   -- the label has no multi-line label mark on the line
   abbrev NoLaneMark : ℕ → Type 0

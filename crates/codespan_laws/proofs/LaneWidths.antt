@@ -6,7 +6,7 @@ use Rattle.codespan_base.specs.declared.term.config.chars.Chars.{Chars}
 use Rattle.codespan_base.specs.declared.diagnostic.LabelStyle.TheVariants.{Primary}
 use Rattle.codespan_base.specs.Labels.{LaneMark, MultiLabel}
 use Rattle.std.specs.List.{range_with_len}
-use Rattle.codespan_base.specs.Streams.{Stream, StyleMark, LabelMark, Reset, style_mark, glyph, repeated}
+use Rattle.codespan_base.specs.Streams.{Stream, StyleMark, LabelStyleMark, Reset, style_mark, glyph, repeated}
 use Rattle.codespan_laws.specs.RowLaws.{row_length}
 use Rattle.codespan_picture.specs.declared.lanes.Shape.{Shape}
 use Rattle.codespan_picture.specs.declared.lanes.Shape.TheVariants.{Space, Bar, TopCorner, BottomCorner}
@@ -26,11 +26,11 @@ row_length-crossing_cells : (severity : Severity) (chars : Chars) (crossing : Op
 unfolding crossing_cells
 row_length-crossing_cells severity chars None n = row_length-spaces n
 row_length-crossing_cells severity chars (Some m) n =
-    between_marks (LabelMark severity m.style) (repeated n (underline_char chars m.multi_label)) ∙ row_length-repeated n (underline_char chars m.multi_label)
+    between_marks (LabelStyleMark severity m.style) (repeated n (underline_char chars m.multi_label)) ∙ row_length-repeated n (underline_char chars m.multi_label)
 
 pub row_length-label_glyph : (severity : Severity) (style : LabelStyle) (c : ℕ) → row_length (label_glyph severity style c) ≡ 1
 unfolding label_glyph
-row_length-label_glyph severity style c = between_marks (LabelMark severity style) (glyph c) ∙ row_length-glyph c
+row_length-label_glyph severity style c = between_marks (LabelStyleMark severity style) (glyph c) ∙ row_length-glyph c
 
 -- a filled cell and the lane's own character
 filled_and_own : (severity : Severity) (chars : Chars) (crossing : Option LaneMark) (style : LabelStyle) (own : ℕ)

@@ -3,7 +3,7 @@ use Rattle.std.proofs.Common.{◌≡◌, ℕ, [], ◌++◌, flat_map, Option, No
 use Rattle.std.proofs.lemmas.Option.{none-some, same_Some}
 use Rattle.std.specs.List.{range_with_len}
 use Rattle.codespan_base.specs.Labels.{LabelModel, LaneMark, MultiLabel}
-use Rattle.codespan_base.specs.Streams.{Stream, LabelMark, Reset, style_mark, space}
+use Rattle.codespan_base.specs.Streams.{Stream, LabelStyleMark, Reset, style_mark, space}
 use Rattle.codespan_picture.specs.declared.lanes.Shape.{Shape}
 use Rattle.codespan_picture.specs.Lanes.{Source, Empty, Below, Underline, row_shape, row_crossing, source_shape, empty_shape, below_shape, lane_mark_in, shape_of, style_of_lane_mark, lane_cells}
 use Rattle.codespan_picture.specs.Rows.{RowContext, Lanes, Line, Row, HeaderRow, SnippetStartRow, EmptyRow, BreakRow, SourceRow, CaretRow, PointerRow, HangingRow, UnderlineRow, FirstNoteRow, LaterNoteRow, FinalRow, trailing_label}
@@ -112,7 +112,7 @@ underline_shows context line m =
     shows context (UnderlineRow line m) line.lanes
     (more _ _ _
     (more _ _ _
-    (more _ _ _ (alone (outer_gutter context.padding ++ border_left context.chars) _ _ (underline_are context line m)) (style_mark (LabelMark context.severity m.style)))
+    (more _ _ _ (alone (outer_gutter context.padding ++ border_left context.chars) _ _ (underline_are context line m)) (style_mark (LabelStyleMark context.severity m.style)))
     (underline context.chars m.style (line_metrics context line) m.multi_label))
     (style_mark Reset))
 

@@ -7,7 +7,7 @@ use Rattle.std.proofs.lemmas.List.Sums.{sum_by-cons, sum_by-append}
 use Rattle.std.proofs.lemmas.List.Sorted.{sum_by-IsPermutation, IsPermutation-reverse}
 use Rattle.codespan_base.specs.FileModel.{FileModel, line_start}
 use Rattle.codespan_base.specs.Streams.{Stream}
-use Rattle.codespan_base.specs.Labels.{LabelModel, has_message, is_empty_stream, LaneMark, MultiLabel, Top, Left, Bottom, first_line, last_line, is_single, drawn_label, multi_labels, range_precedes, insert_sorted, sorted, single_labels, multi_label_on, lane_mark_of}
+use Rattle.codespan_base.specs.Labels.{LabelModel, has_message, is_empty_stream, LaneMark, MultiLabel, Top, Left, Bottom, first_line, last_line, is_single, drawn_label, multi_line_labels, range_precedes, insert_sorted, sorted, single_labels, multi_label_on, lane_mark_of}
 use Rattle.codespan_picture.specs.CharMetrics.{leading_whitespace}
 use Rattle.codespan_picture.specs.Rows.{Line, SourceRow, CaretRow, PointerRow, HangingRow, UnderlineRow, trailing_label, hanging_labels, has_underline, caret_rows, hanging_rows, underline_rows, rows_of}
 use Rattle.codespan_picture.specs.Snippets.{LabeledFileModel, line_at}
@@ -198,7 +198,7 @@ labels_on_line k s l =
       arith,
       line_sum k (line_at s l),
       single_sum k s.file s.labels l,
-      lane_mark_sum k s.file l 0 (multi_labels s.file s.labels),
+      lane_mark_sum k s.file l 0 (multi_line_labels s.file s.labels),
       sum-filter (λ x. any_multi_label_slots k (multi_label_on s.file l x)) (λ x. not (is_single s.file x)) s.labels,
       sum-add (λ x. cond (is_here s.file l x) (label_slots k x) 0) (λ x. cond (not (is_single s.file x)) (any_multi_label_slots k (multi_label_on s.file l x)) 0) s.labels,
       sum-ext (λ x. cond (is_here s.file l x) (label_slots k x) 0 + cond (not (is_single s.file x)) (any_multi_label_slots k (multi_label_on s.file l x)) 0) (on_line k s.file l)

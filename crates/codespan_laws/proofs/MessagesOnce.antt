@@ -15,7 +15,7 @@ use Rattle.std.specs.Cmp.{IsEquivalence}
 use Rattle.std.specs.Option.{option_map_or}
 use Rattle.std.specs.List.{AllZip}
 use Rattle.std.proofs.lemmas.List.{length-map}
-use Rattle.codespan_base.specs.Streams.{Stream, Byte, Slot, bytes, text_of, filled}
+use Rattle.codespan_base.specs.Streams.{Stream, Byte, Slot, bytes, text_of, with_messages}
 use Rattle.codespan_base.specs.Labels.{LabelModel, has_message, is_empty_stream, last_line, first_seen}
 use Rattle.codespan_picture.specs.Lines.{drawn_lines}
 use Rattle.codespan_picture.specs.Rows.{HeaderText, Locus, RowContext}
@@ -128,9 +128,9 @@ unnamed {Id = Id} xs plain k none = by_label (slice_get xs k) refl none
 refill_one : (m : ℕ → List ℕ) (k : ℕ) (t : List ℕ) (message : Stream) → message ≡ bytes t → m k ≡ nonempty t
     → fill m (if is_empty_stream message then [] else Slot k ∷ []) ≡ message
 unfolding fill bytes
-refill_one m k [] message is at = ap (λ (s : Stream). filled m (if is_empty_stream s then [] else Slot k ∷ [])) is ∙ sym is
+refill_one m k [] message is at = ap (λ (s : Stream). with_messages m (if is_empty_stream s then [] else Slot k ∷ [])) is ∙ sym is
 refill_one m k (b ∷ bs) message is at =
-    ap (λ (s : Stream). filled m (if is_empty_stream s then [] else Slot k ∷ [])) is
+    ap (λ (s : Stream). with_messages m (if is_empty_stream s then [] else Slot k ∷ [])) is
     ∙ append-nil (map Byte (m k)) ∙ ap (map Byte) at ∙ sym is
 
 refilled : {Id : Type 0} (φ : Stream → Stream) (k n : ℕ) (xs : List (InFile Id))

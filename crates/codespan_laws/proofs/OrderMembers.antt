@@ -6,7 +6,7 @@ use Rattle.std.proofs.Math.Bool.{or-false, or_assoc}
 use Rattle.std.proofs.lemmas.Bool.{cases_Bool, eq-eqb, or_right}
 use Rattle.std.proofs.lemmas.Bool.Decides.{nat_tests}
 use Rattle.codespan_base.specs.FileModel.{FileModel}
-use Rattle.codespan_base.specs.Labels.{LabelModel, is_primary, is_single, first_line, drawn_label, multi_labels, single_labels}
+use Rattle.codespan_base.specs.Labels.{LabelModel, is_primary, is_single, first_line, drawn_label, multi_line_labels, single_labels}
 use Rattle.codespan_laws.specs.OrderLaws.{is_drawn_at}
 use Rattle.codespan_picture.specs.Snippets.{least, if_any, locus_start}
 use Rattle.codespan_laws.proofs.OrderSorts.{has_range, sorted-same}
@@ -23,7 +23,7 @@ is_inside f l start end x = is_single f x && (first_line f x == l) && is_drawn_a
 
 -- the orders of a file's labels that its snippet shows
 pub record AreEqual (f : FileModel) (xs ys : List LabelModel) : Type 0 where
-  pub several_lines : multi_labels f xs ≡ multi_labels f ys
+  pub several_lines : multi_line_labels f xs ≡ multi_line_labels f ys
   pub one_line : (l start end : ℕ) → filter (is_inside f l start end) xs ≡ filter (is_inside f l start end) ys
 
 -- ---- the same labels

@@ -13,7 +13,7 @@ use Rattle.codespan_base.specs.declared.term.config.DisplayStyle.{DisplayStyle}
 use Rattle.codespan_base.specs.declared.term.config.DisplayStyle.TheVariants.{Rich, Medium, Short}
 use Rattle.codespan_base.specs.FileModel.{FileDatabase, FileModel, line_text}
 use Rattle.codespan_base.specs.LawfulFiles.{IsLawful}
-use Rattle.codespan_base.specs.Labels.{LabelModel, LaneMark, Top, Left, Bottom, drawn_label, first_line, has_message, is_single, lane_mark_of, multi_labels, multi_label_at, multi_label_on, insert_sorted, single_labels, sorted, range_precedes}
+use Rattle.codespan_base.specs.Labels.{LabelModel, LaneMark, Top, Left, Bottom, drawn_label, first_line, has_message, is_single, lane_mark_of, multi_line_labels, multi_label_at, multi_label_on, insert_sorted, single_labels, sorted, range_precedes}
 use Rattle.codespan_picture.specs.Lines.{drawn_lines}
 use Rattle.codespan_picture.specs.Padding.{padding_of}
 use Rattle.codespan_picture.specs.OutputStreams.{NamesAreTexts, files_of, header_text_of, label_of, labels_of, context_of, notes_of, output, locus_starts}
@@ -125,7 +125,7 @@ module _ (s : LabeledFileModel) (ok : IsTextFile s) where
   line-text l = record {
     text = drawn-utf8 (line_text s.file l) (line-utf8 s.file ok.lawful l);
     labels = text_message-single s.file s.labels ok.labels l;
-    lane_marks = text_message-lane_marks s.file s.labels ok.labels l 0 (multi_labels s.file s.labels) (all-filter HasTextMessage (λ x. not (is_single s.file x)) s.labels ok.labels);
+    lane_marks = text_message-lane_marks s.file s.labels ok.labels l 0 (multi_line_labels s.file s.labels) (all-filter HasTextMessage (λ x. not (is_single s.file x)) s.labels ok.labels);
   }
 
   rows-lines : (previous : Option ℕ) (ls : List ℕ) → AllByRecursion IsTextRow (rows_after s previous ls)

@@ -14,7 +14,7 @@ use Rattle.codespan_base.specs.declared.diagnostic.Severity.{Severity}
 use Rattle.codespan_base.specs.declared.diagnostic.LabelStyle.{LabelStyle}
 use Rattle.codespan_base.specs.declared.term.config.chars.Chars.{Chars}
 use Rattle.codespan_base.specs.Labels.{LabelModel}
-use Rattle.codespan_base.specs.Streams.{LabelMark, Reset, style_mark, glyph, spaces, text_of}
+use Rattle.codespan_base.specs.Streams.{LabelStyleMark, Reset, style_mark, glyph, spaces, text_of}
 use Rattle.codespan_picture.specs.declared.char_metrics.Metrics.{Metrics}
 use Rattle.codespan_picture.specs.CharMetrics.{width_of}
 use Rattle.codespan_picture.specs.Lanes.{label_glyph}
@@ -207,8 +207,8 @@ text_of-spaces_up_to byte_index n c = by_test (nat_le c.byte_index byte_index)
 text_of-label_glyph : (severity : Severity) (style : LabelStyle) (c : ℕ) → text_of (label_glyph severity style c) ≡ encode_utf8 c
 unfolding label_glyph
 text_of-label_glyph severity style c =
-    text_of-append (style_mark (LabelMark severity style) ++ glyph c) (style_mark Reset)
-    ∙ ap₂ (λ s t. s ++ t) (text_of-append (style_mark (LabelMark severity style)) (glyph c) ∙ ap₂ (λ s t. s ++ t) (text_of-style_mark _) (text_of-glyph c)) (text_of-style_mark _)
+    text_of-append (style_mark (LabelStyleMark severity style) ++ glyph c) (style_mark Reset)
+    ∙ ap₂ (λ s t. s ++ t) (text_of-append (style_mark (LabelStyleMark severity style)) (glyph c) ∙ ap₂ (λ s t. s ++ t) (text_of-style_mark _) (text_of-glyph c)) (text_of-style_mark _)
     ∙ append-nil (encode_utf8 c)
 
 module _ (context : RowContext) (labels : List LabelModel) where

@@ -9,7 +9,7 @@ use Rattle.codespan_base.specs.declared.term.config.Layout.{Layout}
 use Rattle.codespan_base.specs.declared.term.config.Layout.TheVariants.{Classic, Unbroken}
 use Rattle.codespan_base.specs.FileModel.{FileModel, line_count, line_start}
 use Rattle.codespan_base.specs.Streams.{Stream}
-use Rattle.codespan_base.specs.Labels.{LabelModel, is_empty_stream, LaneMark, MultiLabel, Top, Left, Bottom, first_line, last_line, is_single, drawn_label, first_seen, multi_labels, range_precedes, insert_sorted, sorted, single_labels, multi_label_on, lane_mark_of, lane_marks_on}
+use Rattle.codespan_base.specs.Labels.{LabelModel, is_empty_stream, LaneMark, MultiLabel, Top, Left, Bottom, first_line, last_line, is_single, drawn_label, first_seen, multi_line_labels, range_precedes, insert_sorted, sorted, single_labels, multi_label_on, lane_mark_of, lane_marks_on}
 use Rattle.codespan_picture.specs.CharMetrics.{leading_whitespace}
 use Rattle.codespan_picture.specs.Lines.{shows, is_shown, drawn_lines, has_break_between}
 use Rattle.codespan_picture.specs.Rows.{Locus, HeaderText, Lanes, Line, HeaderRow, SnippetStartRow, EmptyRow, BreakRow, SourceRow, PointerRow, HangingRow, UnderlineRow, FirstNoteRow, LaterNoteRow, FinalRow, hanging_labels, has_underline, caret_rows, hanging_rows, underline_rows, rows_of}
@@ -107,7 +107,7 @@ module _ (φ : Stream → Stream) (keeps : (s : Stream) → is_empty_stream (φ 
       ∙ ap sorted (reverse-map (re φ) (map (drawn_label f) (filter p xs)))
       ∙ sorted-re (reverse (map (drawn_label f) (filter p xs)))
 
-  multi-re : (f : FileModel) (xs : List LabelModel) → multi_labels f (map (re φ) xs) ≡ map (re φ) (multi_labels f xs)
+  multi-re : (f : FileModel) (xs : List LabelModel) → multi_line_labels f (map (re φ) xs) ≡ map (re φ) (multi_line_labels f xs)
   multi-re f xs = filter-map (λ x. not (is_single f x)) (re φ) xs
 
   multi_label-on : (f : FileModel) (l : ℕ) (x : LabelModel) → multi_label_on f l (re φ x) ≡ option_map (re_multi_label φ) (multi_label_on f l x)
@@ -137,10 +137,10 @@ module _ (φ : Stream → Stream) (keeps : (s : Stream) → is_empty_stream (φ 
   lane_marks-re : (f : FileModel) (xs : List LabelModel) (l : ℕ) → lane_marks_on f (map (re φ) xs) l ≡ map (re_lane_mark φ) (lane_marks_on f xs l)
   lane_marks-re f xs l =
       ap (λ ys. filter_map (λ (entry : ℕ × LabelModel). lane_mark_of entry.0 entry.1 (multi_label_on f l entry.1)) (enumerate_from 0 ys)) (multi-re f xs)
-      ∙ lane_marks-from f l 0 (multi_labels f xs)
+      ∙ lane_marks-from f l 0 (multi_line_labels f xs)
 
   lanes-count : (s : LabeledFileModel) → num_multi_labels (re_file φ s) ≡ num_multi_labels s
-  lanes-count s = ap length (multi-re s.file s.labels) ∙ same-length (re φ) (multi_labels s.file s.labels)
+  lanes-count s = ap length (multi-re s.file s.labels) ∙ same-length (re φ) (multi_line_labels s.file s.labels)
 
   bare-re : (s : LabeledFileModel) → re_lanes φ (empty_lanes s) ≡ empty_lanes (re_file φ s)
   bare-re s = ap {B = Lanes} (λ n. record { count = n; lane_marks = [] }) (sym (lanes-count s))

@@ -5,7 +5,7 @@ use Rattle.std.proofs.lemmas.Bool.Decides.{nat_tests}
 use Rattle.codespan_base.specs.declared.diagnostic.Severity.{Severity}
 use Rattle.codespan_base.specs.declared.diagnostic.LabelStyle.{LabelStyle}
 use Rattle.codespan_base.specs.declared.term.config.chars.Chars.{Chars}
-use Rattle.codespan_base.specs.Streams.{Stream, Item, Byte, Mark, Slot, LabelMark, Reset, style_mark, space, glyph, repeated, newline, filled}
+use Rattle.codespan_base.specs.Streams.{Stream, Item, Byte, Mark, Slot, LabelStyleMark, Reset, style_mark, space, glyph, repeated, newline, with_messages}
 use Rattle.codespan_base.specs.Labels.{LabelModel, is_empty_stream, MultiLabel, Top, Left, Bottom}
 use Rattle.codespan_picture.specs.declared.char_metrics.Metrics.{Metrics}
 use Rattle.codespan_picture.specs.CharMetrics.{width_of}
@@ -20,9 +20,9 @@ use Rattle.codespan_picture.specs.Lanes.{Underline}
 
 -- the stream with each slot filled, shut
 unfoldable pub fill : (ℕ → List ℕ) → Stream → Stream
-fill m s = filled m s
+fill m s = with_messages m s
 
-pub fill-is : (m : ℕ → List ℕ) (s : Stream) → filled m s ≡ fill m s
+pub fill-is : (m : ℕ → List ℕ) (s : Stream) → with_messages m s ≡ fill m s
 unfolding fill
 fill-is m s = refl
 
@@ -31,7 +31,7 @@ unfolding fill
 fill-append m [] t = refl
 fill-append m (Byte b ∷ s) t = ap (λ (r : Stream). Byte b ∷ r) (fill-append m s t)
 fill-append m (Mark a ∷ s) t = ap (λ (r : Stream). Mark a ∷ r) (fill-append m s t)
-fill-append m (Slot k ∷ s) t = ap (λ (r : Stream). map Byte (m k) ++ r) (fill-append m s t) ∙ sym (append_assoc (map Byte (m k)) (filled m s) (filled m t))
+fill-append m (Slot k ∷ s) t = ap (λ (r : Stream). map Byte (m k) ++ r) (fill-append m s t) ∙ sym (append_assoc (map Byte (m k)) (with_messages m s) (with_messages m t))
 
 slots-cons : (k : ℕ) (i : Item) (s : Stream) → slots k (i ∷ s) ≡ cond (is_slot k i) 1 0 + slots k s
 unfolding slots
@@ -85,7 +85,7 @@ module _ (m : ℕ → List ℕ) (full : (k : ℕ) → is_empty_stream (map Byte 
   keeps [] = refl
   keeps (Byte b ∷ s) = refl
   keeps (Mark a ∷ s) = refl
-  keeps (Slot k ∷ s) = blank-append (map Byte (m k)) (filled m s) (full k)
+  keeps (Slot k ∷ s) = blank-append (map Byte (m k)) (with_messages m s) (full k)
 
   join : (s t : Stream) {s' t' : Stream} → fill m s ≡ s' → fill m t ≡ t' → fill m (s ++ t) ≡ s' ++ t'
   join s t p q = fill-append m s t ∙ ap₂ (λ a b. a ++ b) p q
@@ -100,15 +100,15 @@ module _ (m : ℕ → List ℕ) (full : (k : ℕ) → is_empty_stream (map Byte 
   opened : (context : RowContext) (line : Line) → fill m (row_start context line) ≡ row_start context (re_line (fill m) line)
   opened context line = without_slots (row_start context line) (λ k. slot.slots-row_start k context line) (row_start-re context line)
 
-  one-lane_mark : (a : _) → fill m (style_mark a) ≡ style_mark a
-  one-lane_mark a = without_slots (style_mark a) (λ k. slot.slots-style_mark k a) refl
+  one-style_mark : (a : _) → fill m (style_mark a) ≡ style_mark a
+  one-style_mark a = without_slots (style_mark a) (λ k. slot.slots-style_mark k a) refl
 
   one-space : fill m space ≡ space
   one-space = without_slots space (λ k. slot.slots-bytes k (32 ∷ [])) refl
 
   message-re : (severity : Severity) (style : LabelStyle) (message : Stream) → fill m (label_message severity style message) ≡ label_message severity style (fill m message)
   unfolding label_message
-  message-re severity style message = join _ _ (join _ _ (one-lane_mark (LabelMark severity style)) refl) (one-lane_mark Reset)
+  message-re severity style message = join _ _ (join _ _ (one-style_mark (LabelStyleMark severity style)) refl) (one-style_mark Reset)
 
   trailing_label-message-re : (severity : Severity) (x : Option LabelModel) → fill m (trailing_message severity x) ≡ trailing_message severity (option_map (re (fill m)) x)
   unfolding trailing_message
@@ -166,9 +166,9 @@ module _ (m : ℕ → List ℕ) (full : (k : ℕ) → is_empty_stream (map Byte 
       (without_slots (border_left context.chars) (λ k. slot.slots-border_left k context.chars) refl))
       (without_slots (inner_gutter context (leading_of line) (Underline a) line.lanes) (λ k. slot.slots-inner_gutter k context (leading_of line) (Underline a) line.lanes)
       (underline_lanes-re (fill m) keeps context (leading_of line) a line.lanes)))
-      (one-lane_mark (LabelMark context.severity a.style)))
+      (one-style_mark (LabelStyleMark context.severity a.style)))
       (underline-re context.chars a.style (line_metrics context line) a.multi_label))
-      (one-lane_mark Reset)
+      (one-style_mark Reset)
   fill-row context (FirstNoteRow piece) = without_slots _ (λ k. slot.slots-stream_of k context (FirstNoteRow piece)) refl
   fill-row context (LaterNoteRow piece) = without_slots _ (λ k. slot.slots-stream_of k context (LaterNoteRow piece)) refl
   fill-row context FinalRow = without_slots [] (λ k. slot.slots-nil k) refl

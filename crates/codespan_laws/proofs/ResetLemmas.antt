@@ -7,7 +7,7 @@ use Rattle.codespan_base.specs.declared.diagnostic.LabelStyle.{LabelStyle}
 use Rattle.codespan_base.specs.declared.diagnostic.LabelStyle.TheVariants.{Primary, Secondary}
 use Rattle.codespan_base.specs.declared.term.config.chars.Chars.{Chars}
 use Rattle.codespan_base.specs.Labels.{LabelModel, LaneMark, MultiLabel}
-use Rattle.codespan_base.specs.Streams.{Stream, StyleMark, Byte, Mark, Slot, Reset, LabelMark, bytes, style_mark, spaces, repeated, glyph, space}
+use Rattle.codespan_base.specs.Streams.{Stream, StyleMark, Byte, Mark, Slot, Reset, LabelStyleMark, bytes, style_mark, spaces, repeated, glyph, space}
 use Rattle.codespan_picture.specs.declared.char_metrics.Metrics.{Metrics}
 use Rattle.codespan_picture.specs.Carets.{style_under, max_label_end}
 use Rattle.codespan_picture.specs.declared.lanes.Shape.{Shape}
@@ -63,11 +63,11 @@ closes-in_style m s = closes-reset (style_mark m ++ s)
 closes-crossing_cells : (severity : Severity) (chars : Chars) (crossing : Option LaneMark) (n : ℕ) → Closes (crossing_cells severity chars crossing n)
 unfolding crossing_cells
 closes-crossing_cells severity chars None n = record { closed = ends_reset-spaces true n }
-closes-crossing_cells severity chars (Some m) n = closes-in_style (LabelMark severity m.style) _
+closes-crossing_cells severity chars (Some m) n = closes-in_style (LabelStyleMark severity m.style) _
 
 pub closes-label_glyph : (severity : Severity) (style : LabelStyle) (c : ℕ) → Closes (label_glyph severity style c)
 unfolding label_glyph
-closes-label_glyph severity style c = closes-in_style (LabelMark severity style) (glyph c)
+closes-label_glyph severity style c = closes-in_style (LabelStyleMark severity style) (glyph c)
 
 closes-lane_cells : (severity : Severity) (chars : Chars) (crossing : Option LaneMark) (style : LabelStyle) (shape : Shape) → Closes (lane_cells severity chars crossing style shape)
 unfolding lane_cells
@@ -154,7 +154,7 @@ closes-colored_text context line = record { closed = ends_reset-styled context.s
 
 closes-label_message : (severity : Severity) (style : LabelStyle) (message : Stream) → Closes (label_message severity style message)
 unfolding label_message
-closes-label_message severity style message = closes-in_style (LabelMark severity style) message
+closes-label_message severity style message = closes-in_style (LabelStyleMark severity style) message
 
 closes-trailing_message : (severity : Severity) (x : Option LabelModel) → Closes (trailing_message severity x)
 unfolding trailing_message

@@ -14,7 +14,7 @@ use Rattle.codespan_base.specs.declared.diagnostic.Severity.{Severity}
 use Rattle.codespan_base.specs.declared.term.config.chars.Chars.{Chars}
 use Rattle.codespan_base.specs.SnippetStarts.{start_text}
 use Rattle.codespan_base.specs.Labels.{LabelModel, LaneMark, MultiLabel, Top, Left, Bottom}
-use Rattle.codespan_base.specs.Streams.{Stream, Header, HeaderMessage, NoteBullet, SourceBorder, LabelMark, Reset, glyph, bytes, spaces, space, newline}
+use Rattle.codespan_base.specs.Streams.{Stream, Header, HeaderMessage, NoteBullet, SourceBorder, LabelStyleMark, Reset, glyph, bytes, spaces, space, newline}
 use Rattle.codespan_picture.specs.declared.char_metrics.Metrics.{Metrics}
 use Rattle.codespan_picture.specs.declared.lanes.Shape.{Shape}
 use Rattle.codespan_picture.specs.declared.lanes.Shape.TheVariants.{Space, Bar, TopCorner, BottomCorner}
@@ -28,7 +28,7 @@ use Rattle.codespan_laws.specs.TextLaws.{IsText, AreCharacters}
 use Rattle.codespan_laws.proofs.LaneLineLemmas.{each_all}
 use Rattle.codespan_picture.proofs.Rightmost.{Around, around_trails, around_rightmost, trailing_of, around_is, trailing_is}
 use Rattle.codespan_laws.proofs.ListElements.{all-weaker}
-use Rattle.codespan_laws.proofs.StreamTexts.{pieces, text-none, text-both, followed, text-bytes, text-lane_mark, text-glyph, text-space, text-newline, text-colon_space, text-open, text-close, text-spaces, text-repeated, text-each, text-severity, text-locus, text-outer_gutter, text-outer_gutter_number, text-border_left, text-border_left_break, text-styled, text-label_message}
+use Rattle.codespan_laws.proofs.StreamTexts.{pieces, text-none, text-both, followed, text-bytes, text-style_mark, text-glyph, text-space, text-newline, text-colon_space, text-open, text-close, text-spaces, text-repeated, text-each, text-severity, text-locus, text-outer_gutter, text-outer_gutter_number, text-border_left, text-border_left_break, text-styled, text-label_message}
 
 -- ---- lanes
 
@@ -230,9 +230,9 @@ module _ (context : RowContext) (ok : AreCharacters context.chars) where
   pub text-row : (row : Row) → IsTextRow row → IsText (stream_of context row)
   unfolding header_row snippet_start_row empty_row break_row source_row caret_row pointer_row hanging_row underline_row first_note_row later_note_row
   text-row (HeaderRow at header_text) h =
-      followed (followed (followed (followed (followed (followed (followed (text-leading_locus at h.0) (text-lane_mark (Header context.severity))) (text-severity context.severity)) (text-bracketed header_text.code h.1)) (text-lane_mark HeaderMessage)) text-colon_space) (text-bytes header_text.message h.2)) (text-lane_mark Reset)
+      followed (followed (followed (followed (followed (followed (followed (text-leading_locus at h.0) (text-style_mark (Header context.severity))) (text-severity context.severity)) (text-bracketed header_text.code h.1)) (text-style_mark HeaderMessage)) text-colon_space) (text-bytes header_text.message h.2)) (text-style_mark Reset)
   text-row (SnippetStartRow at) h =
-      followed (followed (followed (followed (followed (text-outer_gutter context.padding) (text-lane_mark SourceBorder)) (text-bytes (start_text context.chars.snippet_start) ok.snippet_start)) (text-lane_mark Reset)) text-space) (text-locus at h)
+      followed (followed (followed (followed (followed (text-outer_gutter context.padding) (text-style_mark SourceBorder)) (text-bytes (start_text context.chars.snippet_start) ok.snippet_start)) (text-style_mark Reset)) text-space) (text-locus at h)
   text-row (EmptyRow lanes) h =
       followed (followed (text-outer_gutter context.padding) (text-border_left context.chars ok)) (text-inner_gutter 0 Empty lanes)
   text-row (BreakRow lanes) h =
@@ -246,9 +246,9 @@ module _ (context : RowContext) (ok : AreCharacters context.chars) where
   text-row (HangingRow line x) h =
       followed (followed (text-row_start line) (text-pointers line.labels (metrics_before x.start (line_metrics context line)))) (text-label_message context.severity x.style x.message h)
   text-row (UnderlineRow line m) h =
-      followed (followed (followed (followed (followed (text-outer_gutter context.padding) (text-border_left context.chars ok)) (text-inner_gutter (leading_of line) (Underline m) line.lanes)) (text-lane_mark (LabelMark context.severity m.style))) (text-underline m.style (line_metrics context line) m.multi_label h)) (text-lane_mark Reset)
+      followed (followed (followed (followed (followed (text-outer_gutter context.padding) (text-border_left context.chars ok)) (text-inner_gutter (leading_of line) (Underline m) line.lanes)) (text-style_mark (LabelStyleMark context.severity m.style))) (text-underline m.style (line_metrics context line) m.multi_label h)) (text-style_mark Reset)
   text-row (FirstNoteRow piece) h =
-      followed (followed (followed (followed (followed (text-outer_gutter context.padding) (text-lane_mark NoteBullet)) (text-glyph context.chars.note_bullet ok.note_bullet)) (text-lane_mark Reset)) text-space) (text-bytes piece h)
+      followed (followed (followed (followed (followed (text-outer_gutter context.padding) (text-style_mark NoteBullet)) (text-glyph context.chars.note_bullet ok.note_bullet)) (text-style_mark Reset)) text-space) (text-bytes piece h)
   text-row (LaterNoteRow piece) h =
       followed (followed (followed (text-outer_gutter context.padding) text-space) text-space) (text-bytes piece h)
   text-row FinalRow h = text-none

@@ -14,7 +14,7 @@ use Rattle.codespan_base.specs.declared.diagnostic.LabelStyle.TheVariants.{Prima
 use Rattle.codespan_base.specs.declared.diagnostic.Severity.{Severity}
 use Rattle.codespan_base.specs.declared.diagnostic.Severity.TheVariants.{Bug, Error, Warning, Note, Help}
 use Rattle.codespan_base.specs.declared.term.config.chars.Chars.{Chars}
-use Rattle.codespan_base.specs.Streams.{Stream, Byte, Mark, Slot, StyleMark, LabelMark, Reset, style_mark, glyph, bytes, spaces, space, repeated, newline, text_of}
+use Rattle.codespan_base.specs.Streams.{Stream, Byte, Mark, Slot, StyleMark, LabelStyleMark, Reset, style_mark, glyph, bytes, spaces, space, repeated, newline, text_of}
 use Rattle.codespan_picture.specs.declared.char_metrics.Metrics.{Metrics}
 use Rattle.codespan_picture.specs.Rows.{Locus}
 use Rattle.codespan_picture.specs.RowParts.{severity_name, locus, outer_gutter, outer_gutter_number, border_left, border_left_break, change, styled, label_message}
@@ -64,9 +64,9 @@ unfolding bytes
 text-bytes bs u = record { utf8 = subst IsUtf8 (sym (text_of-bytes bs)) u; between_marks = after-bytes [] bs u }
 
 -- a style mark
-pub text-lane_mark : (m : StyleMark) → IsText (style_mark m)
+pub text-style_mark : (m : StyleMark) → IsText (style_mark m)
 unfolding style_mark
-text-lane_mark m = record { utf8 = subst IsUtf8 (sym (text_of-style_mark m)) IsUtf8-nil; between_marks = (IsUtf8-nil, IsUtf8-nil) }
+text-style_mark m = record { utf8 = subst IsUtf8 (sym (text_of-style_mark m)) IsUtf8-nil; between_marks = (IsUtf8-nil, IsUtf8-nil) }
 
 -- a character
 pub text-glyph : (c : ℕ) → IsScalar c → IsText (glyph c)
@@ -145,7 +145,7 @@ pub text-decimal : (n : ℕ) → IsText (bytes (decimal n))
 unfolding digits
 text-decimal n = text-bytes (decimal n) (IsUtf8-from_ascii (decimal n) (ascii-digits 64 n [] IsAscii-nil))
 
-pub ruleset pieces = (text-none, text-both, text-bytes, text-lane_mark, text-glyph, text-space, text-newline, text-colon, text-colon_space, text-open, text-close, text-spaces, text-repeated, text-decimal)
+pub ruleset pieces = (text-none, text-both, text-bytes, text-style_mark, text-glyph, text-space, text-newline, text-colon, text-colon_space, text-open, text-close, text-spaces, text-repeated, text-decimal)
 
 -- ---- parts of rows
 
@@ -180,12 +180,12 @@ text-border_left_break chars ok = search (pieces, ok.source_border_left_break)
 text-change : (severity : Severity) (a b : Option LabelStyle) → IsText (change severity a b)
 unfolding change
 text-change severity None None = text-none
-text-change severity None (Some style) = text-lane_mark (LabelMark severity style)
-text-change severity (Some style) None = text-lane_mark Reset
+text-change severity None (Some style) = text-style_mark (LabelStyleMark severity style)
+text-change severity (Some style) None = text-style_mark Reset
 text-change severity (Some Primary) (Some Primary) = text-none
 text-change severity (Some Secondary) (Some Secondary) = text-none
-text-change severity (Some Primary) (Some Secondary) = text-lane_mark (LabelMark severity Secondary)
-text-change severity (Some Secondary) (Some Primary) = text-lane_mark (LabelMark severity Primary)
+text-change severity (Some Primary) (Some Secondary) = text-style_mark (LabelStyleMark severity Secondary)
+text-change severity (Some Secondary) (Some Primary) = text-style_mark (LabelStyleMark severity Primary)
 
 pub text-styled : (severity : Severity) (style : Metrics → Option LabelStyle) (shown : Metrics → Stream) (previous : Option LabelStyle) (cs : List Metrics)
     → AllByRecursion (λ c. IsText (shown c)) cs → IsText (styled severity style shown previous cs)
@@ -197,5 +197,5 @@ text-styled severity style shown previous (c ∷ cs) h =
 pub text-label_message : (severity : Severity) (style : LabelStyle) (message : Stream) → IsText message → IsText (label_message severity style message)
 unfolding label_message
 text-label_message severity style message t =
-    text-both (style_mark (LabelMark severity style) ++ message) (style_mark Reset)
-    (text-both (style_mark (LabelMark severity style)) message (text-lane_mark (LabelMark severity style)) t) (text-lane_mark Reset)
+    text-both (style_mark (LabelStyleMark severity style) ++ message) (style_mark Reset)
+    (text-both (style_mark (LabelStyleMark severity style)) message (text-style_mark (LabelStyleMark severity style)) t) (text-style_mark Reset)

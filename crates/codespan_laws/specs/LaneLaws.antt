@@ -5,7 +5,7 @@ use Rattle.std.specs.List.{range_with_len}
 use Rattle.std.specs.Option.{option_map, option_map_or}
 use Rattle.codespan_picture.specs.Types.{Config, Layout}
 use Rattle.codespan_base.specs.FileModel.{FileModel}
-use Rattle.codespan_base.specs.Labels.{LabelModel, first_line, last_line, multi_labels}
+use Rattle.codespan_base.specs.Labels.{LabelModel, first_line, last_line, multi_line_labels}
 use Rattle.codespan_base.specs.Streams.{Stream}
 use Rattle.codespan_picture.specs.declared.lanes.Shape.{Shape}
 use Rattle.codespan_picture.specs.declared.lanes.Shape.TheVariants.{Space, Bar, TopCorner, BottomCorner}
@@ -47,7 +47,7 @@ shape_in layout row lane =
 
 -- the label's lane
 abbrev pub HasLane : LabeledFileModel → ℕ → LabelModel → Type 0
-HasLane s lane x = slice_get (multi_labels s.file s.labels) lane ≡ Some x
+HasLane s lane x = slice_get (multi_line_labels s.file s.labels) lane ≡ Some x
 
 -- a label covers a line after its first one, up to its last
 abbrev pub IsBarLine : FileModel → LabelModel → ℕ → Type 0

@@ -5,7 +5,7 @@ use Rattle.std.specs.Option.{option_map_or}
 use Rattle.codespan_picture.specs.Types.{Config, Diagnostic, Rich}
 use Rattle.codespan_base.specs.FileModel.{FileDatabase}
 use Rattle.codespan_base.specs.Labels.{has_message, is_empty_stream}
-use Rattle.codespan_base.specs.Streams.{Stream, Item, Slot, text_of, filled}
+use Rattle.codespan_base.specs.Streams.{Stream, Item, Slot, text_of, with_messages}
 use Rattle.codespan_picture.specs.Rows.{Locus}
 use Rattle.codespan_picture.specs.Snippets.{InFile, labeled_file_models}
 use Rattle.codespan_picture.specs.OutputStreams.{header_text_of, labels_of, notes_of, output, rendered}
@@ -42,6 +42,6 @@ pub record MessagesAppearOnce {Id : Type 0} (renderer_config view_config : Confi
   pub once : (k : ℕ) (x : InFile Id) → slice_get (labels_of d) k ≡ Some x
       → count_by (is_slot k) (slotted_output renderer_config view_config files d loci)
       ≡ (if has_message x.label then 1 else 0)
-  pub whole : filled (message_text (labels_of d))
+  pub whole : with_messages (message_text (labels_of d))
       (slotted_output renderer_config view_config files d loci)
       ≡ output Rich renderer_config view_config files d loci

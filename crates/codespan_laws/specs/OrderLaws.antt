@@ -1,10 +1,10 @@
 -- The law of the order of labels: which orders a rich output shows.
-use Rattle.std.specs.Prelude.{◌≡◌, ℕ, Bool, true, not, ◌&&◌, ◌==◌, List, filter}
+use Rattle.std.specs.Prelude.{◌≡◌, ℕ, Bool, true, ◌&&◌, ◌==◌, List, filter}
 use Rattle.std.specs.Cmp.{IsEquivalence}
 use Rattle.std.specs.Cmp.Lexicographic.{pointwise}
 use Rattle.codespan_picture.specs.Types.{Config, Rich, Severity}
 use Rattle.codespan_base.specs.FileModel.{FileModel}
-use Rattle.codespan_base.specs.Labels.{LabelModel, is_single, first_line, drawn_label}
+use Rattle.codespan_base.specs.Labels.{LabelModel, is_single, first_line, drawn_label, multi_line_labels}
 use Rattle.codespan_picture.specs.Rows.{HeaderText, Locus}
 use Rattle.codespan_picture.specs.Snippets.{InFile, file_ids, labeled_file_model, labeled_file_models}
 use Rattle.codespan_picture.specs.OutputStreams.{rendered, locus_starts}
@@ -15,10 +15,10 @@ is_drawn_at f start end x =
     let drawn = drawn_label f x in (drawn.start == start) && (drawn.end == end)
 
 -- the multi-line labels of a file, in the order of the list
-abbrev pub several_lines_of : {Id : Type 0}
+abbrev pub multi_line_labels_of : {Id : Type 0}
     → (Id → Id → Bool) → (Id → FileModel) → List (InFile Id) → Id → List LabelModel
-several_lines_of same file xs id =
-    filter (λ x. not (is_single (file id) x)) (labeled_file_model same file xs id).labels
+multi_line_labels_of same file xs id =
+    multi_line_labels (file id) (labeled_file_model same file xs id).labels
 
 -- the labels of one line that have this drawn range, in the order of the list
 abbrev pub one_range_of : {Id : Type 0}
@@ -32,7 +32,7 @@ pub record SameOrders {Id : Type 0} (same : Id → Id → Bool) (file : Id → F
     (xs ys : List (InFile Id)) : Type 0 where
   pub files : pointwise same (file_ids same xs) (file_ids same ys) ≡ true
   pub several_lines : (id : Id)
-      → several_lines_of same file xs id ≡ several_lines_of same file ys id
+      → multi_line_labels_of same file xs id ≡ multi_line_labels_of same file ys id
   pub one_line : (id : Id) (l start end : ℕ)
       → one_range_of same file xs id l start end ≡ one_range_of same file ys id l start end
 

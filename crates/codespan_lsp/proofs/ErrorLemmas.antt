@@ -7,7 +7,7 @@ use Rattle.std.proofs.lemmas.Str.{encodes-append, encodes-chars, scalars-chars}
 use Rattle.std.specs.Str.{chars, IsUtf8}
 use Rattle.codespan_base.specs.declared.files.Error.TheVariants.{ColumnTooLarge, InvalidCharBoundary}
 use Rattle.codespan_lsp.specs.Units.{char_units, total_units, code_units, prefix_within}
-use Rattle.codespan_lsp.specs.Positions.{character_error}
+use Rattle.codespan_lsp.specs.Positions.{character_failure}
 use Rattle.codespan_lsp.specs.declared.encoding.PositionEncoding.{PositionEncoding}
 use Rattle.codespan_lsp.proofs.UnitLemmas.{total_units-le}
 use Rattle.codespan_lsp.proofs.PrefixLemmas.{Cut, prefix-cut, prefix-le, prefix-whole}
@@ -31,20 +31,20 @@ module _ (encoding : PositionEncoding) (line : List ℕ) (n : ℕ) (utf8 : IsUtf
       }
 
   -- no error where the prefix has all the code units
-  pub character_error-none : (start : ℕ) → total_units encoding (prefix_within encoding n (chars line)) ≡ n
-      → character_error encoding start line n ≡ None
-  character_error-none start h =
+  pub character_failure-none : (start : ℕ) → total_units encoding (prefix_within encoding n (chars line)) ≡ n
+      → character_failure encoding start line n ≡ None
+  character_failure-none start h =
       rw (
         le-ltb (code_units encoding line) n (omega (arith, parts.units, h)),
         eq-eqb (total_units encoding (prefix_within encoding n (chars line))) n h,
       ) refl
 
   -- past the line's end the prefix is the line
-  pub character_error-past : (start : ℕ) → ¬ (total_units encoding (prefix_within encoding n (chars line)) ≡ n)
+  pub character_failure-past : (start : ℕ) → ¬ (total_units encoding (prefix_within encoding n (chars line)) ≡ n)
       → length (encode_utf8_all (prefix_within encoding n (chars line))) ≡ length line
-      → character_error encoding start line n
+      → character_failure encoding start line n
       ≡ Some (ColumnTooLarge n (total_units encoding (prefix_within encoding n (chars line))))
-  character_error-past start apart whole =
+  character_failure-past start apart whole =
       let few = prefix-le encoding n (chars line) in
       let none = total_units-le encoding parts.back in
       let max : code_units encoding line ≡ total_units encoding (prefix_within encoding n (chars line)) =
@@ -54,11 +54,11 @@ module _ (encoding : PositionEncoding) (line : List ℕ) (n : ℕ) (utf8 : IsUtf
       (ap (λ m. Some (ColumnTooLarge n m)) max)
 
   -- elsewhere it ends before the character that the code units end in
-  pub character_error-inside : (start : ℕ) → ¬ (total_units encoding (prefix_within encoding n (chars line)) ≡ n)
+  pub character_failure-inside : (start : ℕ) → ¬ (total_units encoding (prefix_within encoding n (chars line)) ≡ n)
       → ¬ (length (encode_utf8_all (prefix_within encoding n (chars line))) ≡ length line)
-      → character_error encoding start line n
+      → character_failure encoding start line n
       ≡ Some (InvalidCharBoundary (start + length (encode_utf8_all (prefix_within encoding n (chars line)))))
-  character_error-inside start apart part =
+  character_failure-inside start apart part =
       elim (cases_lt (code_units encoding line) n) [
         | inl p ↦ absurd (part (ap length (ap encode_utf8_all (prefix-whole encoding n (chars line) (omega (arith, p))) ∙ encodes-chars line utf8)))
         | inr p ↦ rw (

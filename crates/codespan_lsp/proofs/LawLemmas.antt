@@ -10,15 +10,15 @@ use Rattle.codespan_base.specs.LawfulFiles.{IsLawful, line_end}
 use Rattle.codespan_base.specs.Lemmas.Lines.{line_of_below}
 use Rattle.codespan_base.specs.declared.files.Error.TheVariants.{InvalidCharBoundary}
 use Rattle.codespan_lsp.specs.Units.{total_units, code_units, prefix_within}
-use Rattle.codespan_lsp.specs.Positions.{units_before, position_of, IsByteAt, character_error}
-use Rattle.codespan_lsp.specs.PositionLaws.{IsOnLine, RoundTrip, IsBefore, IsInside, PositionsReturn, PositionsAscend, ErrorsAreGaps, InsideIsNoBoundary}
+use Rattle.codespan_lsp.specs.Positions.{units_before, position_of, IsByteAt, character_failure}
+use Rattle.codespan_lsp.specs.PositionLaws.{IsOnLine, RoundTrip, IsEarlierPosition, IsInside, PositionsReturn, PositionsAscend, ErrorsHaveNoByte, InsideIsNoBoundary}
 use Rattle.codespan_lsp.specs.declared.encoding.PositionEncoding.{PositionEncoding}
 use Rattle.codespan_lsp.specs.declared.positions.Position.{Position}
 use Rattle.codespan_lsp.proofs.UnitLemmas.{code_units-append, code_units-some}
 use Rattle.codespan_lsp.proofs.LineLemmas.{line_of-start, line_of-rises}
 use Rattle.codespan_lsp.proofs.PrefixLemmas.{prefix-exact, prefix-inside}
 use Rattle.codespan_lsp.proofs.CutLemmas.{prefix-is-at}
-use Rattle.codespan_lsp.proofs.ErrorLemmas.{character_error-none, character_error-past, character_error-inside}
+use Rattle.codespan_lsp.proofs.ErrorLemmas.{character_failure-none, character_failure-past, character_failure-inside}
 
 -- a part of a text in two
 slice-parts : (text : List ℕ) (start a b : ℕ) → start ≤ a → a ≤ b
@@ -83,7 +83,7 @@ module _ (encoding : PositionEncoding) (f : FileModel) (law : IsLawful f) where
   }
 
   ascends : (a b : ℕ) → IsOnLine f a → IsOnLine f b → a < b
-      → IsBefore (position_of encoding f a) (position_of encoding f b)
+      → IsEarlierPosition (position_of encoding f a) (position_of encoding f b)
   ascends a b on_a on_b less =
       let i : ℕ = line_of f.starts a in
       let j : ℕ = line_of f.starts b in
@@ -113,19 +113,19 @@ module _ (encoding : PositionEncoding) (f : FileModel) (law : IsLawful f) where
 
   -- where a byte is at a position there is no error
   none-at : (p : Position) (byte : ℕ) → IsByteAt encoding f p byte
-      → character_error encoding (line_start f p.line) (line_text f p.line) p.character ≡ None
+      → character_failure encoding (line_start f p.line) (line_text f p.line) p.character ≡ None
   none-at p byte at =
       let front : List ℕ = chars (slice_range f.text (line_start f p.line) byte) in
       let back : List ℕ = chars (slice_range f.text byte (line_end f p.line)) in
       let parts = chars-parts p.line byte at.line_exists at.from_start at.to_end at.boundary in
       let prefix : prefix_within encoding p.character (chars (line_text f p.line)) ≡ front =
       ap (prefix_within encoding p.character) parts ∙ prefix-exact encoding p.character front back at.units in
-      character_error-none encoding (line_text f p.line) p.character (line-utf8 p.line at.line_exists) (line_start f p.line)
+      character_failure-none encoding (line_text f p.line) p.character (line-utf8 p.line at.line_exists) (line_start f p.line)
       (ap (total_units encoding) prefix ∙ at.units)
 
   -- and where there is none a byte is
   at-none : (p : Position) → p.line < line_count f
-      → character_error encoding (line_start f p.line) (line_text f p.line) p.character ≡ None
+      → character_failure encoding (line_start f p.line) (line_text f p.line) p.character ≡ None
       → (byte : ℕ) × IsByteAt encoding f p byte
   at-none p exists none =
       let n : ℕ = p.character in
@@ -136,13 +136,13 @@ module _ (encoding : PositionEncoding) (f : FileModel) (law : IsLawful f) where
       elim (cases_eq (total_units encoding prefix) n) [
         | inl same ↦ (start + length (encode_utf8_all prefix), prefix-is-at encoding f law p exists same)
         | inr apart ↦ elim (cases_eq (length (encode_utf8_all prefix)) (length line)) [
-          | inl whole ↦ let past = character_error-past encoding line n utf8 start apart whole in absurd (cc)
-          | inr part ↦ let inside = character_error-inside encoding line n utf8 start apart part in absurd (cc)
+          | inl whole ↦ let past = character_failure-past encoding line n utf8 start apart whole in absurd (cc)
+          | inr part ↦ let inside = character_failure-inside encoding line n utf8 start apart part in absurd (cc)
         ]
       ]
 
   inside : (p : Position) (byte c : ℕ) → IsInside encoding f p byte c
-      → character_error encoding (line_start f p.line) (line_text f p.line) p.character
+      → character_failure encoding (line_start f p.line) (line_text f p.line) p.character
       ≡ Some (InvalidCharBoundary byte)
   inside p byte c is =
       let n : ℕ = p.character in
@@ -165,7 +165,7 @@ module _ (encoding : PositionEncoding) (f : FileModel) (law : IsLawful f) where
       let wide : 0 < length (slice_range f.text byte end) =
       omega (arith, ap length is.starts.1, length-append (encode_utf8 c) rest, length-encode c, (len_utf8_bounds c).0) in
       let units : total_units encoding (prefix_within encoding n (chars line)) ≡ units_before encoding f p.line byte = ap (total_units encoding) prefix in
-      let found = character_error-inside encoding line n (line-utf8 p.line is.line_exists) start
+      let found = character_failure-inside encoding line n (line-utf8 p.line is.line_exists) start
       (λ same. omega (arith, same, units, is.after)) (λ same. omega (arith, same, bytes, size, left, wide, is.from_start)) in
       let here : start + length (encode_utf8_all (prefix_within encoding n (chars line))) ≡ byte = omega (arith, bytes, is.from_start) in
       found ∙ ap (λ k. Some (InvalidCharBoundary k)) here
@@ -176,8 +176,8 @@ positions-return encoding f byte law on = returns encoding f law byte on
 pub positions-ascend : PositionsAscend
 positions-ascend encoding f a b law on_a on_b less = ascends encoding f law a b on_a on_b less
 
-pub errors-are-gaps : ErrorsAreGaps
-errors-are-gaps encoding f p law exists = (at-none encoding f law p exists, λ at. none-at encoding f law p at.0 at.1)
+pub errors-have-no-byte : ErrorsHaveNoByte
+errors-have-no-byte encoding f p law exists = (at-none encoding f law p exists, λ at. none-at encoding f law p at.0 at.1)
 
 pub inside-is-no-boundary : InsideIsNoBoundary
 inside-is-no-boundary encoding f p byte c law is = inside encoding f law p byte c is

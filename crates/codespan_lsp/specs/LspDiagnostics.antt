@@ -63,8 +63,8 @@ module _ {FileId : Type 0} (encoding : PositionEncoding) (database : FileDatabas
   abbrev pub label_range : Label FileId → Range
   label_range label = range_of encoding (database.file label.file_id) label.range
 
-  abbrev pub label_failure : Label FileId → Option Error
-  label_failure label =
+  abbrev pub label_range_failure : Label FileId → Option Error
+  label_range_failure label =
       range_failure encoding (database.file label.file_id) (database.failure label.file_id)
       label.range
 
@@ -81,7 +81,7 @@ module _ {FileId : Type 0} (encoding : PositionEncoding) (database : FileDatabas
   related_views labels = map related_view_for (secondary_labels labels)
 
   abbrev pub related_failure : List (Label FileId) → Option Error
-  related_failure labels = first_failure (map label_failure (secondary_labels labels))
+  related_failure labels = first_failure (map label_range_failure (secondary_labels labels))
 
   -- what is sent for a primary label, and the error of the first lookup for it that fails
   abbrev pub lsp_view_for : Diagnostic FileId → Label FileId → LspView FileId
@@ -95,7 +95,7 @@ module _ {FileId : Type 0} (encoding : PositionEncoding) (database : FileDatabas
   }
 
   abbrev pub lsp_failure : Diagnostic FileId → Label FileId → Option Error
-  lsp_failure d label = or_failure (label_failure label) (related_failure d.labels.items)
+  lsp_failure d label = or_failure (label_range_failure label) (related_failure d.labels.items)
 
   -- what is sent for a diagnostic: one for each primary label, in their order; and the error of
   -- the first lookup that fails

@@ -5,7 +5,7 @@ use Rattle.codespan_base.specs.FileModel.{FileModel, line_count, line_of, line_s
 use Rattle.codespan_base.specs.LawfulFiles.{IsLawful, line_end}
 use Rattle.codespan_base.specs.declared.files.Error.TheVariants.{InvalidCharBoundary}
 use Rattle.codespan_lsp.specs.Units.{char_units}
-use Rattle.codespan_lsp.specs.Positions.{units_before, position_of, IsByteAt, character_error}
+use Rattle.codespan_lsp.specs.Positions.{units_before, position_of, IsByteAt, character_failure}
 use Rattle.codespan_lsp.specs.declared.encoding.PositionEncoding.{PositionEncoding}
 use Rattle.codespan_lsp.specs.declared.positions.Position.{Position}
 
@@ -26,20 +26,20 @@ PositionsReturn = (encoding : PositionEncoding) (f : FileModel) (byte : ℕ)
     → IsLawful f → IsOnLine f byte → RoundTrip encoding f byte
 
 -- a position is before another one: on an earlier line, or at a smaller character of its line
-abbrev pub IsBefore : Position → Position → Type 0
-IsBefore p q = (p.line < q.line) ⊎ ((p.line ≡ q.line) × (p.character < q.character))
+abbrev pub IsEarlierPosition : Position → Position → Type 0
+IsEarlierPosition p q = (p.line < q.line) ⊎ ((p.line ≡ q.line) × (p.character < q.character))
 
 -- a later byte has a later position
 abbrev pub PositionsAscend : Type 0
 PositionsAscend = (encoding : PositionEncoding) (f : FileModel) (a b : ℕ)
     → IsLawful f → IsOnLine f a → IsOnLine f b → a < b
-    → IsBefore (position_of encoding f a) (position_of encoding f b)
+    → IsEarlierPosition (position_of encoding f a) (position_of encoding f b)
 
 -- a position of a line is no error exactly where a byte is at it
-abbrev pub ErrorsAreGaps : Type 0
-ErrorsAreGaps = (encoding : PositionEncoding) (f : FileModel) (p : Position)
+abbrev pub ErrorsHaveNoByte : Type 0
+ErrorsHaveNoByte = (encoding : PositionEncoding) (f : FileModel) (p : Position)
     → IsLawful f → p.line < line_count f
-    → (character_error encoding (line_start f p.line) (line_text f p.line) p.character ≡ None)
+    → (character_failure encoding (line_start f p.line) (line_text f p.line) p.character ≡ None)
     ↔ ((byte : ℕ) × IsByteAt encoding f p byte)
 
 -- a position is between the code units of the character c that starts at a byte of its line
@@ -58,5 +58,5 @@ pub record IsInside (encoding : PositionEncoding) (f : FileModel) (p : Position)
 abbrev pub InsideIsNoBoundary : Type 0
 InsideIsNoBoundary = (encoding : PositionEncoding) (f : FileModel) (p : Position) (byte c : ℕ)
     → IsLawful f → IsInside encoding f p byte c
-    → character_error encoding (line_start f p.line) (line_text f p.line) p.character
+    → character_failure encoding (line_start f p.line) (line_text f p.line) p.character
     ≡ Some (InvalidCharBoundary byte)

@@ -27,8 +27,8 @@ position_of encoding f byte =
     record { line = i; character = units_before encoding f i byte }
 
 -- the error of a byte on a line from `start` to `end`: it is past the end, or inside a character
-abbrev pub column_error : List ℕ → ℕ → ℕ → ℕ → Option Error
-column_error text start end byte =
+abbrev pub byte_column_failure : List ℕ → ℕ → ℕ → ℕ → Option Error
+byte_column_failure text start end byte =
     if nat_lt end byte then Some (ColumnTooLarge (byte - start) (end - start))
     else if is_char_boundary text byte then None
     else Some (InvalidCharBoundary byte)
@@ -38,8 +38,8 @@ abbrev pub u32_max : ℕ
 u32_max = 2 ^ 32 - 1
 
 -- the error of numbers that are too great for a position
-abbrev pub overflow_error : ℕ → ℕ → Option Error
-overflow_error line character =
+abbrev pub overflow_failure : ℕ → ℕ → Option Error
+overflow_failure line character =
     if nat_lt u32_max line then Some (LineTooLarge line u32_max)
     else if nat_lt u32_max character then Some (ColumnTooLarge character u32_max)
     else None
@@ -50,8 +50,8 @@ abbrev pub position_failure : PositionEncoding → FileModel → (Lookup → Opt
 position_failure encoding f failure byte =
     let i = line_of f.starts byte in
     first_failure (failure Source ∷ failure (LineIndex byte) ∷ failure (LineRange i)
-    ∷ column_error f.text (line_start f i) (line_end f i) byte
-    ∷ overflow_error i (units_before encoding f i byte) ∷ [])
+    ∷ byte_column_failure f.text (line_start f i) (line_end f i) byte
+    ∷ overflow_failure i (units_before encoding f i byte) ∷ [])
 
 -- a byte is at a position: at a character boundary of its line, after so many code units
 pub record IsByteAt (encoding : PositionEncoding) (f : FileModel) (p : Position) (byte : ℕ)
@@ -65,8 +65,8 @@ pub record IsByteAt (encoding : PositionEncoding) (f : FileModel) (p : Position)
 -- the error of a character of a line's text, which starts at the byte `start`: it is past the
 -- line's end, which is at `max`, or between the code units of a character, which starts after the
 -- prefix
-abbrev pub character_error : PositionEncoding → ℕ → List ℕ → ℕ → Option Error
-character_error encoding start line character =
+abbrev pub character_failure : PositionEncoding → ℕ → List ℕ → ℕ → Option Error
+character_failure encoding start line character =
     let prefix = prefix_within encoding character (chars line) in
     let max = code_units encoding line in
     if nat_lt max character then Some (ColumnTooLarge character max)
@@ -78,4 +78,4 @@ abbrev pub byte_failure : PositionEncoding → FileModel → (Lookup → Option 
     → Option Error
 byte_failure encoding f failure p =
     first_failure (failure Source ∷ failure (LineRange p.line)
-    ∷ character_error encoding (line_start f p.line) (line_text f p.line) p.character ∷ [])
+    ∷ character_failure encoding (line_start f p.line) (line_text f p.line) p.character ∷ [])

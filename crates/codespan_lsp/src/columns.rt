@@ -4,7 +4,7 @@ ghost use Rattle.std.specs.Prelude.{◌≡◌, ◌+◌, ◌^◌, ◌<◌, ◌≤
 ghost use Rattle.std.specs.Str.{chars, IsCharBoundary};
 ghost use Rattle.codespan_base.specs.LawfulFiles.{FailsBy};
 ghost use Rattle.codespan_lsp.specs.Units.{code_units, total_units, prefix_within};
-ghost use Rattle.codespan_lsp.specs.Positions.{column_error, character_error};
+ghost use Rattle.codespan_lsp.specs.Positions.{byte_column_failure, character_failure};
 
 use crate::encoding::PositionEncoding;
 use codespan_base::files::Error;
@@ -34,7 +34,8 @@ impl PositionEncoding {
         requires byte { line.start ≤ byte_index }
         ensures value { IfOk result (λ units.
             units ≡ code_units self (slice_range text.now line.start byte_index)) }
-        ensures failed { FailsBy (column_error text.now line.start line.end byte_index) result }
+        ensures failed { FailsBy (byte_column_failure text.now line.start line.end byte_index)
+            result }
     {
         if byte_index > line.end {
             return Err(Error::ColumnTooLarge {
@@ -71,7 +72,7 @@ impl PositionEncoding {
             IfOk result (λ byte. byte ≡ line_start + length (encode_utf8_all prefix)) }
         ensures units { let prefix = prefix_within self character (chars line.now) in
             IfOk result (λ byte. total_units self prefix ≡ character) }
-        ensures failed { FailsBy (character_error self line_start line.now character) result }
+        ensures failed { FailsBy (character_failure self line_start line.now character) result }
     {
         let prefix = self.prefix_within(character, line);
         if prefix.units == character {

@@ -1,6 +1,6 @@
 //! Laws of positions. Each is the contract of a function that does nothing and does not fail.
 
-ghost use Rattle.codespan_lsp.specs.PositionLaws.{PositionsReturn, PositionsAscend, ErrorsAreGaps, InsideIsNoBoundary};
+ghost use Rattle.codespan_lsp.specs.PositionLaws.{PositionsReturn, PositionsAscend, ErrorsHaveNoByte, InsideIsNoBoundary};
 
 /// States that a byte at a character boundary, not past its line's end, is at its position, and
 /// that no other byte is: so it goes to a position and back to itself.
@@ -15,8 +15,8 @@ pub fn positions_ascend()
 
 /// States that on a line that exists `position_to_byte_index` fails, memory and the file's own
 /// lookups aside, exactly where no byte is at the position.
-pub fn errors_are_gaps()
-    ensures { ErrorsAreGaps }
+pub fn errors_have_no_byte()
+    ensures { ErrorsHaveNoByte }
 {}
 
 /// States that a position between the code units of a character has the error

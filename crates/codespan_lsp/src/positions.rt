@@ -2,7 +2,7 @@
 
 ghost use Rattle.std.specs.Prelude.{◌≡◌, IfOk};
 ghost use Rattle.codespan_base.specs.LawfulFiles.{FailsBy};
-ghost use Rattle.codespan_lsp.specs.Positions.{position_of, position_failure, IsByteAt, byte_failure, overflow_error};
+ghost use Rattle.codespan_lsp.specs.Positions.{position_of, position_failure, IsByteAt, byte_failure, overflow_failure};
 ghost use Rattle.codespan_lsp.specs.declared.encoding.PositionEncoding.TheVariants.{Utf16};
 
 use crate::encoding::PositionEncoding;
@@ -74,7 +74,7 @@ impl PositionEncoding {
 fn position_at(line: usize, character: usize) -> Result<Position, Error>
     ensures value { IfOk result (λ position.
         position ≡ record { line = line; character = character }) }
-    ensures failed { FailsBy (overflow_error line character) result }
+    ensures failed { FailsBy (overflow_failure line character) result }
 {
     let max = u32::MAX as usize;
     if line > max {

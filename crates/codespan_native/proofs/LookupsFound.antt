@@ -21,11 +21,11 @@ use Rattle.codespan_structs.specs.declared.raw.RawDiagnostic.{RawDiagnostic}
 use Rattle.codespan_structs.specs.declared.raw.RawFile.{RawFile}
 use Rattle.codespan_structs.specs.declared.raw.RawLabel.{RawLabel}
 use Rattle.codespan_native.specs.Meaning.{NoLookupFails}
-use Rattle.codespan_structs.specs.Converted.{converted_label, source_in}
+use Rattle.codespan_structs.specs.Converted.{converted_label, converted_file}
 use Rattle.codespan_structs.specs.Validity.{AreValid}
 use Rattle.codespan_picture.specs.ViewPictures.{label_of_view}
 use Rattle.codespan_picture.proofs.ViewPictures.{labels-of_view}
-use Rattle.codespan_sources.specs.SourceTexts.{SourceView, database_of, native_failure, native_file_model}
+use Rattle.codespan_sources.specs.SourceTexts.{NativeFileView, native_database, native_failure, native_file_model}
 
 -- ---- facts of each element of a list
 
@@ -86,7 +86,7 @@ record LookupsSucceed (failure : Lookup → Option Error) (f : FileModel) : Type
   pub line_number : (i : ℕ) → failure (LineNumber i) ≡ None
   pub location : (byte : ℕ) → failure (LocationAt byte) ≡ None
 
-lookups_succeed_of : (s : SourceView) → LookupsSucceed (native_failure s) (native_file_model s)
+lookups_succeed_of : (s : NativeFileView) → LookupsSucceed (native_failure s) (native_file_model s)
 lookups_succeed_of s = record {
   line_range = λ i h. rw (le-leb (suc i) (length s.cut.starts) (omega (arith, h))) refl;
   past_end = rw (lt-leb (suc (length s.cut.starts)) (length s.cut.starts) (omega arith)) refl;
@@ -129,9 +129,9 @@ module _ (failure : Lookup → Option Error) (f : FileModel) (a : LookupsSucceed
 
 -- ---- all files
 
-module _ (ss : List SourceView) where
+module _ (ss : List NativeFileView) where
   abbrev fails : ℕ → Lookup → Option Error
-  fails = (database_of ss).failure
+  fails = (native_database ss).failure
 
   abbrev IsFound : ℕ × Lookup → Type 0
   IsFound x = fails x.0 x.1 ≡ None
@@ -140,19 +140,19 @@ module _ (ss : List SourceView) where
   IsKnown id = id < length ss
 
   -- those of the file that is found, if any
-  abbrev LookupsSucceedIf : Option SourceView → Type 0
+  abbrev LookupsSucceedIf : Option NativeFileView → Type 0
   LookupsSucceedIf o = LookupsSucceed (λ lookup. option_map_or (λ s. native_failure s lookup) o (Some FileMissing)) (option_map_or native_file_model o missing_file)
 
-  lookups_succeed_if : (o : Option SourceView) → IsSome o → LookupsSucceedIf o
+  lookups_succeed_if : (o : Option NativeFileView) → IsSome o → LookupsSucceedIf o
   lookups_succeed_if None is = absurd (cc)
   lookups_succeed_if (Some s) is = lookups_succeed_of s
 
-  there : (xs : List SourceView) (i : ℕ) → i < length xs → IsSome (slice_get xs i)
+  there : (xs : List NativeFileView) (i : ℕ) → i < length xs → IsSome (slice_get xs i)
   there [] i h = absurd (omega (arith, h))
   there (x ∷ xs) zero h = refl
   there (x ∷ xs) (suc i) h = there xs i (omega (arith, h))
 
-  lookups_succeed_at : (id : ℕ) → IsKnown id → LookupsSucceed (fails id) ((database_of ss).file id)
+  lookups_succeed_at : (id : ℕ) → IsKnown id → LookupsSucceed (fails id) ((native_database ss).file id)
   lookups_succeed_at id known = lookups_succeed_if (slice_get ss id) (there ss id known)
 
   lookups_are_found : (id : ℕ) (ls : List Lookup) → Each (λ l. fails id l ≡ None) ls → Each IsFound (lookups_of_file id ls)
@@ -163,7 +163,7 @@ module _ (ss : List SourceView) where
 
   module _ (config : Config) (xs : List (InFile ℕ)) (known : Each InKnown xs) where
     abbrev files : FileDatabase ℕ
-    files = database_of ss
+    files = native_database ss
 
     ids_known : Each IsKnown (file_ids files.same xs)
     ids_known =
@@ -221,7 +221,7 @@ module _ (ss : List SourceView) where
 
   -- all lookups of an output succeed where the files of the labels are known
   pub all_succeed : (style : DisplayStyle) (config : Config) (d : Diagnostic ℕ)
-      → Each InKnown (labels_of d) → AllSucceed fails (lookups_in style config (database_of ss) d)
+      → Each InKnown (labels_of d) → AllSucceed fails (lookups_in style config (native_database ss) d)
   all_succeed Rich config d known = succeed _ (rich_found config (labels_of d) known)
   all_succeed Medium config d known = succeed _ (header_found config (labels_of d) known)
   all_succeed Short config d known = succeed _ (header_found config (labels_of d) known)
@@ -237,10 +237,10 @@ each_from_all P (x ∷ xs) all =
 pub none_fails : (files : List RawFile) (diagnostic : RawDiagnostic) (raw : RawConfig)
     → AreValid files diagnostic raw → NoLookupFails files diagnostic
 none_fails files diagnostic raw valid d config viewed =
-    let ss = map source_in files in
+    let ss = map converted_file files in
     let same : map label_of_view (map (converted_label files) diagnostic.labels.now) ≡ labels_of d =
     ap (λ (v : DiagnosticView ℕ). map label_of_view v.labels) (sym viewed) ∙ sym (labels-of_view d.labels.items) in
-    let count : length files ≡ length ss = sym (length-map files source_in) in
+    let count : length files ≡ length ss = sym (length-map files converted_file) in
     let known : Each (λ (l : RawLabel). l.file < length ss) diagnostic.labels.now =
     each_from_all (λ (l : RawLabel). l.file < length ss) diagnostic.labels.now
     (λ k l h. let below = valid LabelFile k l h in omega (arith, below, count)) in

@@ -23,27 +23,27 @@ use Rattle.codespan_structs.specs.declared.raw.RawConfig.{RawConfig}
 use Rattle.codespan_structs.specs.declared.raw.RawDiagnostic.{RawDiagnostic}
 use Rattle.codespan_structs.specs.declared.raw.RawFile.{RawFile}
 use Rattle.codespan_native.specs.Meaning.{Means, output_bytes}
-use Rattle.codespan_structs.specs.Converted.{converted_config, display_style_of, source_in, spelling_of, view_of}
-use Rattle.codespan_sources.specs.SourceTexts.{SourceView, database_of, native_file_model}
+use Rattle.codespan_structs.specs.Converted.{converted_config, display_style_of, converted_file, spelling_of, converted_diagnostic}
+use Rattle.codespan_sources.specs.SourceTexts.{NativeFileView, native_database, native_file_model}
 use Rattle.codespan_native.specs.RenderedStreams.{stream_of_output}
 
 -- the names of the files are stated
-pub stated : (ss : List SourceView) (d : Diagnostic ℕ) → NamesAreStated (database_of ss) d
+pub stated : (ss : List NativeFileView) (d : Diagnostic ℕ) → NamesAreStated (native_database ss) d
 stated ss d x contains = named x.file_id
   where
-    named : (id : ℕ) → IsSome ((database_of ss).file id).name
+    named : (id : ℕ) → IsSome ((native_database ss).file id).name
     named id =
         elim (slice_get ss id) as (λ found. IsSome (option_map_or native_file_model found missing_file).name)
         [ None ↦ refl | Some s ↦ refl ]
 
 -- a call that writes writes the output with these names
-pub written_stream : (config : Config) (ss : List SourceView) (d : Diagnostic ℕ) (old new : Sink)
+pub written_stream : (config : Config) (ss : List NativeFileView) (d : Diagnostic ℕ) (old new : Sink)
     (r : Result (Unit {0}) Error)
-    → WritesStyled config.display_style config config (database_of ss) d old r new
+    → WritesStyled config.display_style config config (native_database ss) d old r new
     → is_known old ≡ true → OnOk r (new ≡ with_written old (stream_of_output config ss d))
 written_stream config ss d old new (Ok done) writes known =
     writes.writes.received known
-    ∙ ap (with_written old) (output_stated (database_of ss) d (stated ss d) config.display_style
+    ∙ ap (with_written old) (output_stated (native_database ss) d (stated ss d) config.display_style
     config config writes.writes.loci writes.writes.are_loci)
 written_stream config ss d old new (Err error) writes known = tt
 
@@ -66,45 +66,45 @@ unfolding is_known are_known
 fresh_known spelling old first fresh = ap (λ (s : Sink). is_known s) fresh
 
 -- the output of a configuration, of files and of a diagnostic is that of what they stand for
-pub output_is : (expected config : Config) (ss ts : List SourceView) (d : Diagnostic ℕ)
+pub output_is : (expected config : Config) (ss ts : List NativeFileView) (d : Diagnostic ℕ)
     (v : DiagnosticView ℕ) → IsEqualConfig expected config → ss ≡ ts → diagnostic_view d ≡ v
-    → stream_of_output config ss d ≡ picture_of_view expected (database_of ts).same (database_of ts).file v
+    → stream_of_output config ss d ≡ picture_of_view expected (native_database ts).same (native_database ts).file v
 output_is expected config ss ts d v alike same viewed =
-    picture-of_view expected config (database_of ss) d alike
-    ∙ ap (λ ss. picture_of_view expected (database_of ss).same (database_of ss).file (diagnostic_view d)) same
-    ∙ ap (λ v. picture_of_view expected (database_of ts).same (database_of ts).file v) viewed
+    picture-of_view expected config (native_database ss) d alike
+    ∙ ap (λ ss. picture_of_view expected (native_database ss).same (native_database ss).file (diagnostic_view d)) same
+    ∙ ap (λ v. picture_of_view expected (native_database ts).same (native_database ts).file v) viewed
 
 -- the bytes that are rendered are those that the structs describe
-pub bytes_are : (spelling : Spelling) (config : Config) (ss : List SourceView) (d : Diagnostic ℕ)
+pub bytes_are : (spelling : Spelling) (config : Config) (ss : List NativeFileView) (d : Diagnostic ℕ)
     (files : List RawFile) (diagnostic : RawDiagnostic) (raw : RawConfig) (bytes : List ℕ)
     → bytes ≡ spelled spelling (stream_of_output config ss d) → spelling ≡ spelling_of raw
-    → IsEqualConfig (converted_config raw) config → ss ≡ map source_in files
-    → diagnostic_view d ≡ view_of files diagnostic → bytes ≡ output_bytes files diagnostic raw
+    → IsEqualConfig (converted_config raw) config → ss ≡ map converted_file files
+    → diagnostic_view d ≡ converted_diagnostic files diagnostic → bytes ≡ output_bytes files diagnostic raw
 unfolding output_bytes
 bytes_are spelling config ss d files diagnostic raw bytes are spells alike same viewed =
     are
     ∙ ap (λ s. spelled s (stream_of_output config ss d)) spells
     ∙ ap (λ stream. spelled (spelling_of raw) stream)
-    (output_is (converted_config raw) config ss (map source_in files) d (view_of files diagnostic) alike same viewed)
+    (output_is (converted_config raw) config ss (map converted_file files) d (converted_diagnostic files diagnostic) alike same viewed)
 
 -- the same of a call that returns the bytes
-pub result_is : (spelling : Spelling) (config : Config) (ss : List SourceView) (d : Diagnostic ℕ)
+pub result_is : (spelling : Spelling) (config : Config) (ss : List NativeFileView) (d : Diagnostic ℕ)
     (files : List RawFile) (diagnostic : RawDiagnostic) (raw : RawConfig)
     (r : Result (Vec ℕ Global) OutOfMemory)
     → IfOk r (λ output. output.items ≡ spelled spelling (stream_of_output config ss d))
-    → spelling ≡ spelling_of raw → IsEqualConfig (converted_config raw) config → ss ≡ map source_in files
-    → diagnostic_view d ≡ view_of files diagnostic
+    → spelling ≡ spelling_of raw → IsEqualConfig (converted_config raw) config → ss ≡ map converted_file files
+    → diagnostic_view d ≡ converted_diagnostic files diagnostic
     → IfOk r (λ output. output.items ≡ output_bytes files diagnostic raw)
 result_is spelling config ss d files diagnostic raw (Ok output) are spells alike same viewed =
     bytes_are spelling config ss d files diagnostic raw output.items are spells alike same viewed
 result_is spelling config ss d files diagnostic raw (Err e) are spells alike same viewed = tt
 
 -- what the output means, of the structs
-pub means_is : {T : Type 0} (config : Config) (ss : List SourceView) (d : Diagnostic ℕ)
+pub means_is : {T : Type 0} (config : Config) (ss : List NativeFileView) (d : Diagnostic ℕ)
     (files : List RawFile) (diagnostic : RawDiagnostic) (raw : RawConfig) (r : Result T OutOfMemory)
-    → IfOk r (λ _. config.display_style ≡ Rich → MeansLabels config config (database_of ss) d)
-    → IsEqualConfig (converted_config raw) config → ss ≡ map source_in files
-    → diagnostic_view d ≡ view_of files diagnostic
+    → IfOk r (λ _. config.display_style ≡ Rich → MeansLabels config config (native_database ss) d)
+    → IsEqualConfig (converted_config raw) config → ss ≡ map converted_file files
+    → diagnostic_view d ≡ converted_diagnostic files diagnostic
     → IfOk r (λ _. raw.display_style ≡ 0 → Means files diagnostic raw)
 means_is config ss d files diagnostic raw (Ok output) means alike same viewed = λ zero_style.
     let rich : config.display_style ≡ Rich =
@@ -114,6 +114,6 @@ means_is config ss d files diagnostic raw (Ok output) means alike same viewed = 
       c = config;
       is_diagnostic = viewed;
       is_config = alike;
-      means = subst (λ ts. MeansLabels config config (database_of ts) d) same (means rich);
+      means = subst (λ ts. MeansLabels config config (native_database ts) d) same (means rich);
     }
 means_is config ss d files diagnostic raw (Err e) means alike same viewed = tt

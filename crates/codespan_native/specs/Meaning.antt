@@ -11,7 +11,7 @@ use Rattle.codespan_picture.specs.ViewPictures.{picture_of_view}
 use Rattle.codespan_structs.specs.declared.raw.RawConfig.{RawConfig}
 use Rattle.codespan_structs.specs.declared.raw.RawDiagnostic.{RawDiagnostic}
 use Rattle.codespan_structs.specs.declared.raw.RawFile.{RawFile}
-use Rattle.codespan_structs.specs.Converted.{view_of, converted_config, spelling_of, converted_files}
+use Rattle.codespan_structs.specs.Converted.{converted_diagnostic, converted_config, spelling_of, converted_files}
 
 -- the bytes of the output that the structs describe
 unfoldable pub output_bytes : List RawFile → RawDiagnostic → RawConfig → List ℕ
@@ -19,14 +19,14 @@ output_bytes files diagnostic config =
     let database = converted_files files in
     spelled (spelling_of config)
     (picture_of_view (converted_config config) database.same database.file
-    (view_of files diagnostic))
+    (converted_diagnostic files diagnostic))
 
 -- the output of the structs means their labels, as `MeansLabels` says
 pub record Means (files : List RawFile) (diagnostic : RawDiagnostic) (config : RawConfig)
     : Type 0 where
   pub d : Diagnostic ℕ
   pub c : Config
-  pub is_diagnostic : diagnostic_view d ≡ view_of files diagnostic
+  pub is_diagnostic : diagnostic_view d ≡ converted_diagnostic files diagnostic
   pub is_config : IsEqualConfig (converted_config config) c
   pub means : MeansLabels c c (converted_files files) d
 
@@ -34,6 +34,6 @@ pub record Means (files : List RawFile) (diagnostic : RawDiagnostic) (config : R
 -- diagnostic of Rust the struct stands for
 abbrev pub NoLookupFails : List RawFile → RawDiagnostic → Type 0
 NoLookupFails files diagnostic =
-    (d : Diagnostic ℕ) (config : Config) → diagnostic_view d ≡ view_of files diagnostic
+    (d : Diagnostic ℕ) (config : Config) → diagnostic_view d ≡ converted_diagnostic files diagnostic
     → AllSucceed (converted_files files).failure
     (lookups_in config.display_style config (converted_files files) d)

@@ -4,8 +4,8 @@ use Rattle.codespan_base.specs.declared.diagnostic.Diagnostic.{Diagnostic}
 use Rattle.codespan_base.specs.declared.term.config.Config.{Config}
 use Rattle.codespan_base.specs.Streams.{Stream}
 use Rattle.codespan_picture.specs.Picture.{picture}
-use Rattle.codespan_sources.specs.SourceTexts.{SourceView, database_of}
+use Rattle.codespan_sources.specs.SourceTexts.{NativeFileView, native_database}
 
 -- the output of a diagnostic over files, with the names that the files have
-abbrev pub stream_of_output : Config → List SourceView → Diagnostic ℕ → Stream
-stream_of_output config ss d = picture config.display_style config config (database_of ss) d
+abbrev pub stream_of_output : Config → List NativeFileView → Diagnostic ℕ → Stream
+stream_of_output config ss d = picture config.display_style config config (native_database ss) d

@@ -12,8 +12,8 @@ style_mark_sink failed contents = record {
 }
 
 -- what it writes to
-abbrev pub marked_writer : {W : Type 0} → StyleMarkWriter W → W
-marked_writer w = w.inner
+abbrev pub style_mark_inner : {W : Type 0} → StyleMarkWriter W → W
+style_mark_inner w = w.inner
 
 -- what the law sees of the Rust value
 abbrev pub style_mark_writer_sink : {W : Type 0} → (W → Option (List ℕ)) → StyleMarkWriter W → Sink

@@ -7,8 +7,8 @@ ghost use Rattle.codespan_base.specs.declared.term.config.DisplayStyle.TheVarian
 ghost use Rattle.codespan_laws.specs.RichLaws.{MeansLabels};
 ghost use Rattle.codespan_structs.specs.StyleMarkBytes.{style_mark_spelling};
 ghost use Rattle.codespan_base.specs.StyleTables.{ansi_spelling};
-ghost use Rattle.codespan_sources.specs.SourceModel.{sources_of};
-ghost use Rattle.codespan_sources.specs.SourceTexts.{database_of};
+ghost use Rattle.codespan_sources.specs.SourceModel.{native_file_views};
+ghost use Rattle.codespan_sources.specs.SourceTexts.{native_database};
 ghost use Rattle.codespan_structs.specs.Spellings.{spelling_by_kind};
 ghost use Rattle.codespan_native.specs.RenderedStreams.{stream_of_output};
 
@@ -16,7 +16,7 @@ use crate::style_mark_writer::StyleMarkWriter;
 use codespan_base::diagnostic::Diagnostic;
 use codespan_base::term::{Ansi, Config, PlainWriter, Styles, StylesWriter, WriteStyle};
 use codespan_sources::native_files::NativeFiles;
-use codespan_structs::convert::{Settings, Spelling};
+use codespan_structs::convert::{Settings, SpellingKind};
 use codespan_structs::error::OutOfMemory;
 use codespan_views::emitting::emit_to_write_style;
 use std::alloc::Global;
@@ -38,16 +38,22 @@ pub fn render(
 ) -> Result<Vec<u8>, OutOfMemory>
     ensures value { IfOk result (λ bytes. bytes.items ≡ spelled
         (spelling_by_kind settings.now.spelling)
-        (stream_of_output settings.now.config (sources_of files.now) diagnostic.now)) }
+        (stream_of_output settings.now.config (native_file_views files.now) diagnostic.now)) }
     ensures means { IfOk result (λ _. settings.now.config.display_style ≡ Rich
         → MeansLabels settings.now.config settings.now.config
-        (database_of (sources_of files.now)) diagnostic.now) }
+        (native_database (native_file_views files.now)) diagnostic.now) }
 {
     let buffer = Vec::with_capacity(alloc, INITIAL_CAPACITY)?;
     match &settings.spelling {
-        Spelling::Plain => render_plain(buffer, &settings.config, files, diagnostic),
-        Spelling::Ansi(styles) => render_ansi(buffer, styles, &settings.config, files, diagnostic),
-        Spelling::StyleMarks => render_style_marks(buffer, &settings.config, files, diagnostic),
+        SpellingKind::Plain => render_plain(buffer, &settings.config, files, diagnostic),
+        SpellingKind::Ansi(styles) => render_ansi(
+            buffer,
+            styles,
+            &settings.config,
+            files,
+            diagnostic,
+        ),
+        SpellingKind::StyleMarks => render_style_marks(buffer, &settings.config, files, diagnostic),
     }
 }
 
@@ -59,9 +65,10 @@ fn render_plain(
     diagnostic: &Diagnostic<usize>,
 ) -> Result<Vec<u8>, OutOfMemory>
     ensures value { IfOk result (λ bytes. bytes.items ≡ buffer.items ++ spelled no_style_marks
-        (stream_of_output config.now (sources_of files.now) diagnostic.now)) }
+        (stream_of_output config.now (native_file_views files.now) diagnostic.now)) }
     ensures means { IfOk result (λ _. config.now.display_style ≡ Rich
-        → MeansLabels config.now config.now (database_of (sources_of files.now)) diagnostic.now) }
+        → MeansLabels config.now config.now
+        (native_database (native_file_views files.now)) diagnostic.now) }
 {
     let mut writer = PlainWriter::new(buffer);
     write_to(&mut writer, config, files, diagnostic)?;
@@ -78,9 +85,10 @@ fn render_ansi(
 ) -> Result<Vec<u8>, OutOfMemory>
     ensures value { IfOk result (λ bytes. bytes.items ≡ buffer.items
         ++ spelled (ansi_spelling styles.now)
-        (stream_of_output config.now (sources_of files.now) diagnostic.now)) }
+        (stream_of_output config.now (native_file_views files.now) diagnostic.now)) }
     ensures means { IfOk result (λ _. config.now.display_style ≡ Rich
-        → MeansLabels config.now config.now (database_of (sources_of files.now)) diagnostic.now) }
+        → MeansLabels config.now config.now
+        (native_database (native_file_views files.now)) diagnostic.now) }
 {
     let mut writer = StylesWriter::new(Ansi::new(buffer), styles);
     write_to(&mut writer, config, files, diagnostic)?;
@@ -95,9 +103,10 @@ fn render_style_marks(
     diagnostic: &Diagnostic<usize>,
 ) -> Result<Vec<u8>, OutOfMemory>
     ensures value { IfOk result (λ bytes. bytes.items ≡ buffer.items ++ spelled style_mark_spelling
-        (stream_of_output config.now (sources_of files.now) diagnostic.now)) }
+        (stream_of_output config.now (native_file_views files.now) diagnostic.now)) }
     ensures means { IfOk result (λ _. config.now.display_style ≡ Rich
-        → MeansLabels config.now config.now (database_of (sources_of files.now)) diagnostic.now) }
+        → MeansLabels config.now config.now
+        (native_database (native_file_views files.now)) diagnostic.now) }
 {
     let mut writer = StyleMarkWriter::new(buffer);
     write_to(&mut writer, config, files, diagnostic)?;
@@ -118,9 +127,10 @@ fn write_to<W: WriteStyle>(
 ) -> Result<(), OutOfMemory>
     ensures value { is_known (W.sink writer.old) ≡ true → OnOk result (W.sink writer.new
         ≡ with_written (W.sink writer.old)
-        (stream_of_output config.now (sources_of files.now) diagnostic.now)) }
+        (stream_of_output config.now (native_file_views files.now) diagnostic.now)) }
     ensures means { IfOk result (λ _. config.now.display_style ≡ Rich
-        → MeansLabels config.now config.now (database_of (sources_of files.now)) diagnostic.now) }
+        → MeansLabels config.now config.now
+        (native_database (native_file_views files.now)) diagnostic.now) }
 {
     match emit_to_write_style(writer, config, files, diagnostic) {
         Ok(()) => Ok(()),

@@ -50,7 +50,7 @@ pub struct StyleMarkWriter<W> {
 impl<W: Write> StyleMarkWriter<W> {
     ghost use Rattle.codespan_base.specs.Writers.{fresh_sink};
     ghost use Rattle.codespan_structs.specs.StyleMarkBytes.{style_mark_spelling};
-    ghost use Rattle.codespan_native.specs.StyleMarkWriters.{marked_writer, style_mark_writer_sink};
+    ghost use Rattle.codespan_native.specs.StyleMarkWriters.{style_mark_inner, style_mark_writer_sink};
 
     /// Returns a writer over `writer`. It has not failed.
     pub fn new(writer: W) -> StyleMarkWriter<W>
@@ -65,7 +65,7 @@ impl<W: Write> StyleMarkWriter<W> {
 
     /// Returns the inner writer.
     pub fn into_inner(self) -> W
-        ensures { result ≡ marked_writer self }
+        ensures { result ≡ style_mark_inner self }
     {
         let StyleMarkWriter { inner, .. } = self;
         inner

@@ -1,7 +1,7 @@
 -- What each lane shows in each kind of row.
 use Rattle.std.specs.Prelude.{ℕ, Bool, true, false, ◌&&◌, ◌==◌, nat_lt, nat_le, List, ◌++◌, find, Option, Some, None, if◌then◌else◌}
 use Rattle.codespan_picture.specs.Types.{Severity, LabelStyle, Primary, Chars, Layout, Classic, Unbroken}
-use Rattle.codespan_base.specs.Streams.{Stream, LabelMark, Reset, style_mark, glyph, spaces, repeated}
+use Rattle.codespan_base.specs.Streams.{Stream, LabelStyleMark, Reset, style_mark, glyph, spaces, repeated}
 use Rattle.codespan_picture.specs.declared.lanes.Shape.{Shape}
 use Rattle.codespan_picture.specs.declared.lanes.Shape.TheVariants.{Space, Bar, TopCorner, BottomCorner}
 use Rattle.codespan_base.specs.Labels.{LaneMark, MultiLabel, Top, Left, Bottom}
@@ -85,13 +85,14 @@ underline_char chars _ = chars.multi_bottom
 
 -- one character in a label's style
 unfoldable pub label_glyph : Severity → LabelStyle → ℕ → Stream
-label_glyph severity style c = style_mark (LabelMark severity style) ++ glyph c ++ style_mark Reset
+label_glyph severity style c =
+    style_mark (LabelStyleMark severity style) ++ glyph c ++ style_mark Reset
 
 -- so many characters of a lane, before its own: the line of a corner to the left, or spaces
 unfoldable pub crossing_cells : Severity → Chars → Option LaneMark → ℕ → Stream
 crossing_cells severity chars None n = spaces n
 crossing_cells severity chars (Some m) n =
-    style_mark (LabelMark severity m.style) ++ repeated n (underline_char chars m.multi_label)
+    style_mark (LabelStyleMark severity m.style) ++ repeated n (underline_char chars m.multi_label)
     ++ style_mark Reset
 
 -- the two characters of a lane; `crossing` is the lane mark, in its own underline row, whose corner

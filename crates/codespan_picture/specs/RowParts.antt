@@ -4,7 +4,7 @@ use Rattle.std.specs.Prelude.{ℕ, ◌+◌, ◌-◌, Bool, true, ◌||◌, ◌&&
 use Rattle.std.specs.List.{list_any, range_with_len}
 use Rattle.codespan_picture.specs.Types.{Severity, LabelStyle, Primary, Secondary, Chars}
 use Rattle.codespan_base.specs.declared.diagnostic.Severity.TheVariants.{Bug, Error, Warning, Note, Help}
-use Rattle.codespan_base.specs.Streams.{Stream, LineNumber, SourceBorder, LabelMark, Reset, style_mark, glyph, bytes, spaces, space, repeated}
+use Rattle.codespan_base.specs.Streams.{Stream, LineNumber, SourceBorder, LabelStyleMark, Reset, style_mark, glyph, bytes, spaces, space, repeated}
 use Rattle.codespan_base.specs.Labels.{LabelModel, is_primary, is_primary_style, LaneMark, MultiLabel, Top, Left, Bottom}
 use Rattle.codespan_picture.specs.declared.char_metrics.Metrics.{Metrics}
 use Rattle.codespan_picture.specs.CharMetrics.{char_metrics, char_metrics_to_end, width_of, leading_whitespace}
@@ -51,11 +51,11 @@ border_left_break chars =
 -- a style mark where a style begins, and a reset where it ends
 unfoldable pub change : Severity → Option LabelStyle → Option LabelStyle → Stream
 change severity None None = []
-change severity None (Some style) = style_mark (LabelMark severity style)
+change severity None (Some style) = style_mark (LabelStyleMark severity style)
 change severity (Some style) None = style_mark Reset
 change severity (Some Primary) (Some Primary) = []
 change severity (Some Secondary) (Some Secondary) = []
-change severity (Some _) (Some style) = style_mark (LabelMark severity style)
+change severity (Some _) (Some style) = style_mark (LabelStyleMark severity style)
 
 -- each character as it is shown, in its style; `previous` is the style before them
 abbrev pub styled : Severity
@@ -67,7 +67,7 @@ styled severity style shown previous (c ∷ cs) =
 -- a label's message in its style
 unfoldable pub label_message : Severity → LabelStyle → Stream → Stream
 label_message severity style message =
-    style_mark (LabelMark severity style) ++ message ++ style_mark Reset
+    style_mark (LabelStyleMark severity style) ++ message ++ style_mark Reset
 
 -- ---- the lanes of a row
 

@@ -2,7 +2,7 @@
 -- opens them: a chain of calls then matches their parts from left to right.
 use Rattle.std.specs.Prelude.{ℕ, List, [], ◌∷◌, ◌++◌, flat_map, Option, Some, None, codes}
 use Rattle.codespan_picture.specs.Types.{Severity, Chars}
-use Rattle.codespan_base.specs.Streams.{Stream, Header, HeaderMessage, NoteBullet, SourceBorder, LabelMark, Reset, style_mark, glyph, bytes, space, newline}
+use Rattle.codespan_base.specs.Streams.{Stream, Header, HeaderMessage, NoteBullet, SourceBorder, LabelStyleMark, Reset, style_mark, glyph, bytes, space, newline}
 use Rattle.codespan_base.specs.Labels.{LabelModel, LaneMark}
 use Rattle.codespan_base.specs.SnippetStarts.{start_text}
 use Rattle.codespan_picture.specs.Lanes.{Source, Empty, Below, Underline}
@@ -83,7 +83,7 @@ unfoldable pub underline_row : RowContext → Line → LaneMark → Stream
 underline_row context line m =
     outer_gutter context.padding ++ border_left context.chars
     ++ inner_gutter context (leading_of line) (Underline m) line.lanes
-    ++ style_mark (LabelMark context.severity m.style)
+    ++ style_mark (LabelStyleMark context.severity m.style)
     ++ underline context.chars m.style (line_metrics context line) m.multi_label ++ style_mark Reset
 
 -- the first row of a note

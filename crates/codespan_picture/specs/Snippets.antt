@@ -3,7 +3,7 @@ use Rattle.std.specs.Prelude.{ℕ, Bool, true, false, ◌||◌, min, List, [], �
 use Rattle.std.specs.Str.Lines.{lines}
 use Rattle.codespan_picture.specs.Types.{Config}
 use Rattle.codespan_base.specs.FileModel.{FileModel, line_text}
-use Rattle.codespan_base.specs.Labels.{LabelModel, is_primary, first_seen, multi_labels, single_labels, lane_marks_on}
+use Rattle.codespan_base.specs.Labels.{LabelModel, is_primary, first_seen, multi_line_labels, single_labels, lane_marks_on}
 use Rattle.codespan_picture.specs.CharMetrics.{text_without_line_end}
 use Rattle.codespan_picture.specs.Lines.{drawn_lines}
 use Rattle.codespan_picture.specs.Rows.{Locus, HeaderText, Lanes, Line, Row, HeaderRow, SnippetStartRow, EmptyRow, BreakRow, FirstNoteRow, LaterNoteRow, FinalRow, rows_of}
@@ -41,7 +41,7 @@ labeled_file_models same file labels =
 
 -- how many lanes a file has
 abbrev pub num_multi_labels : LabeledFileModel → ℕ
-num_multi_labels s = length (multi_labels s.file s.labels)
+num_multi_labels s = length (multi_line_labels s.file s.labels)
 
 -- lanes with nothing in them
 abbrev pub empty_lanes : LabeledFileModel → Lanes

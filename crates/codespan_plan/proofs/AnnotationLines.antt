@@ -9,7 +9,7 @@ use Rattle.std.proofs.lemmas.List.Folds.{list_any-append}
 use Rattle.std.proofs.Math.Bool.{and-false}
 use Rattle.codespan_base.specs.declared.term.config.Config.{Config}
 use Rattle.codespan_base.specs.FileModel.{FileModel, line_count}
-use Rattle.codespan_base.specs.Labels.{LaneMark, LabelModel, first_line, last_line, is_single, drawn_label, lane_mark_of, multi_labels, multi_label_on}
+use Rattle.codespan_base.specs.Labels.{LaneMark, LabelModel, first_line, last_line, is_single, drawn_label, lane_mark_of, multi_line_labels, multi_label_on}
 use Rattle.codespan_collect.specs.declared.label_annotations.LabelIndices.{LabelIndices}
 use Rattle.codespan_annotations.specs.Annotations.{Annotation, Single, Multi, is_before, is_on_line, is_of_file, annotation_if_any, shows_line}
 use Rattle.codespan_collect.specs.LabelAnnotations.{line_annotations, annotations_of}
@@ -253,7 +253,7 @@ module _ {Id : Type 0} {same : Id → Id → Bool} {file : Id → FileModel} {id
 
     -- the lane marks of labels that come after these, in their lanes
     pub all-lane_marks : (xs before : List (InFile Id)) (n : ℕ) → num_multi_labels_of same file before id ≡ n
-        → filter (is_kind 2) (line_annotations_after before xs) ≡ map (lane_mark_annotation f l) (marks_from own_file l n (multi_labels own_file (labels_in xs)))
+        → filter (is_kind 2) (line_annotations_after before xs) ≡ map (lane_mark_annotation f l) (marks_from own_file l n (multi_line_labels own_file (labels_in xs)))
     all-lane_marks [] before n e = refl
     all-lane_marks (x ∷ xs) before n e =
         filter-append (is_kind 2) (line_annotations_of before x) (line_annotations_after (before ++ x ∷ []) xs)
@@ -262,20 +262,20 @@ module _ {Id : Type 0} {same : Id → Id → Bool} {file : Id → FileModel} {id
         ∙ by_tests (same id x.file_id) (is_single own_file x.label) refl
       where
         later : ℕ → List Annotation
-        later k = map (lane_mark_annotation f l) (marks_from own_file l k (multi_labels own_file (labels_in xs)))
+        later k = map (lane_mark_annotation f l) (marks_from own_file l k (multi_line_labels own_file (labels_in xs)))
 
-        by_lane_mark : (o : Option LaneMark) → multi_annotations_if false o ++ later (n + 1) ≡ map (lane_mark_annotation f l) (cons_option o (marks_from own_file l (n + 1) (multi_labels own_file (labels_in xs))))
+        by_lane_mark : (o : Option LaneMark) → multi_annotations_if false o ++ later (n + 1) ≡ map (lane_mark_annotation f l) (cons_option o (marks_from own_file l (n + 1) (multi_line_labels own_file (labels_in xs))))
         by_lane_mark None = refl
         by_lane_mark (Some m) = refl
 
         by_tests : (s t : Bool) → is_single own_file x.label ≡ t
             → cond s (multi_annotations_if t (lane_mark_of n x.label (multi_label_on own_file l x.label))) [] ++ later (n + (if s then (if t then 0 else 1) else 0))
-            ≡ map (lane_mark_annotation f l) (marks_from own_file l n (multi_labels own_file (map (λ (y : InFile Id). y.label) (cond s (x ∷ own xs) (own xs)))))
+            ≡ map (lane_mark_annotation f l) (marks_from own_file l n (multi_line_labels own_file (map (λ (y : InFile Id). y.label) (cond s (x ∷ own xs) (own xs)))))
         by_tests false t h = let e : n + 0 ≡ n = omega arith in ap later e
         by_tests true true h = (let e : n + 0 ≡ n = omega arith in ap later e)
-            ∙ ap (λ b. map (lane_mark_annotation f l) (marks_from own_file l n (cond (not b) (x.label ∷ multi_labels own_file (labels_in xs)) (multi_labels own_file (labels_in xs))))) (sym h)
+            ∙ ap (λ b. map (lane_mark_annotation f l) (marks_from own_file l n (cond (not b) (x.label ∷ multi_line_labels own_file (labels_in xs)) (multi_line_labels own_file (labels_in xs))))) (sym h)
         by_tests true false h = by_lane_mark (lane_mark_of n x.label (multi_label_on own_file l x.label))
-            ∙ ap (λ b. map (lane_mark_annotation f l) (marks_from own_file l n (cond (not b) (x.label ∷ multi_labels own_file (labels_in xs)) (multi_labels own_file (labels_in xs))))) (sym h)
+            ∙ ap (λ b. map (lane_mark_annotation f l) (marks_from own_file l n (cond (not b) (x.label ∷ multi_line_labels own_file (labels_in xs)) (multi_line_labels own_file (labels_in xs))))) (sym h)
 
     -- ---- lines that are shown
 

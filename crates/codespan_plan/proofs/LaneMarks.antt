@@ -4,7 +4,7 @@ use Rattle.std.specs.List.{AllByRecursion, enumerate_from, filter_map, cons_opti
 use Rattle.std.proofs.lemmas.Bool.{leb-true}
 use Rattle.std.proofs.lemmas.Bool.Decides.{nat_tests}
 use Rattle.codespan_base.specs.FileModel.{FileModel}
-use Rattle.codespan_base.specs.Labels.{LabelModel, LaneMark, MultiLabel, lane_mark_of, lane_marks_on, multi_labels, multi_label_on}
+use Rattle.codespan_base.specs.Labels.{LabelModel, LaneMark, MultiLabel, lane_mark_of, lane_marks_on, multi_line_labels, multi_label_on}
 use Rattle.codespan_picture.specs.Arguments.{LaneMarkTuple, lane_mark_view, lanes_in_order, ascend_from}
 use Rattle.codespan_picture.specs.Snippets.{LabeledFileModel, num_multi_labels}
 use Rattle.codespan_annotations.specs.Annotations.{Annotation, is_before}
@@ -34,7 +34,7 @@ ascend-from f l count n least (y ∷ ys) low total = by_multi_label (multi_label
 
 -- the lane marks of a line ascend in the lanes of its file
 pub lane_marks-ascend : (s : LabeledFileModel) (l : ℕ) → ascend_from (num_multi_labels s) 0 (lane_marks_on s.file s.labels l) ≡ true
-lane_marks-ascend s l = ascend-from s.file l (num_multi_labels s) 0 0 (multi_labels s.file s.labels) (omega arith) (omega arith)
+lane_marks-ascend s l = ascend-from s.file l (num_multi_labels s) 0 0 (multi_line_labels s.file s.labels) (omega arith) (omega arith)
 
 -- ---- lane marks that ascend
 

@@ -1,5 +1,5 @@
 -- What the binary searches of lines and locations find, for `StatedText::line_index` and
--- `NativeFile::stated_location`, and the locations of which `ascend` looks at one.
+-- `NativeFile::stated_location`, and the locations of which `locations_ascend` looks at one.
 use Rattle.std.proofs.Common.{◌≡◌, ◌≢◌, ℕ, zero, suc, ◌+◌, ◌-◌, ◌<◌, ◌≤◌, Bool, true, false, List, [], ◌∷◌, length, Some, None, Result, Ok, Err, drop, get_or, refl, sym, ap, ◌∙◌, arith, inl, inr, lt-ltb, le-leb}
 use Rattle.std.specs.Prelude.{◌&&◌, ◌==◌, nat_lt, nat_le, slice_index, MatchResult}
 use Rattle.std.specs.Ordering.{nat_cmp, ordering_index}
@@ -18,7 +18,7 @@ use Rattle.codespan_base.specs.Lemmas.Lines.{count_split}
 use Rattle.codespan_sources.specs.declared.raw.RawLine.{RawLine}
 use Rattle.codespan_sources.specs.declared.raw.RawLocation.{RawLocation}
 use Rattle.codespan_base.specs.Lines.{is_char_boundary}
-use Rattle.codespan_sources.specs.StatedLines.{bytes_ascend_from, ascends, follow, location_at, starts_of}
+use Rattle.codespan_sources.specs.StatedLines.{bytes_ascend_from, locations_ascend, follow, location_at, starts_of}
 
 -- ---- lines
 
@@ -116,12 +116,12 @@ module _ (first : ℕ) where
       omega (arith, here, later)
 
   rest_ascends : (byte : ℕ) (ls : List RawLocation) → bytes_ascend_from first byte ls ≡ true
-      → ascends first ls ≡ true
+      → locations_ascend first ls ≡ true
   rest_ascends byte [] e = refl
   rest_ascends byte (l ∷ ls) e = (both (nat_lt byte (l.byte - first)) _ e).1
 
   -- a location before another is of a lower byte
-  sorted : (ls : List RawLocation) → ascends first ls ≡ true → (i j : ℕ) → i < j → j < length ls
+  sorted : (ls : List RawLocation) → locations_ascend first ls ≡ true → (i j : ℕ) → i < j → j < length ls
       → byte_at ls i < byte_at ls j
   sorted [] e i j h k = absurd (omega (arith, k))
   sorted (l ∷ ls) e i zero h k = absurd (omega (arith, h))
@@ -130,7 +130,7 @@ module _ (first : ℕ) where
       sorted ls (rest_ascends (l.byte - first) ls e) i j (omega (arith, h)) (omega (arith, k))
 
   -- the comparisons with a byte rise
-  comparisons_rise : (ls : List RawLocation) → ascends first ls ≡ true → (byte : ℕ)
+  comparisons_rise : (ls : List RawLocation) → locations_ascend first ls ≡ true → (byte : ℕ)
       → IsNonDecreasingBy (λ l. ordering_index (nat_cmp (l.byte - first) byte)) ls
   comparisons_rise ls e byte =
       IsNonDecreasingBy-from_default (λ (l : RawLocation). ordering_index (nat_cmp (l.byte - first) byte)) ls no_location (λ i j le in_range.
@@ -138,7 +138,7 @@ module _ (first : ℕ) where
       grind (arith, nat_tests, up))
 
   -- the location of a byte is the one that is found
-  found_at : (ls : List RawLocation) → ascends first ls ≡ true → (byte i : ℕ) → i < length ls
+  found_at : (ls : List RawLocation) → locations_ascend first ls ≡ true → (byte i : ℕ) → i < length ls
       → byte_at ls i ≡ byte → location_at first ls byte ≡ Some (location_of (slice_index_or ls i no_location))
   found_at [] e byte i h same = absurd (omega (arith, h))
   found_at (l ∷ ls) e byte zero h same = rw (eq-eqb (l.byte - first) byte same) refl
@@ -156,7 +156,7 @@ module _ (first : ℕ) where
       (found_none ls byte (λ k h. others (suc k) (omega (arith, h))))
 
   -- what a search by the bytes finds
-  pub location_found : (ls : List RawLocation) → ascends first ls ≡ true → (byte : ℕ)
+  pub location_found : (ls : List RawLocation) → locations_ascend first ls ≡ true → (byte : ℕ)
       → (r : Result ℕ ℕ) → IsSearchInRange r (length ls)
       → IsBinarySearchResult (λ l. nat_cmp (l.byte - first) byte) ls r
       → MatchResult r (λ i. location_at first ls byte ≡ Some (location_of (slice_index_or ls i no_location)))
@@ -171,9 +171,9 @@ module _ (first : ℕ) where
       ])
 
 -- a location after the last one, so that the others decide
-pub ascend-more : (first : ℕ) (locations : List RawLocation) (i : ℕ) (d : RawLocation) (byte next : ℕ) (whole : Bool) → i < length locations → next ≡ (get_or locations i d).byte - first → byte < next
+pub locations_ascend-more : (first : ℕ) (locations : List RawLocation) (i : ℕ) (d : RawLocation) (byte next : ℕ) (whole : Bool) → i < length locations → next ≡ (get_or locations i d).byte - first → byte < next
     → bytes_ascend_from first byte (drop i locations) ≡ whole → bytes_ascend_from first next (drop (i + 1) locations) ≡ whole
-ascend-more first locations i d byte next whole inside is later before =
+locations_ascend-more first locations i d byte next whole inside is later before =
     let test : nat_lt byte next ≡ true = grind (arith, nat_tests) in
     let more = λ (n : ℕ). nat_lt byte n && bytes_ascend_from first n (drop (i + 1) locations) in
     ap (λ (t : Bool). t && bytes_ascend_from first next (drop (i + 1) locations)) (sym test) ∙ ap more is ∙ ap (bytes_ascend_from first byte) (sym (drop_more locations i d inside)) ∙ before

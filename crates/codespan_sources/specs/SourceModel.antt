@@ -8,28 +8,28 @@ use Rattle.codespan_sources.specs.declared.native_file.text.SourceText.{SourceTe
 use Rattle.codespan_sources.specs.declared.native_file.text.SourceText.TheVariants.{Newline, Stated}
 use Rattle.codespan_sources.specs.declared.native_files.NativeFiles.{NativeFiles}
 use Rattle.codespan_sources.specs.StatedLines.{location_at}
-use Rattle.codespan_sources.specs.SourceTexts.{CutText, SourceView, stated_text, newline_text}
+use Rattle.codespan_sources.specs.SourceTexts.{CutText, NativeFileView, stated_text, newline_text}
 
 -- a text cut at newlines
-abbrev pub newline_of : NewlineText → CutText
-newline_of t = newline_text (name_of t.file).now (simple_source_of t.file).now t.first_line
+abbrev pub newline_view : NewlineText → CutText
+newline_view t = newline_text (name_of t.file).now (simple_source_of t.file).now t.first_line
 
 -- a text of stated lines
-abbrev pub stated_of : StatedText → CutText
-stated_of t = stated_text t.name.now t.source.now t.first_byte t.lines.now
+abbrev pub stated_view : StatedText → CutText
+stated_view t = stated_text t.name.now t.source.now t.first_byte t.lines.now
 
 -- either
-abbrev pub cut_of : SourceText → CutText
-cut_of (Newline t) = newline_of t
-cut_of (Stated t) = stated_of t
+abbrev pub cut_view : SourceText → CutText
+cut_view (Newline t) = newline_view t
+cut_view (Stated t) = stated_view t
 
 -- a file
-abbrev pub source_view : NativeFile → SourceView
-source_view f = record {
-  cut = cut_of f.text;
+abbrev pub native_file_view : NativeFile → NativeFileView
+native_file_view f = record {
+  cut = cut_view f.text;
   stated_location = location_at f.first_byte f.locations.now;
 }
 
 -- the files of a database
-abbrev pub sources_of : NativeFiles → List SourceView
-sources_of files = map source_view files.files.items
+abbrev pub native_file_views : NativeFiles → List NativeFileView
+native_file_views files = map native_file_view files.files.items

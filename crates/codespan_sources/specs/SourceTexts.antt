@@ -58,12 +58,12 @@ cut_location t byte =
     record { line_number = t.number i; column_number = cut_column t i byte }
 
 -- a text with the locations that are stated for some of its bytes
-pub record SourceView : Type 0 where
+pub record NativeFileView : Type 0 where
   pub cut : CutText
   pub stated_location : ℕ → Option Location
 
 -- the file of it; a location that is stated comes before the computed one
-abbrev pub native_file_model : SourceView → FileModel
+abbrev pub native_file_model : NativeFileView → FileModel
 native_file_model s = record {
   exists = true;
   name = Some s.cut.name;
@@ -76,25 +76,25 @@ native_file_model s = record {
 }
 
 -- the range of line i
-pub record IsRangeIn (t : CutText) (i : ℕ) (r : Range ℕ) : Type 0 where
+pub record IsCutLineRange (t : CutText) (i : ℕ) (r : Range ℕ) : Type 0 where
   pub inside : i < length t.starts
   pub start_is : r.start ≡ slice_index t.starts i
   pub end_is : r.end ≡ slice_index t.ends i
 
 -- a line past the last fails
-abbrev pub past_last : List ℕ → ℕ → Option Error
-past_last starts i =
+abbrev pub cut_line_failure : List ℕ → ℕ → Option Error
+cut_line_failure starts i =
     if nat_lt i (length starts) then None else Some (LineTooLarge i (length starts - 1))
 
 -- what a lookup fails with: those of the range and of a column of a line past the last alone
-abbrev pub native_failure : SourceView → Lookup → Option Error
-native_failure s (LineRange i) = past_last s.cut.starts i
-native_failure s (ColumnNumber i byte) = past_last s.cut.starts i
+abbrev pub native_failure : NativeFileView → Lookup → Option Error
+native_failure s (LineRange i) = cut_line_failure s.cut.starts i
+native_failure s (ColumnNumber i byte) = cut_line_failure s.cut.starts i
 native_failure s _ = None
 
 -- the files, by their indices
-abbrev pub database_of : List SourceView → FileDatabase ℕ
-database_of ss = record {
+abbrev pub native_database : List NativeFileView → FileDatabase ℕ
+native_database ss = record {
   same = nat_eq;
   file = λ id. option_map_or native_file_model (slice_get ss id) missing_file;
   failure = λ id lookup.

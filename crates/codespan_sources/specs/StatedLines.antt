@@ -51,6 +51,6 @@ bytes_ascend_from first_byte byte (l ∷ ls) =
     nat_lt byte (l.byte - first_byte) && bytes_ascend_from first_byte (l.byte - first_byte) ls
 
 -- whether the bytes of locations ascend strictly
-abbrev pub ascends : ℕ → List RawLocation → Bool
-ascends first_byte [] = true
-ascends first_byte (l ∷ ls) = bytes_ascend_from first_byte (l.byte - first_byte) ls
+abbrev pub locations_ascend : ℕ → List RawLocation → Bool
+locations_ascend first_byte [] = true
+locations_ascend first_byte (l ∷ ls) = bytes_ascend_from first_byte (l.byte - first_byte) ls

@@ -3,8 +3,8 @@
 ghost use Rattle.std.specs.Prelude.{◌≡◌, true, IfOk, None};
 ghost use Rattle.codespan_base.specs.FileModel.{line_of};
 ghost use Rattle.codespan_base.specs.LawfulFiles.{FailsBy};
-ghost use Rattle.codespan_sources.specs.StatedLines.{ascends, location_at};
-ghost use Rattle.codespan_sources.specs.SourceTexts.{IsRangeIn, cut_column, native_file_model, past_last};
+ghost use Rattle.codespan_sources.specs.StatedLines.{locations_ascend, location_at};
+ghost use Rattle.codespan_sources.specs.SourceTexts.{IsCutLineRange, cut_column, native_file_model, cut_line_failure};
 
 mod newline;
 mod stated;
@@ -26,11 +26,11 @@ pub struct NativeFile<'a> {
     first_byte: usize,
     /// The locations of the caller, in ascending order of their bytes.
     locations: &'a [RawLocation],
-    ghost ascending: { ascends first_byte locations.now ≡ true },
+    ghost ascending: { locations_ascend first_byte locations.now ≡ true },
 }
 
 impl<'a> NativeFile<'a> {
-    ghost use Rattle.codespan_sources.specs.SourceModel.{cut_of, source_view};
+    ghost use Rattle.codespan_sources.specs.SourceModel.{cut_view, native_file_view};
 
     /// Returns the file of a text, which starts at the byte `first_byte` of the file, with these
     /// locations.
@@ -43,9 +43,9 @@ impl<'a> NativeFile<'a> {
         first_byte: usize,
         locations: &'a [RawLocation],
     ) -> NativeFile<'a>
-        requires { ascends first_byte locations.now ≡ true }
-        ensures cut { (source_view result).cut ≡ cut_of text.entry }
-        ensures stated { (source_view result).stated_location
+        requires { locations_ascend first_byte locations.now ≡ true }
+        ensures cut { (native_file_view result).cut ≡ cut_view text.entry }
+        ensures stated { (native_file_view result).stated_location
             ≡ location_at first_byte locations.now }
     {
         NativeFile {
@@ -57,28 +57,28 @@ impl<'a> NativeFile<'a> {
 
     /// Returns the name.
     pub fn name(&self) -> &'a str
-        ensures { result.now ≡ (source_view self.now).cut.name }
+        ensures { result.now ≡ (native_file_view self.now).cut.name }
     {
         self.text.name()
     }
 
     /// Returns the source.
     pub fn source(&self) -> &'a str
-        ensures { result.now ≡ (source_view self.now).cut.text }
+        ensures { result.now ≡ (native_file_view self.now).cut.text }
     {
         self.text.source()
     }
 
     /// Returns the index of the byte's line, from 0. The byte index counts from 0, in the source.
     pub fn line_index(&self, byte_index: usize) -> usize
-        ensures { result ≡ line_of (source_view self.now).cut.starts byte_index }
+        ensures { result ≡ line_of (native_file_view self.now).cut.starts byte_index }
     {
         self.text.line_index(byte_index)
     }
 
     /// Returns the number of the line of this index, which counts from 0.
     pub fn line_number(&self, line_index: usize) -> usize
-        ensures { result ≡ (source_view self.now).cut.number line_index }
+        ensures { result ≡ (native_file_view self.now).cut.number line_index }
     {
         self.text.line_number(line_index)
     }
@@ -90,8 +90,9 @@ impl<'a> NativeFile<'a> {
     ///
     /// [`Error::LineTooLarge`] where there is no such line.
     pub fn line_range(&self, line_index: usize) -> Result<Range<usize>, Error>
-        ensures value { IfOk result (IsRangeIn (source_view self.now).cut line_index) }
-        ensures failed { FailsBy (past_last (source_view self.now).cut.starts line_index) result }
+        ensures value { IfOk result (IsCutLineRange (native_file_view self.now).cut line_index) }
+        ensures failed { FailsBy
+            (cut_line_failure (native_file_view self.now).cut.starts line_index) result }
     {
         self.text.line_range(line_index)
     }
@@ -104,8 +105,9 @@ impl<'a> NativeFile<'a> {
     /// [`Error::LineTooLarge`] where there is no such line.
     pub fn column_number(&self, line_index: usize, byte_index: usize) -> Result<usize, Error>
         ensures value { IfOk result (λ column.
-            column ≡ cut_column (source_view self.now).cut line_index byte_index) }
-        ensures failed { FailsBy (past_last (source_view self.now).cut.starts line_index) result }
+            column ≡ cut_column (native_file_view self.now).cut line_index byte_index) }
+        ensures failed { FailsBy
+            (cut_line_failure (native_file_view self.now).cut.starts line_index) result }
     {
         let range = self.line_range(line_index)?;
         Ok(column_index(self.source(), range, byte_index) + 1)
@@ -113,7 +115,7 @@ impl<'a> NativeFile<'a> {
 
     /// Returns the caller's location of a byte, by binary search.
     fn stated_location(&self, byte_index: usize) -> Option<Location>
-        ensures { result ≡ (source_view self.now).stated_location byte_index }
+        ensures { result ≡ (native_file_view self.now).stated_location byte_index }
     {
         let first_byte = self.first_byte;
         match self.locations.binary_search_by_key(
@@ -141,7 +143,7 @@ impl<'a> NativeFile<'a> {
     #[tactic(auto, using(crate::proofs::FileLines::byte_has_line))]
     pub fn location(&self, byte_index: usize) -> Result<Location, Error>
         ensures value { IfOk result (λ location.
-            location ≡ (native_file_model (source_view self.now)).location byte_index) }
+            location ≡ (native_file_model (native_file_view self.now)).location byte_index) }
         ensures failed { FailsBy None result }
     {
         match self.stated_location(byte_index) {

@@ -17,11 +17,11 @@ pub struct NativeFiles<'a> {
 }
 
 impl<'a> NativeFiles<'a> {
-    ghost use Rattle.codespan_sources.specs.SourceModel.{source_view, sources_of};
+    ghost use Rattle.codespan_sources.specs.SourceModel.{native_file_view, native_file_views};
 
     /// Returns a database without files.
     pub fn new(alloc: Global) -> NativeFiles<'a>
-        ensures { sources_of result ≡ [] }
+        ensures { native_file_views result ≡ [] }
     {
         NativeFiles {
             files: Vec::new(alloc),
@@ -30,7 +30,7 @@ impl<'a> NativeFiles<'a> {
 
     /// Returns the number of files.
     pub fn len(&self) -> usize
-        ensures { result ≡ length (sources_of self.now) }
+        ensures { result ≡ length (native_file_views self.now) }
     {
         self.files.len()
     }
@@ -42,7 +42,8 @@ impl<'a> NativeFiles<'a> {
     /// [`OutOfMemory`] where an allocation fails.
     pub fn add(&mut self, file: NativeFile<'a>) -> Result<(), OutOfMemory>
         ensures { OnOk result
-            (sources_of self.new ≡ sources_of self.old ++ source_view file.entry ∷ []) }
+            (native_file_views self.new
+            ≡ native_file_views self.old ++ native_file_view file.entry ∷ []) }
     {
         self.files.push(file)?;
         Ok(())
@@ -55,9 +56,9 @@ impl<'a> NativeFiles<'a> {
     /// [`Error::FileMissing`] exactly where the id is not below the number of files.
     fn get(&self, id: usize) -> Result<&NativeFile<'a>, Error>
         ensures found { IfOk result (λ file.
-            slice_get (sources_of self.now) id ≡ Some (source_view file.now)) }
+            slice_get (native_file_views self.now) id ≡ Some (native_file_view file.now)) }
         ensures missing { IfErr result (λ e.
-            (slice_get (sources_of self.now) id ≡ None) × (e ≡ FileMissing)) }
+            (slice_get (native_file_views self.now) id ≡ None) × (e ≡ FileMissing)) }
     {
         match self.files.get(id) {
             Some(file) => Ok(file),
@@ -69,8 +70,8 @@ impl<'a> NativeFiles<'a> {
 impl<'files, 'a: 'files> Files<'files> for NativeFiles<'a> {
     ghost use Rattle.codespan_base.specs.Lemmas.Missing.{same_at};
     ghost use Rattle.codespan_sources.specs.Lemmas.NativeFiles.{database_is_lawful, database_fails_past_end};
-    ghost use Rattle.codespan_sources.specs.SourceModel.{sources_of};
-    ghost use Rattle.codespan_sources.specs.SourceTexts.{database_of};
+    ghost use Rattle.codespan_sources.specs.SourceModel.{native_file_views};
+    ghost use Rattle.codespan_sources.specs.SourceTexts.{native_database};
 
     /// The index of a file.
     type FileId = usize;
@@ -81,16 +82,17 @@ impl<'files, 'a: 'files> Files<'files> for NativeFiles<'a> {
     /// The borrowed source.
     type Source = &'a str;
 
-    ghost database = { λ s. database_of (sources_of s) };
+    ghost database = { λ s. native_database (native_file_views s) };
 
     ghost lawful = { λ s id. database_is_lawful s id };
 
     ghost same_file = { λ s i j e.
-        let files = database_of (sources_of s) in same_at files.file files.failure i j e };
+        let files = native_database (native_file_views s) in
+        same_at files.file files.failure i j e };
 
     ghost same_is = { λ s. refl };
 
-    ghost past_end = { λ s id i. database_fails_past_end (sources_of s) id i };
+    ghost past_end = { λ s id i. database_fails_past_end (native_file_views s) id i };
 
     fn name(&'files self, id: usize) -> Result<&'a str, Error> {
         Ok(self.get(id)?.name())

@@ -2,7 +2,7 @@
 
 ghost use Rattle.std.specs.Prelude.{◌≡◌};
 ghost use Rattle.codespan_base.specs.Lines.{is_char_boundary};
-ghost use Rattle.codespan_sources.specs.StatedLines.{are_lines, ascends};
+ghost use Rattle.codespan_sources.specs.StatedLines.{are_lines, locations_ascend};
 
 use crate::raw::{RawLine, RawLocation};
 
@@ -47,8 +47,8 @@ fn is_char_boundary(text: &[u8], index: usize) -> bool
 
 /// Returns whether the bytes of these locations, in a window of a file from a byte on, ascend
 /// strictly.
-pub fn ascend(first_byte: usize, locations: &[RawLocation]) -> bool
-    ensures { result ≡ ascends first_byte locations.now }
+pub fn locations_ascend(first_byte: usize, locations: &[RawLocation]) -> bool
+    ensures { result ≡ locations_ascend first_byte locations.now }
 {
     let Some((first, rest)) = locations.split_first() else {
         return true;

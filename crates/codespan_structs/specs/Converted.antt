@@ -32,7 +32,7 @@ use Rattle.codespan_structs.specs.declared.raw.RawStyles.{RawStyles}
 use Rattle.codespan_structs.specs.declared.raw.RawText.{RawText}
 use Rattle.codespan_structs.specs.StyleMarkBytes.{style_mark_spelling}
 use Rattle.codespan_sources.specs.StatedLines.{location_at}
-use Rattle.codespan_sources.specs.SourceTexts.{CutText, SourceView, database_of, stated_text, newline_text}
+use Rattle.codespan_sources.specs.SourceTexts.{CutText, NativeFileView, native_database, stated_text, newline_text}
 
 -- ---- numbers of the header
 
@@ -89,8 +89,8 @@ abbrev pub bytes_of : RawText → List ℕ
 bytes_of t = t.bytes.now
 
 -- the diagnostic
-abbrev pub view_of : List RawFile → RawDiagnostic → DiagnosticView ℕ
-view_of files d = record {
+abbrev pub converted_diagnostic : List RawFile → RawDiagnostic → DiagnosticView ℕ
+converted_diagnostic files d = record {
   severity = severity_of d.severity;
   code = code_of d.code.now;
   message = d.message.now;
@@ -183,12 +183,12 @@ cut_by name text first_byte first_line [] = newline_text name text first_line
 cut_by name text first_byte first_line (l ∷ ls) = stated_text name text first_byte (l ∷ ls)
 
 -- a file
-abbrev pub source_in : RawFile → SourceView
-source_in f = record {
+abbrev pub converted_file : RawFile → NativeFileView
+converted_file f = record {
   cut = cut_by f.name.now f.source.now f.first_byte f.first_line f.lines.now;
   stated_location = location_at f.first_byte f.locations.now;
 }
 
 -- the files
 abbrev pub converted_files : List RawFile → FileDatabase ℕ
-converted_files files = database_of (map source_in files)
+converted_files files = native_database (map converted_file files)

@@ -15,14 +15,14 @@ use Rattle.codespan_structs.specs.declared.raw.RawLabel.{RawLabel}
 use Rattle.codespan_sources.specs.declared.raw.RawLine.{RawLine}
 use Rattle.codespan_structs.specs.declared.raw.RawStyles.{RawStyles}
 use Rattle.codespan_structs.specs.declared.raw.RawText.{RawText}
-use Rattle.codespan_sources.specs.StatedLines.{are_lines, ascends}
+use Rattle.codespan_sources.specs.StatedLines.{are_lines, locations_ascend}
 use Rattle.codespan_structs.specs.Statuses.{FILE_MISSING, INVALID}
 
 -- ---- values
 
 -- the caller's characters, by their code points
-abbrev pub codes_of : RawChars → List ℕ
-codes_of c =
+abbrev pub code_points_of : RawChars → List ℕ
+code_points_of c =
     c.source_border_left ∷ c.source_border_left_break ∷ c.note_bullet ∷ c.single_primary_caret
     ∷ c.single_secondary_caret ∷ c.multi_primary_caret_start ∷ c.multi_primary_caret_end
     ∷ c.multi_secondary_caret_start ∷ c.multi_secondary_caret_end ∷ c.multi_top_left ∷ c.multi_top
@@ -57,7 +57,7 @@ abbrev pub HasValidLines : RawFile → Type 0
 HasValidLines f = AreValidLines f.source.now f.first_byte f.lines.now
 
 abbrev pub HasValidLocations : RawFile → Type 0
-HasValidLocations f = ascends f.first_byte f.locations.now ≡ true
+HasValidLocations f = locations_ascend f.first_byte f.locations.now ≡ true
 
 abbrev pub HasLabelStyle : RawLabel → Type 0
 HasLabelStyle l = l.style ≤ 1
@@ -69,8 +69,8 @@ abbrev pub IsValidText : RawText → Type 0
 IsValidText t = IsUtf8 t.bytes.now
 
 -- the label is of one of so many files
-abbrev pub IsOfAFile : ℕ → RawLabel → Type 0
-IsOfAFile count l = l.file < count
+abbrev pub HasLabelFile : ℕ → RawLabel → Type 0
+HasLabelFile count l = l.file < count
 
 -- ---- arguments
 
@@ -126,7 +126,7 @@ module _ (files : List RawFile) (d : RawDiagnostic) (c : RawConfig) where
   IsValidAt Spelling i = c.spelling ≤ 3
   IsValidAt Characters i = c.characters ≤ 2
   IsValidAt SnippetStart i = c.characters ≡ 2 → IsUtf8 c.chars.snippet_start.now
-  IsValidAt Character i = c.characters ≡ 2 → HoldsIfAt InScalarRange (codes_of c.chars) i
+  IsValidAt Character i = c.characters ≡ 2 → HoldsIfAt InScalarRange (code_points_of c.chars) i
   IsValidAt Color i = c.spelling ≡ 2 → HoldsIfAt IsColorSpec (color_specs_of c.styles) i
   IsValidAt FileName i = HoldsIfAt HasTextName files i
   IsValidAt FileSource i = HoldsIfAt HasTextSource files i
@@ -137,7 +137,7 @@ module _ (files : List RawFile) (d : RawDiagnostic) (c : RawConfig) where
   IsValidAt Message i = IsUtf8 d.message.now
   IsValidAt LabelStyle i = HoldsIfAt HasLabelStyle d.labels.now i
   IsValidAt LabelMessage i = HoldsIfAt HasTextMessage d.labels.now i
-  IsValidAt LabelFile i = HoldsIfAt (IsOfAFile (length files)) d.labels.now i
+  IsValidAt LabelFile i = HoldsIfAt (HasLabelFile (length files)) d.labels.now i
   IsValidAt Note i = HoldsIfAt IsValidText d.notes.now i
 
   -- every argument is valid

@@ -7,6 +7,6 @@ mod files;
 mod styles;
 mod text;
 
-pub use config::{Settings, Spelling, convert_config};
+pub use config::{Settings, SpellingKind, convert_config};
 pub use diagnostic::convert_diagnostic;
 pub use files::convert_files;

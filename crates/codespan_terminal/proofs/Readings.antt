@@ -18,7 +18,7 @@ use Rattle.codespan_base.specs.declared.term.config.color.ColorSpec.{ColorSpec}
 use Rattle.codespan_base.specs.declared.term.config.styles.Styles.{Styles}
 use Rattle.codespan_base.specs.Ansi.{ansi_bold, ansi_color, ansi_reset, ansi_style, color_number, escape}
 use Rattle.codespan_base.specs.StyleTables.{header_style, label_style}
-use Rattle.codespan_base.specs.Streams.{StyleMark, Header, HeaderMessage, LineNumber, NoteBullet, SourceBorder, LabelMark, Reset}
+use Rattle.codespan_base.specs.Streams.{StyleMark, Header, HeaderMessage, LineNumber, NoteBullet, SourceBorder, LabelStyleMark, Reset}
 use Rattle.codespan_documents.specs.declared.text.Run.{Run}
 use Rattle.codespan_documents.specs.Runs.{AreTexts, StyledRun, run_characters, run_view}
 use Rattle.codespan_documents.specs.declared.style.Style.{Style}
@@ -224,7 +224,7 @@ ReadsText-mark styles HeaderMessage = ReadsText-style styles.header_message
 ReadsText-mark styles LineNumber = ReadsText-style styles.line_number
 ReadsText-mark styles NoteBullet = ReadsText-style styles.note_bullet
 ReadsText-mark styles SourceBorder = ReadsText-style styles.source_border
-ReadsText-mark styles (LabelMark severity style) = ReadsText-style (label_style styles severity style)
+ReadsText-mark styles (LabelStyleMark severity style) = ReadsText-style (label_style styles severity style)
 ReadsText-mark styles Reset = ReadsText-reset
 
 -- ---- runs
@@ -236,7 +236,7 @@ ReadsText-first_sequences styles Kinds.HeaderMessage = ReadsText-mark styles Hea
 ReadsText-first_sequences styles Kinds.LineNumber = ReadsText-mark styles LineNumber
 ReadsText-first_sequences styles Kinds.NoteBullet = ReadsText-mark styles NoteBullet
 ReadsText-first_sequences styles Kinds.SourceBorder = ReadsText-mark styles SourceBorder
-ReadsText-first_sequences styles (Kinds.Label severity style) = ReadsText-mark styles (LabelMark severity style)
+ReadsText-first_sequences styles (Kinds.Label severity style) = ReadsText-mark styles (LabelStyleMark severity style)
 
 -- the safe characters of a run and of those after it
 safe_split : (text : List ℕ) (runs : List StyledRun)

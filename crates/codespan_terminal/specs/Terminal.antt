@@ -5,7 +5,7 @@ use Rattle.std.specs.List.{AllByRecursion, flat_map}
 use Rattle.std.specs.Str.{chars, encode_utf8_all}
 use Rattle.ucd_props.specs.Binary.{is_bidi_control}
 use Rattle.codespan_base.specs.StyleTables.{ansi_spelling}
-use Rattle.codespan_base.specs.Streams.{StyleMark, Header, HeaderMessage, LineNumber, NoteBullet, SourceBorder, LabelMark, Reset}
+use Rattle.codespan_base.specs.Streams.{StyleMark, Header, HeaderMessage, LineNumber, NoteBullet, SourceBorder, LabelStyleMark, Reset}
 use Rattle.codespan_base.specs.declared.term.config.styles.Styles.{Styles}
 use Rattle.codespan_picture.specs.CharMetrics.{width_at}
 use Rattle.codespan_documents.specs.Runs.{StyledRun, run_characters}
@@ -36,7 +36,7 @@ style_mark_of Kinds.HeaderMessage = HeaderMessage
 style_mark_of Kinds.LineNumber = LineNumber
 style_mark_of Kinds.NoteBullet = NoteBullet
 style_mark_of Kinds.SourceBorder = SourceBorder
-style_mark_of (Kinds.Label severity style) = LabelMark severity style
+style_mark_of (Kinds.Label severity style) = LabelStyleMark severity style
 
 -- a run: the escape sequences of its style, and its safe text
 abbrev pub run_bytes : Styles → StyledRun → List ℕ

@@ -11,9 +11,9 @@ use std::alloc::Global;
 use std::io::Write;
 use std::panic::Expect;
 use std::process::Abort;
-use test_writers::counting::Counting;
-use test_writers::marks::set_styles;
-use test_writers::stopping::{Stop, Stopping};
+use test_writers::counting::CountingWriter;
+use test_writers::stopping::{Stop, StoppingWriter};
+use test_writers::style_marks::set_styles;
 
 /// A lane mark: the lane, 0-based, the style of the label and its part on the line.
 type LaneMark = (usize, LabelStyle, MultiLabel<'static>);
@@ -61,7 +61,7 @@ static ENDLESS: [(usize, usize, &str); 2] = [
 #[test]
 fn endless_padding(rt: HostRuntime) {
     for (padding, lanes, expected) in &ENDLESS {
-        let mut plain = PlainWriter::new(Stopping::new(rt.alloc(), 1, 10, Stop::Fails));
+        let mut plain = PlainWriter::new(StoppingWriter::new(rt.alloc(), 1, 10, Stop::Fails));
         let failed = render_empty_row(&mut plain, *padding, *lanes);
         assert_stopped(&rt, &failed, plain.into_inner().text.as_slice(), expected);
     }
@@ -163,7 +163,7 @@ fn render_rows<W: WriteStyle>(rt: &impl Abort, w: &mut W, locus: &Locus) {
 #[test]
 fn only_flush_flushes(rt: HostRuntime) {
     let locus = first_locus(&rt, rt.alloc());
-    let mut inner = Counting::default();
+    let mut inner = CountingWriter::default();
     render_rows(&rt, &mut PlainWriter::new(&mut inner), &locus);
     assert!(rt; inner.flushes == 1);
 }

@@ -44,8 +44,8 @@ label style id start end message = record {
 
 -- a file of a name and a text, with set line numbers
 abbrev pub mapped_text : List ℕ → List ℕ → List (ℕ × ℕ) → FileModel
-mapped_text name text settings =
-    mapped_file (Some (encode_utf8_all name)) (encode_utf8_all text) settings
+mapped_text name text set_numbers =
+    mapped_file (Some (encode_utf8_all name)) (encode_utf8_all text) set_numbers
 
 -- the file with lines that are numbered by their indices
 abbrev pub from_zero : FileModel → FileModel

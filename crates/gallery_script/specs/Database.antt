@@ -4,7 +4,7 @@ use Rattle.std.specs.Borrow.{Bor}
 use Rattle.codespan_base.specs.declared.diagnostic.Diagnostic.{Diagnostic}
 use Rattle.codespan_base.specs.Diagnostics.{DiagnosticView, LabelView, diagnostic_view}
 use Rattle.codespan_base.specs.MappedModel.{with_number}
-use Rattle.codespan_base.specs.DatabaseViews.{entries, mapped_name_of, mapped_source_of, name_of, settings_of, source_of}
+use Rattle.codespan_base.specs.DatabaseViews.{entries, mapped_name_of, mapped_source_of, name_of, set_numbers_of, source_of}
 use Rattle.gallery_script.specs.declared.case.Case.{Case}
 use Rattle.gallery_script.specs.declared.case.DatabaseKind.TheVariants as kinds
 use Rattle.gallery_script.specs.declared.database.Database.{Database}
@@ -59,4 +59,4 @@ IsDatabaseOf case (Several files) =
 IsDatabaseOf case (Mapped file diagnostic) =
     (case.database_kind ≡ kinds.Mapped) × IsOnlyFile case (mapped_name_of file).now
     (mapped_source_of file).now diagnostic
-    × (settings_of file ≡ with_numbers [] case.numbers.items)
+    × (set_numbers_of file ≡ with_numbers [] case.numbers.items)

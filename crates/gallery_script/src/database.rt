@@ -2,7 +2,7 @@
 
 ghost use Rattle.std.specs.Prelude.{◌≡◌, ◌∷◌, [], map, IfOk};
 ghost use Rattle.codespan_base.specs.Diagnostics.{diagnostic_view, label_view};
-ghost use Rattle.codespan_base.specs.DatabaseViews.{entries, mapped_name_of, mapped_source_of, settings_of};
+ghost use Rattle.codespan_base.specs.DatabaseViews.{entries, mapped_name_of, mapped_source_of, set_numbers_of};
 ghost use Rattle.gallery_script.specs.Cases.{file_view};
 ghost use Rattle.gallery_script.specs.Database.{IsDatabaseOf, by_unit_id, label_by_unit_id, borrowed_view, with_numbers};
 
@@ -79,7 +79,7 @@ fn mapped_file<'case>(
 ) -> Result<MappedFile<&'case str, &'case str>, Error>
     ensures file { IfOk result (λ mapped.
         ((mapped_name_of mapped).now, (mapped_source_of mapped).now) ≡ file_view file.now) }
-    ensures numbers { IfOk result (λ mapped. settings_of mapped ≡ with_numbers [] numbers.now) }
+    ensures numbers { IfOk result (λ mapped. set_numbers_of mapped ≡ with_numbers [] numbers.now) }
 {
     let mut mapped = MappedFile::new(alloc, file.name.as_str(), file.source.as_str())?;
     for (line, number) in numbers {

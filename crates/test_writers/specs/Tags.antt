@@ -2,7 +2,7 @@
 use Rattle.std.specs.Prelude.{ℕ, Bool, List, [], Option, codes, if◌then◌else◌}
 use Rattle.codespan_base.specs.declared.diagnostic.LabelStyle.TheVariants.{Primary, Secondary}
 use Rattle.codespan_base.specs.declared.term.config.color.ColorSpec.{ColorSpec}
-use Rattle.codespan_base.specs.Streams.{StyleMark, Header, HeaderMessage, LineNumber, NoteBullet, SourceBorder, LabelMark, Reset}
+use Rattle.codespan_base.specs.Streams.{StyleMark, Header, HeaderMessage, LineNumber, NoteBullet, SourceBorder, LabelStyleMark, Reset}
 use Rattle.codespan_base.specs.WriterLaw.{Sink}
 
 -- the tag of a style mark
@@ -12,8 +12,8 @@ tag HeaderMessage = codes "[message]"
 tag LineNumber = codes "[number]"
 tag NoteBullet = codes "[bullet]"
 tag SourceBorder = codes "[border]"
-tag (LabelMark severity Primary) = codes "[primary]"
-tag (LabelMark severity Secondary) = codes "[secondary]"
+tag (LabelStyleMark severity Primary) = codes "[primary]"
+tag (LabelStyleMark severity Secondary) = codes "[secondary]"
 tag Reset = codes "[/]"
 
 -- what the law sees of a writer of tags

@@ -5,12 +5,12 @@ use std::io::Write;
 
 /// A writer that takes all bytes, and counts how often it is flushed.
 #[derive(Drop, Default)]
-pub struct Counting {
+pub struct CountingWriter {
     /// How often it was flushed.
     pub flushes: usize,
 }
 
-impl Write for Counting {
+impl Write for CountingWriter {
     fn write(&mut self, buf: &[u8]) -> io::Result<usize> {
         Ok(buf.len())
     }

@@ -4,6 +4,6 @@
 
 pub mod counting;
 pub mod example;
-pub mod marks;
 pub mod sequences;
 pub mod stopping;
+pub mod style_marks;

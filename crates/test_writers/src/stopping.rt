@@ -22,7 +22,7 @@ pub enum Stop {
 
 /// A writer that takes so many bytes at most at a time, and stops after so many writes.
 #[derive(Drop)]
-pub struct Stopping {
+pub struct StoppingWriter {
     /// What it has taken.
     pub text: Vec<u8>,
     // The most bytes that a write takes.
@@ -35,11 +35,11 @@ pub struct Stopping {
     writes_after: usize,
 }
 
-impl Stopping {
+impl StoppingWriter {
     /// Returns a writer that takes `most` bytes at most at a time, and stops so after `writes`
     /// writes.
-    pub fn new(alloc: Global, most: usize, writes: usize, stop: Stop) -> Stopping {
-        Stopping {
+    pub fn new(alloc: Global, most: usize, writes: usize, stop: Stop) -> StoppingWriter {
+        StoppingWriter {
             text: Vec::new(alloc),
             most,
             writes_left: writes,
@@ -70,7 +70,7 @@ impl Stopping {
     }
 }
 
-impl Write for Stopping {
+impl Write for StoppingWriter {
     fn write(&mut self, buf: &[u8]) -> io::Result<usize> {
         if self.has_stopped {
             self.writes_after = self.writes_after.saturating_add(1);

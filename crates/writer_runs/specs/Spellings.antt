@@ -1,6 +1,6 @@
 -- The spelling of this program's writer of styles.
 use Rattle.std.specs.Prelude.{ℕ, Bool, List, [], ◌∷◌, Option, codes}
-use Rattle.codespan_base.specs.Streams.{StyleMark, Header, HeaderMessage, LineNumber, NoteBullet, SourceBorder, LabelMark, Reset}
+use Rattle.codespan_base.specs.Streams.{StyleMark, Header, HeaderMessage, LineNumber, NoteBullet, SourceBorder, LabelStyleMark, Reset}
 use Rattle.codespan_base.specs.WriterLaw.{Sink}
 
 -- the escape sequence of a style mark
@@ -10,7 +10,7 @@ sequence HeaderMessage = 0x1b ∷ codes "[2m"
 sequence LineNumber = 0x1b ∷ codes "[3m"
 sequence NoteBullet = 0x1b ∷ codes "[4m"
 sequence SourceBorder = 0x1b ∷ codes "[5m"
-sequence (LabelMark severity style) = 0x1b ∷ codes "[6m"
+sequence (LabelStyleMark severity style) = 0x1b ∷ codes "[6m"
 sequence Reset = 0x1b ∷ codes "[0m"
 
 -- the writer, as the law of writers sees it

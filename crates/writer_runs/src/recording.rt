@@ -3,13 +3,13 @@
 use std::alloc::Global;
 use std::io;
 use std::io::Write;
-use test_writers::stopping::{Stop, Stopping};
+use test_writers::stopping::{Stop, StoppingWriter};
 
 /// A writer, and how many bytes it held before each write.
 #[derive(Drop)]
 pub struct Recording {
     /// The writer, which holds the bytes written.
-    pub inner: Stopping,
+    pub inner: StoppingWriter,
     /// The number of bytes before each write.
     pub starts: Vec<usize>,
 }
@@ -24,7 +24,7 @@ impl Recording {
     /// in this way after `writes` writes.
     pub fn stopping(alloc: Global, most: usize, writes: usize, stop: Stop) -> Recording {
         Recording {
-            inner: Stopping::new(alloc, most, writes, stop),
+            inner: StoppingWriter::new(alloc, most, writes, stop),
             starts: Vec::new(alloc),
         }
     }

@@ -7,32 +7,32 @@ use codespan_base::term::{Ansi, NoColor, PlainWriter};
 use std::io;
 use std::panic::Expect;
 use std::process::Abort;
-use test_writers::counting::Counting;
+use test_writers::counting::CountingWriter;
 
 /// Returns how often a writer of plain text flushes.
 fn flushes_of_plain() -> io::Result<usize> {
-    let mut inner = Counting::default();
+    let mut inner = CountingWriter::default();
     write_rows(&mut PlainWriter::new(&mut inner), Rows::Flushed)?;
     Ok(inner.flushes)
 }
 
 /// Returns how often a writer of plain text over a borrowed one flushes.
 fn flushes_of_plain_ref() -> io::Result<usize> {
-    let mut inner = Counting::default();
+    let mut inner = CountingWriter::default();
     write_rows(&mut PlainWriterRef::new(&mut inner), Rows::Flushed)?;
     Ok(inner.flushes)
 }
 
 /// Returns how often a writer in color flushes.
 fn flushes_of_ansi() -> io::Result<usize> {
-    let mut inner = Counting::default();
+    let mut inner = CountingWriter::default();
     styled(Ansi::new(&mut inner), Rows::Flushed)?;
     Ok(inner.flushes)
 }
 
 /// Returns how often a writer without color flushes.
 fn flushes_of_no_color() -> io::Result<usize> {
-    let mut inner = Counting::default();
+    let mut inner = CountingWriter::default();
     styled(NoColor::new(&mut inner), Rows::Flushed)?;
     Ok(inner.flushes)
 }

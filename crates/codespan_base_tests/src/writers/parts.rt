@@ -7,7 +7,7 @@ use codespan_base::term::PlainWriter;
 use std::alloc::Global;
 use std::process::Abort;
 use test_writers::example::TagWriter;
-use test_writers::stopping::{Stop, Stopping};
+use test_writers::stopping::{Stop, StoppingWriter};
 
 /// A part of a row of each kind, and a style mark of each kind.
 static PARTS: [Part; 15] = [
@@ -48,13 +48,13 @@ struct Case {
 
 impl Case {
     /// Returns such a writer.
-    fn writer(&self, alloc: Global) -> Stopping {
-        Stopping::new(alloc, self.most, self.writes, self.stop)
+    fn writer(&self, alloc: Global) -> StoppingWriter {
+        StoppingWriter::new(alloc, self.most, self.writes, self.stop)
     }
 }
 
 /// Asserts that a writer holds `whole` where the parts were written, and else a prefix of it.
-fn assert_is_right(rt: &impl Abort, inner: &Stopping, is_ok: bool, whole: &str, case: &Case) {
+fn assert_is_right(rt: &impl Abort, inner: &StoppingWriter, is_ok: bool, whole: &str, case: &Case) {
     let Case { stop, most, writes } = case;
     assert!(rt;
         inner.is_right(is_ok, whole.as_bytes()),

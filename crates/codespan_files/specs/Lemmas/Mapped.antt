@@ -73,9 +73,9 @@ end_after text u i h =
     ]
 
 -- the file of a text whose line numbers are set is lawful
-pub mapped_lawful : (name : Option (List ℕ)) (text : List ℕ) (settings : List (ℕ × ℕ)) → IsUtf8 text
-    → length text < 2 ^ 64 → IsLawful (mapped_file name text settings)
-mapped_lawful name text settings u fits =
+pub mapped_lawful : (name : Option (List ℕ)) (text : List ℕ) (set_numbers : List (ℕ × ℕ))
+    → IsUtf8 text → length text < 2 ^ 64 → IsLawful (mapped_file name text set_numbers)
+mapped_lawful name text set_numbers u fits =
     let law = simple_lawful name text u fits in
     record {
       is_text = law.is_text;
@@ -93,8 +93,9 @@ mapped_lawful name text settings u fits =
     }
 
 -- and fails past its last line
-pub mapped_past_end : (name : Option (List ℕ)) (text : List ℕ) (settings : List (ℕ × ℕ)) (i : ℕ)
-    → FailsPastEnd (mapped_file name text settings) i (mapped_failure text settings (LineRange i))
-mapped_past_end name text settings i = simple_past_end name text i
+pub mapped_past_end : (name : Option (List ℕ)) (text : List ℕ) (set_numbers : List (ℕ × ℕ)) (i : ℕ)
+    → FailsPastEnd (mapped_file name text set_numbers) i
+    (mapped_failure text set_numbers (LineRange i))
+mapped_past_end name text set_numbers i = simple_past_end name text i
 
 pub ruleset mapped_range = (mapped_end_before_last, mapped_end_of_last, next_above)

@@ -142,10 +142,10 @@ rising text i j h k =
     rw e (rising_by text i (j - i) (omega arith))
 
 -- the line of a byte at which a line starts
-pub line_of_start : (text xs : List ℕ) (byte i : ℕ) → xs ≡ line_starts_of text
+pub line_found_at_start : (text xs : List ℕ) (byte i : ℕ) → xs ≡ line_starts_of text
     → IsBinarySearchResult (λ y. nat_cmp y byte) xs (Ok i) → i ≡ line_of (line_starts_of text) byte
 unfolding line_of
-line_of_start text xs byte i e found =
+line_found_at_start text xs byte i e found =
     let f = searched (line_starts_of text) byte (Ok i) (rw e at found) (rising text) in
     let n : count_by (λ s. nat_le s byte) (line_starts_of text) ≡ i + 1 =
     count_split byte (line_starts_of text) (i + 1) (omega (arith, f.0))
@@ -154,11 +154,11 @@ line_of_start text xs byte i e found =
     omega arith
 
 -- the line of a byte within a line
-pub line_of_inside : (text xs : List ℕ) (byte i : ℕ) → xs ≡ line_starts_of text
+pub line_found_inside : (text xs : List ℕ) (byte i : ℕ) → xs ≡ line_starts_of text
     → IsBinarySearchResult (λ y. nat_cmp y byte) xs (Err i)
     → (1 ≤ i) × (i - 1 ≡ line_of (line_starts_of text) byte)
 unfolding line_of
-line_of_inside text xs byte i e found =
+line_found_inside text xs byte i e found =
     let f = searched (line_starts_of text) byte (Err i) (rw e at found) (rising text) in
     let n : count_by (λ s. nat_le s byte) (line_starts_of text) ≡ i =
     count_split byte (line_starts_of text) i f.0 (λ k p. omega (arith, f.1 k p)) f.2 in

@@ -79,7 +79,7 @@ impl<Name, Source: AsStr> SimpleFiles<Name, Source> {
 
 /// No call allocates. Each call but `line_number` looks the file up.
 impl<'a, Name: Display + 'a, Source: AsStr + 'a> Files<'a> for SimpleFiles<Name, Source> {
-    ghost use Rattle.codespan_files.specs.DatabaseViews.{entries, error_in, file_in, name_of, source_of, text_of};
+    ghost use Rattle.codespan_files.specs.DatabaseViews.{entries, database_failure_of, database_file_of, name_of, source_of, file_text_of};
     ghost use Rattle.codespan_files.specs.SimpleModel.{simple_failure};
     ghost use Rattle.codespan_files.specs.FileModel.{line_of};
     ghost use Rattle.codespan_files.specs.LawfulFiles.{IsLineRange, NeedsNoMemory, FailsBy, line_number_failure};
@@ -98,15 +98,16 @@ impl<'a, Name: Display + 'a, Source: AsStr + 'a> Files<'a> for SimpleFiles<Name,
 
     ghost database = { λ s. record {
       same = ⟦<usize as PartialEq>⟧.eq;
-      file = file_in Name.output s;
-      failure = error_in s;
+      file = database_file_of Name.output s;
+      failure = database_failure_of s;
     } };
 
     ghost lawful = { λ s id.
         database_lawful (λ f. (name_of f, source_of f)) _ s.files.items id (λ f.
-        simple_lawful (Name.output (name_of f)) (text_of f) (text_is_utf8 f) (text_fits f)) };
+        simple_lawful (Name.output (name_of f)) (file_text_of f) (text_is_utf8 f) (text_fits f)) };
 
-    ghost same_file = { λ s i j e. same_at (file_in Name.output s) (error_in s) i j e };
+    ghost same_file = { λ s i j e.
+        same_at (database_file_of Name.output s) (database_failure_of s) i j e };
 
     ghost same_is = { λ s. refl };
 
@@ -123,8 +124,8 @@ impl<'a, Name: Display + 'a, Source: AsStr + 'a> Files<'a> for SimpleFiles<Name,
         ensures borrowed { IfOk result (λ name.
             IfSome (slice_get (entries self.now) id) (λ entry. name.now ≡ entry.0)) }
         ensures value { IfOk result (λ name.
-            Name.output name.now ≡ (file_in Name.output self.now id).name) }
-        ensures failed { FailsBy (error_in self.now id NameLookup) result }
+            Name.output name.now ≡ (database_file_of Name.output self.now id).name) }
+        ensures failed { FailsBy (database_failure_of self.now id NameLookup) result }
         ensures memory { NeedsNoMemory result }
     {
         Ok(self.get(id)?.name())
@@ -136,8 +137,9 @@ impl<'a, Name: Display + 'a, Source: AsStr + 'a> Files<'a> for SimpleFiles<Name,
     ///
     /// [`Error::FileMissing`] where the id is not below the number of files.
     fn source(&'a self, id: usize) -> Result<&'a str, Error>
-        ensures value { IfOk result (λ text. text.now ≡ (file_in Name.output self.now id).text) }
-        ensures failed { FailsBy (error_in self.now id SourceLookup) result }
+        ensures value { IfOk result (λ text.
+            text.now ≡ (database_file_of Name.output self.now id).text) }
+        ensures failed { FailsBy (database_failure_of self.now id SourceLookup) result }
         ensures memory { NeedsNoMemory result }
     {
         Ok(self.get(id)?.source().as_str())
@@ -151,8 +153,8 @@ impl<'a, Name: Display + 'a, Source: AsStr + 'a> Files<'a> for SimpleFiles<Name,
     /// [`Error::FileMissing`] where the id is not below the number of files.
     fn line_index(&'a self, id: usize, byte_index: usize) -> Result<usize, Error>
         ensures value { IfOk result (λ line.
-            line ≡ line_of (file_in Name.output self.now id).starts byte_index) }
-        ensures failed { FailsBy (error_in self.now id (LineIndex byte_index)) result }
+            line ≡ line_of (database_file_of Name.output self.now id).starts byte_index) }
+        ensures failed { FailsBy (database_failure_of self.now id (LineIndex byte_index)) result }
         ensures memory { NeedsNoMemory result }
     {
         self.get(id)?.line_index((), byte_index)
@@ -168,8 +170,8 @@ impl<'a, Name: Display + 'a, Source: AsStr + 'a> Files<'a> for SimpleFiles<Name,
         ensures number { IfOk result (λ number. number ≡ line_index + 1) }
         ensures default { FailsBy (line_number_failure line_index) result }
         ensures value { IfOk result (λ number.
-            number ≡ (file_in Name.output self.now id).line_number line_index) }
-        ensures failed { FailsBy (error_in self.now id (LineNumber line_index)) result }
+            number ≡ (database_file_of Name.output self.now id).line_number line_index) }
+        ensures failed { FailsBy (database_failure_of self.now id (LineNumber line_index)) result }
         ensures memory { NeedsNoMemory result }
     {
         default_line_number(line_index)
@@ -190,9 +192,10 @@ impl<'a, Name: Display + 'a, Source: AsStr + 'a> Files<'a> for SimpleFiles<Name,
         byte_index: usize,
     ) -> Result<usize, Error>
         ensures value { IfOk result (λ number.
-            number ≡ (file_in Name.output self.now id).column_number line_index byte_index) }
-        ensures failed { FailsBy (error_in self.now id (ColumnNumber line_index byte_index))
-            result }
+            number
+            ≡ (database_file_of Name.output self.now id).column_number line_index byte_index) }
+        ensures failed { FailsBy
+            (database_failure_of self.now id (ColumnNumber line_index byte_index)) result }
         ensures memory { NeedsNoMemory result }
     {
         self.get(id)?.column_number((), line_index, byte_index)
@@ -205,8 +208,8 @@ impl<'a, Name: Display + 'a, Source: AsStr + 'a> Files<'a> for SimpleFiles<Name,
     /// [`Error::FileMissing`] where the id is not below the number of files.
     fn location(&'a self, id: usize, byte_index: usize) -> Result<Location, Error>
         ensures value { IfOk result (λ location.
-            location ≡ (file_in Name.output self.now id).location byte_index) }
-        ensures failed { FailsBy (error_in self.now id (LocationAt byte_index)) result }
+            location ≡ (database_file_of Name.output self.now id).location byte_index) }
+        ensures failed { FailsBy (database_failure_of self.now id (LocationAt byte_index)) result }
         ensures memory { NeedsNoMemory result }
     {
         self.get(id)?.location((), byte_index)
@@ -221,8 +224,9 @@ impl<'a, Name: Display + 'a, Source: AsStr + 'a> Files<'a> for SimpleFiles<Name,
     /// - [`Error::LineTooLarge`] with `given` the index and `max` that of the last line, where the
     ///   file has no such line.
     fn line_range(&'a self, id: usize, line_index: usize) -> Result<Range<usize>, Error>
-        ensures value { IfOk result (IsLineRange (file_in Name.output self.now id) line_index) }
-        ensures failed { FailsBy (error_in self.now id (LineRange line_index)) result }
+        ensures value { IfOk result
+            (IsLineRange (database_file_of Name.output self.now id) line_index) }
+        ensures failed { FailsBy (database_failure_of self.now id (LineRange line_index)) result }
         ensures memory { NeedsNoMemory result }
     {
         self.get(id)?.line_range((), line_index)

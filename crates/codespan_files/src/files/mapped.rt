@@ -2,7 +2,7 @@
 
 ghost use Rattle.std.specs.Prelude.{◌≡◌, ◌≤◌, [], refl, IfOk, IsOk, IfErr, IfSome, OnOk, OnErr, IsErrOf, None};
 ghost use Rattle.codespan_files.specs.Lines.{line_starts_of};
-ghost use Rattle.codespan_files.specs.Settings.{IsStrictlySorted, IsAt, IsGapFor};
+ghost use Rattle.codespan_files.specs.SetLineNumbers.{IsStrictlySorted, IsSetAt, IsInsertionPoint};
 
 use crate::files::{Error, Files, Location, SimpleFile, column_index, default_line_number};
 use std::alloc::Global;
@@ -36,7 +36,7 @@ pub struct MappedFile<Name, Source: AsStr> {
 }
 
 impl<Name: Drop, Source: AsStr + Drop> MappedFile<Name, Source> {
-    ghost use Rattle.codespan_files.specs.DatabaseViews.{mapped_name_of, mapped_source_of, settings_of};
+    ghost use Rattle.codespan_files.specs.DatabaseViews.{mapped_name_of, mapped_source_of, set_numbers_of};
 
     /// Returns a database of this name and source, with no line number set.
     ///
@@ -47,7 +47,7 @@ impl<Name: Drop, Source: AsStr + Drop> MappedFile<Name, Source> {
     pub fn new(alloc: Global, name: Name, source: Source) -> Result<Self, Error>
         ensures name { IfOk result (λ file. mapped_name_of file ≡ name) }
         ensures source { IfOk result (λ file. mapped_source_of file ≡ source) }
-        ensures numbers { IfOk result (λ file. settings_of file ≡ []) }
+        ensures numbers { IfOk result (λ file. set_numbers_of file ≡ []) }
         ensures failed { OnErr result (IsErrOf result Error.OutOfMemory) }
     {
         Ok(MappedFile {
@@ -58,10 +58,10 @@ impl<Name: Drop, Source: AsStr + Drop> MappedFile<Name, Source> {
 }
 
 impl<Name, Source: AsStr> MappedFile<Name, Source> {
-    ghost use Rattle.codespan_files.specs.DatabaseViews.{mapped_name_of, mapped_source_of, mapped_text_of, settings_of};
+    ghost use Rattle.codespan_files.specs.DatabaseViews.{mapped_name_of, mapped_source_of, mapped_text_of, set_numbers_of};
     ghost use Rattle.codespan_files.specs.LawfulFiles.{FailsBy};
-    ghost use Rattle.codespan_files.specs.SimpleModel.{line_failure};
-    ghost use Rattle.codespan_files.specs.MappedModel.{setting, with_number};
+    ghost use Rattle.codespan_files.specs.SimpleModel.{past_end_failure};
+    ghost use Rattle.codespan_files.specs.MappedModel.{nearest_set, with_number};
 
     /// Sets the number of the line at this index, from 0; replaces an earlier one. The law
     /// [`codespan_base::laws::set_numbers_count_on`] states what becomes of the other lines.
@@ -77,9 +77,9 @@ impl<Name, Source: AsStr> MappedFile<Name, Source> {
         ensures name { mapped_name_of self.new ≡ mapped_name_of self.old }
         ensures source { mapped_source_of self.new ≡ mapped_source_of self.old }
         ensures ok { OnOk result
-            (settings_of self.new ≡ with_number line_index number (settings_of self.old)) }
-        ensures err { OnErr result (settings_of self.new ≡ settings_of self.old) }
-        ensures failed { FailsBy (line_failure (mapped_text_of self.old) line_index) result }
+            (set_numbers_of self.new ≡ with_number line_index number (set_numbers_of self.old)) }
+        ensures err { OnErr result (set_numbers_of self.new ≡ set_numbers_of self.old) }
+        ensures failed { FailsBy (past_end_failure (mapped_text_of self.old) line_index) result }
     {
         let lines = self.file.line_count();
         if line_index >= lines {
@@ -103,8 +103,8 @@ impl<Name, Source: AsStr> MappedFile<Name, Source> {
     /// Returns the index, among the set numbers, of that of the line, or as `Err` the index at
     /// which it would be inserted.
     fn search(&self, line_index: usize) -> Result<usize, usize>
-        ensures found { IfOk result (IsAt (settings_of self.now) line_index) }
-        ensures absent { IfErr result (IsGapFor (settings_of self.now) line_index) }
+        ensures found { IfOk result (IsSetAt (set_numbers_of self.now) line_index) }
+        ensures absent { IfErr result (IsInsertionPoint (set_numbers_of self.now) line_index) }
     {
         self.numbers
             .binary_search_by_key(&line_index, |&(index, _)| index)
@@ -113,7 +113,7 @@ impl<Name, Source: AsStr> MappedFile<Name, Source> {
     /// Returns the set number that this line counts from, with its line index; `None` where none is
     /// set at it or above it.
     fn nearest(&self, line_index: usize) -> Option<(usize, usize)>
-        ensures value { result ≡ setting (settings_of self.now) line_index }
+        ensures value { result ≡ nearest_set (set_numbers_of self.now) line_index }
         ensures below { IfSome result (λ s. s.0 ≤ line_index) }
     {
         match self.search(line_index) {
@@ -126,9 +126,9 @@ impl<Name, Source: AsStr> MappedFile<Name, Source> {
 
 /// No call allocates. Names are borrowed, since the clone of a name need not display the same text.
 impl<'a, Name: Display + 'a, Source: AsStr + 'a> Files<'a> for MappedFile<Name, Source> {
-    ghost use Rattle.codespan_files.specs.DatabaseViews.{mapped_error_of, mapped_file_of, mapped_name_of, mapped_text_of, settings_of};
-    ghost use Rattle.codespan_files.specs.SimpleModel.{line_failure};
-    ghost use Rattle.codespan_files.specs.MappedModel.{mapped_column, mapped_location, number_from, setting};
+    ghost use Rattle.codespan_files.specs.DatabaseViews.{mapped_failure_of, mapped_file_of, mapped_name_of, mapped_text_of, set_numbers_of};
+    ghost use Rattle.codespan_files.specs.SimpleModel.{past_end_failure};
+    ghost use Rattle.codespan_files.specs.MappedModel.{mapped_column, mapped_location, number_from, nearest_set};
     ghost use Rattle.codespan_files.specs.FileModel.{line_of};
     ghost use Rattle.codespan_files.specs.LawfulFiles.{IsLineRange, NeedsNoMemory, FailsBy};
     ghost use Rattle.codespan_files.specs.FileModel.Lookup.{LineNumber, LocationAt};
@@ -147,11 +147,11 @@ impl<'a, Name: Display + 'a, Source: AsStr + 'a> Files<'a> for MappedFile<Name, 
     ghost database = { λ s. record {
       same = ⟦<() as PartialEq>⟧.eq;
       file = λ _. mapped_file_of Name.output s;
-      failure = λ _. mapped_error_of s;
+      failure = λ _. mapped_failure_of s;
     } };
 
     ghost lawful = { λ s _.
-        mapped_lawful (Name.output (mapped_name_of s)) (mapped_text_of s) (settings_of s)
+        mapped_lawful (Name.output (mapped_name_of s)) (mapped_text_of s) (set_numbers_of s)
         (text_is_utf8 s.file) (text_fits s.file) };
 
     ghost same_file = { λ s i j e. (refl, refl) };
@@ -159,7 +159,7 @@ impl<'a, Name: Display + 'a, Source: AsStr + 'a> Files<'a> for MappedFile<Name, 
     ghost same_is = { λ s. refl };
 
     ghost past_end = { λ s _ i.
-        mapped_past_end (Name.output (mapped_name_of s)) (mapped_text_of s) (settings_of s) i };
+        mapped_past_end (Name.output (mapped_name_of s)) (mapped_text_of s) (set_numbers_of s) i };
 
     /// Returns the file's name. Never fails.
     fn name(&'a self, _id: ()) -> Result<&'a Name, Error>
@@ -202,8 +202,8 @@ impl<'a, Name: Display + 'a, Source: AsStr + 'a> Files<'a> for MappedFile<Name, 
     /// fits into a `usize`, where this one does not.
     fn line_number(&'a self, _id: (), line_index: usize) -> Result<usize, Error>
         ensures value { IfOk result (λ number.
-            number ≡ number_from (setting (settings_of self.now) line_index) line_index) }
-        ensures failed { FailsBy (mapped_error_of self.now (LineNumber line_index)) result }
+            number ≡ number_from (nearest_set (set_numbers_of self.now) line_index) line_index) }
+        ensures failed { FailsBy (mapped_failure_of self.now (LineNumber line_index)) result }
         ensures memory { NeedsNoMemory result }
     {
         match self.nearest(line_index) {
@@ -228,7 +228,7 @@ impl<'a, Name: Display + 'a, Source: AsStr + 'a> Files<'a> for MappedFile<Name, 
     fn column_number(&'a self, id: (), line_index: usize, byte_index: usize) -> Result<usize, Error>
         ensures value { IfOk result (λ number.
             number ≡ mapped_column (mapped_text_of self.now) line_index byte_index) }
-        ensures failed { FailsBy (line_failure (mapped_text_of self.now) line_index) result }
+        ensures failed { FailsBy (past_end_failure (mapped_text_of self.now) line_index) result }
         ensures memory { NeedsNoMemory result }
     {
         let range = self.line_range(id, line_index)?;
@@ -243,9 +243,9 @@ impl<'a, Name: Display + 'a, Source: AsStr + 'a> Files<'a> for MappedFile<Name, 
     #[tactic(auto, using(crate::specs::Lemmas::Lines::line_of_below))]
     fn location(&'a self, id: (), byte_index: usize) -> Result<Location, Error>
         ensures value { IfOk result (λ location.
-            location ≡ mapped_location (mapped_text_of self.now) (settings_of self.now)
+            location ≡ mapped_location (mapped_text_of self.now) (set_numbers_of self.now)
             byte_index) }
-        ensures failed { FailsBy (mapped_error_of self.now (LocationAt byte_index)) result }
+        ensures failed { FailsBy (mapped_failure_of self.now (LocationAt byte_index)) result }
         ensures memory { NeedsNoMemory result }
     {
         let line_index = self.line_index(id, byte_index)?;
@@ -265,7 +265,7 @@ impl<'a, Name: Display + 'a, Source: AsStr + 'a> Files<'a> for MappedFile<Name, 
     #[tactic(auto, using(crate::specs::Lemmas::Mapped::mapped_range))]
     fn line_range(&'a self, id: (), line_index: usize) -> Result<Range<usize>, Error>
         ensures value { IfOk result (IsLineRange (mapped_file_of Name.output self.now) line_index) }
-        ensures failed { FailsBy (line_failure (mapped_text_of self.now) line_index) result }
+        ensures failed { FailsBy (past_end_failure (mapped_text_of self.now) line_index) result }
         ensures memory { NeedsNoMemory result }
     {
         let range = self.file.line_range(id, line_index)?;

@@ -65,7 +65,7 @@ impl<Name: Drop, Source: AsStr + Drop> SimpleFile<Name, Source> {
 }
 
 impl<Name, Source: AsStr> SimpleFile<Name, Source> {
-    ghost use Rattle.codespan_files.specs.DatabaseViews.{name_of, source_of, text_of};
+    ghost use Rattle.codespan_files.specs.DatabaseViews.{name_of, source_of, file_text_of};
 
     /// Borrows the name.
     pub fn name(&self) -> &Name
@@ -83,7 +83,7 @@ impl<Name, Source: AsStr> SimpleFile<Name, Source> {
 
     /// Returns how many lines the text has: at least one.
     pub(super) fn line_count(&self) -> usize
-        ensures value { result ≡ length (line_starts_of (text_of self.now)) }
+        ensures value { result ≡ length (line_starts_of (file_text_of self.now)) }
         ensures some { 1 ≤ result }
     {
         self.line_starts.len()
@@ -92,8 +92,8 @@ impl<Name, Source: AsStr> SimpleFile<Name, Source> {
 
 /// No call allocates. Names are borrowed, since the clone of a name need not display the same text.
 impl<'a, Name: Display + 'a, Source: AsStr + 'a> Files<'a> for SimpleFile<Name, Source> {
-    ghost use Rattle.codespan_files.specs.DatabaseViews.{file_of, name_of, text_of};
-    ghost use Rattle.codespan_files.specs.SimpleModel.{simple_failure, simple_column, simple_location, line_failure};
+    ghost use Rattle.codespan_files.specs.DatabaseViews.{file_of, name_of, file_text_of};
+    ghost use Rattle.codespan_files.specs.SimpleModel.{simple_failure, simple_column, simple_location, past_end_failure};
     ghost use Rattle.codespan_files.specs.FileModel.{line_of};
     ghost use Rattle.codespan_files.specs.LawfulFiles.{IsLineRange, NeedsNoMemory, FailsBy, line_number_failure};
     ghost use Rattle.codespan_files.specs.Lemmas.Simple.{simple_lawful, simple_past_end, text_fits, text_is_utf8};
@@ -110,17 +110,17 @@ impl<'a, Name: Display + 'a, Source: AsStr + 'a> Files<'a> for SimpleFile<Name, 
     ghost database = { λ s. record {
       same = ⟦<() as PartialEq>⟧.eq;
       file = λ _. file_of Name.output s;
-      failure = λ _. simple_failure (text_of s);
+      failure = λ _. simple_failure (file_text_of s);
     } };
 
     ghost lawful = { λ s _.
-        simple_lawful (Name.output (name_of s)) (text_of s) (text_is_utf8 s) (text_fits s) };
+        simple_lawful (Name.output (name_of s)) (file_text_of s) (text_is_utf8 s) (text_fits s) };
 
     ghost same_file = { λ s i j e. (refl, refl) };
 
     ghost same_is = { λ s. refl };
 
-    ghost past_end = { λ s _ i. simple_past_end (Name.output (name_of s)) (text_of s) i };
+    ghost past_end = { λ s _ i. simple_past_end (Name.output (name_of s)) (file_text_of s) i };
 
     /// Returns the file's name. Never fails.
     fn name(&'a self, _id: ()) -> Result<&'a Name, Error>
@@ -136,7 +136,7 @@ impl<'a, Name: Display + 'a, Source: AsStr + 'a> Files<'a> for SimpleFile<Name, 
     /// Returns the source's text. Never fails.
     fn source(&'a self, _id: ()) -> Result<&'a str, Error>
         ensures succeeds { IsOk result }
-        ensures borrowed { IfOk result (λ text. text.now ≡ text_of self.now) }
+        ensures borrowed { IfOk result (λ text. text.now ≡ file_text_of self.now) }
         ensures failed { FailsBy None result }
     {
         Ok(self.source.as_str())
@@ -147,7 +147,7 @@ impl<'a, Name: Display + 'a, Source: AsStr + 'a> Files<'a> for SimpleFile<Name, 
     fn line_index(&'a self, _id: (), byte_index: usize) -> Result<usize, Error>
         ensures succeeds { IsOk result }
         ensures value { IfOk result (λ line.
-            line ≡ line_of (line_starts_of (text_of self.now)) byte_index) }
+            line ≡ line_of (line_starts_of (file_text_of self.now)) byte_index) }
         ensures failed { FailsBy None result }
     {
         match self.line_starts.binary_search(&byte_index) {
@@ -178,8 +178,8 @@ impl<'a, Name: Display + 'a, Source: AsStr + 'a> Files<'a> for SimpleFile<Name, 
     /// text has no such line.
     fn column_number(&'a self, id: (), line_index: usize, byte_index: usize) -> Result<usize, Error>
         ensures value { IfOk result (λ number.
-            number ≡ simple_column (text_of self.now) line_index byte_index) }
-        ensures failed { FailsBy (line_failure (text_of self.now) line_index) result }
+            number ≡ simple_column (file_text_of self.now) line_index byte_index) }
+        ensures failed { FailsBy (past_end_failure (file_text_of self.now) line_index) result }
         ensures memory { NeedsNoMemory result }
     {
         let range = self.line_range(id, line_index)?;
@@ -191,7 +191,7 @@ impl<'a, Name: Display + 'a, Source: AsStr + 'a> Files<'a> for SimpleFile<Name, 
     fn location(&'a self, id: (), byte_index: usize) -> Result<Location, Error>
         ensures succeeds { IsOk result }
         ensures value { IfOk result (λ location.
-            location ≡ simple_location (text_of self.now) byte_index) }
+            location ≡ simple_location (file_text_of self.now) byte_index) }
         ensures failed { FailsBy None result }
     {
         let line_index = self.line_index(id, byte_index)?;
@@ -210,7 +210,7 @@ impl<'a, Name: Display + 'a, Source: AsStr + 'a> Files<'a> for SimpleFile<Name, 
     /// text has no such line.
     fn line_range(&'a self, _id: (), line_index: usize) -> Result<Range<usize>, Error>
         ensures value { IfOk result (IsLineRange (file_of Name.output self.now) line_index) }
-        ensures failed { FailsBy (line_failure (text_of self.now) line_index) result }
+        ensures failed { FailsBy (past_end_failure (file_text_of self.now) line_index) result }
         ensures memory { NeedsNoMemory result }
     {
         let count = self.line_starts.len();

@@ -11,33 +11,33 @@ use Rattle.codespan_sources.specs.declared.native_file.text.SourceText.{SourceTe
 use Rattle.codespan_sources.specs.declared.native_file.text.SourceText.TheVariants.{Newline, Stated}
 use Rattle.codespan_sources.specs.declared.native_files.NativeFiles.{NativeFiles}
 use Rattle.codespan_sources.specs.Lemmas.CutTexts.{newline_lawful, stated_lawful}
-use Rattle.codespan_sources.specs.SourceModel.{cut_of, source_view, sources_of, stated_of}
-use Rattle.codespan_sources.specs.SourceTexts.{SourceView, database_of, native_failure, native_file_model}
+use Rattle.codespan_sources.specs.SourceModel.{cut_view, native_file_view, native_file_views, stated_view}
+use Rattle.codespan_sources.specs.SourceTexts.{NativeFileView, native_database, native_failure, native_file_model}
 use Rattle.codespan_sources.specs.StatedLines.{location_at}
 
 -- a text of stated lines makes a lawful file, whatever its locations are
 pub stated_is_lawful : (t : StatedText) (stated : ℕ → Option Location)
-    → IsLawful (native_file_model (record { cut = stated_of t; stated_location = stated }))
+    → IsLawful (native_file_model (record { cut = stated_view t; stated_location = stated }))
 stated_is_lawful t stated =
     stated_lawful _ _ t.first_byte t.lines.now stated (IsUtf8-had _ t.utf8) t.fits t.cut
 
 -- a text makes a lawful file
 pub text_is_lawful : (t : SourceText) (stated : ℕ → Option Location)
-    → IsLawful (native_file_model (record { cut = cut_of t; stated_location = stated }))
+    → IsLawful (native_file_model (record { cut = cut_view t; stated_location = stated }))
 text_is_lawful (Newline t) stated =
     newline_lawful _ _ t.first_line stated (text_is_utf8 t.file) (text_fits t.file)
 text_is_lawful (Stated t) stated = stated_is_lawful t stated
 
 -- a database is lawful
 pub database_is_lawful : (files : NativeFiles) (id : ℕ)
-    → IsLawful ((database_of (sources_of files)).file id)
+    → IsLawful ((native_database (native_file_views files)).file id)
 database_is_lawful files id =
-    database_lawful source_view native_file_model files.files.items id
+    database_lawful native_file_view native_file_model files.files.items id
     (λ f. text_is_lawful f.text (location_at f.first_byte f.locations.now))
 
 -- the range of a line fails past the last one
-pub database_fails_past_end : (ss : List SourceView) (id i : ℕ)
-    → FailsPastEnd ((database_of ss).file id) i ((database_of ss).failure id (LineRange i))
+pub database_fails_past_end : (ss : List NativeFileView) (id i : ℕ)
+    → FailsPastEnd ((native_database ss).file id) i ((native_database ss).failure id (LineRange i))
 database_fails_past_end ss id i =
     past_end_or native_file_model native_failure i (slice_get ss id)
     (λ s there. past_end_is (length s.cut.starts) i)

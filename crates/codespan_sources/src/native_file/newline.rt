@@ -3,7 +3,7 @@
 ghost use Rattle.std.specs.Prelude.{◌≡◌, IfOk};
 ghost use Rattle.codespan_base.specs.FileModel.{line_of};
 ghost use Rattle.codespan_base.specs.LawfulFiles.{FailsBy};
-ghost use Rattle.codespan_sources.specs.SourceTexts.{IsRangeIn, newline_text, past_last};
+ghost use Rattle.codespan_sources.specs.SourceTexts.{IsCutLineRange, newline_text, cut_line_failure};
 
 use crate::error::OutOfMemory;
 use codespan_base::files::{Error, Files, SimpleFile};
@@ -21,7 +21,7 @@ pub struct NewlineText<'a> {
 }
 
 impl<'a> NewlineText<'a> {
-    ghost use Rattle.codespan_sources.specs.SourceModel.{newline_of};
+    ghost use Rattle.codespan_sources.specs.SourceModel.{newline_view};
 
     /// Returns the text of a name and a source, which has so many lines before it.
     ///
@@ -35,7 +35,7 @@ impl<'a> NewlineText<'a> {
         first_line: usize,
     ) -> Result<NewlineText<'a>, OutOfMemory>
         ensures { IfOk result (λ text.
-            newline_of text ≡ newline_text name.now source.now first_line) }
+            newline_view text ≡ newline_text name.now source.now first_line) }
     {
         match SimpleFile::new(alloc, name, source) {
             Ok(file) => Ok(NewlineText { file, first_line }),
@@ -45,21 +45,21 @@ impl<'a> NewlineText<'a> {
 
     /// Returns the name.
     pub fn name(&self) -> &'a str
-        ensures { result.now ≡ (newline_of self.now).name }
+        ensures { result.now ≡ (newline_view self.now).name }
     {
         *self.file.name()
     }
 
     /// Returns the source.
     pub fn source(&self) -> &'a str
-        ensures { result.now ≡ (newline_of self.now).text }
+        ensures { result.now ≡ (newline_view self.now).text }
     {
         *self.file.source()
     }
 
     /// Returns the number of the line of this index, which counts from 0 and need not exist.
     pub fn line_number(&self, line_index: usize) -> usize
-        ensures { result ≡ (newline_of self.now).number line_index }
+        ensures { result ≡ (newline_view self.now).number line_index }
     {
         self.first_line.saturating_add(line_index).saturating_add(1)
     }
@@ -67,7 +67,7 @@ impl<'a> NewlineText<'a> {
     /// Returns the index of the byte's line, from 0. The byte index counts from 0, in the source.
     /// The lookup of a file of one text does not fail.
     pub fn line_index(&self, byte_index: usize) -> usize
-        ensures { result ≡ line_of (newline_of self.now).starts byte_index }
+        ensures { result ≡ line_of (newline_view self.now).starts byte_index }
     {
         match self.file.line_index((), byte_index) {
             Ok(line_index) => line_index,
@@ -82,8 +82,9 @@ impl<'a> NewlineText<'a> {
     ///
     /// [`Error::LineTooLarge`] where there is no such line.
     pub fn line_range(&self, line_index: usize) -> Result<Range<usize>, Error>
-        ensures value { IfOk result (IsRangeIn (newline_of self.now) line_index) }
-        ensures failed { FailsBy (past_last (newline_of self.now).starts line_index) result }
+        ensures value { IfOk result (IsCutLineRange (newline_view self.now) line_index) }
+        ensures failed { FailsBy (cut_line_failure (newline_view self.now).starts line_index)
+            result }
     {
         self.file.line_range((), line_index)
     }

@@ -5,7 +5,7 @@ ghost use Rattle.std.specs.Str.{IsUtf8};
 ghost use Rattle.codespan_base.specs.FileModel.{line_of};
 ghost use Rattle.codespan_base.specs.LawfulFiles.{FailsBy};
 ghost use Rattle.codespan_sources.specs.StatedLines.{are_lines};
-ghost use Rattle.codespan_sources.specs.SourceTexts.{IsRangeIn, stated_text, past_last};
+ghost use Rattle.codespan_sources.specs.SourceTexts.{IsCutLineRange, stated_text, cut_line_failure};
 
 use crate::raw::RawLine;
 use codespan_base::files::Error;
@@ -28,7 +28,7 @@ pub struct StatedText<'a> {
 }
 
 impl<'a> StatedText<'a> {
-    ghost use Rattle.codespan_sources.specs.SourceModel.{stated_of};
+    ghost use Rattle.codespan_sources.specs.SourceModel.{stated_view};
 
     /// Returns the text of a name and a source, cut into these lines.
     ///
@@ -43,7 +43,7 @@ impl<'a> StatedText<'a> {
         lines: &'a [RawLine],
     ) -> StatedText<'a>
         requires { are_lines source.now first_byte lines.now ≡ true }
-        ensures { stated_of result ≡ stated_text name.now source.now first_byte lines.now }
+        ensures { stated_view result ≡ stated_text name.now source.now first_byte lines.now }
     {
         StatedText {
             name,
@@ -55,14 +55,14 @@ impl<'a> StatedText<'a> {
 
     /// Returns the name.
     pub fn name(&self) -> &'a str
-        ensures { result.now ≡ (stated_of self.now).name }
+        ensures { result.now ≡ (stated_view self.now).name }
     {
         self.name
     }
 
     /// Returns the source.
     pub fn source(&self) -> &'a str
-        ensures { result.now ≡ (stated_of self.now).text }
+        ensures { result.now ≡ (stated_view self.now).text }
     {
         self.source
     }
@@ -70,7 +70,7 @@ impl<'a> StatedText<'a> {
     /// Returns the index of the byte's line, from 0, by binary search. The byte index counts from
     /// 0, in the source.
     pub fn line_index(&self, byte_index: usize) -> usize
-        ensures { result ≡ line_of (stated_of self.now).starts byte_index }
+        ensures { result ≡ line_of (stated_view self.now).starts byte_index }
     {
         let first_byte = self.first_byte;
         self.lines
@@ -80,7 +80,7 @@ impl<'a> StatedText<'a> {
 
     /// Returns the number of the line of this index, which counts from 0; 0 where there is none.
     pub fn line_number(&self, line_index: usize) -> usize
-        ensures { result ≡ (stated_of self.now).number line_index }
+        ensures { result ≡ (stated_view self.now).number line_index }
     {
         match self.lines.get(line_index) {
             Some(line) => line.number,
@@ -95,8 +95,9 @@ impl<'a> StatedText<'a> {
     ///
     /// [`Error::LineTooLarge`] where there is no such line.
     pub fn line_range(&self, line_index: usize) -> Result<Range<usize>, Error>
-        ensures value { IfOk result (IsRangeIn (stated_of self.now) line_index) }
-        ensures failed { FailsBy (past_last (stated_of self.now).starts line_index) result }
+        ensures value { IfOk result (IsCutLineRange (stated_view self.now) line_index) }
+        ensures failed { FailsBy (cut_line_failure (stated_view self.now).starts line_index)
+            result }
     {
         match self.lines.get(line_index) {
             Some(line) => {

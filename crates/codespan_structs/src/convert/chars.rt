@@ -6,7 +6,7 @@ ghost use Rattle.codespan_base.specs.ConfigEquality.{IsEqualChars};
 ghost use Rattle.codespan_structs.specs.Converted.{converted_chars, custom_chars};
 ghost use Rattle.codespan_structs.specs.ValidParts.{AreCustomChars, AreValidChars};
 
-use crate::convert::text::text_of;
+use crate::convert::text::str_of;
 use crate::raw::{RawChars, RawConfig};
 use codespan_base::term::{Chars, SnippetStart};
 
@@ -33,7 +33,7 @@ fn custom_chars<'a>(raw: &RawChars<'a>) -> Chars<'a>
     ensures { IsEqualChars (custom_chars raw.now) result }
 {
     Chars {
-        snippet_start: SnippetStart::Fixed(text_of(raw.snippet_start)),
+        snippet_start: SnippetStart::Fixed(str_of(raw.snippet_start)),
         source_border_left: character_of(raw.source_border_left),
         source_border_left_break: character_of(raw.source_border_left_break),
         note_bullet: character_of(raw.note_bullet),

@@ -13,7 +13,7 @@ use codespan_base::term::{Config, DisplayStyle, Layout, Styles};
 
 /// How style marks are spelled.
 #[derive(Clone, Copy)]
-pub enum Spelling {
+pub enum SpellingKind {
     /// As nothing.
     Plain,
     /// As the escape sequences of these styles.
@@ -28,7 +28,7 @@ pub struct Settings<'a> {
     /// The configuration.
     pub config: Config<'a>,
     /// How style marks are spelled.
-    pub spelling: Spelling,
+    pub spelling: SpellingKind,
 }
 
 /// Returns the settings of a configuration of C.
@@ -86,13 +86,13 @@ fn layout_of(number: u32) -> Layout
 }
 
 /// Returns how a configuration spells style marks. A number above 3 counts as 3.
-fn spelling_of(raw: &RawConfig<'_>) -> Spelling
+fn spelling_of(raw: &RawConfig<'_>) -> SpellingKind
     ensures { spelling_by_kind result ≡ spelling_of raw.now }
 {
     match raw.spelling {
-        0 => Spelling::Plain,
-        1 => Spelling::Ansi(Styles::default()),
-        2 => Spelling::Ansi(convert_styles(&raw.styles)),
-        _ => Spelling::StyleMarks,
+        0 => SpellingKind::Plain,
+        1 => SpellingKind::Ansi(Styles::default()),
+        2 => SpellingKind::Ansi(convert_styles(&raw.styles)),
+        _ => SpellingKind::StyleMarks,
     }
 }

@@ -4,7 +4,7 @@ ghost use Rattle.std.specs.Prelude.{◌≡◌, All, IfOk, map, string_bytes};
 ghost use Rattle.std.specs.Str.{IsUtf8};
 ghost use Rattle.std.specs.Option.{option_map};
 ghost use Rattle.codespan_base.specs.Diagnostics.{diagnostic_view, label_view};
-ghost use Rattle.codespan_structs.specs.Converted.{bytes_of, code_of, converted_label, label_style_of, first_byte_of, severity_of, view_of};
+ghost use Rattle.codespan_structs.specs.Converted.{bytes_of, code_of, converted_label, label_style_of, first_byte_of, severity_of, converted_diagnostic};
 ghost use Rattle.codespan_structs.specs.Validity.{HasTextMessage, IsValidText};
 ghost use Rattle.codespan_structs.specs.ValidParts.{IsValidDiagnostic};
 
@@ -29,7 +29,7 @@ pub fn convert_diagnostic(
     raw: &RawDiagnostic<'_>,
 ) -> Result<Diagnostic<usize>, OutOfMemory>
     requires { IsValidDiagnostic raw.now }
-    ensures { IfOk result (λ d. diagnostic_view d ≡ view_of files.now raw.now) }
+    ensures { IfOk result (λ d. diagnostic_view d ≡ converted_diagnostic files.now raw.now) }
 {
     Ok(Diagnostic {
         severity: severity_of(raw.severity),

@@ -1,11 +1,11 @@
 //! The files.
 
 ghost use Rattle.std.specs.Prelude.{◌≡◌, All, IfOk, map};
-ghost use Rattle.codespan_structs.specs.Converted.{source_in};
-ghost use Rattle.codespan_sources.specs.SourceModel.{cut_of, source_view, sources_of};
+ghost use Rattle.codespan_structs.specs.Converted.{converted_file};
+ghost use Rattle.codespan_sources.specs.SourceModel.{cut_view, native_file_view, native_file_views};
 ghost use Rattle.codespan_structs.specs.ValidParts.{IsValidFile};
 
-use crate::convert::text::text_of;
+use crate::convert::text::str_of;
 use crate::error::OutOfMemory;
 use crate::raw::RawFile;
 use codespan_sources::native_file::{NativeFile, NewlineText, SourceText, StatedText};
@@ -23,7 +23,7 @@ use std::alloc::Global;
 /// [`first_invalid`](crate::validate::first_invalid) has found nothing.
 pub fn convert_files<'a>(alloc: Global, raw: &[RawFile<'a>]) -> Result<NativeFiles<'a>, OutOfMemory>
     requires { All IsValidFile raw.now }
-    ensures { IfOk result (λ files. sources_of files ≡ map source_in raw.now) }
+    ensures { IfOk result (λ files. native_file_views files ≡ map converted_file raw.now) }
 {
     let mut files = NativeFiles::new(alloc);
     for file in raw {
@@ -35,7 +35,7 @@ pub fn convert_files<'a>(alloc: Global, raw: &[RawFile<'a>]) -> Result<NativeFil
 /// Returns a file.
 fn file_of<'a>(alloc: Global, raw: &RawFile<'a>) -> Result<NativeFile<'a>, OutOfMemory>
     requires { IsValidFile raw.now }
-    ensures { IfOk result (λ file. source_view file ≡ source_in raw.now) }
+    ensures { IfOk result (λ file. native_file_view file ≡ converted_file raw.now) }
 {
     let text = source_text_of(alloc, raw)?;
     Ok(NativeFile::new(text, raw.first_byte, raw.locations))
@@ -44,10 +44,10 @@ fn file_of<'a>(alloc: Global, raw: &RawFile<'a>) -> Result<NativeFile<'a>, OutOf
 /// Returns the text of a file, cut into lines.
 fn source_text_of<'a>(alloc: Global, raw: &RawFile<'a>) -> Result<SourceText<'a>, OutOfMemory>
     requires { IsValidFile raw.now }
-    ensures { IfOk result (λ text. cut_of text ≡ (source_in raw.now).cut) }
+    ensures { IfOk result (λ text. cut_view text ≡ (converted_file raw.now).cut) }
 {
-    let name = text_of(raw.name);
-    let source = text_of(raw.source);
+    let name = str_of(raw.name);
+    let source = str_of(raw.source);
     Ok(if raw.lines.is_empty() {
         SourceText::Newline(NewlineText::new(alloc, name, source, raw.first_line)?)
     } else {

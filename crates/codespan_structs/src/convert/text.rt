@@ -10,7 +10,7 @@ use std::alloc::{AllocError, Global};
 /// # Requires
 ///
 /// The bytes are UTF-8.
-pub fn text_of(bytes: &[u8]) -> &str
+pub fn str_of(bytes: &[u8]) -> &str
     requires { IsUtf8 bytes.now }
     ensures { result.now ≡ bytes.now }
 {
@@ -31,5 +31,5 @@ pub fn string_of(alloc: Global, bytes: &[u8]) -> Result<String, AllocError>
     requires { IsUtf8 bytes.now }
     ensures { IfOk result (λ text. string_bytes text ≡ bytes.now) }
 {
-    String::from_str(alloc, text_of(bytes))
+    String::from_str(alloc, str_of(bytes))
 }

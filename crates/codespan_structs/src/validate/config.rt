@@ -3,7 +3,7 @@
 ghost use Rattle.std.specs.Prelude.{◌≡◌, IsTrue, ◌↔◌};
 ghost use Rattle.std.specs.Char.{InScalarRange};
 ghost use Rattle.std.specs.Str.{IsUtf8};
-ghost use Rattle.codespan_structs.specs.Validity.{codes_of, color_specs_of, FindsInvalid, FindsWithout, HoldsIfAt, IsColorSpec};
+ghost use Rattle.codespan_structs.specs.Validity.{code_points_of, color_specs_of, FindsInvalid, FindsWithout, HoldsIfAt, IsColorSpec};
 
 use crate::raw::{ABI, RawChars, RawColorSpec, RawConfig, RawStyles};
 use crate::validate::values::{is_character, is_color_spec, is_text};
@@ -34,12 +34,12 @@ pub fn is_snippet_start_valid(config: &RawConfig<'_>) -> bool
 /// chosen.
 pub fn character_index(config: &RawConfig<'_>) -> Option<usize>
     ensures { FindsInvalid (λ i. config.now.characters ≡ 2
-        → HoldsIfAt InScalarRange (codes_of config.now.chars) i) result }
+        → HoldsIfAt InScalarRange (code_points_of config.now.chars) i) result }
 {
     if config.characters != CUSTOM_CHARACTERS {
         return None;
     }
-    code_index(&codes_of(&config.chars))
+    code_point_index(&code_points_of(&config.chars))
 }
 
 /// Returns the index of the first of the caller's styles with a color that is invalid, where they
@@ -55,7 +55,7 @@ pub fn color_index(config: &RawConfig<'_>) -> Option<usize>
 }
 
 /// Returns the index of the first code point that is no Unicode scalar value.
-fn code_index(codes: &[u32]) -> Option<usize>
+fn code_point_index(codes: &[u32]) -> Option<usize>
     ensures { FindsWithout InScalarRange codes.now result }
 {
     codes.iter().position(|code| !is_character(*code))
@@ -69,8 +69,8 @@ fn color_spec_index(specs: &[RawColorSpec]) -> Option<usize>
 }
 
 /// Returns the code points of the caller's characters, in the order of the fields.
-fn codes_of(chars: &RawChars<'_>) -> [u32; 15]
-    ensures { result ≡ codes_of chars.now }
+fn code_points_of(chars: &RawChars<'_>) -> [u32; 15]
+    ensures { result ≡ code_points_of chars.now }
 {
     [
         chars.source_border_left,

@@ -1,7 +1,7 @@
 //! The diagnostic.
 
 ghost use Rattle.std.specs.Prelude.{◌≤◌, length};
-ghost use Rattle.codespan_structs.specs.Validity.{FindsWithout, HasLabelStyle, HasTextMessage, IsOfAFile, IsValidText};
+ghost use Rattle.codespan_structs.specs.Validity.{FindsWithout, HasLabelStyle, HasTextMessage, HasLabelFile, IsValidText};
 
 use crate::raw::{RawFile, RawLabel, RawText};
 use crate::validate::values::is_text;
@@ -29,14 +29,14 @@ pub fn note_index(notes: &[RawText<'_>]) -> Option<usize>
 
 /// Returns the index of the first label whose file is not one of these.
 pub fn label_file_index(files: &[RawFile<'_>], labels: &[RawLabel<'_>]) -> Option<usize>
-    ensures { FindsWithout (IsOfAFile (length files.now)) labels.now result }
+    ensures { FindsWithout (HasLabelFile (length files.now)) labels.now result }
 {
     index_past(files.len(), labels)
 }
 
 /// Returns the index of the first label whose file is not one of so many files.
 fn index_past(count: usize, labels: &[RawLabel<'_>]) -> Option<usize>
-    ensures { FindsWithout (IsOfAFile count) labels.now result }
+    ensures { FindsWithout (HasLabelFile count) labels.now result }
 {
     labels.iter().position(|label| label.file >= count)
 }

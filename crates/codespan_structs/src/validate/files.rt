@@ -5,7 +5,7 @@ ghost use Rattle.codespan_structs.specs.Validity.{FindsWithout, HasTextName, Has
 
 use crate::raw::RawFile;
 use crate::validate::values::is_text;
-use codespan_sources::stated_lines::{are_lines, ascend};
+use codespan_sources::stated_lines::{are_lines, locations_ascend};
 
 /// Returns the index of the first file whose name is not UTF-8.
 pub fn name_index(files: &[RawFile<'_>]) -> Option<usize>
@@ -34,7 +34,7 @@ pub fn locations_index(files: &[RawFile<'_>]) -> Option<usize>
 {
     files
         .iter()
-        .position(|file| !ascend(file.first_byte, file.locations))
+        .position(|file| !locations_ascend(file.first_byte, file.locations))
 }
 
 /// Returns whether a file states no lines, or lines of its source.

@@ -5,12 +5,12 @@ use crate::rows::write_marks;
 use codespan_native::style_mark_writer::StyleMarkWriter;
 use std::io::Write;
 use std::panic::Expect;
-use test_writers::counting::Counting;
+use test_writers::counting::CountingWriter;
 
 /// The writer passes on a flush, and no other call flushes.
 #[test]
 fn only_flush_flushes(rt: HostRuntime) {
-    let mut inner = Counting::default();
+    let mut inner = CountingWriter::default();
     write_marks(&rt, &mut StyleMarkWriter::new(&mut inner));
     assert!(rt; inner.flushes == 1);
 }

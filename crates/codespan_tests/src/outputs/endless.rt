@@ -8,7 +8,7 @@ use codespan_reporting::term::{Config, NoColor, RichDiagnostic, emit_to_io_write
 use std::alloc::Global;
 use std::panic::Expect;
 use std::process::Abort;
-use test_writers::stopping::{Stop, Stopping};
+use test_writers::stopping::{Stop, StoppingWriter};
 
 /// Returns a configuration whose tabs have the greatest width.
 fn widest_tabs() -> Config<'static> {
@@ -41,7 +41,7 @@ const PREFIX: &str = "error: \n  ┌─ f:1:2\n  │\n1 │      ";
 fn endless_tab(rt: HostRuntime) {
     let file = with_tab(&rt, rt.alloc());
     let diagnostic = after_tab(&rt, rt.alloc());
-    let mut inner = Stopping::new(rt.alloc(), 1, 40, Stop::Fails);
+    let mut inner = StoppingWriter::new(rt.alloc(), 1, 40, Stop::Fails);
     let failed = emit_to_io_write(&mut inner, &widest_tabs(), &file, &diagnostic);
     assert_stopped(&rt, &failed, inner.text.as_slice(), PREFIX);
 }
@@ -53,7 +53,7 @@ fn endless_tab_without_color(rt: HostRuntime) {
     let diagnostic = after_tab(&rt, rt.alloc());
     let config = widest_tabs();
     let view = RichDiagnostic::new(&diagnostic, &config);
-    let inner = NoColor::new(Stopping::new(rt.alloc(), 1, 40, Stop::Fails));
+    let inner = NoColor::new(StoppingWriter::new(rt.alloc(), 1, 40, Stop::Fails));
     let (without_color, failed) = render_styled(inner, &config, view, &file);
     let inner = without_color.into_inner();
     assert_stopped(&rt, &failed, inner.text.as_slice(), PREFIX);

@@ -8,7 +8,7 @@ use codespan_reporting::files::SimpleFiles;
 use codespan_reporting::term::DisplayStyle;
 use std::panic::Expect;
 use std::process::Abort;
-use test_writers::counting::Counting;
+use test_writers::counting::CountingWriter;
 
 /// Each style.
 static STYLES: [DisplayStyle; 3] = [
@@ -24,7 +24,7 @@ fn assert_no_flush(
     diagnostic: &Diagnostic<usize>,
     style: DisplayStyle,
 ) {
-    let mut inner = Counting::default();
+    let mut inner = CountingWriter::default();
     let returned = emit_by_each(&mut inner, &in_style(style), files, diagnostic);
     assert_text(rt, returned, "Ok");
     assert!(rt; inner.flushes == 0);

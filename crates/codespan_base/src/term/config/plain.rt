@@ -1,7 +1,7 @@
 //! Plain text.
 
 ghost use Rattle.std.specs.Prelude.{◌≡◌, refl};
-ghost use Rattle.codespan_base.specs.Streams.{Header, HeaderMessage, LineNumber, NoteBullet, SourceBorder, LabelMark, Reset, no_style_marks, style_mark};
+ghost use Rattle.codespan_base.specs.Streams.{Header, HeaderMessage, LineNumber, NoteBullet, SourceBorder, LabelStyleMark, Reset, no_style_marks, style_mark};
 ghost use Rattle.codespan_base.specs.WriterLaw.{Writes};
 ghost use Rattle.codespan_base.specs.Writers.{WritesNothing};
 
@@ -129,7 +129,7 @@ impl<W: Write> WriteStyle for PlainWriter<W> {
 
     fn set_label(&mut self, _severity: Severity, _label_style: LabelStyle) -> io::Result<()>
         ensures writes { Writes (plain_sink W.contents self.old)
-            (style_mark (LabelMark _severity _label_style)) result
+            (style_mark (LabelStyleMark _severity _label_style)) result
             (plain_sink W.contents self.new) }
         ensures nothing { WritesNothing self.old result self.new }
     {

@@ -3,7 +3,7 @@
 ghost use Rattle.std.specs.Prelude.{◌≡◌};
 ghost use Rattle.std.specs.Io.{WritesAtMost};
 ghost use Rattle.std.specs.IoError.{error_kind};
-ghost use Rattle.codespan_base.specs.Streams.{Header, HeaderMessage, LineNumber, NoteBullet, SourceBorder, LabelMark, Reset, style_mark};
+ghost use Rattle.codespan_base.specs.Streams.{Header, HeaderMessage, LineNumber, NoteBullet, SourceBorder, LabelStyleMark, Reset, style_mark};
 ghost use Rattle.codespan_base.specs.WriterLaw.{Writes, Puts};
 
 use crate::term::config::write_style::WriteStyle;
@@ -82,7 +82,7 @@ pub trait PutStyle {
     /// The writer's error where a write fails or takes none of its bytes; a prefix of the style
     /// mark's spelling has then been written.
     fn set_label(&mut self, severity: Severity, label_style: LabelStyle) -> Result<(), Self::Error>
-        ensures { Writes (sink self.old) (style_mark (LabelMark severity label_style))
+        ensures { Writes (sink self.old) (style_mark (LabelStyleMark severity label_style))
             result (sink self.new) };
 
     /// Does what [`WriteStyle::reset`] does.

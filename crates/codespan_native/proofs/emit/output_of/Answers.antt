@@ -1,6 +1,6 @@
 use Rattle.codespan_native.proofs.Parts.{valid_chars, valid_diagnostic, valid_files}
 use Rattle.codespan_native.proofs.Rendered.{means_is, result_is}
-use Rattle.codespan_native.specs.SourceModel.{sources_of}
+use Rattle.codespan_native.specs.SourceModel.{native_file_views}
 use Rattle.codespan_native.proofs.emit.output_of.Goals as goal
 
 pub convert_config-settings-requires : goal.convert_config-settings-requires
@@ -14,14 +14,14 @@ convert_diagnostic-requires c = valid_diagnostic c.args.files.now c.args.diagnos
 
 pub returns-clause-value : goal.returns-clause-value
 returns-clause-value c =
-    result_is _ c.convert_config-settings.result.config (sources_of c.in_ok-database.database)
+    result_is _ c.convert_config-settings.result.config (native_file_views c.in_ok-database.database)
     c.in_ok-diagnostic.diagnostic c.args.files.now c.args.diagnostic.now c.args.config.now
     c.render.result c.render.ensures.value c.convert_config-settings.ensures.spelling
     c.convert_config-settings.ensures.config c.in_ok-database.ensures c.in_ok-diagnostic.ensures
 
 pub returns-clause-means : goal.returns-clause-means
 returns-clause-means c =
-    means_is c.convert_config-settings.result.config (sources_of c.in_ok-database.database)
+    means_is c.convert_config-settings.result.config (native_file_views c.in_ok-database.database)
     c.in_ok-diagnostic.diagnostic c.args.files.now c.args.diagnostic.now c.args.config.now
     c.render.result c.render.ensures.means c.convert_config-settings.ensures.config
     c.in_ok-database.ensures c.in_ok-diagnostic.ensures

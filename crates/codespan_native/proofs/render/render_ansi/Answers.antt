@@ -4,13 +4,13 @@ use Rattle.codespan_base.specs.Streams.{spelled}
 use Rattle.codespan_base.specs.Writers.{ansi_inner}
 use Rattle.codespan_native.proofs.Rendered.{fresh_known, text_after}
 use Rattle.codespan_base.specs.StyleTables.{ansi_spelling}
-use Rattle.codespan_sources.specs.SourceModel.{sources_of}
+use Rattle.codespan_sources.specs.SourceModel.{native_file_views}
 use Rattle.codespan_native.specs.RenderedStreams.{stream_of_output}
 use Rattle.codespan_native.proofs.render.render_ansi.Goals as goal
 
 pub returns-clause-value : goal.returns-clause-value
 returns-clause-value c =
-    let stream = stream_of_output c.args.config.now (sources_of c.args.files.now) c.args.diagnostic.now in
+    let stream = stream_of_output c.args.config.now (native_file_views c.args.files.now) c.args.diagnostic.now in
     let spelling = ansi_spelling c.args.styles.now in
     let first : List ℕ = (ansi_inner {W = Vec ℕ Global} c.new.result).items in
     let begins = c.new-writer.ensures.begins in

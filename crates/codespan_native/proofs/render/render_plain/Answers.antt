@@ -1,13 +1,13 @@
 use Rattle.std.proofs.Common.{◌∙◌, ap, refl, ℕ, Vec, Global}
 use Rattle.codespan_base.specs.Streams.{no_style_marks}
 use Rattle.codespan_native.proofs.Rendered.{fresh_known, text_after}
-use Rattle.codespan_sources.specs.SourceModel.{sources_of}
+use Rattle.codespan_sources.specs.SourceModel.{native_file_views}
 use Rattle.codespan_native.specs.RenderedStreams.{stream_of_output}
 use Rattle.codespan_native.proofs.render.render_plain.Goals as goal
 
 pub returns-clause-value : goal.returns-clause-value
 returns-clause-value c =
-    let stream = stream_of_output c.args.config.now (sources_of c.args.files.now) c.args.diagnostic.now in
+    let stream = stream_of_output c.args.config.now (native_file_views c.args.files.now) c.args.diagnostic.now in
     let first = c.args.buffer.items in
     let begins = c.new-writer.ensures.begins in
     let written = c.in_ok-write_to.ensures.value (fresh_known no_style_marks _ first begins) in

@@ -1,8 +1,8 @@
 use Rattle.codespan_native.proofs.Rendered.{written_stream}
-use Rattle.codespan_sources.specs.SourceModel.{sources_of}
+use Rattle.codespan_sources.specs.SourceModel.{native_file_views}
 use Rattle.codespan_native.proofs.render.write_to.Goals as goal
 
 pub returns-in-Ok-clause-value : goal.returns-in-Ok-clause-value
 returns-in-Ok-clause-value g c = λ known.
-    written_stream c.args.config.now (sources_of c.args.files.now) c.args.diagnostic.now _ _ _
+    written_stream c.args.config.now (native_file_views c.args.files.now) c.args.diagnostic.now _ _ _
     c.in-Ok.ensures known

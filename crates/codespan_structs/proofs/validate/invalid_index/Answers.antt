@@ -1,5 +1,5 @@
 use Rattle.codespan_structs.proofs.FirstInvalid.{by_index, by_test}
-use Rattle.codespan_structs.specs.Validity.{HasLabelStyle, HasTextMessage, HasTextName, HasTextSource, HasValidLines, HasValidLocations, IsOfAFile, IsValidText}
+use Rattle.codespan_structs.specs.Validity.{HasLabelStyle, HasTextMessage, HasTextName, HasTextSource, HasValidLines, HasValidLocations, HasLabelFile, IsValidText}
 use Rattle.codespan_structs.proofs.validate.invalid_index.Goals as goal
 
 pub returns-in-Character : goal.returns-in-Character
@@ -27,7 +27,7 @@ pub returns-in-LabelMessage : goal.returns-in-LabelMessage
 returns-in-LabelMessage c = rw c.in-LabelMessage.is (by_index HasTextMessage _ _ c.label_message_index.ensures)
 
 pub returns-in-LabelFile : goal.returns-in-LabelFile
-returns-in-LabelFile c = rw c.in-LabelFile.is (by_index (IsOfAFile _) _ _ c.label_file_index.ensures)
+returns-in-LabelFile c = rw c.in-LabelFile.is (by_index (HasLabelFile _) _ _ c.label_file_index.ensures)
 
 pub returns-in-Note : goal.returns-in-Note
 returns-in-Note c = rw c.in-Note.is (by_index IsValidText _ _ c.note_index.ensures)

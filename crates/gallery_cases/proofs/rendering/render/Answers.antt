@@ -1,4 +1,4 @@
-use Rattle.codespan_base.specs.DatabaseViews.{name_of, source_of, mapped_name_of, mapped_source_of, settings_of}
+use Rattle.codespan_base.specs.DatabaseViews.{name_of, source_of, mapped_name_of, mapped_source_of, set_numbers_of}
 use Rattle.codespan_views.specs.Output.{IsRendered}
 use Rattle.gallery_cases.proofs.OneFile.{done_follows, over_one, over_mapped}
 use Rattle.gallery_cases.proofs.rendering.render.Goals as goal
@@ -27,6 +27,6 @@ returns c = λ plain.
       added.0,
       added.1,
       over_mapped case (mapped_name_of files).now (mapped_source_of files).now c.in-Mapped.diagnostic are.1
-          (λ Id database diagnostic. IsRendered case.config database diagnostic added.0) are.0 (settings_of files) are.2 added.2,
+          (λ Id database diagnostic. IsRendered case.config database diagnostic added.0) are.0 (set_numbers_of files) are.2 added.2,
     ))
     (c.render_over-in-Mapped.ensures plain)

@@ -1,5 +1,5 @@
 use Rattle.std.proofs.Common.{refl}
-use Rattle.codespan_base.specs.DatabaseViews.{entries, name_of, source_of, mapped_name_of, mapped_source_of, settings_of}
+use Rattle.codespan_base.specs.DatabaseViews.{entries, name_of, source_of, mapped_name_of, mapped_source_of, set_numbers_of}
 use Rattle.codespan_styled.specs.Runs.{styled_runs}
 use Rattle.gallery_cases.specs.Documents.{AreRunsOver}
 use Rattle.gallery_cases.proofs.OneFile.{ok_follows, over_one, over_several, over_mapped}
@@ -31,5 +31,5 @@ returns c =
     let are = rw c.in-Mapped.is at c.in_ok-database.ensures in
     ok_follows c.runs_over-in-Mapped.result
     (λ text. over_mapped case (mapped_name_of files).now (mapped_source_of files).now c.in-Mapped.diagnostic are.1
-    (λ Id database diagnostic. AreRunsOver case.config database diagnostic (styled_runs text)) are.0 (settings_of files) are.2)
+    (λ Id database diagnostic. AreRunsOver case.config database diagnostic (styled_runs text)) are.0 (set_numbers_of files) are.2)
     (c.runs_over-in-Mapped.ensures (λ x contains. refl))

@@ -1,5 +1,5 @@
 use Rattle.std.proofs.Common.{◌≡◌, [], drop}
-use Rattle.codespan_base.specs.DatabaseViews.{mapped_name_of, mapped_source_of, settings_of}
+use Rattle.codespan_base.specs.DatabaseViews.{mapped_name_of, mapped_source_of, set_numbers_of}
 use Rattle.gallery_script.specs.Cases.{file_view}
 use Rattle.gallery_script.specs.Database.{with_numbers}
 use Rattle.gallery_script.proofs.database.mapped_file.Given as goal
@@ -7,5 +7,5 @@ use Rattle.gallery_script.proofs.database.mapped_file.Given as goal
 abbrev pub invariant-loop-line : goal.invariant-loop-line
 invariant-loop-line l = record {
   file : ((mapped_name_of l.mapped).now, (mapped_source_of l.mapped).now) ≡ file_view l.file;
-  numbers : with_numbers (settings_of l.mapped) (drop l.line-index l.numbers) ≡ with_numbers [] l.numbers;
+  numbers : with_numbers (set_numbers_of l.mapped) (drop l.line-index l.numbers) ≡ with_numbers [] l.numbers;
 }

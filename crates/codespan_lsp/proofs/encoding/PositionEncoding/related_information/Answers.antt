@@ -2,7 +2,7 @@ use Rattle.std.proofs.Common.{◌≡◌, ◌<◌, ◌≤◌, length, get_or, Err
 use Rattle.std.specs.Prelude.{not}
 use Rattle.std.proofs.lemmas.Result.{err_from_is_err_and}
 use Rattle.codespan_base.specs.Labels.{is_primary_style}
-use Rattle.codespan_lsp.specs.LspDiagnostics.{related_view, related_view_for, label_failure}
+use Rattle.codespan_lsp.specs.LspDiagnostics.{related_view, related_view_for, label_range_failure}
 use Rattle.codespan_lsp.specs.declared.diagnostics.RelatedInformation.{RelatedInformation}
 use Rattle.codespan_lsp.proofs.LabelLemmas.{passing-more, passing-skip, views-push, views-end, failure-more, failure-here, related-same}
 use Rattle.codespan_lsp.proofs.encoding.PositionEncoding.related_information.Goals.{then-not-is_primary+in_ok-range+in_ok-message+in_ok-push, else-not-is_primary}
@@ -22,7 +22,7 @@ returns-in_err-range-clause-failed g c =
     let more = passing-more (λ label. not (is_primary_style label.style)) items i x inside is
     (ap not (sym c.is_primary.ensures ∙ c.if-not-is_primary.true)) in
     rw (p.1 ∙ ap Err p.2) (λ memory.
-    failure-here (label_failure c.args.self database) x _ _ _ _ c.loop-label.invariant.failure more (c.in_err-range.ensures.failed memory))
+    failure-here (label_range_failure c.args.self database) x _ _ _ _ c.loop-label.invariant.failure more (c.in_err-range.ensures.failed memory))
 
 pub loop-label-preserved : goal.loop-label-preserved
 loop-label-preserved g c =
@@ -44,7 +44,7 @@ loop-label-preserved g c =
             views = views-push related_view (related_view_for c.args.self database) c.loop-label.related.items c.if-not-is_primary.related.items y x _ _ _
                 (ap (λ v. v.items) w.related-is ∙ w.in_ok-push.ensures.items)
                 (related-same c.args.self database x y refl w.in_ok-range.ensures.value message) more was.views;
-            failure = failure-more (label_failure c.args.self database) x _ _ _ was.failure more w.in_ok-range.ensures.failed;
+            failure = failure-more (label_range_failure c.args.self database) x _ _ _ was.failure more w.in_ok-range.ensures.failed;
           }
       | else-not-is_primary w ↦
           let skip = passing-skip (λ label. not (is_primary_style label.style)) items i x inside is

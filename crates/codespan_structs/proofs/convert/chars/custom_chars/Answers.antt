@@ -4,7 +4,7 @@ use Rattle.codespan_structs.proofs.convert.chars.custom_chars.Goals as goal
 -- each character is that of its own code point
 pub returns : goal.returns
 returns c = let caret : c.character_of-4.result ≡ c.args.raw.now.single_primary_caret = c.character_of-4.ensures in record {
-  start = c.text_of.ensures;
+  start = c.str_of.ensures;
   others = rw (
     c.character_of.ensures,
     c.character_of-2.ensures,

@@ -1,8 +1,8 @@
 use Rattle.std.proofs.Common.{◌≡◌, map, take}
-use Rattle.codespan_structs.specs.Converted.{source_in}
-use Rattle.codespan_sources.specs.SourceModel.{sources_of}
+use Rattle.codespan_structs.specs.Converted.{converted_file}
+use Rattle.codespan_sources.specs.SourceModel.{native_file_views}
 use Rattle.codespan_structs.proofs.convert.files.convert_files.Given as goal
 
 -- the files so far
 abbrev pub invariant-loop-file : goal.invariant-loop-file
-invariant-loop-file l = sources_of l.files ≡ map source_in (take l.file-index l.raw)
+invariant-loop-file l = native_file_views l.files ≡ map converted_file (take l.file-index l.raw)

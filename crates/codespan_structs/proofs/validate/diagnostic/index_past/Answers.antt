@@ -1,8 +1,8 @@
 use Rattle.std.proofs.Common.{rules}
 use Rattle.std.proofs.lemmas.Iterator.{IsFirst-from_position, YieldsList-from_slice}
 use borrow.Author.Tests.{tests}
-use Rattle.codespan_structs.specs.Validity.{IsOfAFile}
+use Rattle.codespan_structs.specs.Validity.{HasLabelFile}
 use Rattle.codespan_structs.proofs.validate.diagnostic.index_past.Goals as goal
 
 pub returns : goal.returns
-returns c = IsFirst-from_position _ _ _ (λ x. ¬ IsOfAFile c.args.count x) (IsOfAFile c.args.count) c.position.ensures.ran (YieldsList-from_slice c.args.labels.now cc) (λ x q k. search (rules, tests)) (λ x q k. search (rules, tests))
+returns c = IsFirst-from_position _ _ _ (λ x. ¬ HasLabelFile c.args.count x) (HasLabelFile c.args.count) c.position.ensures.ran (YieldsList-from_slice c.args.labels.now cc) (λ x q k. search (rules, tests)) (λ x q k. search (rules, tests))

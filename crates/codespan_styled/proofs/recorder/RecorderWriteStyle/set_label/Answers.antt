@@ -1,8 +1,8 @@
-use Rattle.codespan_base.specs.Streams.{LabelMark}
+use Rattle.codespan_base.specs.Streams.{LabelStyleMark}
 use Rattle.codespan_base.proofs.StyleMarks.{Writes-style_mark}
 use Rattle.codespan_styled.specs.Private.Recorded.{recorder_sink}
 use Rattle.codespan_styled.proofs.recorder.RecorderWriteStyle.set_label.Goals as goal
 
 -- the number of the label's style is the spelling of its style mark
 pub returns : goal.returns
-returns c = Writes-style_mark (recorder_sink c.args.self.now) (LabelMark c.args.severity c.args.label_style) c.start.result (recorder_sink c.start.new.self) c.start.ensures
+returns c = Writes-style_mark (recorder_sink c.args.self.now) (LabelStyleMark c.args.severity c.args.label_style) c.start.result (recorder_sink c.start.new.self) c.start.ensures

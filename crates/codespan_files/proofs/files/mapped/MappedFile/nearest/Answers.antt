@@ -1,22 +1,22 @@
 use Rattle.std.proofs.Common.{ℕ, ◌-◌, Some, sym, ap, ◌∙◌, arith}
 use Rattle.std.proofs.lemmas.List.{get_or_default}
-use Rattle.codespan_files.proofs.Settings.{setting_at, setting_before_all, setting_in_gap}
+use Rattle.codespan_files.proofs.SetLineNumbers.{nearest_set_at, nearest_set_before_all, nearest_set_before}
 use Rattle.codespan_files.proofs.files.mapped.MappedFile.nearest.Goals as goal
 
 pub returns-in-Ok-clause-value : goal.returns-in-Ok-clause-value
 returns-in-Ok-clause-value g c =
     let found = c.in-Ok.ensures.found in
-    let is = setting_at _ c.args.self.now.sorted _ _ found in
+    let is = nearest_set_at _ c.args.self.now.sorted _ _ found in
     let read = get_or_default _ _ c.index.result.now (0, 0) found.in_range in
     ap Some (c.index.ensures ∙ read) ∙ sym is
 
 pub returns-in-Err-eq0-clause-value : goal.returns-in-Err-eq0-clause-value
-returns-in-Err-eq0-clause-value g c = sym (setting_before_all _ _ _ c.in-Err-eq0.ensures.absent (omega arith))
+returns-in-Err-eq0-clause-value g c = sym (nearest_set_before_all _ _ _ c.in-Err-eq0.ensures.absent (omega arith))
 
 pub returns-in-Err-clause-value : goal.returns-in-Err-clause-value
 returns-in-Err-clause-value g c =
     let gap = c.in-Err.ensures.absent in
-    let is = setting_in_gap _ _ _ gap (omega arith) in
+    let is = nearest_set_before _ _ _ gap (omega arith) in
     let read = get_or_default c.args.self.now.numbers.items (c.in-Err.at - 1) c.index-in-Err.result.now (0, 0) (omega (arith, gap.in_range)) in
     ap Some (c.index-in-Err.ensures ∙ read) ∙ sym is
 

@@ -1,5 +1,5 @@
 use Rattle.std.proofs.Common.{rules}
-use Rattle.codespan_files.proofs.Settings.{sorted_none}
+use Rattle.codespan_files.proofs.SetLineNumbers.{sorted_none}
 use Rattle.codespan_files.proofs.files.mapped.MappedFile.new.Goals as goal
 
 -- the file is that of the name and the source

@@ -1,6 +1,6 @@
 use Rattle.std.proofs.Common.{rules}
 use Rattle.std.proofs.lemmas.List.Sorted.{answers_always}
-use Rattle.codespan_files.proofs.Settings.{searched}
+use Rattle.codespan_files.proofs.SetLineNumbers.{searched}
 use Rattle.codespan_files.proofs.files.mapped.MappedFile.search.Goals as goal
 
 -- the closure returns a set number's index

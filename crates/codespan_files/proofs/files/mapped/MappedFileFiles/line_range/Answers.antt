@@ -3,7 +3,7 @@ use Rattle.codespan_files.specs.DatabaseViews.{mapped_text_of}
 use Rattle.codespan_files.specs.Lemmas.Mapped.{mapped_end_before_last, next_above}
 use Rattle.codespan_files.specs.Lemmas.Simple.{end_before_last}
 use Rattle.codespan_files.specs.Lines.{line_starts_of}
-use Rattle.codespan_files.proofs.LineFailures.{line_failure_early}
+use Rattle.codespan_files.proofs.PastEndFailures.{past_end_failure_early}
 use Rattle.codespan_files.proofs.files.mapped.MappedFileFiles.line_range.Goals as goal
 
 -- the next line starts after a newline
@@ -17,7 +17,7 @@ overflow_sub-result g c =
 pub returns-then-line_index-line_count-clause-failed : goal.returns-then-line_index-line_count-clause-failed
 returns-then-line_index-line_count-clause-failed g c =
     let text = mapped_text_of c.args.self.now in
-    line_failure_early text (line_starts_of text) c.args.line_index refl (omega (arith, c.line_count.ensures.value))
+    past_end_failure_early text (line_starts_of text) c.args.line_index refl (omega (arith, c.line_count.ensures.value))
 
 -- and its range leaves out the newline
 pub returns-then-line_index-line_count-clause-value : goal.returns-then-line_index-line_count-clause-value

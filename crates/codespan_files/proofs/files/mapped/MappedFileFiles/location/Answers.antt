@@ -1,7 +1,7 @@
 use Rattle.std.proofs.lemmas.Result.{err_from_is_err_and}
 use Rattle.codespan_files.specs.DatabaseViews.{mapped_file_of, mapped_text_of}
 use Rattle.codespan_files.proofs.ColumnLemmas.{location_in_file}
-use Rattle.codespan_files.proofs.LineFailures.{byte_line_there, never}
+use Rattle.codespan_files.proofs.PastEndFailures.{byte_line_there, never}
 use Rattle.codespan_files.proofs.files.mapped.MappedFileFiles.location.Goals as goal
 
 -- the line number is that of the byte's line, and the column number that of the byte on it

@@ -4,13 +4,13 @@ use Rattle.codespan_files.specs.LawfulFiles.{IsLineRange}
 use Rattle.codespan_files.specs.Lemmas.Simple.{end_before_last}
 use Rattle.codespan_files.specs.Lines.{line_starts_of}
 use Rattle.codespan_files.specs.SimpleModel.{simple_file}
-use Rattle.codespan_files.proofs.LineFailures.{line_failure_late, line_failure_early}
+use Rattle.codespan_files.proofs.PastEndFailures.{past_end_failure_late, past_end_failure_early}
 use Rattle.codespan_files.proofs.files.simple.SimpleFileFiles.line_range.Goals as goal
 
 -- a line past the last fails so
 pub returns-then-line_index-count-clause-failed : goal.returns-then-line_index-count-clause-failed
 returns-then-line_index-count-clause-failed g c = λ _.
-    line_failure_late (g.Source.AsStr.text c.args.self.now.source) c.args.self.now.line_starts.items _ _ c.args.self.now.starts (omega (arith, c.args.self.now.line_starts.ok.0)) c.if-line_index-count.true
+    past_end_failure_late (g.Source.AsStr.text c.args.self.now.source) c.args.self.now.line_starts.items _ _ c.args.self.now.starts (omega (arith, c.args.self.now.line_starts.ok.0)) c.if-line_index-count.true
 
 -- the range between two starts that follow each other is that of a line
 range_between : (name : Option (List ℕ)) (text starts : List ℕ) (i a b : ℕ) → starts ≡ line_starts_of text → i + 1 < length starts → a ≡ get_or starts i a → b ≡ get_or starts (i + 1) b → IsLineRange (simple_file name text) i (record { start = a; end = b })
@@ -34,7 +34,7 @@ returns-then-line_index-count-clause-value g c = tt
 
 -- and no other one
 pub returns-then-line_index-count-2-clause-failed : goal.returns-then-line_index-count-2-clause-failed
-returns-then-line_index-count-2-clause-failed g c = line_failure_early (g.Source.AsStr.text c.args.self.now.source) c.args.self.now.line_starts.items c.args.line_index c.args.self.now.starts (omega (arith, c.args.self.now.line_starts.ok.0))
+returns-then-line_index-count-2-clause-failed g c = past_end_failure_early (g.Source.AsStr.text c.args.self.now.source) c.args.self.now.line_starts.items c.args.line_index c.args.self.now.starts (omega (arith, c.args.self.now.line_starts.ok.0))
 
 pub returns-else-line_index-count-2-clause-failed : goal.returns-else-line_index-count-2-clause-failed
-returns-else-line_index-count-2-clause-failed g c = line_failure_early (g.Source.AsStr.text c.args.self.now.source) c.args.self.now.line_starts.items c.args.line_index c.args.self.now.starts (omega (arith, c.args.self.now.line_starts.ok.0))
+returns-else-line_index-count-2-clause-failed g c = past_end_failure_early (g.Source.AsStr.text c.args.self.now.source) c.args.self.now.line_starts.items c.args.line_index c.args.self.now.starts (omega (arith, c.args.self.now.line_starts.ok.0))

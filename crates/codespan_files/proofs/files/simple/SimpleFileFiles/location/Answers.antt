@@ -1,7 +1,7 @@
 use Rattle.std.proofs.Common.{arith}
 use Rattle.codespan_files.specs.DatabaseViews.{file_of}
 use Rattle.codespan_files.proofs.ColumnLemmas.{location_in_file}
-use Rattle.codespan_files.proofs.LineFailures.{byte_line_there, byte_line_numbered, never}
+use Rattle.codespan_files.proofs.PastEndFailures.{byte_line_there, byte_line_numbered, never}
 use Rattle.codespan_files.proofs.files.simple.SimpleFileFiles.location.Goals as goal
 
 -- the line number is that of the byte's line, and the column number that of the byte on it

@@ -7,17 +7,17 @@ use Rattle.codespan_files.specs.FileModel.{line_of}
 use Rattle.codespan_files.specs.LawfulFiles.{line_number_failure}
 use Rattle.codespan_files.specs.Lines.{line_starts_of}
 use Rattle.codespan_files.specs.Lemmas.Lines.{line_of_below}
-use Rattle.codespan_files.specs.SimpleModel.{line_failure}
+use Rattle.codespan_files.specs.SimpleModel.{past_end_failure}
 
 -- a line that is not below the number of starts fails, with the index of the last line
-pub line_failure_late : (text starts : List ℕ) (i n : ℕ) → starts ≡ line_starts_of text → n ≡ length starts → n ≤ i → line_failure text i ≡ Some (LineTooLarge i (n - 1))
-line_failure_late text starts i n same count late =
+pub past_end_failure_late : (text starts : List ℕ) (i n : ℕ) → starts ≡ line_starts_of text → n ≡ length starts → n ≤ i → past_end_failure text i ≡ Some (LineTooLarge i (n - 1))
+past_end_failure_late text starts i n same count late =
     let e : n ≡ length (line_starts_of text) = count ∙ ap length same in
     rw e (rw (lt-leb (suc i) (length (line_starts_of text)) (omega arith)) refl)
 
 -- a line below the number of starts does not fail so
-pub line_failure_early : (text starts : List ℕ) (i : ℕ) → starts ≡ line_starts_of text → i < length starts → line_failure text i ≡ None
-line_failure_early text starts i same early =
+pub past_end_failure_early : (text starts : List ℕ) (i : ℕ) → starts ≡ line_starts_of text → i < length starts → past_end_failure text i ≡ None
+past_end_failure_early text starts i same early =
     let e : length starts ≡ length (line_starts_of text) = ap length same in
     rw (le-leb (suc i) (length (line_starts_of text)) (omega arith)) refl
 
@@ -25,8 +25,8 @@ line_failure_early text starts i same early =
 byte_line_below : (text : List ℕ) (byte i : ℕ) → i ≡ line_of (line_starts_of text) byte → i < length (line_starts_of text)
 byte_line_below text byte i line = rw line (line_of_below (line_starts_of text) byte (omega arith))
 
-pub byte_line_there : (text : List ℕ) (byte i : ℕ) → i ≡ line_of (line_starts_of text) byte → line_failure text i ≡ None
-byte_line_there text byte i line = line_failure_early text (line_starts_of text) i refl (byte_line_below text byte i line)
+pub byte_line_there : (text : List ℕ) (byte i : ℕ) → i ≡ line_of (line_starts_of text) byte → past_end_failure text i ≡ None
+byte_line_there text byte i line = past_end_failure_early text (line_starts_of text) i refl (byte_line_below text byte i line)
 
 -- and has a number, where there are fewer than 2^64 starts
 pub byte_line_numbered : (text starts : List ℕ) (byte i : ℕ) → starts ≡ line_starts_of text → length starts < 2 ^ 64 → i ≡ line_of (line_starts_of text) byte
