@@ -16,8 +16,9 @@
 #![tactic(auto)]
 
 use gallery_cases::run::run;
-use gallery_script::errors::conclude;
+use gallery_script::errors::GalleryError;
 use program_io::arguments::arguments;
+use program_io::run_error::{RunError, conclude};
 use std::process::ExitCode;
 
 fn main(rt: HostRuntime) -> ExitCode {
@@ -29,7 +30,7 @@ fn main(rt: HostRuntime) -> ExitCode {
             &mut rt.stdout(),
             &mut rt.stderr(),
         ),
-        Err(error) => conclude(Err(error.into()), &mut rt.stderr()),
+        Err(error) => conclude(Err(RunError::<GalleryError>::from(error)), &mut rt.stderr()),
     };
     ExitCode::from(status)
 }

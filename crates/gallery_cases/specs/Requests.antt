@@ -4,14 +4,16 @@ use Rattle.std.specs.Str.Lines.{lines}
 use Rattle.codespan_base.specs.StyleTables.{default_styles}
 use Rattle.codespan_styled.specs.StyleSheet.{style_sheet}
 use Rattle.gallery_script.specs.declared.case.Case.{Case}
-use Rattle.gallery_script.specs.declared.errors.RunError.{RunError}
-use Rattle.gallery_script.specs.declared.errors.RunError.TheVariants.{CannotRender, Line, OutOfMemory, UnknownCase}
+use Rattle.gallery_script.specs.declared.errors.GalleryError.{GalleryError}
+use Rattle.gallery_script.specs.declared.errors.GalleryError.TheVariants.{CannotRender, Line, UnknownCase}
 use Rattle.gallery_script.specs.declared.request.Format.{Format}
 use Rattle.gallery_script.specs.Cases.{IsFirstLineError, AppliesLines, case_named}
 use Rattle.gallery_script.specs.Requests.{RequestView}
 use Rattle.gallery_script.specs.Requests.RequestView.{All, Styles, Document}
 use Rattle.gallery_cases.specs.Galleries.{IsGallery}
 use Rattle.gallery_cases.specs.Documents.{IsDocument}
+use Rattle.program_io.specs.declared.run_error.RunError.{RunError}
+use Rattle.program_io.specs.declared.run_error.RunError.TheVariants.{Failed, OutOfMemory}
 
 -- the bytes are what is requested of cases
 abbrev pub IsResponseOf : RequestView → List Case → List ℕ → Type 0
@@ -26,20 +28,20 @@ IsResponse request input bytes =
     (cases : List Case) × AppliesLines (lines input) [] cases × IsResponseOf request cases bytes
 
 -- why a request of cases fails: no case has the name, rendering failed, or an allocation failed
-abbrev pub IsFailureOf : RequestView → List Case → RunError → Type 0
-IsFailureOf request cases (UnknownCase name) =
+abbrev pub IsFailureOf : RequestView → List Case → RunError GalleryError → Type 0
+IsFailureOf request cases (Failed (UnknownCase name)) =
     (format : Format) × (request ≡ Document format (string_bytes name))
     × (case_named (string_bytes name) cases ≡ None)
-IsFailureOf request cases (CannotRender error) = Unit {0}
+IsFailureOf request cases (Failed (CannotRender error)) = Unit {0}
 IsFailureOf request cases OutOfMemory = Unit {0}
 IsFailureOf request cases _ = ⊥
 
 -- what an error says of the input: it is its first error, or no case has the requested name
-abbrev pub ErrorMeans : Option RequestView → RunError → List ℕ → Type 0
-ErrorMeans request (Line number line_error) input =
-    IsFirstLineError (lines input) (Line number line_error)
-ErrorMeans request (UnknownCase name) input =
+abbrev pub GalleryErrorMeans : Option RequestView → RunError GalleryError → List ℕ → Type 0
+GalleryErrorMeans request (Failed (Line number line_error)) input =
+    IsFirstLineError (lines input) (Failed (Line number line_error))
+GalleryErrorMeans request (Failed (UnknownCase name)) input =
     (format : Format) × (request ≡ Some (Document format (string_bytes name)))
     × ((cases : List Case) × AppliesLines (lines input) [] cases
     × (case_named (string_bytes name) cases ≡ None))
-ErrorMeans request _ input = Unit {0}
+GalleryErrorMeans request _ input = Unit {0}

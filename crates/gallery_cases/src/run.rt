@@ -2,7 +2,7 @@
 
 ghost use Rattle.std.specs.Prelude.{◌≡◌, ◌≢◌, ◌≤◌, ◌↔◌, ℕ, List, MatchResult, None, OnOk, IfErr, IfOk, IfSome, IsErrAnd, IsErrOf, IsOkAnd, map, string_bytes};
 ghost use Rattle.std.specs.Io.KnownBytes.{Appends};
-ghost use Rattle.gallery_cases.specs.Requests.{IsResponse, IsResponseOf, ErrorMeans, IsFailureOf};
+ghost use Rattle.gallery_cases.specs.Requests.{IsResponse, IsResponseOf, GalleryErrorMeans, IsFailureOf};
 ghost use Rattle.gallery_script.specs.Requests.{request_of, request_view};
 
 use crate::document::{default_style_sheet, document};
@@ -10,10 +10,10 @@ use crate::gallery::render_cases;
 use codespan_base::files::Error;
 use gallery_script::case::Case;
 use gallery_script::cases::{case_named, parse_cases};
-use gallery_script::errors::{RunError, conclude};
+use gallery_script::errors::GalleryError;
 use gallery_script::request::Request;
 use program_io::input::read_text;
-use program_io::output::write_and_flush;
+use program_io::run_error::{RunError, conclude, write_output};
 use std::alloc::Global;
 use std::io::{Read, Write};
 
@@ -48,7 +48,7 @@ fn respond<R: Read, W: Write>(
     args: &[String],
     input: &mut R,
     output: &mut W,
-) -> Result<(), RunError>
+) -> Result<(), RunError<GalleryError>>
     ensures usage { IsErrOf result RunError.WrongArguments
         ↔ (request_of (map string_bytes args.now) ≡ None) }
     ensures unread { IsErrOf result RunError.WrongArguments → input.new ≡ input.old }
@@ -58,7 +58,7 @@ fn respond<R: Read, W: Write>(
         × Appends (W.contents output.old) (W.contents output.new) response))) }
     ensures reported { IfErr result (λ error.
         IfSome (R.remaining input.old)
-        (ErrorMeans (request_of (map string_bytes args.now)) error)) }
+        (GalleryErrorMeans (request_of (map string_bytes args.now)) error)) }
     ensures unchanged { IfErr result (λ error. error ≢ RunError.CannotWriteOutput
         → output.new ≡ output.old) }
 {
@@ -66,23 +66,15 @@ fn respond<R: Read, W: Write>(
     let text = read_text(alloc, input)?;
     let cases = parse_cases(alloc, text.as_str())?;
     let response = response(alloc, request, cases.as_slice())?;
-    write_bytes(output, response.as_slice())
-}
-
-/// Writes the bytes to the output and flushes it.
-fn write_bytes<W: Write>(output: &mut W, bytes: &[u8]) -> Result<(), RunError>
-    ensures written { OnOk result (Appends (W.contents output.old)
-        (W.contents output.new) bytes.now) }
-    ensures failed { IfErr result (λ error. error ≡ RunError.CannotWriteOutput) }
-{
-    match write_and_flush(output, bytes) {
-        Ok(()) => Ok(()),
-        Err(_) => Err(RunError::CannotWriteOutput),
-    }
+    write_output(output, response.as_slice())
 }
 
 /// Renders what is requested of cases.
-fn response(alloc: Global, request: Request<'_>, cases: &[Case<'_>]) -> Result<Vec<u8>, RunError>
+fn response(
+    alloc: Global,
+    request: Request<'_>,
+    cases: &[Case<'_>],
+) -> Result<Vec<u8>, RunError<GalleryError>>
     ensures responds { IfOk result (λ bytes.
         IsResponseOf (request_view request.entry) cases.now bytes.items) }
     ensures fails { IfErr result (IsFailureOf (request_view request.entry) cases.now) }
@@ -92,7 +84,8 @@ fn response(alloc: Global, request: Request<'_>, cases: &[Case<'_>]) -> Result<V
         Request::Styles => bytes_of(default_style_sheet(alloc)),
         Request::Document(format, name) => {
             let Some(case) = case_named(cases, name) else {
-                return Err(RunError::UnknownCase(String::from_str(alloc, name)?));
+                let name = String::from_str(alloc, name)?;
+                return Err(RunError::Failed(GalleryError::UnknownCase(name)));
             };
             bytes_of(document(alloc, case, format))
         }
@@ -100,13 +93,14 @@ fn response(alloc: Global, request: Request<'_>, cases: &[Case<'_>]) -> Result<V
 }
 
 /// Returns the bytes of a document.
-fn bytes_of(document: Result<String, Error>) -> Result<Vec<u8>, RunError>
+fn bytes_of(document: Result<String, Error>) -> Result<Vec<u8>, RunError<GalleryError>>
     ensures { MatchResult result
         (λ bytes. IsOkAnd document (λ text. bytes.items ≡ string_bytes text))
-        (λ run_error. IsErrAnd document (λ error. run_error ≡ RunError.CannotRender error)) }
+        (λ run_error. IsErrAnd document (λ error.
+        run_error ≡ RunError.Failed (GalleryError.CannotRender error))) }
 {
     match document {
         Ok(document) => Ok(document.into_bytes()),
-        Err(error) => Err(RunError::CannotRender(error)),
+        Err(error) => Err(RunError::Failed(GalleryError::CannotRender(error))),
     }
 }

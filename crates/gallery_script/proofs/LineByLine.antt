@@ -5,9 +5,10 @@ use Rattle.std.specs.Option.{option_map}
 use Rattle.std.proofs.lemmas.List.{map-append, take-map, take_more}
 use Rattle.std.proofs.lemmas.Option.{slice_get-map, slice_get-get_or}
 use Rattle.gallery_script.specs.declared.case.Case.{Case}
-use Rattle.gallery_script.specs.declared.errors.RunError.TheVariants.{Line}
+use Rattle.gallery_script.specs.declared.errors.GalleryError.TheVariants.{Line}
 use Rattle.gallery_script.specs.declared.errors.LineError.{LineError}
 use Rattle.gallery_script.specs.Cases.{AppliesLine, AppliesLines, IsLineError, IsFirstLineError}
+use Rattle.program_io.specs.declared.run_error.RunError.TheVariants.{Failed}
 
 -- the cases after one more line
 pub AppliesLines-more : (lines : List (List ℕ)) (line : List ℕ) (before between after : List Case) → AppliesLines lines before between → AppliesLine line between after
@@ -30,7 +31,7 @@ module _ (lines : List (Bor (List ℕ))) (i : ℕ) (d : Bor (List ℕ)) where
 
   -- the error at an index is the first one
   pub first_line_error : (between : List Case) (line_error : LineError) → i < length lines → AppliesLines (texts (take i lines)) [] between → IsLineError (get_or lines i d).now between line_error
-      → IsFirstLineError (texts lines) (Line (i + 1) line_error)
+      → IsFirstLineError (texts lines) (Failed (Line (i + 1) line_error))
   first_line_error between line_error inside applied_lines wrong =
       let line_at : slice_get (texts lines) i ≡ Some (get_or lines i d).now =
       slice_get-map (λ (line : Bor (List ℕ)). line.now) lines i ∙ ap (option_map (λ (line : Bor (List ℕ)). line.now)) (slice_get-get_or lines i d inside) in

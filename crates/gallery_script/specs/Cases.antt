@@ -9,8 +9,8 @@ use Rattle.gallery_script.specs.declared.case.Case.{Case}
 use Rattle.gallery_script.specs.declared.case.Colors.TheVariants.{Plain}
 use Rattle.gallery_script.specs.declared.case.File.{File}
 use Rattle.gallery_script.specs.declared.case.DatabaseKind.TheVariants.{Several}
-use Rattle.gallery_script.specs.declared.errors.RunError.{RunError}
-use Rattle.gallery_script.specs.declared.errors.RunError.TheVariants as run_error
+use Rattle.gallery_script.specs.declared.errors.GalleryError.{GalleryError}
+use Rattle.gallery_script.specs.declared.errors.GalleryError.TheVariants as gallery_errors
 use Rattle.gallery_script.specs.declared.errors.LineError.{LineError}
 use Rattle.gallery_script.specs.declared.errors.LineError.TheVariants.{NoCase, NoFile, OutOfMemory}
 use Rattle.gallery_script.specs.declared.statement.Line.{Line}
@@ -19,6 +19,8 @@ use Rattle.gallery_script.specs.declared.statement.Statement.{Statement}
 use Rattle.gallery_script.specs.declared.statement.Statement.TheVariants as statements
 use Rattle.gallery_script.specs.Statements.{ParsesTo, IsWrongLine}
 use Rattle.gallery_script.specs.Words.{chars_of}
+use Rattle.program_io.specs.declared.run_error.RunError.{RunError}
+use Rattle.program_io.specs.declared.run_error.RunError.TheVariants as run_errors
 
 -- ---- one case
 
@@ -150,12 +152,12 @@ IsLineError line before line_error =
 
 -- the error has the number, from 1, of the first line that is wrong, and what is wrong with it; or
 -- an allocation failed
-abbrev pub IsFirstLineError : List (List ℕ) → RunError → Type 0
-IsFirstLineError lines (run_error.Line number line_error) =
+abbrev pub IsFirstLineError : List (List ℕ) → RunError GalleryError → Type 0
+IsFirstLineError lines (run_errors.Failed (gallery_errors.Line number line_error)) =
     (k : ℕ) × (line : List ℕ) × (before : List Case) × (number ≡ k + 1)
     × (slice_get lines k ≡ Some line) × AppliesLines (take k lines) [] before
     × IsLineError line before line_error
-IsFirstLineError lines run_error.OutOfMemory = Unit {0}
+IsFirstLineError lines run_errors.OutOfMemory = Unit {0}
 IsFirstLineError lines _ = ⊥
 
 -- ---- the case of a name

@@ -10,5 +10,3 @@ pub mod Cases
 pub mod Database
 -- what the arguments request
 pub mod Requests
--- the errors of a run, and its status
-pub mod Errors

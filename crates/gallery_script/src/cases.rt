@@ -14,18 +14,19 @@ ghost use Rattle.std.specs.Str.Lines.{lines};
 ghost use Rattle.gallery_script.specs.Cases.{AppliesLine, AppliesLines, IsLineError, IsFirstLineError, AppliesToLast, FailsAtLast, case_named};
 
 use crate::case::Case;
-use crate::errors::{LineError, RunError};
+use crate::errors::{GalleryError, LineError};
 use crate::statement::{Line, Statement, parse_line};
+use program_io::run_error::RunError;
 use std::alloc::Global;
 
 /// Returns the cases of an input.
 ///
 /// # Errors
 ///
-/// - `Line`: the first line that has an error, by its number from 1, and that error, also a failed
-///   allocation for it.
+/// - `Failed` of a `Line`: the first line that has an error, by its number from 1, and that error,
+///   also a failed allocation for it.
 /// - `OutOfMemory`: an allocation for the list of lines fails.
-pub fn parse_cases(alloc: Global, input: &str) -> Result<Vec<Case<'_>>, RunError>
+pub fn parse_cases(alloc: Global, input: &str) -> Result<Vec<Case<'_>>, RunError<GalleryError>>
     ensures cases { IfOk result (λ cases. AppliesLines (lines input.now) [] cases.items) }
     ensures line_error { IfErr result (IsFirstLineError (lines input.now)) }
 {
@@ -34,7 +35,10 @@ pub fn parse_cases(alloc: Global, input: &str) -> Result<Vec<Case<'_>>, RunError
 }
 
 /// Returns the cases of lines.
-fn apply_lines<'input>(alloc: Global, lines: &[&'input str]) -> Result<Vec<Case<'input>>, RunError>
+fn apply_lines<'input>(
+    alloc: Global,
+    lines: &[&'input str],
+) -> Result<Vec<Case<'input>>, RunError<GalleryError>>
     ensures cases { IfOk result (λ cases.
         AppliesLines (map (λ line. line.now) lines.now) [] cases.items) }
     ensures line_error { IfErr result (IsFirstLineError (map (λ line. line.now) lines.now)) }
@@ -42,7 +46,7 @@ fn apply_lines<'input>(alloc: Global, lines: &[&'input str]) -> Result<Vec<Case<
     let mut cases = Vec::new(alloc);
     for (index, line) in lines.iter().enumerate() {
         if let Err(line_error) = apply_line(alloc, &mut cases, line) {
-            return Err(RunError::Line(index + 1, line_error));
+            return Err(RunError::Failed(GalleryError::Line(index + 1, line_error)));
         }
     }
     Ok(cases)

@@ -1,1 +1,5 @@
+-- what a writer has received
 pub mod Received
+mod ErrorLines
+-- what a status says of an outcome
+pub mod Outcomes

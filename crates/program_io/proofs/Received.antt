@@ -1,8 +1,9 @@
 -- For the clauses `written` and `prefix` of the writing calls: what a writer has received, where
 -- its bytes are known.
-use Rattle.std.proofs.Common.{◌≡◌, ℕ, ◌-◌, List, ◌++◌, length, take, drop, Option, Result, Ok, Err, OnOk, sym, ap, ◌∙◌, append_assoc, take-append-drop}
+use Rattle.std.proofs.Common.{◌≡◌, ℕ, ◌-◌, List, [], ◌∷◌, ◌++◌, length, take, drop, Option, Result, Ok, Err, OnOk, sym, ap, ◌∙◌, append_assoc, take-append-drop}
 use Rattle.std.proofs.lemmas.List.{take_rest}
-use Rattle.std.proofs.KnownBytes.{Appends-kept}
+use Rattle.std.proofs.KnownBytes.{Appends-kept, Appends-trans}
+use Rattle.std.specs.Io.{StartsWith}
 use Rattle.std.specs.Io.KnownBytes.{Appends, Keeps}
 use Rattle.program_io.specs.Output.{AppendsPrefix}
 
@@ -22,3 +23,15 @@ prefix_kept old mid new bs received kept = (received.0, received.1, Appends-kept
 pub on_success : {T E X : Type 0} (r : Result T E) → X → OnOk r X
 on_success (Ok x) fact = fact
 on_success (Err e) fact = tt
+
+-- a second part was received after the first, or a prefix of it
+pub received_after : {T E : Type 0} (r : Result T E) (old mid new : Option (List ℕ)) (first second : List ℕ) → Appends old mid first → OnOk r (Appends mid new second) → OnOk r (Appends old new (first ++ second))
+received_after (Ok x) old mid new first second before after = Appends-trans old mid new first second before after
+received_after (Err e) old mid new first second before after = tt
+
+starts_after : (first second front : List ℕ) → StartsWith second front → StartsWith (first ++ second) (first ++ front)
+starts_after [] second front starts = starts
+starts_after (b ∷ first) second front starts = ap (λ (bs : List ℕ). b ∷ bs) (starts_after first second front starts)
+
+pub prefix_after : (old mid new : Option (List ℕ)) (first second : List ℕ) → Appends old mid first → AppendsPrefix mid new second → AppendsPrefix old new (first ++ second)
+prefix_after old mid new first second before after = (first ++ after.0, starts_after first second after.0 after.1, Appends-trans old mid new first after.0 before after.2)

@@ -1,3 +1,2 @@
 pub mod Rendered
 pub mod Outcomes
-mod Received

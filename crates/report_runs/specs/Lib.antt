@@ -1,3 +1,3 @@
 -- what is rendered, and the errors of a run
 pub mod RenderedTexts
-pub mod RunErrors
+pub mod ReportErrors

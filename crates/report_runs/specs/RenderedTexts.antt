@@ -8,8 +8,8 @@ use Rattle.codespan_base.specs.FileModel.{FileModel}
 use Rattle.codespan_base.specs.SimpleModel.{simple_file}
 use Rattle.codespan_base.specs.Streams.{text_of}
 use Rattle.codespan_picture.specs.ViewPictures.{picture_of_view}
-use Rattle.report_runs.specs.declared.run_error.RunError.{RunError}
-use Rattle.report_runs.specs.declared.run_error.RunError.TheVariants as run_error
+use Rattle.report_runs.specs.declared.report_error.ReportError.{ReportError}
+use Rattle.report_runs.specs.declared.report_error.ReportError.TheVariants as report_errors
 use Rattle.report_script.specs.declared.script.Fault.{Fault}
 use Rattle.report_script.specs.Requests.{RequestView}
 use Rattle.report_script.specs.Messages.{request_diagnostic, fault_diagnostic}
@@ -51,7 +51,6 @@ rendering_of (OneLabel label_request) input =
 rendering_of (OfScript style name) input = rendering_of_script style name input (read_script input)
 
 -- the error of rendering: it failed, or the script has the error of this diagnostic
-abbrev pub IsRenderFailure : Result (List ℕ) (List ℕ) → RunError → Type 0
-IsRenderFailure rendering (run_error.CannotRender error) = Unit {0}
-IsRenderFailure rendering (run_error.BadScript text) = rendering ≡ Err (string_bytes text)
-IsRenderFailure rendering _ = ⊥
+abbrev pub IsRenderFailure : Result (List ℕ) (List ℕ) → ReportError → Type 0
+IsRenderFailure rendering (report_errors.CannotRender error) = Unit {0}
+IsRenderFailure rendering (report_errors.BadScript text) = rendering ≡ Err (string_bytes text)

@@ -2,5 +2,5 @@
 #![tactic(auto)]
 
 mod rendering;
+pub mod report_error;
 pub mod run;
-pub mod run_error;

@@ -7,7 +7,7 @@ ghost use Rattle.report_runs.specs.RenderedTexts.{report_config, rendering_of, r
 ghost use Rattle.report_script.specs.Requests.{request_view};
 ghost use Rattle.report_script.specs.Scripts.{read_script};
 
-use crate::run_error::RunError;
+use crate::report_error::ReportError;
 use codespan_base::diagnostic::Diagnostic;
 use codespan_base::files::{Error, SimpleFile};
 use codespan_base::term::{Config, DisplayStyle};
@@ -24,7 +24,7 @@ use std::alloc::Global;
 /// - `BadScript` if a script is requested and the input is no script: the rendered diagnostic of
 ///   its first error.
 /// - `CannotRender` if rendering fails, or an allocation for the script.
-pub fn render(alloc: Global, request: &Request<'_>, input: &str) -> Result<String, RunError>
+pub fn render(alloc: Global, request: &Request<'_>, input: &str) -> Result<String, ReportError>
     ensures text { IfOk result (λ text. rendering_of (request_view request.now) input.now
         ≡ Ok (string_bytes text)) }
     ensures failed { IfErr result
@@ -41,7 +41,7 @@ fn render_request(
     alloc: Global,
     label_request: &LabelRequest<'_>,
     input: &str,
-) -> Result<String, RunError>
+) -> Result<String, ReportError>
     ensures text { IfOk result (λ text.
         rendering_of (request_view (Request.OneLabel label_request.now)) input.now
         ≡ Ok (string_bytes text)) }
@@ -64,7 +64,7 @@ fn render_script(
     style: DisplayStyle,
     name: &str,
     input: &str,
-) -> Result<String, RunError>
+) -> Result<String, ReportError>
     ensures text { IfOk result (λ text.
         rendering_of_script style name.now input.now (read_script input.now)
         ≡ Ok (string_bytes text)) }
@@ -79,9 +79,9 @@ fn render_script(
         Err(ScriptError::Fault(fault)) => {
             let diagnostic = of_fault(alloc, fault)?;
             let text = render_over(alloc, style, "script", input, &diagnostic)?;
-            Err(RunError::BadScript(text))
+            Err(ReportError::BadScript(text))
         }
-        Err(ScriptError::OutOfMemory) => Err(RunError::CannotRender(Error::OutOfMemory)),
+        Err(ScriptError::OutOfMemory) => Err(ReportError::CannotRender(Error::OutOfMemory)),
     }
 }
 

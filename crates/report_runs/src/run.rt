@@ -1,17 +1,19 @@
 //! One run of the program.
 
-ghost use Rattle.std.specs.Prelude.{◌≡◌, ◌≢◌, ◌≤◌, ◌↔◌, ◌⊎◌, ℕ, List, None, Ok, Err, IfErr, IsErrOf, OnOk, map, string_bytes};
+ghost use Rattle.std.specs.Prelude.{◌≡◌, ◌≢◌, ◌≤◌, ◌↔◌, ◌⊎◌, ℕ, List, None, Ok, Err, IfErr, IsErrOf, OnOk, codes, map, string_bytes};
 ghost use Rattle.std.specs.Io.KnownBytes.{Appends, IsAtEnd};
 ghost use Rattle.std.specs.Str.{IsUtf8};
 ghost use Rattle.report_runs.specs.RenderedTexts.{rendering_of};
 ghost use Rattle.program_io.specs.Output.{AppendsPrefix};
-ghost use Rattle.report_runs.specs.RunErrors.{ErrorMeans, IfBadScript, IsStatusOf, UnchangedUnlessRendered, failed_output_line};
+ghost use Rattle.program_io.specs.RunErrors.{failed_output_line};
+ghost use Rattle.report_runs.specs.ReportErrors.{ReportErrorMeans, IfBadScript, IsReportStatusOf, UnchangedUnlessRendered};
 ghost use Rattle.report_script.specs.Requests.{WhereKnown, request_of};
 
 use crate::rendering::render;
-use crate::run_error::RunError;
+use crate::report_error::ReportError;
 use program_io::input::read_text;
 use program_io::output::write_and_flush;
+use program_io::run_error::{RunError, write_output};
 use report_script::request::Request;
 use std::alloc::Global;
 use std::io::{Read, Write};
@@ -70,8 +72,8 @@ pub fn run<R: Read, W: Write, E: Write>(
 /// arguments, 3 for a script's error, and 1 for any other.
 ///
 /// A failure of `error_output` is ignored, except that the status of a script's error is then 1.
-pub fn conclude<E: Write>(outcome: Result<(), RunError>, error_output: &mut E) -> u8
-    ensures status { IsStatusOf outcome result }
+pub fn conclude<E: Write>(outcome: Result<(), RunError<ReportError>>, error_output: &mut E) -> u8
+    ensures status { IsReportStatusOf outcome result }
     ensures no_error { OnOk outcome (error_output.new ≡ error_output.old) }
     ensures reported { result ≡ 3 → IfErr outcome
         (λ error. IfBadScript error
@@ -79,21 +81,16 @@ pub fn conclude<E: Write>(outcome: Result<(), RunError>, error_output: &mut E) -
         (string_bytes text))) }
     ensures prefix { IsErrOf outcome RunError.CannotWriteOutput
         → AppendsPrefix (E.contents error_output.old) (E.contents error_output.new)
-        failed_output_line }
+        (failed_output_line (codes "report")) }
 {
     match outcome {
-        Ok(()) => 0,
-        Err(RunError::BadScript(text)) => match write_and_flush(error_output, text.as_bytes()) {
-            Ok(()) => 3,
-            Err(_) => 1,
-        },
-        Err(error) => {
-            let _ = error.write_line(error_output);
-            match error {
-                RunError::WrongArguments => 2,
-                _ => 1,
+        Err(RunError::Failed(ReportError::BadScript(text))) => {
+            match write_and_flush(error_output, text.as_bytes()) {
+                Ok(()) => 3,
+                Err(_) => 1,
             }
         }
+        other => program_io::run_error::conclude(other, error_output),
     }
 }
 
@@ -103,7 +100,7 @@ fn report<R: Read, W: Write>(
     args: &[String],
     input: &mut R,
     output: &mut W,
-) -> Result<(), RunError>
+) -> Result<(), RunError<ReportError>>
     ensures usage { IsErrOf result RunError.WrongArguments
         ↔ (request_of (map string_bytes args.now) ≡ None) }
     ensures unread { IsErrOf result RunError.WrongArguments → input.new ≡ input.old }
@@ -115,7 +112,7 @@ fn report<R: Read, W: Write>(
     ensures utf8 { OnOk result (WhereKnown (map string_bytes args.now) (R.remaining input.old)
         (λ _ source. IsUtf8 source)) }
     ensures reported { IfErr result (λ error.
-        WhereKnown (map string_bytes args.now) (R.remaining input.old) (ErrorMeans error)) }
+        WhereKnown (map string_bytes args.now) (R.remaining input.old) (ReportErrorMeans error)) }
     ensures unchanged { IfErr result (λ error. error ≢ RunError.CannotWriteOutput
         → output.new ≡ output.old) }
     ensures prefix { IsErrOf result RunError.CannotWriteOutput
@@ -126,18 +123,5 @@ fn report<R: Read, W: Write>(
     let request = Request::from_arguments(args).ok_or(RunError::WrongArguments)?;
     let source = read_text(alloc, input)?;
     let text = render(alloc, &request, source.as_str())?;
-    write_text(output, text.as_str())
-}
-
-/// Writes the text to the output and flushes it.
-fn write_text<W: Write>(output: &mut W, text: &str) -> Result<(), RunError>
-    ensures written { OnOk result (Appends (W.contents output.old)
-        (W.contents output.new) text.now) }
-    ensures prefix { AppendsPrefix (W.contents output.old) (W.contents output.new) text.now }
-    ensures failed { IfErr result (λ error. error ≡ RunError.CannotWriteOutput) }
-{
-    match write_and_flush(output, text.as_bytes()) {
-        Ok(()) => Ok(()),
-        Err(_) => Err(RunError::CannotWriteOutput),
-    }
+    write_output(output, text.as_bytes())
 }

@@ -3,7 +3,7 @@ use Rattle.std.specs.Str.Lines.{lines}
 use Rattle.gallery_script.specs.declared.case.Case.{Case}
 use Rattle.gallery_script.specs.Cases.{AppliesLines}
 use Rattle.gallery_script.specs.Requests.{request_of, request_view}
-use Rattle.gallery_cases.specs.Requests.{IsResponseOf, ErrorMeans, IsFailureOf}
+use Rattle.gallery_cases.specs.Requests.{IsResponseOf, GalleryErrorMeans, IsFailureOf}
 use Rattle.gallery_cases.proofs.Outcomes.{responded, requested, failed}
 use Rattle.gallery_cases.proofs.run.respond.Goals as goal
 
@@ -13,7 +13,7 @@ returns-in_err-response-clause-reported g c =
     let read = c.in_ok-text.ensures.bytes in
     let applied_lines = subst (λ (t : List ℕ). AppliesLines (lines t) _ c.in_ok-cases.cases.items) c.as_str.ensures.value c.in_ok-cases.ensures.cases in
     let fails = subst (λ (cs : List Case). IsFailureOf (request_view c.in_ok-request.request) cs c.in_err-response.field-0.0) c.as_slice.ensures.value c.in_err-response.ensures.fails in
-    let reported : IfSome (g.R.Read.remaining c.args.input.now) (ErrorMeans (request_of (map string_bytes c.args.args.now)) c.in_err-response.field-0.0) =
+    let reported : IfSome (g.R.Read.remaining c.args.input.now) (GalleryErrorMeans (request_of (map string_bytes c.args.args.now)) c.in_err-response.field-0.0) =
     failed _ _ _ _ c.in_ok-cases.cases.items _ is_requested read applied_lines fails in
     search rules
 
@@ -24,4 +24,4 @@ returns-clause-rendered g c =
     let applied_lines = subst (λ (t : List ℕ). AppliesLines (lines t) _ c.in_ok-cases.cases.items) c.as_str.ensures.value c.in_ok-cases.ensures.cases in
     let of_cases = subst (λ (cs : List Case). IsResponseOf (request_view c.in_ok-request.request) cs c.in_ok-response.response.items) c.as_slice.ensures.value c.in_ok-response.ensures.responds in
     let responds = subst (λ (bytes : List ℕ). IsResponseOf (request_view c.in_ok-request.request) c.in_ok-cases.cases.items bytes) (sym c.as_slice-2.ensures.value) of_cases in
-    responded _ _ _ _ c.as_slice-2.result.now c.in_ok-cases.cases.items c.write_bytes.result _ is_requested read applied_lines responds c.write_bytes.ensures.written
+    responded _ _ _ _ c.as_slice-2.result.now c.in_ok-cases.cases.items c.write_output.result _ is_requested read applied_lines responds c.write_output.ensures.written

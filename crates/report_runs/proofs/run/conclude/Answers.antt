@@ -1,10 +1,8 @@
-use Rattle.std.proofs.Common.{refl}
+use Rattle.std.proofs.Common.{inr, refl}
 use Rattle.report_runs.proofs.run.conclude.Goals as goal
 
--- the status without an error
+-- the status of a script's error
 pub returns-in-Ok-clause-status : goal.returns-in-Ok-clause-status
-returns-in-Ok-clause-status g c = rw c.in-Ok.is refl
-
--- the status of wrong arguments
-pub returns-in-WrongArguments-clause-status : goal.returns-in-WrongArguments-clause-status
-returns-in-WrongArguments-clause-status g c = rw (c.in-Err.is, c.in-WrongArguments.is) refl
+returns-in-Ok-clause-status g c =
+    let error = c.in-Err-Failed-BadScript in
+    inr (refl, (error.text, cc (error.is, error.field-0-is, error.field-0-0-is)))
