@@ -1,7 +1,7 @@
 //! The clones of a configuration, and of its parts, with an owned text.
 
 use crate::equality::{are_same_chars, is_same_config};
-use crate::outcome::{Outcome, judge_failure, judge_made};
+use crate::outcome::{Outcome, judge_failure, judge_success};
 use codespan_base::files::Error;
 use codespan_base::term::{Chars, Config, DisplayStyle, Layout, SnippetStart};
 use std::alloc::Global;
@@ -63,7 +63,7 @@ pub fn judge_clone(alloc: Global, call: CloneCall) -> Result<Outcome, Error> {
         ..Chars::ascii()
     });
     Ok(match is_cloned(&config, call) {
-        Ok(is_equal) => judge_made(is_equal),
+        Ok(is_equal) => judge_success(is_equal),
         Err(error) => judge_failure(&error, true),
     })
 }

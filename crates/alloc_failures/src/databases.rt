@@ -1,6 +1,6 @@
 //! The calls that make file databases or add to them.
 
-use crate::outcome::{Outcome, judge_failure, judge_made};
+use crate::outcome::{Outcome, judge_failure, judge_success};
 use codespan_base::files::{Error, Files, MappedFile, SimpleFile, SimpleFiles};
 use std::alloc::Global;
 use std::convert::AsStr;
@@ -29,11 +29,11 @@ const TEXT: &str = "a\nb\nc\nd";
 pub fn judge_database(alloc: Global, call: DatabaseCall) -> Result<Outcome, Error> {
     match call {
         DatabaseCall::SimpleFileNew => Ok(match SimpleFile::new(alloc, "f", TEXT) {
-            Ok(file) => judge_made(is_file(&file, (), [1, 2, 3, 4])),
+            Ok(file) => judge_success(is_file(&file, (), [1, 2, 3, 4])),
             Err(error) => judge_failure(&error, true),
         }),
         DatabaseCall::MappedFileNew => Ok(match MappedFile::new(alloc, "f", TEXT) {
-            Ok(file) => judge_made(is_file(&file, (), [1, 2, 3, 4])),
+            Ok(file) => judge_success(is_file(&file, (), [1, 2, 3, 4])),
             Err(error) => judge_failure(&error, true),
         }),
         DatabaseCall::Add => judge_add(alloc),
@@ -95,7 +95,7 @@ fn judge_add(alloc: Global) -> Result<Outcome, Error> {
         files.add(*name, TEXT)?;
     }
     Ok(match files.add("j", TEXT) {
-        Ok(id) => judge_made(id == 4 && has_files(&files, 5)),
+        Ok(id) => judge_success(id == 4 && has_files(&files, 5)),
         Err(error) => judge_failure(&error, has_files(&files, 4)),
     })
 }
@@ -104,7 +104,7 @@ fn judge_add(alloc: Global) -> Result<Outcome, Error> {
 fn judge_set_line(alloc: Global) -> Result<Outcome, Error> {
     let mut file = MappedFile::new(alloc, "f", TEXT)?;
     Ok(match file.set_line(2, 100) {
-        Ok(()) => judge_made(is_file(&file, (), [1, 2, 100, 101])),
+        Ok(()) => judge_success(is_file(&file, (), [1, 2, 100, 101])),
         Err(error) => judge_failure(&error, is_file(&file, (), [1, 2, 3, 4])),
     })
 }

@@ -1,6 +1,6 @@
 //! The calls of `codespan_styled` and `codespan_lsp` that allocate, each over a small text.
 
-use crate::outcome::{Outcome, judge_failure, judge_made, judge_value};
+use crate::outcome::{Outcome, judge_failure, judge_success, judge_value};
 use crate::rendering::judge_string;
 use codespan_base::diagnostic::{Diagnostic, Label, Severity};
 use codespan_base::files::{Error, SimpleFile};
@@ -164,7 +164,7 @@ fn judge_styled(alloc: Global) -> Result<Outcome, Error> {
         ..Config::default()
     };
     match styled_text(alloc, &config, &file, &diagnostic) {
-        Ok(text) => Ok(judge_made(are_same(&text, &expected))),
+        Ok(text) => Ok(judge_success(are_same(&text, &expected))),
         Err(error) => Ok(judge_failure(&error, true)),
     }
 }

@@ -1,6 +1,6 @@
 //! The call of `codespan_native`, which takes the structs of C and writes to the caller's memory.
 
-use crate::outcome::{Outcome, Wrong, judge_made};
+use crate::outcome::{Outcome, Wrong, judge_success};
 use codespan_native::emit::emit;
 use codespan_native::raw::{
     RawChars, RawColorSpec, RawConfig, RawDiagnostic, RawFile, RawLabel, RawStyles, RawText,
@@ -108,7 +108,7 @@ pub fn judge_native(alloc: Global) -> Outcome {
     let mut out = UNWRITTEN;
     let outcome = emit(alloc, &FILES, &DIAGNOSTIC, &CONFIG, &mut out);
     if outcome.status == OK {
-        judge_made(outcome.written == OUTPUT.len() && out.starts_with(OUTPUT))
+        judge_success(outcome.written == OUTPUT.len() && out.starts_with(OUTPUT))
     } else if outcome.status == OUT_OF_MEMORY {
         judge_unwritten(&out, outcome.written)
     } else {

@@ -73,7 +73,7 @@ impl fmt::Display for Outcome {
 }
 
 /// Returns the outcome of a subject whose preparation may fail.
-pub fn prepared(judged: Result<Outcome, Error>) -> Outcome {
+pub fn outcome_of(judged: Result<Outcome, Error>) -> Outcome {
     match judged {
         Ok(outcome) => outcome,
         Err(Error::OutOfMemory) => Outcome::Unprepared,
@@ -82,7 +82,7 @@ pub fn prepared(judged: Result<Outcome, Error>) -> Outcome {
 }
 
 /// Returns `Done` if the value is the expected one, and else `Wrong`.
-pub fn judge_made(is_expected: bool) -> Outcome
+pub fn judge_success(is_expected: bool) -> Outcome
     ensures done { result ≡ Outcome.Done → IsTrue is_expected }
     ensures no_failure { result ≢ Outcome.Failed }
 {
@@ -115,7 +115,7 @@ pub fn judge_value<T: PartialEq + Drop>(returned: &Result<T, Error>, expected: &
     ensures failed { result ≡ Outcome.Failed → IsErrOf returned.now Error.OutOfMemory }
 {
     match returned {
-        Ok(made) => judge_made(*made == *expected),
+        Ok(made) => judge_success(*made == *expected),
         Err(error) => judge_failure(error, true),
     }
 }

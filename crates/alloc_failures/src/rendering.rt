@@ -6,7 +6,7 @@ ghost use Rattle.codespan_base.specs.Errors.{IsIo};
 use crate::cases::{Case, Database};
 use crate::copying::Copying;
 use crate::diagnostics::diagnostic_of;
-use crate::outcome::{Outcome, Wrong, judge_failure, judge_made};
+use crate::outcome::{Outcome, Wrong, judge_failure, judge_success};
 use crate::recording::Recording;
 use codespan_base::diagnostic::Diagnostic;
 use codespan_base::files::{Error, Files, MappedFile, SimpleFiles};
@@ -247,7 +247,7 @@ pub fn judge_string(returned: &Result<String, Error>, output: &str) -> Outcome
     ensures failed { result ≡ Outcome.Failed → IsErrOf returned.now Error.OutOfMemory }
 {
     match returned {
-        Ok(text) => judge_made(text.as_str() == output),
+        Ok(text) => judge_success(text.as_str() == output),
         Err(error) => judge_failure(error, true),
     }
 }
@@ -261,7 +261,7 @@ fn judge_appended(returned: &Result<(), Error>, string: &str, output: &str) -> O
         × (string.now ≡ codes "kept") }
 {
     match returned {
-        Ok(()) => judge_made(string.strip_prefix(OLD_TEXT) == Some(output)),
+        Ok(()) => judge_success(string.strip_prefix(OLD_TEXT) == Some(output)),
         Err(error) => judge_failure(error, string == OLD_TEXT),
     }
 }
@@ -288,7 +288,7 @@ fn judge_recording(returned: &Result<(), Error>, recording: &Recording, output: 
     let bytes = recording.bytes.as_slice();
     let is_prefix = is_prefix(bytes, output);
     match returned {
-        Ok(()) => judge_made(!recording.has_failed && bytes == output.as_bytes()),
+        Ok(()) => judge_success(!recording.has_failed && bytes == output.as_bytes()),
         Err(Error::Io(_)) if recording.has_failed && is_prefix => Outcome::Failed,
         Err(Error::Io(_)) if recording.has_failed => Outcome::Wrong(Wrong::Changed),
         Err(_) if recording.has_failed => Outcome::Wrong(Wrong::Failure),

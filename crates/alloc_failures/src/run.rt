@@ -4,7 +4,7 @@ ghost use Rattle.std.specs.Prelude.{◌≤◌};
 
 use crate::outcome::Outcome;
 use crate::rendering::RenderCall;
-use crate::subject::{Call, Subject, calls, cases, render_calls};
+use crate::subject::{NamedSubject, Subject, calls, cases, render_calls};
 use std::alloc::Global;
 use std::io;
 use std::io::Write;
@@ -50,7 +50,11 @@ fn judge_all<W: Write>(alloc: Global, output: &mut W) -> io::Result<bool> {
 }
 
 /// Judges subjects named by one word, writes a line for each, and returns whether all are done.
-fn judge_calls<W: Write>(alloc: Global, calls: &[Call], output: &mut W) -> io::Result<bool> {
+fn judge_calls<W: Write>(
+    alloc: Global,
+    calls: &[NamedSubject],
+    output: &mut W,
+) -> io::Result<bool> {
     let mut are_done = true;
     for (name, subject) in calls {
         let outcome = subject.judge(alloc);

@@ -11,7 +11,7 @@ use crate::clones::{CloneCall, judge_clone};
 use crate::databases::{DatabaseCall, judge_database};
 use crate::documents::{DocumentCall, Format, judge_document};
 use crate::native::judge_native;
-use crate::outcome::{Outcome, prepared};
+use crate::outcome::{Outcome, outcome_of};
 use crate::rendering::{RenderCall, judge_rendering};
 use crate::without_alloc::{Extent, judge_without_alloc};
 use std::alloc::Global;
@@ -38,10 +38,10 @@ pub enum Subject {
 }
 
 /// A subject named by one word, with its name.
-pub type Call = (&'static str, Subject);
+pub type NamedSubject = (&'static str, Subject);
 
 /// The calls of labels and diagnostics.
-static BUILDERS: [Call; 11] = [
+static BUILDERS: [NamedSubject; 11] = [
     (
         "Label::with_message",
         Subject::Label(LabelCall::WithMessage),
@@ -86,7 +86,7 @@ static BUILDERS: [Call; 11] = [
 ];
 
 /// The clones of configurations and of parts of them.
-static CLONES: [Call; 3] = [
+static CLONES: [NamedSubject; 3] = [
     (
         "SnippetStart::clone",
         Subject::Clone(CloneCall::SnippetStart),
@@ -96,7 +96,7 @@ static CLONES: [Call; 3] = [
 ];
 
 /// The calls of file databases.
-static DATABASES: [Call; 4] = [
+static DATABASES: [NamedSubject; 4] = [
     (
         "SimpleFile::new",
         Subject::Database(DatabaseCall::SimpleFileNew),
@@ -113,7 +113,7 @@ static DATABASES: [Call; 4] = [
 ];
 
 /// The calls of `codespan_styled` and `codespan_lsp`.
-static DOCUMENTS: [Call; 7] = [
+static DOCUMENTS: [NamedSubject; 7] = [
     ("styled_text", Subject::Document(DocumentCall::StyledText)),
     (
         "to_html",
@@ -136,7 +136,7 @@ static DOCUMENTS: [Call; 7] = [
 ];
 
 /// The call of `codespan_native`, and the calls that do not allocate.
-static OTHERS: [Call; 3] = [
+static OTHERS: [NamedSubject; 3] = [
     ("codespan_emit", Subject::Native),
     (
         "without_alloc_prepared",
@@ -168,7 +168,7 @@ static CASES: [(&str, &Case<'static>); 8] = [
 ];
 
 /// Returns the subjects named by one word.
-pub fn calls() -> [&'static [Call]; 5] {
+pub fn calls() -> [&'static [NamedSubject]; 5] {
     [&BUILDERS, &CLONES, &DATABASES, &DOCUMENTS, &OTHERS]
 }
 
@@ -197,7 +197,7 @@ impl Subject {
 
     /// Prepares the subject, makes its call, and judges the outcome.
     pub fn judge(self, alloc: Global) -> Outcome {
-        prepared(match self {
+        outcome_of(match self {
             Subject::Label(call) => judge_label(alloc, call),
             Subject::Diagnostic(call) => judge_diagnostic(alloc, call),
             Subject::Clone(call) => judge_clone(alloc, call),

@@ -4,7 +4,7 @@ mod rows;
 
 use crate::databases::{has_text, is_ok_with};
 use crate::equality::{are_same_chars, is_same_config};
-use crate::outcome::{Outcome, Wrong, judge_made};
+use crate::outcome::{Outcome, Wrong, judge_success};
 use crate::recording::Recording;
 use codespan_base::diagnostic::LabelStyle::{Primary, Secondary};
 use codespan_base::diagnostic::{Diagnostic, Label, Severity};
@@ -150,7 +150,7 @@ fn render_all(alloc: Global, needed: &mut Prepared<'_>) -> Result<(), Error> {
 
 /// Judges what was written, makes the other calls, and judges what they return.
 fn judge_results(alloc: Global, needed: &Prepared<'_>) -> Outcome {
-    judge_made(
+    judge_success(
         are_written(&needed.outputs)
             && are_looked_up(&needed.databases)
             && are_styles(&Styles::default())

@@ -8,7 +8,7 @@ use Rattle.codespan_base.specs.declared.term.config.color.ColorSpec.{ColorSpec}
 use Rattle.codespan_base.specs.declared.term.config.styles.Styles.{Styles}
 use Rattle.codespan_documents.specs.declared.style.Style.{Style}
 use Rattle.codespan_documents.specs.Html.{style_class}
-use Rattle.codespan_documents.specs.StyleSheet.{bright_color, color_declaration, declarations, normal_color, rule, spec_of, weight_declaration}
+use Rattle.codespan_documents.specs.StyleSheet.{bright_color, color_declaration, declarations, normal_color, rule, color_spec_of_style, weight_declaration}
 
 -- a color
 pub color-written : (property code front b1 b2 b3 : List ℕ) (intense : Bool) (color : Color) → b1 ≡ front ++ property → code ≡ (if intense then bright_color color else normal_color color)
@@ -25,18 +25,18 @@ declarations-written spec front b1 b2 b3 e1 e2 e3 =
 
 -- a rule
 pub rule-written : (styles : Styles) (style : Style) (spec : ColorSpec) (class front b1 b2 b3 b4 b5 : List ℕ) → b1 ≡ front ++ codes ".diagnostic ." → class ≡ style_class style
-    → b2 ≡ b1 ++ class → b3 ≡ b2 ++ codes " { " → spec ≡ spec_of styles style → b4 ≡ b3 ++ declarations spec → b5 ≡ b4 ++ codes "}\n" → b5 ≡ front ++ rule styles style
+    → b2 ≡ b1 ++ class → b3 ≡ b2 ++ codes " { " → spec ≡ color_spec_of_style styles style → b4 ≡ b3 ++ declarations spec → b5 ≡ b4 ++ codes "}\n" → b5 ≡ front ++ rule styles style
 rule-written styles style spec class front b1 b2 b3 b4 b5 e1 named e2 e3 of e4 e5 =
     e5 ∙ ap (λ b. b ++ codes "}\n") (e4 ∙ ap (λ s. b3 ++ declarations s) of
-    ∙ ap (λ b. b ++ declarations (spec_of styles style)) (e3 ∙ ap (λ b. b ++ codes " { ") (e2 ∙ ap (λ c. b1 ++ c) named ∙ ap (λ b. b ++ style_class style) e1)))
+    ∙ ap (λ b. b ++ declarations (color_spec_of_style styles style)) (e3 ∙ ap (λ b. b ++ codes " { ") (e2 ∙ ap (λ c. b1 ++ c) named ∙ ap (λ b. b ++ style_class style) e1)))
     ∙ joined
   where
-    joined : (((front ++ codes ".diagnostic .") ++ style_class style) ++ codes " { ") ++ declarations (spec_of styles style) ++ codes "}\n" ≡ front ++ rule styles style
+    joined : (((front ++ codes ".diagnostic .") ++ style_class style) ++ codes " { ") ++ declarations (color_spec_of_style styles style) ++ codes "}\n" ≡ front ++ rule styles style
     joined =
-        ap (λ b. ((b ++ codes " { ") ++ declarations (spec_of styles style)) ++ codes "}\n") (append_assoc front (codes ".diagnostic .") (style_class style))
-        ∙ ap (λ b. (b ++ declarations (spec_of styles style)) ++ codes "}\n") (append_assoc front (codes ".diagnostic ." ++ style_class style) (codes " { "))
-        ∙ ap (λ b. b ++ codes "}\n") (append_assoc front (codes ".diagnostic ." ++ style_class style ++ codes " { ") (declarations (spec_of styles style)))
-        ∙ append_assoc front (codes ".diagnostic ." ++ style_class style ++ codes " { " ++ declarations (spec_of styles style)) (codes "}\n")
+        ap (λ b. ((b ++ codes " { ") ++ declarations (color_spec_of_style styles style)) ++ codes "}\n") (append_assoc front (codes ".diagnostic .") (style_class style))
+        ∙ ap (λ b. (b ++ declarations (color_spec_of_style styles style)) ++ codes "}\n") (append_assoc front (codes ".diagnostic ." ++ style_class style) (codes " { "))
+        ∙ ap (λ b. b ++ codes "}\n") (append_assoc front (codes ".diagnostic ." ++ style_class style ++ codes " { ") (declarations (color_spec_of_style styles style)))
+        ∙ append_assoc front (codes ".diagnostic ." ++ style_class style ++ codes " { " ++ declarations (color_spec_of_style styles style)) (codes "}\n")
 
 -- a rule of those that are left
 pub rule-more : (styles : Styles) (classed : List Style) (i : ℕ) (style : Style) (front next whole : List ℕ) → i < length classed → style ≡ get_or classed i style → next ≡ front ++ rule styles style

@@ -10,7 +10,7 @@ use Rattle.codespan_documents.specs.declared.svg.glyph.Glyph.{Glyph}
 use Rattle.codespan_documents.specs.declared.svg.ink.Ink.{Ink}
 use Rattle.codespan_documents.specs.declared.svg.position.CellPosition.{CellPosition}
 use Rattle.codespan_documents.specs.declared.svg.Pen.{Pen}
-use Rattle.codespan_documents.specs.Glyphs.{cells_of, follows, goes_on, is_narrow, is_newline_glyph, joined_cells, joins, start}
+use Rattle.codespan_documents.specs.Glyphs.{cells_of, follows, joins_next, is_narrow, is_newline_glyph, joined_cells, joins, start}
 use Rattle.codespan_documents.specs.HtmlReading.{Token, Tag, TextByte}
 use Rattle.codespan_documents.specs.Inks.{optional_color_number, same_ink}
 use Rattle.codespan_documents.specs.Svg.{first_pen, next_pen, text_tag_content}
@@ -28,7 +28,7 @@ abbrev pub glyph_tokens : Pen → Glyph → List Glyph → List Token
 glyph_tokens pen glyph others =
     if is_newline_glyph glyph then TextByte 10 ∷ []
     else (if follows pen.before glyph then [] else Tag (text_tag_content pen.position (cells_of glyph + joined_cells glyph others) glyph.ink) ∷ [])
-    ++ map TextByte (svg_shown glyph.character) ++ (if goes_on glyph others then [] else end_tag)
+    ++ map TextByte (svg_shown glyph.character) ++ (if joins_next glyph others then [] else end_tag)
 
 -- the tokens of glyphs
 abbrev pub tokens_of_glyphs : Pen → List Glyph → List Token
@@ -83,7 +83,7 @@ tokens_left before [] = []
 tokens_left before (glyph ∷ glyphs) = if follows before glyph then text_tokens glyph (joined_glyphs glyph glyphs) else []
 
 -- a text ends, or goes on
-ended_tokens : (glyph : Glyph) (others : List Glyph) → (if goes_on glyph others then [] else end_tag) ++ tokens_left (Some glyph) others ≡ map TextByte (shown_glyphs (joined_glyphs glyph others)) ++ end_tag
+ended_tokens : (glyph : Glyph) (others : List Glyph) → (if joins_next glyph others then [] else end_tag) ++ tokens_left (Some glyph) others ≡ map TextByte (shown_glyphs (joined_glyphs glyph others)) ++ end_tag
 ended_tokens glyph [] = refl
 ended_tokens glyph (next ∷ others) =
     three_ifs (joins glyph next) [] end_tag (text_tokens next (joined_glyphs next others)) [] (next ∷ joined_glyphs next others) []
@@ -120,7 +120,7 @@ tokens_by_pieces pen (glyph ∷ glyphs) = all (tokens_by_pieces (next_pen pen gl
     joined = map TextByte (shown_glyphs (joined_glyphs glyph glyphs))
 
     ended : List Token
-    ended = if goes_on glyph glyphs then [] else end_tag
+    ended = if joins_next glyph glyphs then [] else end_tag
 
     piece : Piece
     piece = Text pen.position glyph (joined_glyphs glyph glyphs)

@@ -16,7 +16,7 @@ use Rattle.codespan_documents.specs.declared.svg.glyph.Glyph.{Glyph}
 use Rattle.codespan_documents.specs.declared.svg.ink.Ink.{Ink}
 use Rattle.codespan_documents.specs.declared.svg.position.CellPosition.{CellPosition}
 use Rattle.codespan_documents.specs.declared.svg.Pen.{Pen}
-use Rattle.codespan_documents.specs.Glyphs.{cells_of, extent_from, follows, glyphs_of, glyphs_of_run, goes_on, is_newline_glyph, joined_cells, start}
+use Rattle.codespan_documents.specs.Glyphs.{cells_of, extent_from, follows, glyphs_of, glyphs_of_run, joins_next, is_newline_glyph, joined_cells, start}
 use Rattle.codespan_documents.specs.HtmlReading.{InTag, InText, Token, Tag, TextByte, html_tokens, tokens_from, text_of_tokens}
 use Rattle.codespan_documents.specs.Runs.{StyledRun, run_characters}
 use Rattle.codespan_documents.specs.Svg.{y_of, color_attribute, first_pen, font_attributes, glyph_text, background_tag_content, height, is_forbidden_in_xml, x_of, next_pen, svg_tag_start, svg_document, svg_tag_content, text_tag_content, text_tag, texts_from, weight_attribute, width, xml_character}
@@ -192,28 +192,28 @@ prefix-read false element rest h = element-read element rest h
 
 -- a glyph that is no newline
 character-glyph : (pen : Pen) (glyph : Glyph) (others : List Glyph) (rest : List ℕ) → is_newline_glyph glyph ≡ false
-    → tokens_from InText (((if follows pen.before glyph then [] else text_tag pen.position (cells_of glyph + joined_cells glyph others) glyph.ink) ++ xml_character glyph.character ++ (if goes_on glyph others then [] else codes "</text>")) ++ rest)
-    ≡ ((if follows pen.before glyph then [] else Tag (text_tag_content pen.position (cells_of glyph + joined_cells glyph others) glyph.ink) ∷ []) ++ map TextByte (svg_shown glyph.character) ++ (if goes_on glyph others then [] else Tag (codes "/text") ∷ []))
+    → tokens_from InText (((if follows pen.before glyph then [] else text_tag pen.position (cells_of glyph + joined_cells glyph others) glyph.ink) ++ xml_character glyph.character ++ (if joins_next glyph others then [] else codes "</text>")) ++ rest)
+    ≡ ((if follows pen.before glyph then [] else Tag (text_tag_content pen.position (cells_of glyph + joined_cells glyph others) glyph.ink) ∷ []) ++ map TextByte (svg_shown glyph.character) ++ (if joins_next glyph others then [] else Tag (codes "/text") ∷ []))
     ++ tokens_from InText rest
 character-glyph pen glyph others rest ends =
     let element = text_tag_content pen.position (cells_of glyph + joined_cells glyph others) glyph.ink in
     let prefix = if follows pen.before glyph then [] else codes "<" ++ element ++ codes ">" in
     let character = xml_character glyph.character in
-    let ended = if goes_on glyph others then [] else codes "</text>" in
+    let ended = if joins_next glyph others then [] else codes "</text>" in
     let opening_tokens : List Token = if follows pen.before glyph then [] else Tag element ∷ [] in
     let shown : List Token = map TextByte (svg_shown glyph.character) in
-    let ended_tokens : List Token = if goes_on glyph others then [] else Tag (codes "/text") ∷ [] in
+    let ended_tokens : List Token = if joins_next glyph others then [] else Tag (codes "/text") ∷ [] in
     ap (tokens_from InText) (append_assoc (prefix ++ character) ended rest ∙ append_assoc prefix character (ended ++ rest))
     ∙ prefix-read (follows pen.before glyph) element (character ++ (ended ++ rest)) (text-inside pen.position (cells_of glyph + joined_cells glyph others) glyph.ink)
-    ∙ ap (λ (tokens : List Token). opening_tokens ++ tokens) (character-read glyph.character (ended ++ rest) ends ∙ ap (λ (tokens : List Token). shown ++ tokens) (ended-read (goes_on glyph others) rest))
+    ∙ ap (λ (tokens : List Token). opening_tokens ++ tokens) (character-read glyph.character (ended ++ rest) ends ∙ ap (λ (tokens : List Token). shown ++ tokens) (ended-read (joins_next glyph others) rest))
     ∙ sym (append_assoc opening_tokens shown (ended_tokens ++ tokens_from InText rest)) ∙ sym (append_assoc (opening_tokens ++ shown) ended_tokens (tokens_from InText rest))
 
 glyph-read : (pen : Pen) (glyph : Glyph) (others : List Glyph) (rest : List ℕ) → tokens_from InText (glyph_text pen glyph others ++ rest) ≡ glyph_tokens pen glyph others ++ tokens_from InText rest
 glyph-read pen glyph others rest =
     two_ifs (is_newline_glyph glyph) (codes "\n")
-    ((if follows pen.before glyph then [] else text_tag pen.position (cells_of glyph + joined_cells glyph others) glyph.ink) ++ xml_character glyph.character ++ (if goes_on glyph others then [] else codes "</text>"))
+    ((if follows pen.before glyph then [] else text_tag pen.position (cells_of glyph + joined_cells glyph others) glyph.ink) ++ xml_character glyph.character ++ (if joins_next glyph others then [] else codes "</text>"))
     (TextByte 10 ∷ [])
-    ((if follows pen.before glyph then [] else Tag (text_tag_content pen.position (cells_of glyph + joined_cells glyph others) glyph.ink) ∷ []) ++ map TextByte (svg_shown glyph.character) ++ (if goes_on glyph others then [] else Tag (codes "/text") ∷ []))
+    ((if follows pen.before glyph then [] else Tag (text_tag_content pen.position (cells_of glyph + joined_cells glyph others) glyph.ink) ∷ []) ++ map TextByte (svg_shown glyph.character) ++ (if joins_next glyph others then [] else Tag (codes "/text") ∷ []))
     (λ bytes tokens. tokens_from InText (bytes ++ rest) ≡ tokens ++ tokens_from InText rest) (λ _. refl) (character-glyph pen glyph others rest)
 
 glyphs-read : (pen : Pen) (glyphs : List Glyph) (rest : List ℕ) → tokens_from InText (texts_from pen glyphs ++ rest) ≡ tokens_of_glyphs pen glyphs ++ tokens_from InText rest
@@ -266,8 +266,8 @@ glyph-text pen glyph others = at (is_newline_glyph glyph) refl
     at : (n : Bool) → is_newline_glyph glyph ≡ n → text_of_tokens (glyph_tokens pen glyph others) ≡ svg_shown glyph.character
     at true e = rw e refl
     at false e =
-        ap (λ t. text_of_tokens (if t then TextByte 10 ∷ [] else prefix (follows pen.before glyph) ++ map TextByte (svg_shown glyph.character) ++ ended (goes_on glyph others))) e
-        ∙ between (follows pen.before glyph) (goes_on glyph others)
+        ap (λ t. text_of_tokens (if t then TextByte 10 ∷ [] else prefix (follows pen.before glyph) ++ map TextByte (svg_shown glyph.character) ++ ended (joins_next glyph others))) e
+        ∙ between (follows pen.before glyph) (joins_next glyph others)
 
 glyphs-text : (pen : Pen) (glyphs : List Glyph) → text_of_tokens (tokens_of_glyphs pen glyphs) ≡ flat_map svg_shown (map (λ (glyph : Glyph). glyph.character) glyphs)
 glyphs-text pen [] = refl

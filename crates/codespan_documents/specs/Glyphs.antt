@@ -8,14 +8,15 @@ use Rattle.codespan_documents.specs.declared.svg.glyph.Glyph.{Glyph}
 use Rattle.codespan_documents.specs.declared.svg.position.CellPosition.{CellPosition}
 use Rattle.codespan_documents.specs.Inks.{ink_of, same_ink}
 use Rattle.codespan_documents.specs.Runs.{StyledRun}
-use Rattle.codespan_documents.specs.StyleSheet.{spec_of}
+use Rattle.codespan_documents.specs.StyleSheet.{color_spec_of_style}
 
 -- ---- glyphs
 
 -- the characters of a run, each in the ink of its run's style
 abbrev pub glyphs_of_run : Styles → StyledRun → List Glyph
 glyphs_of_run styles run =
-    map (λ c. record { character = c; ink = ink_of (spec_of styles run.style) }) (chars run.text)
+    map (λ c. record { character = c; ink = ink_of (color_spec_of_style styles run.style) })
+    (chars run.text)
 
 -- the characters of runs
 abbrev pub glyphs_of : Styles → List StyledRun → List Glyph
@@ -68,9 +69,9 @@ follows None glyph = false
 follows (Some before) glyph = joins before glyph
 
 -- the first of the glyphs after it belongs to the text of the glyph
-abbrev pub goes_on : Glyph → List Glyph → Bool
-goes_on glyph [] = false
-goes_on glyph (next ∷ glyphs) = joins glyph next
+abbrev pub joins_next : Glyph → List Glyph → Bool
+joins_next glyph [] = false
+joins_next glyph (next ∷ glyphs) = joins glyph next
 
 -- the cells of the glyphs that follow this one in its text
 abbrev pub joined_cells : Glyph → List Glyph → ℕ

@@ -56,20 +56,20 @@ declarations spec =
     ++ weight_declaration spec.bold
 
 -- the colors and the weight that `styles` has for a style
-abbrev pub spec_of : Styles → Style → ColorSpec
-spec_of styles Plain = unset
-spec_of styles (Header severity) = header_style styles severity
-spec_of styles HeaderMessage = styles.header_message
-spec_of styles LineNumber = styles.line_number
-spec_of styles NoteBullet = styles.note_bullet
-spec_of styles SourceBorder = styles.source_border
-spec_of styles (Label severity style) = label_style styles severity style
+abbrev pub color_spec_of_style : Styles → Style → ColorSpec
+color_spec_of_style styles Plain = unset
+color_spec_of_style styles (Header severity) = header_style styles severity
+color_spec_of_style styles HeaderMessage = styles.header_message
+color_spec_of_style styles LineNumber = styles.line_number
+color_spec_of_style styles NoteBullet = styles.note_bullet
+color_spec_of_style styles SourceBorder = styles.source_border
+color_spec_of_style styles (Label severity style) = label_style styles severity style
 
 -- the rule of the class of a style
 abbrev pub rule : Styles → Style → List ℕ
 rule styles style =
-    codes ".diagnostic ." ++ style_class style ++ codes " { " ++ declarations (spec_of styles style)
-    ++ codes "}\n"
+    codes ".diagnostic ." ++ style_class style ++ codes " { "
+    ++ declarations (color_spec_of_style styles style) ++ codes "}\n"
 
 -- a style of each class
 abbrev pub classed_styles : List Style

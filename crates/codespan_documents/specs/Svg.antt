@@ -6,7 +6,7 @@ use Rattle.codespan_documents.specs.declared.svg.glyph.Glyph.{Glyph}
 use Rattle.codespan_documents.specs.declared.svg.ink.Ink.{Ink}
 use Rattle.codespan_documents.specs.declared.svg.position.CellPosition.{CellPosition}
 use Rattle.codespan_documents.specs.declared.svg.Pen.{Pen}
-use Rattle.codespan_documents.specs.Glyphs.{after_glyph, cells_of, extent_from, follows, goes_on, is_newline_glyph, joined_cells, start}
+use Rattle.codespan_documents.specs.Glyphs.{after_glyph, cells_of, extent_from, follows, joins_next, is_newline_glyph, joined_cells, start}
 
 -- ---- characters
 
@@ -33,20 +33,20 @@ xml_character c =
 -- ---- tags
 
 -- the CSS color of a terminal color, chosen to be read on the dark background
-abbrev pub shade : Color → List ℕ
-shade Black = codes "#6e7681"
-shade Red = codes "#ff7b72"
-shade Green = codes "#7ee787"
-shade Yellow = codes "#e3b341"
-shade Blue = codes "#79c0ff"
-shade Magenta = codes "#d2a8ff"
-shade Cyan = codes "#56d4dd"
-shade White = codes "#b1bac4"
+abbrev pub color_on_dark : Color → List ℕ
+color_on_dark Black = codes "#6e7681"
+color_on_dark Red = codes "#ff7b72"
+color_on_dark Green = codes "#7ee787"
+color_on_dark Yellow = codes "#e3b341"
+color_on_dark Blue = codes "#79c0ff"
+color_on_dark Magenta = codes "#d2a8ff"
+color_on_dark Cyan = codes "#56d4dd"
+color_on_dark White = codes "#b1bac4"
 
 -- the attribute of a color; that of plain text has none
 abbrev pub color_attribute : Option Color → List ℕ
 color_attribute None = []
-color_attribute (Some color) = codes " fill=\"" ++ shade color ++ codes "\""
+color_attribute (Some color) = codes " fill=\"" ++ color_on_dark color ++ codes "\""
 
 -- the attribute of bold text
 abbrev pub weight_attribute : Bool → List ℕ
@@ -91,7 +91,7 @@ glyph_text pen glyph others =
     else (if follows pen.before glyph
     then []
     else text_tag pen.position (cells_of glyph + joined_cells glyph others) glyph.ink)
-    ++ xml_character glyph.character ++ (if goes_on glyph others then [] else codes "</text>")
+    ++ xml_character glyph.character ++ (if joins_next glyph others then [] else codes "</text>")
 
 -- glyphs, one after another
 abbrev pub texts_from : Pen → List Glyph → List ℕ

@@ -1,7 +1,7 @@
 //! The style sheet of HTML elements.
 
 ghost use Rattle.std.specs.Prelude.{◌≡◌, ◌++◌, IfErr, IfOk, OnOk, flat_map, if◌then◌else◌, string_bytes};
-ghost use Rattle.codespan_documents.specs.StyleSheet.{bright_color, color_declaration, declarations, normal_color, rule, spec_of, style_sheet, weight_declaration};
+ghost use Rattle.codespan_documents.specs.StyleSheet.{bright_color, color_declaration, declarations, normal_color, rule, color_spec_of_style, style_sheet, weight_declaration};
 
 use crate::html::class_of;
 use crate::style::Style;
@@ -71,7 +71,7 @@ fn push_rule(css: &mut String, styles: &Styles, style: Style) -> Result<(), Allo
     css.push_str(".diagnostic .")?;
     css.push_str(class_of(style))?;
     css.push_str(" { ")?;
-    push_declarations(css, spec_of(styles, style))?;
+    push_declarations(css, color_spec_of_style(styles, style))?;
     css.push_str("}\n")?;
     Ok(())
 }
@@ -159,8 +159,8 @@ fn bright_color(color: Color) -> &'static str
 }
 
 /// Returns the colors and the weight that `styles` has for a style.
-pub(crate) fn spec_of(styles: &Styles, style: Style) -> ColorSpec
-    ensures { result ≡ spec_of styles.now style }
+pub(crate) fn color_spec_of_style(styles: &Styles, style: Style) -> ColorSpec
+    ensures { result ≡ color_spec_of_style styles.now style }
 {
     match style {
         Style::Plain => ColorSpec::new(),

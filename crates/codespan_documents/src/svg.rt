@@ -4,7 +4,7 @@ ghost use Rattle.std.specs.Prelude.{◌≡◌, ◌≤◌, ◌++◌, ◌*◌, ◌
 ghost use Rattle.codespan_documents.specs.Glyphs.{glyphs_of};
 ghost use Rattle.codespan_documents.specs.HtmlReading.{html_tokens, text_of_tokens};
 ghost use Rattle.codespan_documents.specs.Runs.{styled_runs};
-ghost use Rattle.codespan_documents.specs.Svg.{color_attribute, first_pen, glyph_text, shade, svg_tag_start, svg_document, text_tag, texts_from, weight_attribute, xml_character};
+ghost use Rattle.codespan_documents.specs.Svg.{color_attribute, first_pen, glyph_text, color_on_dark, svg_tag_start, svg_document, text_tag, texts_from, weight_attribute, xml_character};
 ghost use Rattle.codespan_documents.specs.SvgReading.{svg_tokens, svg_text};
 
 mod glyph;
@@ -15,7 +15,7 @@ mod position;
 use crate::text::StyledText;
 use codespan_base::files::Error;
 use codespan_base::term::{Color, Styles};
-use glyph::{Glyph, follows, glyphs, goes_on, joined_cells};
+use glyph::{Glyph, follows, glyphs, joined_cells, joins_next};
 use ink::Ink;
 use position::{CellPosition, extent};
 use std::alloc::{AllocError, Global};
@@ -155,7 +155,7 @@ fn push_glyph(
         push_tag(alloc, document, pen.position, cells, glyph.ink)?;
     }
     push_character(document, glyph.character)?;
-    if !goes_on(glyph, others) {
+    if !joins_next(glyph, others) {
         document.push_str("</text>")?;
     }
     Ok(())
@@ -195,7 +195,7 @@ fn push_color(document: &mut String, color: Option<Color>) -> Result<(), AllocEr
         return Ok(());
     };
     document.push_str(" fill=\"")?;
-    document.push_str(shade(color))?;
+    document.push_str(color_on_dark(color))?;
     document.push_str("\"")?;
     Ok(())
 }
@@ -212,8 +212,8 @@ fn push_weight(document: &mut String, bold: bool) -> Result<(), AllocError>
 }
 
 /// Returns the CSS color of a terminal color, chosen to be read on the dark background.
-fn shade(color: Color) -> &'static str
-    ensures { result.now ≡ shade color }
+fn color_on_dark(color: Color) -> &'static str
+    ensures { result.now ≡ color_on_dark color }
 {
     match color {
         Color::Black => "#6e7681",

@@ -1,5 +1,5 @@
 mod UnsafeCells
 mod SafeTexts
 mod Sequences
-mod Readings
+mod TerminalStates
 mod AnsiStreams

@@ -61,33 +61,33 @@ terminal_text styles (first ∷ rest) =
 
 -- the state of a terminal: in text, in a sequence of styles after its first character or from its
 -- parameters on, or after anything else, of which nothing is claimed
-pub data Reading : Type 0 where
-  Text : Reading
-  Escape : Reading
-  Parameters : Reading
-  Unknown : Reading
+pub data TerminalState : Type 0 where
+  Text : TerminalState
+  Escape : TerminalState
+  Parameters : TerminalState
+  Unknown : TerminalState
 
 -- its state after the next character: a sequence is an escape character (0x1b), `[` (91),
 -- digits and `;` (59), and `m` (109); any other control character but tab and newline, and each
 -- directional control, is unknown
-abbrev pub next_reading : Reading → ℕ → Reading
-next_reading Text c = if c == 0x1b then Escape else if is_safe c then Text else Unknown
-next_reading Escape c = if c == 91 then Parameters else Unknown
-next_reading Parameters c =
+abbrev pub next_state : TerminalState → ℕ → TerminalState
+next_state Text c = if c == 0x1b then Escape else if is_safe c then Text else Unknown
+next_state Escape c = if c == 91 then Parameters else Unknown
+next_state Parameters c =
     if c == 109 then Text else if is_ascii_digit c || (c == 59) then Parameters else Unknown
-next_reading Unknown c = Unknown
+next_state Unknown c = Unknown
 
 -- its state after these characters
-abbrev pub reading_after : Reading → List ℕ → Reading
-reading_after reading [] = reading
-reading_after reading (c ∷ cs) = reading_after (next_reading reading c) cs
+abbrev pub state_after : TerminalState → List ℕ → TerminalState
+state_after state [] = state
+state_after state (c ∷ cs) = state_after (next_state state c) cs
 
 -- the characters that it shows: those of text outside sequences
-abbrev pub visible : Reading → List ℕ → List ℕ
-visible reading [] = []
+abbrev pub visible : TerminalState → List ℕ → List ℕ
+visible state [] = []
 visible Text (c ∷ cs) =
-    if c == 0x1b then visible Escape cs else c ∷ visible (next_reading Text c) cs
-visible reading (c ∷ cs) = visible (next_reading reading c) cs
+    if c == 0x1b then visible Escape cs else c ∷ visible (next_state Text c) cs
+visible state (c ∷ cs) = visible (next_state state c) cs
 
 -- ---- columns
 
@@ -114,7 +114,7 @@ safe_columns tab column cs = filter (λ (p : InColumn). is_safe p.0) (columns ta
 pub record ShowsSafe (text : List ℕ) (runs : List StyledRun) : Type 0 where
   -- no sequence but those of styles, no other control character but tab and newline, and no
   -- directional control: after any of them a reader would not be in text again
-  pub ends_in_text : reading_after Text (chars text) ≡ Text
+  pub ends_in_text : state_after Text (chars text) ≡ Text
   -- it shows the safe characters of the runs
   pub shows : visible Text (chars text) ≡ safe_characters (run_characters runs)
   -- each has the column that it has among all characters of the runs

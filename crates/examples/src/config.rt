@@ -2,7 +2,7 @@
 
 use codespan_reporting::files::{Error, SimpleFile};
 use codespan_reporting::term::{Config, emit_to_io_write};
-use examples_library::config::{Setting, Word, lex, parse, text_of};
+use examples_library::config::{Setting, Word, lex, parse, word_text};
 
 /// Settings, with an error of each kind.
 const SETTINGS: &str = "\
@@ -27,7 +27,7 @@ pub fn run(rt: &HostRuntime) -> Result<(), Error> {
     let mut settings = Vec::new(alloc);
     let mut line = Vec::new(alloc);
     for word in &lex(alloc, SETTINGS)? {
-        if text_of(SETTINGS, *word) != "\n" {
+        if word_text(SETTINGS, *word) != "\n" {
             line.push(*word)?;
             continue;
         }

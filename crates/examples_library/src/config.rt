@@ -93,13 +93,13 @@ pub fn lex(alloc: Global, text: &str) -> Result<Vec<Word>, AllocError>
 }
 
 /// Returns the text of a word; an empty one if the word is not inside the text or cuts a character.
-pub fn text_of(text: &str, word: Word) -> &str {
+pub fn word_text(text: &str, word: Word) -> &str {
     text.get(word.start..word.end).unwrap_or("")
 }
 
 /// Returns the setting of a name, if there is one.
 fn find(text: &str, settings: &[Setting], name: Word) -> Option<Setting> {
-    let is_named = |s: &&Setting| text_of(text, s.name) == text_of(text, name);
+    let is_named = |s: &&Setting| word_text(text, s.name) == word_text(text, name);
     settings.iter().find(is_named).copied()
 }
 
@@ -113,8 +113,8 @@ fn find(text: &str, settings: &[Setting], name: Word) -> Option<Setting> {
 pub fn parse(text: &str, above: &[Setting], line: &[Word]) -> Result<Option<Setting>, ParseError> {
     let (message, word, first) = match line {
         [] => return Ok(None),
-        [name, ..] if text_of(text, *name) == "=" => ("expected a name", *name, None),
-        [_, equals, ..] if text_of(text, *equals) != "=" => ("expected `=`", *equals, None),
+        [name, ..] if word_text(text, *name) == "=" => ("expected a name", *name, None),
+        [_, equals, ..] if word_text(text, *equals) != "=" => ("expected `=`", *equals, None),
         [_, _, _, extra, ..] => ("expected the end of the line", *extra, None),
         [name, _, value] => match (find(text, above, *name), evaluate(text, above, *value)) {
             (Some(first), _) => ("this name is set twice", *name, Some(first.name)),
@@ -132,7 +132,7 @@ pub fn parse(text: &str, above: &[Setting], line: &[Word]) -> Result<Option<Sett
 
 /// Returns the value of a word: its number, or the value of the setting of this name.
 fn evaluate(text: &str, settings: &[Setting], word: Word) -> Option<u16> {
-    match text_of(text, word).parse() {
+    match word_text(text, word).parse() {
         Ok(number) => Some(number),
         Err(_) => Some(find(text, settings, word)?.value),
     }

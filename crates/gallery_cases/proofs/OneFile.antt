@@ -6,15 +6,15 @@ use Rattle.codespan_base.specs.FileModel.{FileDatabase}
 use Rattle.gallery_script.specs.declared.case.Case.{Case}
 use Rattle.gallery_script.specs.declared.case.DatabaseKind.TheVariants.{One, Several, Mapped}
 use Rattle.gallery_script.specs.Cases.{file_view}
-use Rattle.gallery_cases.specs.CaseOutputs.{InDatabase, HoldsOfOnlyFile, HoldsOfAllFiles, Property, mapped_database, several_database, simple_database}
+use Rattle.gallery_cases.specs.CaseOutputs.{HoldsOfCase, HoldsOfOnlyFile, HoldsOfAllFiles, Property, mapped_database, several_database, simple_database}
 use Rattle.gallery_script.specs.Database.{BorrowedFile, IsOnlyFile, borrowed_view, with_numbers}
 
 -- it holds over all files of a case
 pub over_several : (case : Case) (files : List BorrowedFile) (Holds : Property) → case.database_kind ≡ Several → map borrowed_view files ≡ map file_view case.files.items
-    → Holds ℕ (several_database files) case.diagnostic → InDatabase case.database_kind case Holds
+    → Holds ℕ (several_database files) case.diagnostic → HoldsOfCase case.database_kind case Holds
 over_several case files Holds kind same holds =
     let among : HoldsOfAllFiles case Holds = record { files = files; same = same; holds = holds } in
-    subst (λ k. InDatabase k case Holds) (sym kind) among
+    subst (λ k. HoldsOfCase k case Holds) (sym kind) among
 
 module _ (case : Case) (name source : List ℕ) (diagnostic : Diagnostic (Unit {0})) (by_unit_id : IsOnlyFile case name source diagnostic) (Holds : Property) where
   -- it holds over such a database of its only file
@@ -24,15 +24,15 @@ module _ (case : Case) (name source : List ℕ) (diagnostic : Diagnostic (Unit {
 
   -- it holds over a simple file
   pub over_one : case.database_kind ≡ One → Holds (Unit {0}) (simple_database name source) diagnostic
-      → InDatabase case.database_kind case Holds
+      → HoldsOfCase case.database_kind case Holds
   over_one kind holds =
-      subst (λ k. InDatabase k case Holds) (sym kind) (over_one_file simple_database holds)
+      subst (λ k. HoldsOfCase k case Holds) (sym kind) (over_one_file simple_database holds)
 
   -- it holds over a file whose line numbers are set
   pub over_mapped : case.database_kind ≡ Mapped → (numbers : List (ℕ × ℕ)) → numbers ≡ with_numbers [] case.numbers.items
-      → Holds (Unit {0}) (mapped_database numbers name source) diagnostic → InDatabase case.database_kind case Holds
+      → Holds (Unit {0}) (mapped_database numbers name source) diagnostic → HoldsOfCase case.database_kind case Holds
   over_mapped kind numbers set holds =
-      subst (λ k. InDatabase k case Holds) (sym kind)
+      subst (λ k. HoldsOfCase k case Holds) (sym kind)
       (subst (λ ns. HoldsOfOnlyFile (mapped_database ns) case Holds) set
       (over_one_file (mapped_database numbers) holds))
 

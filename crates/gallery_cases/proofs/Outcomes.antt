@@ -6,7 +6,7 @@ use Rattle.gallery_script.specs.declared.case.Case.{Case}
 use Rattle.gallery_script.specs.declared.errors.GalleryError.{GalleryError}
 use Rattle.gallery_script.specs.declared.errors.GalleryError.TheVariants.{Line, UnknownCase, CannotRender}
 use Rattle.gallery_script.specs.Cases.{AppliesLines}
-use Rattle.gallery_script.specs.Requests.{RequestView}
+use Rattle.gallery_script.specs.Requests.{GalleryRequestView}
 use Rattle.program_io.specs.declared.run_error.RunError.{RunError}
 use Rattle.program_io.specs.declared.run_error.RunError.TheVariants.{WrongArguments, CannotReadInput, NotUtf8, OutOfMemory, CannotWriteOutput, Failed}
 use Rattle.gallery_cases.specs.Requests.{IsResponse, IsResponseOf, GalleryErrorMeans, IsFailureOf}
@@ -26,7 +26,7 @@ requested view (Some other) wrong r request expected is ok viewed =
     sym viewed ∙ ap (λ o. Some (view o)) same
 
 -- what is requested of the cases of an input is written
-pub responded : {E : Type 0} (expected : Option RequestView) (left : Option (List ℕ)) (request : RequestView) (text bytes : List ℕ) (cases : List Case) (r : Result (Unit {0}) E) (Writes : List ℕ → Type 0)
+pub responded : {E : Type 0} (expected : Option GalleryRequestView) (left : Option (List ℕ)) (request : GalleryRequestView) (text bytes : List ℕ) (cases : List Case) (r : Result (Unit {0}) E) (Writes : List ℕ → Type 0)
     → expected ≡ Some request → IfSome left (λ input. text ≡ input) → AppliesLines (lines text) [] cases → IsResponseOf request cases bytes → OnOk r (Writes bytes)
     → OnOk r (IfSome expected (λ a. IfSome left (λ input. (response : List ℕ) × IsResponse a input response × Writes response)))
 responded None left request text bytes cases r Writes is_requested read applied_lines responds written = absurd (cc is_requested)
@@ -37,7 +37,7 @@ responded (Some a) (Some input) request text bytes cases (Ok done) Writes is_req
     (bytes, (cases, subst (λ t. AppliesLines (lines t) [] cases) read applied_lines, subst (λ q. IsResponseOf q cases bytes) same responds), written)
 
 -- what is requested of the cases of an input fails
-pub failed : (expected : Option RequestView) (left : Option (List ℕ)) (request : RequestView) (text : List ℕ) (cases : List Case) (error : RunError GalleryError)
+pub failed : (expected : Option GalleryRequestView) (left : Option (List ℕ)) (request : GalleryRequestView) (text : List ℕ) (cases : List Case) (error : RunError GalleryError)
     → expected ≡ Some request → IfSome left (λ input. text ≡ input) → AppliesLines (lines text) [] cases → IsFailureOf request cases error → IfSome left (GalleryErrorMeans expected error)
 failed expected None request text cases error is_requested read applied_lines fails = tt
 failed expected (Some input) request text cases (Failed (UnknownCase name)) is_requested read applied_lines fails =

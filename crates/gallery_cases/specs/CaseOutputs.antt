@@ -59,16 +59,16 @@ pub record HoldsOfAllFiles (case : Case) (Holds : Property) : Type 0 where
   pub holds : Holds ℕ (several_database files) case.diagnostic
 
 -- this holds of the diagnostic of a case over its file database
-abbrev pub InDatabase : DatabaseKind → Case → Property → Type 0
-InDatabase One case Holds = HoldsOfOnlyFile simple_database case Holds
-InDatabase Several case Holds = HoldsOfAllFiles case Holds
-InDatabase Mapped case Holds =
+abbrev pub HoldsOfCase : DatabaseKind → Case → Property → Type 0
+HoldsOfCase One case Holds = HoldsOfOnlyFile simple_database case Holds
+HoldsOfCase Several case Holds = HoldsOfAllFiles case Holds
+HoldsOfCase Mapped case Holds =
     HoldsOfOnlyFile (mapped_database (with_numbers [] case.numbers.items)) case Holds
 
 -- the text is the output of a case in plain text
 abbrev pub IsOutput : Case → List ℕ → Type 0
 IsOutput case text =
-    InDatabase case.database_kind case (λ Id database diagnostic.
+    HoldsOfCase case.database_kind case (λ Id database diagnostic.
     IsRendered case.config database diagnostic text)
 
 -- the output of a case in plain text has been appended

@@ -14,7 +14,7 @@ use Rattle.codespan_styled.specs.Terminal.{terminal_text}
 use Rattle.gallery_script.specs.declared.case.Case.{Case}
 use Rattle.gallery_script.specs.declared.request.Format.{Format}
 use Rattle.gallery_script.specs.declared.request.Format.TheVariants.{Html, Svg, Terminal}
-use Rattle.gallery_cases.specs.CaseOutputs.{InDatabase}
+use Rattle.gallery_cases.specs.CaseOutputs.{HoldsOfCase}
 
 -- the runs are those of an output; no lookup fails
 pub record AreRunsOver {Id : Type 0} (config : Config) (files : FileDatabase Id)
@@ -25,7 +25,7 @@ pub record AreRunsOver {Id : Type 0} (config : Config) (files : FileDatabase Id)
 -- the runs are those of the output of a case
 abbrev pub AreRunsOf : Case → List StyledRun → Type 0
 AreRunsOf case runs =
-    InDatabase case.database_kind case (λ Id database diagnostic.
+    HoldsOfCase case.database_kind case (λ Id database diagnostic.
     AreRunsOver case.config database diagnostic runs)
 
 -- a document of runs, in the default styles

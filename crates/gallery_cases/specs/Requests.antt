@@ -8,27 +8,27 @@ use Rattle.gallery_script.specs.declared.errors.GalleryError.{GalleryError}
 use Rattle.gallery_script.specs.declared.errors.GalleryError.TheVariants.{CannotRender, Line, UnknownCase}
 use Rattle.gallery_script.specs.declared.request.Format.{Format}
 use Rattle.gallery_script.specs.Cases.{IsFirstLineError, AppliesLines, case_named}
-use Rattle.gallery_script.specs.Requests.{RequestView}
-use Rattle.gallery_script.specs.Requests.RequestView.{All, Styles, Document}
+use Rattle.gallery_script.specs.Requests.{GalleryRequestView}
+use Rattle.gallery_script.specs.Requests.GalleryRequestView.{All, Styles, Document}
 use Rattle.gallery_cases.specs.Galleries.{IsGallery}
 use Rattle.gallery_cases.specs.Documents.{IsDocument}
 use Rattle.program_io.specs.declared.run_error.RunError.{RunError}
 use Rattle.program_io.specs.declared.run_error.RunError.TheVariants.{Failed, OutOfMemory}
 
 -- the bytes are what is requested of cases
-abbrev pub IsResponseOf : RequestView → List Case → List ℕ → Type 0
+abbrev pub IsResponseOf : GalleryRequestView → List Case → List ℕ → Type 0
 IsResponseOf All cases bytes = IsGallery cases bytes
 IsResponseOf Styles cases bytes = bytes ≡ style_sheet default_styles
 IsResponseOf (Document format name) cases bytes =
     IsSomeAnd (case_named name cases) (λ case. IsDocument format case bytes)
 
 -- the bytes are what is requested of an input
-abbrev pub IsResponse : RequestView → List ℕ → List ℕ → Type 0
+abbrev pub IsResponse : GalleryRequestView → List ℕ → List ℕ → Type 0
 IsResponse request input bytes =
     (cases : List Case) × AppliesLines (lines input) [] cases × IsResponseOf request cases bytes
 
 -- why a request of cases fails: no case has the name, rendering failed, or an allocation failed
-abbrev pub IsFailureOf : RequestView → List Case → RunError GalleryError → Type 0
+abbrev pub IsFailureOf : GalleryRequestView → List Case → RunError GalleryError → Type 0
 IsFailureOf request cases (Failed (UnknownCase name)) =
     (format : Format) × (request ≡ Document format (string_bytes name))
     × (case_named (string_bytes name) cases ≡ None)
@@ -37,7 +37,7 @@ IsFailureOf request cases OutOfMemory = Unit {0}
 IsFailureOf request cases _ = ⊥
 
 -- what an error says of the input: it is its first error, or no case has the requested name
-abbrev pub GalleryErrorMeans : Option RequestView → RunError GalleryError → List ℕ → Type 0
+abbrev pub GalleryErrorMeans : Option GalleryRequestView → RunError GalleryError → List ℕ → Type 0
 GalleryErrorMeans request (Failed (Line number line_error)) input =
     IsFirstLineError (lines input) (Failed (Line number line_error))
 GalleryErrorMeans request (Failed (UnknownCase name)) input =

@@ -4,7 +4,7 @@ ghost use Rattle.std.specs.Prelude.{◌≡◌, ℕ, List, ◌++◌, IfOk, OnOk};
 ghost use Rattle.gallery_script.specs.declared.case.Colors.TheVariants.{Plain, Svg};
 ghost use Rattle.gallery_cases.specs.CaseOutputs.{AppendsOutput};
 ghost use Rattle.gallery_cases.specs.Documents.{AppendsSvg};
-ghost use Rattle.gallery_cases.specs.Galleries.{heading, with_escapes, IsSection, IsGallery, IsErrorLine};
+ghost use Rattle.gallery_cases.specs.Galleries.{heading, with_escapes, IsSection, IsGallery, IsFailureLine};
 
 use crate::document::document;
 use crate::rendering::render;
@@ -79,7 +79,7 @@ fn add_failure(
 ) -> Result<(), AllocError>
     ensures { OnOk result ((error_line : List ℕ)
         × (gallery.new.items ≡ gallery.old.items ++ error_line)
-        × IsErrorLine rendered error_line) }
+        × IsFailureLine rendered error_line) }
 {
     match rendered {
         Ok(()) => Ok(()),

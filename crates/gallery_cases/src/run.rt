@@ -3,7 +3,7 @@
 ghost use Rattle.std.specs.Prelude.{◌≡◌, ◌≢◌, ◌≤◌, ◌↔◌, ℕ, List, MatchResult, None, OnOk, IfErr, IfOk, IfSome, IsErrAnd, IsErrOf, IsOkAnd, map, string_bytes};
 ghost use Rattle.std.specs.Io.KnownBytes.{Appends};
 ghost use Rattle.gallery_cases.specs.Requests.{IsResponse, IsResponseOf, GalleryErrorMeans, IsFailureOf};
-ghost use Rattle.gallery_script.specs.Requests.{request_of, request_view};
+ghost use Rattle.gallery_script.specs.Requests.{gallery_request_of, gallery_request_view};
 
 use crate::document::{default_style_sheet, document};
 use crate::gallery::render_cases;
@@ -30,11 +30,11 @@ pub fn run<R: Read, W: Write, E: Write>(
     error_output: &mut E,
 ) -> u8
     ensures status { result ≤ 2 }
-    ensures usage { (result ≡ 2) ↔ (request_of (map string_bytes args.now) ≡ None) }
+    ensures usage { (result ≡ 2) ↔ (gallery_request_of (map string_bytes args.now) ≡ None) }
     ensures unread { result ≡ 2 → input.new ≡ input.old }
     ensures unwritten { result ≡ 2 → output.new ≡ output.old }
     ensures no_error { result ≡ 0 → error_output.new ≡ error_output.old }
-    ensures rendered { result ≡ 0 → IfSome (request_of (map string_bytes args.now))
+    ensures rendered { result ≡ 0 → IfSome (gallery_request_of (map string_bytes args.now))
         (λ request. IfSome (R.remaining input.old) (λ text.
         (response : List ℕ) × IsResponse request text response
         × Appends (W.contents output.old) (W.contents output.new) response)) }
@@ -50,15 +50,15 @@ fn respond<R: Read, W: Write>(
     output: &mut W,
 ) -> Result<(), RunError<GalleryError>>
     ensures usage { IsErrOf result RunError.WrongArguments
-        ↔ (request_of (map string_bytes args.now) ≡ None) }
+        ↔ (gallery_request_of (map string_bytes args.now) ≡ None) }
     ensures unread { IsErrOf result RunError.WrongArguments → input.new ≡ input.old }
-    ensures rendered { OnOk result (IfSome (request_of (map string_bytes args.now))
+    ensures rendered { OnOk result (IfSome (gallery_request_of (map string_bytes args.now))
         (λ request. IfSome (R.remaining input.old) (λ text.
         (response : List ℕ) × IsResponse request text response
         × Appends (W.contents output.old) (W.contents output.new) response))) }
     ensures reported { IfErr result (λ error.
         IfSome (R.remaining input.old)
-        (GalleryErrorMeans (request_of (map string_bytes args.now)) error)) }
+        (GalleryErrorMeans (gallery_request_of (map string_bytes args.now)) error)) }
     ensures unchanged { IfErr result (λ error. error ≢ RunError.CannotWriteOutput
         → output.new ≡ output.old) }
 {
@@ -76,8 +76,8 @@ fn response(
     cases: &[Case<'_>],
 ) -> Result<Vec<u8>, RunError<GalleryError>>
     ensures responds { IfOk result (λ bytes.
-        IsResponseOf (request_view request.entry) cases.now bytes.items) }
-    ensures fails { IfErr result (IsFailureOf (request_view request.entry) cases.now) }
+        IsResponseOf (gallery_request_view request.entry) cases.now bytes.items) }
+    ensures fails { IfErr result (IsFailureOf (gallery_request_view request.entry) cases.now) }
 {
     match request {
         Request::All => Ok(render_cases(alloc, cases)?),

@@ -1,4 +1,4 @@
--- For the clauses of `escape::unescape`, `read_escape` and `read_numbered`: what is parsed of
+-- For the clauses of `escape::unescape`, `read_escape` and `read_unicode_escape`: what is parsed of
 -- escapes, and of escaped texts.
 use Rattle.std.proofs.Common.{◌≡◌, ◌<◌, ◌≤◌, ℕ, List, length, [], ◌∷◌, ◌++◌, Option, Some, None, refl, sym, ◌∙◌, ap, subst, append_assoc, arith}
 use Rattle.std.specs.Borrow.{Bor}
@@ -7,7 +7,7 @@ use Rattle.std.specs.Option.{option_map}
 use Rattle.std.proofs.lemmas.Bool.Decides.{nat_tests}
 use Rattle.std.proofs.lemmas.Str.{char_from_byte}
 use Rattle.std.proofs.lemmas.Str.Pattern.{IsSplitOnceResult, split_after, split_parts}
-use Rattle.gallery_script.specs.Escapes.{IsPlain, IsBraced, IsNumbered, ReadsNumbered, ReadsEscape, Unescapes, after_bytes, letter_character}
+use Rattle.gallery_script.specs.Escapes.{IsPlain, IsBraced, IsHexCharacter, ReadsUnicodeEscape, ReadsEscape, Unescapes, after_bytes, letter_character}
 use Rattle.gallery_script.specs.Escapes.Unescapes.{whole, broken, escaped}
 
 -- ---- letters
@@ -27,7 +27,7 @@ pub letter_shorter : (text next left : List ℕ) (letter : ℕ) → text ≡ let
 letter_shorter text next left letter is same = omega (arith, ap length is, ap length same)
 
 -- what is parsed of a text that begins with `u`
-pub number_read : (text next left : List ℕ) (read : Option (ℕ × List ℕ)) → text ≡ 117 ∷ next → left ≡ next → ReadsNumbered left read → ReadsEscape text read
+pub number_read : (text next left : List ℕ) (read : Option (ℕ × List ℕ)) → text ≡ 117 ∷ next → left ≡ next → ReadsUnicodeEscape left read → ReadsEscape text read
 number_read text next left read is same number =
     subst (λ t. ReadsEscape t read) (sym (is ∙ ap (λ rest. 117 ∷ rest) (sym same))) ((λ _. number), λ other. absurd (other refl))
 
@@ -54,7 +54,7 @@ abbrev pub read_bytes : Option (ℕ × Bor (List ℕ)) → Option (ℕ × List �
 read_bytes read = option_map (λ r. (r.0, r.1.now)) read
 
 -- a text that does not begin with a brace has no number in braces
-pub unopened : (text : List ℕ) (read : Option (ℕ × Bor (List ℕ))) → read ≡ None → ((left : List ℕ) → text ≡ 123 ∷ left → ⊥) → ReadsNumbered text (read_bytes read)
+pub unopened : (text : List ℕ) (read : Option (ℕ × Bor (List ℕ))) → read ≡ None → ((left : List ℕ) → text ≡ 123 ∷ left → ⊥) → ReadsUnicodeEscape text (read_bytes read)
 unopened text None none not_open = λ digits left c braced numbered. not_open _ braced.0
 unopened text (Some r) none not_open = absurd (cc none)
 
@@ -66,20 +66,20 @@ same_digits text inner digits left r is split braced =
     split_after 125 inner digits left r split (omega arith) inner_is braced.1
 
 -- a text whose brace is not closed has no number in braces
-pub unclosed : (text inner : List ℕ) (read : Option (ℕ × Bor (List ℕ))) → read ≡ None → text ≡ 123 ∷ inner → IsSplitOnceResult 125 inner None → ReadsNumbered text (read_bytes read)
+pub unclosed : (text inner : List ℕ) (read : Option (ℕ × Bor (List ℕ))) → read ≡ None → text ≡ 123 ∷ inner → IsSplitOnceResult 125 inner None → ReadsUnicodeEscape text (read_bytes read)
 unclosed text inner None none is split = λ digits left c braced numbered. same_digits text inner digits left None is split braced
 unclosed text inner (Some r) none is split = absurd (cc none)
 
 -- a text without a number of a character in its braces has none
 pub unnumbered : (text inner : List ℕ) (x : Bor (List ℕ) × Bor (List ℕ)) (read : Option (ℕ × Bor (List ℕ))) → read ≡ None → text ≡ 123 ∷ inner → IsSplitOnceResult 125 inner (Some x)
-    → ((c : ℕ) → ¬ (IsNumbered x.0.now c)) → ReadsNumbered text (read_bytes read)
+    → ((c : ℕ) → ¬ (IsHexCharacter x.0.now c)) → ReadsUnicodeEscape text (read_bytes read)
 unnumbered text inner x None none is split no_number =
-    λ digits left c braced numbered. no_number c (subst (λ ds. IsNumbered ds c) (sym (same_digits text inner digits left (Some x) is split braced).0) numbered)
+    λ digits left c braced numbered. no_number c (subst (λ ds. IsHexCharacter ds c) (sym (same_digits text inner digits left (Some x) is split braced).0) numbered)
 unnumbered text inner x (Some r) none is split no_number = absurd (cc none)
 
 -- what is parsed where the number of a character is in the braces
-pub numbered : (text inner : List ℕ) (x : Bor (List ℕ) × Bor (List ℕ)) (c : ℕ) → text ≡ 123 ∷ inner → IsSplitOnceResult 125 inner (Some x) → IsNumbered x.0.now c
-    → ReadsNumbered text (Some (c, x.1.now))
+pub numbered : (text inner : List ℕ) (x : Bor (List ℕ) × Bor (List ℕ)) (c : ℕ) → text ≡ 123 ∷ inner → IsSplitOnceResult 125 inner (Some x) → IsHexCharacter x.0.now c
+    → ReadsUnicodeEscape text (Some (c, x.1.now))
 numbered text inner x c is split number =
     let parts = split_parts 125 inner (Some x) split (omega arith) in
     (x.0.now, (is ∙ ap (λ t. 123 ∷ t) parts.0, parts.1), number)

@@ -109,7 +109,7 @@ pub record AppliesToLast (statement : Statement) (before after : List Case) : Ty
   pub applied : Applies statement old new
 
 -- a case of this name is added
-pub record Begins (name : List ℕ) (before after : List Case) : Type 0 where
+pub record AddsCase (name : List ℕ) (before after : List Case) : Type 0 where
   pub case : Case
   pub is : after ≡ before ++ case ∷ []
   pub new : IsNew name case
@@ -117,7 +117,7 @@ pub record Begins (name : List ℕ) (before after : List Case) : Type 0 where
 -- what a line does to the cases before it
 abbrev pub AppliesParsedLine : Line → List Case → List Case → Type 0
 AppliesParsedLine Ignored before after = after ≡ before
-AppliesParsedLine (NewCase name) before after = Begins name.now before after
+AppliesParsedLine (NewCase name) before after = AddsCase name.now before after
 AppliesParsedLine (Description statement) before after = AppliesToLast statement before after
 
 -- the cases after a line are those before it, with the line applied

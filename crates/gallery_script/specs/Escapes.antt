@@ -20,8 +20,8 @@ abbrev pub Lacks : ℕ → List ℕ → Type 0
 Lacks b text = EachIndex text (λ k. slice_index text k ≢ b)
 
 -- the digits write the number of a character in base 16
-abbrev pub IsNumbered : List ℕ → ℕ → Type 0
-IsNumbered digits c = ParsesUnsigned {E = Unit {0}} 32 16 digits (Ok c) × IsScalar c
+abbrev pub IsHexCharacter : List ℕ → ℕ → Type 0
+IsHexCharacter digits c = ParsesUnsigned {E = Unit {0}} 32 16 digits (Ok c) × IsScalar c
 
 -- the text is `{`, some digits, `}`, and then the remaining text
 abbrev pub IsBraced : List ℕ → List ℕ → List ℕ → Type 0
@@ -29,17 +29,17 @@ IsBraced text digits left = (text ≡ 123 ∷ digits ++ 125 ∷ left) × Lacks 1
 
 -- what is parsed after `\u`: the character of a number in braces, and the remaining text; none if
 -- there is no such number
-abbrev pub ReadsNumbered : List ℕ → Option (ℕ × List ℕ) → Type 0
-ReadsNumbered text (Some (c, left)) =
-    (digits : List ℕ) × IsBraced text digits left × IsNumbered digits c
-ReadsNumbered text None =
-    (digits left : List ℕ) (c : ℕ) → IsBraced text digits left → ¬ (IsNumbered digits c)
+abbrev pub ReadsUnicodeEscape : List ℕ → Option (ℕ × List ℕ) → Type 0
+ReadsUnicodeEscape text (Some (c, left)) =
+    (digits : List ℕ) × IsBraced text digits left × IsHexCharacter digits c
+ReadsUnicodeEscape text None =
+    (digits left : List ℕ) (c : ℕ) → IsBraced text digits left → ¬ (IsHexCharacter digits c)
 
 -- what is parsed after a backslash: a character, and the remaining text; none if there is no escape
 abbrev pub ReadsEscape : List ℕ → Option (ℕ × List ℕ) → Type 0
 ReadsEscape [] read = read ≡ None
 ReadsEscape (letter ∷ left) read =
-    (letter ≡ 117 → ReadsNumbered left read)
+    (letter ≡ 117 → ReadsUnicodeEscape left read)
     × (letter ≢ 117 → read ≡ option_map (λ c. (c, left)) (letter_character letter))
 
 -- the text has no backslash

@@ -16,21 +16,22 @@ format_named name =
     else None
 
 -- a request: every case, the style sheet of HTML elements, or a document of the case of a name
-pub data RequestView : Type 0 where
-  All : RequestView
-  Styles : RequestView
-  Document : Format → List ℕ → RequestView
+pub data GalleryRequestView : Type 0 where
+  All : GalleryRequestView
+  Styles : GalleryRequestView
+  Document : Format → List ℕ → GalleryRequestView
 
 -- the request of the arguments: without any every case, for `styles` the style sheet, and for
 -- `FORMAT NAME` that document of the case; nothing for any others
-abbrev pub request_of : List (List ℕ) → Option RequestView
-request_of [] = Some All
-request_of (word ∷ []) = if bytes_eq word (codes "styles") then Some Styles else None
-request_of (word ∷ name ∷ []) = option_map (λ format. Document format name) (format_named word)
-request_of (word ∷ name ∷ more ∷ rest) = None
+abbrev pub gallery_request_of : List (List ℕ) → Option GalleryRequestView
+gallery_request_of [] = Some All
+gallery_request_of (word ∷ []) = if bytes_eq word (codes "styles") then Some Styles else None
+gallery_request_of (word ∷ name ∷ []) =
+    option_map (λ format. Document format name) (format_named word)
+gallery_request_of (word ∷ name ∷ more ∷ rest) = None
 
 -- a request, its name as bytes
-abbrev pub request_view : Request → RequestView
-request_view requests.All = All
-request_view requests.Styles = Styles
-request_view (requests.Document format name) = Document format name.now
+abbrev pub gallery_request_view : Request → GalleryRequestView
+gallery_request_view requests.All = All
+gallery_request_view requests.Styles = Styles
+gallery_request_view (requests.Document format name) = Document format name.now

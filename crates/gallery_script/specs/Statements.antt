@@ -17,7 +17,7 @@ use Rattle.script_words.specs.Fields.{field_of, past_space, is_ignored_text}
 use Rattle.script_words.specs.Names.{severity_named, display_style_named}
 use Rattle.gallery_script.specs.Numbers.{IsNumber, IsNoNumber}
 use Rattle.gallery_script.specs.Words.{characters_named, colors_named, database_kind_named}
-use Rattle.gallery_script.specs.Words.{layout_named, word_named}
+use Rattle.gallery_script.specs.Words.{layout_named, case_word_named}
 
 -- ---- what a line describes
 
@@ -91,7 +91,7 @@ ParsesTo line (NewCase name) =
     (is_ignored_text line ≡ false) × (field_of line ≡ codes "case") × (name.now ≡ past_space line)
 ParsesTo line (Description statement) =
     (is_ignored_text line ≡ false)
-    × Describes (word_named (field_of line)) (past_space line) statement
+    × Describes (case_word_named (field_of line)) (past_space line) statement
 
 -- ---- what is wrong with a line
 
@@ -145,4 +145,4 @@ IsWrong word rest OutOfMemory = Unit {0}
 pub record IsWrongLine (line : List ℕ) (line_error : LineError) : Type 0 where
   pub not_ignored : is_ignored_text line ≡ false
   pub not_new_case : field_of line ≢ codes "case"
-  pub wrong : IsWrong (word_named (field_of line)) (past_space line) line_error
+  pub wrong : IsWrong (case_word_named (field_of line)) (past_space line) line_error

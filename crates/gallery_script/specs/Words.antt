@@ -15,8 +15,8 @@ use Rattle.gallery_script.specs.declared.words.Word.{Word}
 use Rattle.gallery_script.specs.declared.words.Word.TheVariants.{Database, File, Source, Number, Style, Layout, Tab, Context, Characters, Colors, Severity, Code, Message, Primary, Secondary, Note}
 
 -- the word of this text
-unfoldable pub word_named : List ℕ → Option Word
-word_named text =
+unfoldable pub case_word_named : List ℕ → Option Word
+case_word_named text =
     if bytes_eq text (codes "database") then Some Database
     else if bytes_eq text (codes "file") then Some File
     else if bytes_eq text (codes "|") then Some Source

@@ -2,7 +2,7 @@
 
 ghost use Rattle.std.specs.Prelude.{◌≡◌, ◌⊎◌, ℕ, ◌≤◌, ◌<◌, length, IfSome, MatchResult, Some, None, string_bytes};
 ghost use Rattle.std.specs.Option.{option_map};
-ghost use Rattle.gallery_script.specs.Escapes.{Unescapes, ReadsEscape, ReadsNumbered, IsNumbered};
+ghost use Rattle.gallery_script.specs.Escapes.{Unescapes, ReadsEscape, ReadsUnicodeEscape, IsHexCharacter};
 ghost use Rattle.gallery_script.specs.declared.errors.LineError.TheVariants.{BadEscape, OutOfMemory};
 
 use crate::errors::LineError;
@@ -56,25 +56,25 @@ fn read_escape(text: &str) -> Option<(char, &str)>
         't' => Some(('\t', left)),
         '0' => Some(('\0', left)),
         '\\' => Some(('\\', left)),
-        'u' => read_numbered(left),
+        'u' => read_unicode_escape(left),
         _ => None,
     }
 }
 
 /// Parses the number in braces at the start of a text, and returns its character with what follows.
-fn read_numbered(text: &str) -> Option<(char, &str)>
-    ensures read { ReadsNumbered text.now (option_map (λ read. (read.0, read.1.now)) result) }
+fn read_unicode_escape(text: &str) -> Option<(char, &str)>
+    ensures read { ReadsUnicodeEscape text.now (option_map (λ read. (read.0, read.1.now)) result) }
     ensures shorter { IfSome result (λ read. length read.1.now ≤ length text.now) }
 {
     let braced = text.strip_prefix('{')?;
     let (digits, left) = braced.split_once('}')?;
-    Some((numbered_character(digits)?, left))
+    Some((hex_character(digits)?, left))
 }
 
 /// Returns the character of a number in hexadecimal digits, if there is one.
-fn numbered_character(digits: &str) -> Option<char>
-    ensures found { IfSome result (IsNumbered digits.now) }
-    ensures absent { result ≡ None → (c : ℕ) → ¬ (IsNumbered digits.now c) }
+fn hex_character(digits: &str) -> Option<char>
+    ensures found { IfSome result (IsHexCharacter digits.now) }
+    ensures absent { result ≡ None → (c : ℕ) → ¬ (IsHexCharacter digits.now c) }
 {
     match u32::from_str_radix(digits, 16) {
         Ok(number) => char::from_u32(number),

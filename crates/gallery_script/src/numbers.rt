@@ -7,7 +7,7 @@ ghost use Rattle.gallery_script.specs.Numbers.{IsNumber, IsNoNumber};
 ghost use Rattle.gallery_script.specs.declared.errors.LineError.TheVariants.{BadNumber};
 
 use crate::errors::LineError;
-use script_words::fields::cut;
+use script_words::fields::split_field;
 
 /// Parses a number of decimal digits, which may follow a plus sign.
 ///
@@ -29,12 +29,12 @@ pub fn parse_number(text: &str) -> Result<usize, LineError>
 /// # Errors
 ///
 /// `BadNumber` if that is no number or it does not fit.
-pub fn cut_number(text: &str) -> Result<(usize, &str), LineError>
+pub fn split_number(text: &str) -> Result<(usize, &str), LineError>
     ensures number { IfOk result (λ read. IsNumber (field_of text.now) read.0) }
     ensures left { IfOk result (λ read. read.1.now ≡ past_space text.now) }
     ensures failed { IfErr result (λ line_error. (line_error ≡ BadNumber)
         × IsNoNumber (field_of text.now)) }
 {
-    let (number, left) = cut(text);
+    let (number, left) = split_field(text);
     Ok((parse_number(number)?, left))
 }

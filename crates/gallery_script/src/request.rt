@@ -41,11 +41,12 @@ pub enum Request<'args> {
 }
 
 impl<'args> Request<'args> {
-    ghost use Rattle.gallery_script.specs.Requests.{request_of, request_view};
+    ghost use Rattle.gallery_script.specs.Requests.{gallery_request_of, gallery_request_view};
 
     /// Returns the request of the arguments; `None` if their number or the first word is another.
     pub fn from_arguments(args: &'args [String]) -> Option<Request<'args>>
-        ensures { option_map request_view result ≡ request_of (map string_bytes args.now) }
+        ensures { option_map gallery_request_view result
+            ≡ gallery_request_of (map string_bytes args.now) }
     {
         match args {
             [] => Some(Request::All),

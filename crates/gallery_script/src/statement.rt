@@ -9,13 +9,13 @@ ghost use Rattle.gallery_script.specs.declared.words.Word.TheVariants as words;
 use crate::case::{CharacterSet, Colors, DatabaseKind};
 use crate::errors::LineError;
 use crate::escape::unescape;
-use crate::numbers::{cut_number, parse_number};
+use crate::numbers::{parse_number, split_number};
 use crate::words::{
     Word, parse_characters, parse_colors, parse_database_kind, parse_layout, parse_word,
 };
 use codespan_base::diagnostic::{Label, LabelStyle, Severity};
 use codespan_base::term::{DisplayStyle, Layout};
-use script_words::fields::{cut, is_ignored};
+use script_words::fields::{is_ignored, split_field};
 use script_words::names::{parse_display_style, parse_severity};
 use std::alloc::Global;
 
@@ -95,7 +95,7 @@ pub fn parse_line<'input>(alloc: Global, line: &'input str) -> Result<Line<'inpu
     if is_ignored(line) {
         return Ok(Line::Ignored);
     }
-    let (word, rest) = cut(line);
+    let (word, rest) = split_field(line);
     if word == "case" {
         return Ok(Line::NewCase(rest));
     }
@@ -140,7 +140,7 @@ fn parse_line_number(rest: &str) -> Result<Statement, LineError>
     ensures parsed { IfOk result (Describes (Some words.Number) rest.now) }
     ensures wrong { IfErr result (IsWrong (Some words.Number) rest.now) }
 {
-    let (line, left) = cut_number(rest)?;
+    let (line, left) = split_number(rest)?;
     Ok(Statement::Number(line, parse_number(left)?))
 }
 
@@ -149,9 +149,9 @@ fn parse_context(rest: &str) -> Result<Statement, LineError>
     ensures parsed { IfOk result (Describes (Some words.Context) rest.now) }
     ensures wrong { IfErr result (IsWrong (Some words.Context) rest.now) }
 {
-    let (start, left) = cut_number(rest)?;
-    let (end, left) = cut_number(left)?;
-    let (before, left) = cut_number(left)?;
+    let (start, left) = split_number(rest)?;
+    let (end, left) = split_number(left)?;
+    let (before, left) = split_number(left)?;
     Ok(Statement::Context(ContextLines {
         start,
         end,
@@ -165,9 +165,9 @@ fn parse_label(alloc: Global, style: LabelStyle, rest: &str) -> Result<Statement
     ensures parsed { IfOk result (Describes (Some (label_style_word style)) rest.now) }
     ensures wrong { IfErr result (IsWrong (Some (label_style_word style)) rest.now) }
 {
-    let (file_id, left) = cut_number(rest)?;
-    let (start, left) = cut_number(left)?;
-    let (end, left) = cut_number(left)?;
+    let (file_id, left) = split_number(rest)?;
+    let (start, left) = split_number(left)?;
+    let (end, left) = split_number(left)?;
     Ok(Statement::Label(Label {
         style,
         file_id,

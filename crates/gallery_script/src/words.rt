@@ -2,7 +2,7 @@
 
 ghost use Rattle.std.specs.Prelude.{◌≡◌};
 ghost use Rattle.gallery_script.specs.Words.{characters_named, colors_named, database_kind_named};
-ghost use Rattle.gallery_script.specs.Words.{layout_named, word_named};
+ghost use Rattle.gallery_script.specs.Words.{layout_named, case_word_named};
 
 use crate::case::{CharacterSet, Colors, DatabaseKind};
 use codespan_base::term::Layout;
@@ -45,9 +45,9 @@ pub enum Word {
 }
 
 /// Returns the word of this text, or `None`.
-#[tactic(auto, unfolding(crate::specs::Words::word_named))]
+#[tactic(auto, unfolding(crate::specs::Words::case_word_named))]
 pub fn parse_word(text: &str) -> Option<Word>
-    ensures { result ≡ word_named text.now }
+    ensures { result ≡ case_word_named text.now }
 {
     match text {
         "database" => Some(Word::Database),

@@ -12,7 +12,7 @@ use Rattle.report_runs.specs.declared.report_error.ReportError.{ReportError}
 use Rattle.report_runs.specs.declared.report_error.ReportError.TheVariants as report_errors
 use Rattle.report_script.specs.declared.script.Fault.{Fault}
 use Rattle.report_script.specs.Requests.{RequestView}
-use Rattle.report_script.specs.Messages.{request_diagnostic, fault_diagnostic}
+use Rattle.report_script.specs.ReportDiagnostics.{request_diagnostic, fault_diagnostic}
 use Rattle.report_script.specs.Requests.RequestView.{OneLabel, OfScript}
 use Rattle.report_script.specs.Scripts.{ScriptView, read_script}
 

@@ -12,7 +12,9 @@ use codespan_base::diagnostic::Diagnostic;
 use codespan_base::files::{Error, SimpleFile};
 use codespan_base::term::{Config, DisplayStyle};
 use codespan_views::emitting::emit_into_string;
-use report_script::messages::{of_fault, of_request, of_script};
+use report_script::diagnostics::{
+    diagnostic_of_fault, diagnostic_of_request, diagnostic_of_script,
+};
 use report_script::request::{LabelRequest, Request};
 use report_script::script::{ScriptError, parse_script};
 use std::alloc::Global;
@@ -48,7 +50,7 @@ fn render_request(
     ensures failed { IfErr result (IsRenderFailure
         (rendering_of (request_view (Request.OneLabel label_request.now)) input.now)) }
 {
-    let diagnostic = of_request(alloc, label_request)?;
+    let diagnostic = diagnostic_of_request(alloc, label_request)?;
     Ok(render_over(
         alloc,
         label_request.style,
@@ -73,11 +75,11 @@ fn render_script(
 {
     match parse_script(alloc, input) {
         Ok(script) => {
-            let diagnostic = of_script(alloc, &script)?;
+            let diagnostic = diagnostic_of_script(alloc, &script)?;
             Ok(render_over(alloc, style, name, script.source, &diagnostic)?)
         }
         Err(ScriptError::Fault(fault)) => {
-            let diagnostic = of_fault(alloc, fault)?;
+            let diagnostic = diagnostic_of_fault(alloc, fault)?;
             let text = render_over(alloc, style, "script", input, &diagnostic)?;
             Err(ReportError::BadScript(text))
         }

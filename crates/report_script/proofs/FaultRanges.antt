@@ -23,7 +23,7 @@ use Rattle.report_script.specs.ScriptLaws.{FaultLiesIn, FaultsLieInside, LiesIn}
 use Rattle.report_script.specs.ScriptLines.{ScriptLine, body, is_end, is_newline, is_ignored}
 use Rattle.report_script.specs.ScriptLines.{script_lines_from, script_lines, range_at, rest_of}
 use Rattle.report_script.specs.ScriptLines.{script_source, word_of, word_range}
-use Rattle.report_script.specs.ScriptWords.{word_named}
+use Rattle.report_script.specs.ScriptWords.{script_word_named}
 use Rattle.report_script.specs.Scripts.{read_lines, read_script}
 
 -- what holds of each element holds of each of none or all
@@ -269,7 +269,7 @@ module _ (input : List ℕ) (utf8 : IsUtf8 input) where
   fault_lies before [] earlier later = tt
   fault_lies before (line ∷ lines) earlier later =
       either_fault (FaultLiesIn input) (line_fault before line) (fault_from (before ++ line ∷ []) lines)
-      (some_if (FaultLiesIn input) (is_ignored line) None (word_fault before line (word_named (word_of line))) tt (word_fault_lies before line earlier later.0 (word_named (word_of line))))
+      (some_if (FaultLiesIn input) (is_ignored line) None (word_fault before line (script_word_named (word_of line))) tt (word_fault_lies before line earlier later.0 (script_word_named (word_of line))))
       (fault_lies (before ++ line ∷ []) lines (each_push IsLineAt before line earlier later.0) later.1)
 
   -- what was read of lines

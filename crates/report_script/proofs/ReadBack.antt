@@ -16,11 +16,11 @@ use Rattle.report_script.specs.declared.script.FaultNumber.TheVariants.{UnknownS
 use Rattle.report_script.specs.Requests.{number_of}
 use Rattle.report_script.specs.ScriptFaults.{fault_at, fault_from, line_of_word, line_fault, number_fault, or_fault, repetition, severity_fault}
 use Rattle.report_script.specs.ScriptLaws.{ScriptReadsBack}
-use Rattle.report_script.specs.Statements.{IsStatable, Statement, code_stated, label_fields, label_stated, message_stated, note_stated, first_stated, stated_diagnostic, severity_word, severity_stated, statement_line, written}
+use Rattle.report_script.specs.Statements.{IsStatable, Statement, code_stated, label_fields, label_stated, message_stated, note_stated, first_stated, stated_diagnostic, severity_field, severity_stated, statement_line, written}
 use Rattle.report_script.specs.Statements.Statement.{SeverityLine, CodeLine, MessageLine, LabelLine, NoteLine, CommentLine, EmptyLine}
 use Rattle.report_script.specs.ScriptLines.{ScriptLine, is_newline, script_lines_from, script_lines}
 use Rattle.report_script.specs.ScriptLines.{range_at, rest_of, script_source, word_of, word_range}
-use Rattle.report_script.specs.ScriptWords.{word_named}
+use Rattle.report_script.specs.ScriptWords.{script_word_named}
 use Rattle.report_script.specs.Scripts.{script_diagnostic, parsed_label, parsed_note, read_lines, read_script, rest_of_word, parsed_severity}
 use Rattle.report_script.proofs.WrittenScripts.{line_at, statement_lines, body_written, source_written}
 use Rattle.report_script.proofs.ReadLines.{rest_by, severity_read, code_read, message_read, note_read, name_read, fields_read, label_read, all_read}
@@ -75,7 +75,7 @@ not_repeated before line none = ap (option_map (λ first. record { number = Repe
 -- the line of a statement has no error
 severity_right : (before : List ScriptLine) (start : ℕ) (severity : Severity) (lines : List ScriptLine) → AreOnce (before ++ line_at start (SeverityLine severity) ∷ lines)
     → line_fault before (line_at start (SeverityLine severity)) ≡ None
-unfolding severity_fault word_named
+unfolding severity_fault script_word_named
 severity_right before start severity lines once =
     let line : ScriptLine = line_at start (SeverityLine severity) in
     ap (λ fault. or_fault fault (severity_fault line)) (not_repeated before line (none_before (codes "severity") before line lines once.severity refl))
@@ -96,7 +96,7 @@ label_correct start s range message first last is =
 
 line_right : (before : List ScriptLine) (start : ℕ) (s : Statement) (lines : List ScriptLine) → IsStatable s → AreOnce (before ++ line_at start s ∷ lines)
     → line_fault before (line_at start s) ≡ None
-unfolding word_named
+unfolding script_word_named
 line_right before start (SeverityLine severity) lines can once = severity_right before start severity lines once
 line_right before start (CodeLine text) lines can once =
     not_repeated before (line_at start (CodeLine text)) (none_before (codes "code") before (line_at start (CodeLine text)) lines once.code refl)
@@ -122,29 +122,29 @@ lines_right before start (s ∷ ss) can once =
 -- ---- what is read of all lines
 
 -- the first severity by its name
-severities_read : (ss : List Statement) → filter_map (λ s. option_map severity_word (severity_stated s)) ss ≡ map severity_word (filter_map severity_stated ss)
+severities_read : (ss : List Statement) → filter_map (λ s. option_map severity_field (severity_stated s)) ss ≡ map severity_field (filter_map severity_stated ss)
 severities_read [] = refl
 severities_read (s ∷ ss) = by_first (severity_stated s) (severities_read ss)
   where
-    by_first : (first : Option Severity) → filter_map (λ s. option_map severity_word (severity_stated s)) ss ≡ map severity_word (filter_map severity_stated ss)
-        → cons_option (option_map severity_word first) (filter_map (λ s. option_map severity_word (severity_stated s)) ss) ≡ map severity_word (cons_option first (filter_map severity_stated ss))
+    by_first : (first : Option Severity) → filter_map (λ s. option_map severity_field (severity_stated s)) ss ≡ map severity_field (filter_map severity_stated ss)
+        → cons_option (option_map severity_field first) (filter_map (λ s. option_map severity_field (severity_stated s)) ss) ≡ map severity_field (cons_option first (filter_map severity_stated ss))
     by_first None is = is
-    by_first (Some severity) is = ap (λ names. severity_word severity ∷ names) is
+    by_first (Some severity) is = ap (λ names. severity_field severity ∷ names) is
 
-named_again : (severity : Option Severity) → option_and_then severity_named (option_map severity_word severity) ≡ severity
+named_again : (severity : Option Severity) → option_and_then severity_named (option_map severity_field severity) ≡ severity
 named_again None = refl
 named_again (Some severity) = name_read severity
 
 module _ (ss : List Statement) (can : AllByRecursion IsStatable ss) where
   -- the names of the severities
-  names_read : filter_map (rest_by (codes "severity")) (statement_lines 0 ss) ≡ map severity_word (filter_map severity_stated ss)
-  names_read = all_read (rest_by (codes "severity")) (λ s. option_map severity_word (severity_stated s)) severity_read 0 ss can ∙ severities_read ss
+  names_read : filter_map (rest_by (codes "severity")) (statement_lines 0 ss) ≡ map severity_field (filter_map severity_stated ss)
+  names_read = all_read (rest_by (codes "severity")) (λ s. option_map severity_field (severity_stated s)) severity_read 0 ss can ∙ severities_read ss
 
   severity_same : parsed_severity (statement_lines 0 ss) ≡ unwrap_or (first_stated severity_stated ss) Error
   unfolding parsed_severity
   severity_same =
       ap (λ name. unwrap_or (option_and_then severity_named name) Error)
-      (rest_of_word_first (codes "severity") (statement_lines 0 ss) ∙ ap (λ names. slice_get names 0) names_read ∙ slice_get-map severity_word (filter_map severity_stated ss) 0)
+      (rest_of_word_first (codes "severity") (statement_lines 0 ss) ∙ ap (λ names. slice_get names 0) names_read ∙ slice_get-map severity_field (filter_map severity_stated ss) 0)
       ∙ ap (λ severity. unwrap_or severity Error) (named_again (first_stated severity_stated ss))
 
   code_same : rest_of_word (codes "code") (statement_lines 0 ss) ≡ first_stated code_stated ss

@@ -10,10 +10,10 @@ use Rattle.codespan_base.specs.declared.diagnostic.Severity.TheVariants.{Bug, Er
 use Rattle.script_words.specs.Fields.{field_of, is_space, past_space}
 use Rattle.script_words.specs.Names.{severity_named}
 use Rattle.report_script.specs.Requests.{number_of}
-use Rattle.report_script.specs.Statements.{IsStatable, Statement, code_stated, fields, label_fields, label_stated, message_stated, note_stated, severity_word, severity_stated, statement_line}
+use Rattle.report_script.specs.Statements.{IsStatable, Statement, code_stated, fields, label_fields, label_stated, message_stated, note_stated, severity_field, severity_stated, statement_line}
 use Rattle.report_script.specs.Statements.Statement.{SeverityLine, CodeLine, MessageLine, LabelLine, NoteLine, CommentLine, EmptyLine}
 use Rattle.report_script.specs.ScriptLines.{ScriptLine, rest_of, word_of}
-use Rattle.report_script.specs.ScriptWords.{word_named}
+use Rattle.report_script.specs.ScriptWords.{script_word_named}
 use Rattle.report_script.specs.Scripts.{label_by_word, parsed_label, label_of_rest, parsed_note, with_ends}
 use Rattle.report_script.proofs.Numbers.{number_of-decimal}
 use Rattle.report_script.proofs.WrittenScripts.{field_alone, past_alone, first_field, past_field, no_space, line_at, statement_lines}
@@ -29,7 +29,7 @@ abbrev pub rest_by : List ℕ → ScriptLine → Option (List ℕ)
 rest_by word line = if bytes_eq (word_of line) word then Some (rest_of line) else None
 
 -- the severity, the code, the message and the note of a line are those of its statement
-pub severity_read : (start : ℕ) (s : Statement) → IsStatable s → rest_by (codes "severity") (line_at start s) ≡ option_map severity_word (severity_stated s)
+pub severity_read : (start : ℕ) (s : Statement) → IsStatable s → rest_by (codes "severity") (line_at start s) ≡ option_map severity_field (severity_stated s)
 severity_read start (SeverityLine severity) can = refl
 severity_read start (CodeLine text) can = refl
 severity_read start (MessageLine text) can = refl
@@ -70,7 +70,7 @@ note_read start (CommentLine text) can = ap (λ word. if bytes_eq word (codes "n
 note_read start EmptyLine can = refl
 
 -- the name of a severity names it
-pub name_read : (severity : Severity) → severity_named (severity_word severity) ≡ Some severity
+pub name_read : (severity : Severity) → severity_named (severity_field severity) ≡ Some severity
 unfolding severity_named
 name_read Bug = refl
 name_read Error = refl
@@ -118,14 +118,14 @@ label_fields_read style range message first last =
     both_ends style range (unwrap_or message []) (past_space (past_space rest)) (number_of (field_of rest)) (number_of (field_of (past_space rest))) read.text read.first read.last
 
 pub label_read : (start : ℕ) (s : Statement) → IsStatable s → parsed_label (line_at start s) ≡ label_stated s
-unfolding parsed_label word_named
+unfolding parsed_label script_word_named
 label_read start (SeverityLine severity) can = refl
 label_read start (CodeLine text) can = refl
 label_read start (MessageLine text) can = refl
 label_read start (LabelLine Primary range message) can = label_fields_read Primary range message can.0 can.1
 label_read start (LabelLine Secondary range message) can = label_fields_read Secondary range message can.0 can.1
 label_read start (NoteLine text) can = refl
-label_read start (CommentLine text) can = ap (λ word. label_by_word (line_at start (CommentLine text)) (word_named word)) (comment_word text)
+label_read start (CommentLine text) can = ap (λ word. label_by_word (line_at start (CommentLine text)) (script_word_named word)) (comment_word text)
 label_read start EmptyLine can = refl
 
 -- what is read of each line is read of all of them

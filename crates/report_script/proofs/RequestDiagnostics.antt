@@ -1,4 +1,5 @@
--- The diagnostic of a request, as its fields are set: for the clause of `messages::of_request`.
+-- The diagnostic of a request, as its fields are set: for the clause of
+-- `diagnostics::diagnostic_of_request`.
 use Rattle.std.proofs.Common.{◌≡◌, ℕ, List, [], ◌∷◌, ◌++◌, ap, ◌∙◌, refl, string_bytes, None, Result, Ok, Err, IfOk}
 use Rattle.std.specs.declared.ops.Range.{Range}
 use Rattle.codespan_base.specs.declared.diagnostic.Diagnostic.{Diagnostic}
@@ -6,7 +7,7 @@ use Rattle.codespan_base.specs.declared.diagnostic.Label.{Label}
 use Rattle.codespan_base.specs.declared.diagnostic.LabelStyle.TheVariants.{Primary}
 use Rattle.codespan_base.specs.declared.diagnostic.Severity.TheVariants as severities
 use Rattle.codespan_base.specs.Diagnostics.{diagnostic_view, label_view}
-use Rattle.report_script.specs.Messages.{request_diagnostic}
+use Rattle.report_script.specs.ReportDiagnostics.{request_diagnostic}
 use Rattle.report_script.specs.Requests.{LabelRequestView}
 
 -- the label is new but for its message, and the diagnostic for its message and its label

@@ -11,7 +11,7 @@ use Rattle.codespan_base.specs.declared.diagnostic.LabelStyle.TheVariants.{Prima
 use Rattle.codespan_base.specs.declared.diagnostic.Severity.{Severity}
 use Rattle.codespan_base.specs.declared.diagnostic.Severity.TheVariants.{Bug, Error, Warning, Note, Help}
 use Rattle.script_words.specs.Fields.{field_of, is_space, past_space}
-use Rattle.report_script.specs.Statements.{IsLineEnd, IsStatable, Statement, fields, label_fields, severity_word, statement_line, written}
+use Rattle.report_script.specs.Statements.{IsLineEnd, IsStatable, Statement, fields, label_fields, severity_field, statement_line, written}
 use Rattle.report_script.specs.Statements.Statement.{SeverityLine, CodeLine, MessageLine, LabelLine, NoteLine, CommentLine, EmptyLine}
 use Rattle.report_script.specs.ScriptLines.{ScriptLine, body, is_newline, script_lines_from, script_source}
 use Rattle.report_script.proofs.Numbers.{digits_of_decimal}
@@ -90,7 +90,7 @@ end_label range (Some message) fits =
     (end_after (32 ∷ []) (decimal range.end ++ 32 ∷ message) (above (32 ∷ []) refl)
     (end_decimal range.end (32 ∷ message) fits.1 (end_after (32 ∷ []) message (above (32 ∷ []) refl) fits.2)))
 
-end_name : (severity : Severity) → IsLineEnd (severity_word severity)
+end_name : (severity : Severity) → IsLineEnd (severity_field severity)
 end_name Bug = end_after (codes "bug") [] (above (codes "bug") refl) end_nothing
 end_name Error = end_after (codes "error") [] (above (codes "error") refl) end_nothing
 end_name Warning = end_after (codes "warning") [] (above (codes "warning") refl) end_nothing
@@ -99,7 +99,7 @@ end_name Help = end_after (codes "help") [] (above (codes "help") refl) end_noth
 
 -- a line that a statement is written in is one line
 line_ends : (s : Statement) → IsStatable s → IsLineEnd (statement_line s)
-line_ends (SeverityLine severity) can = end_after (codes "severity ") (severity_word severity) (above (codes "severity ") refl) (end_name severity)
+line_ends (SeverityLine severity) can = end_after (codes "severity ") (severity_field severity) (above (codes "severity ") refl) (end_name severity)
 line_ends (CodeLine text) can = end_after (codes "code ") text (above (codes "code ") refl) can
 line_ends (MessageLine text) can = end_after (codes "message ") text (above (codes "message ") refl) can
 line_ends (LabelLine Primary range message) can = end_after (codes "primary ") (label_fields range message) (above (codes "primary ") refl) (end_label range message can)

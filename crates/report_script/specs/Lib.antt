@@ -9,4 +9,4 @@ pub mod Scripts
 pub mod Statements
 pub mod ScriptLaws
 -- the diagnostics of requests and of scripts' errors
-pub mod Messages
+pub mod ReportDiagnostics

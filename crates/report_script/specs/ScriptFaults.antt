@@ -15,7 +15,7 @@ use Rattle.report_script.specs.declared.script.words.Word.TheVariants.{Severity,
 use Rattle.report_script.specs.Requests.{number_of}
 use Rattle.report_script.specs.ScriptLines.{ScriptLine, is_ignored, word_of, rest_of}
 use Rattle.report_script.specs.ScriptLines.{range_at, word_range}
-use Rattle.report_script.specs.ScriptWords.{word_named}
+use Rattle.report_script.specs.ScriptWords.{script_word_named}
 
 -- an error with one range
 abbrev pub fault_at : FaultNumber → Range ℕ → Fault
@@ -76,7 +76,7 @@ word_fault before line (Some Note) = None
 -- the first error of a line, by the lines before it; an ignored line has none
 abbrev pub line_fault : List ScriptLine → ScriptLine → Option Fault
 line_fault before line =
-    if is_ignored line then None else word_fault before line (word_named (word_of line))
+    if is_ignored line then None else word_fault before line (script_word_named (word_of line))
 
 -- the first error of lines that follow these
 abbrev pub fault_from : List ScriptLine → List ScriptLine → Option Fault

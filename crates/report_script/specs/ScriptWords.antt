@@ -5,8 +5,8 @@ use Rattle.report_script.specs.declared.script.words.Word.{Word}
 use Rattle.report_script.specs.declared.script.words.Word.TheVariants.{Severity, Code, Message, Primary, Secondary, Note}
 
 -- the word of this text
-unfoldable pub word_named : List ℕ → Option Word
-word_named text =
+unfoldable pub script_word_named : List ℕ → Option Word
+script_word_named text =
     if bytes_eq text (codes "severity") then Some Severity
     else if bytes_eq text (codes "code") then Some Code
     else if bytes_eq text (codes "message") then Some Message

@@ -19,7 +19,7 @@ use Rattle.report_script.specs.declared.script.words.Word.TheVariants.{Primary, 
 use Rattle.report_script.specs.Requests.{number_of}
 use Rattle.report_script.specs.ScriptFaults.{line_of_word, fault_from, missing_end}
 use Rattle.report_script.specs.ScriptLines.{ScriptLine, script_lines, body, script_source, word_of, rest_of}
-use Rattle.report_script.specs.ScriptWords.{word_named}
+use Rattle.report_script.specs.ScriptWords.{script_word_named}
 
 -- what a script states: a diagnostic of one file, and that file's source
 pub record ScriptView : Type 0 where
@@ -80,7 +80,7 @@ label_by_word line _ = None
 
 -- the label of a line, if it states one
 unfoldable pub parsed_label : ScriptLine → Option (LabelView (Unit {0}))
-parsed_label line = label_by_word line (word_named (word_of line))
+parsed_label line = label_by_word line (script_word_named (word_of line))
 
 -- all labels, in the order of their lines
 abbrev pub parsed_labels : List ScriptLine → List (LabelView (Unit {0}))

@@ -91,17 +91,17 @@ pub record AreScript (statements : List Statement) : Type 0 where
 -- ---- how statements are written
 
 -- the name of a severity
-abbrev pub severity_word : Severity → List ℕ
-severity_word Bug = codes "bug"
-severity_word Error = codes "error"
-severity_word Warning = codes "warning"
-severity_word Note = codes "note"
-severity_word Help = codes "help"
+abbrev pub severity_field : Severity → List ℕ
+severity_field Bug = codes "bug"
+severity_field Error = codes "error"
+severity_field Warning = codes "warning"
+severity_field Note = codes "note"
+severity_field Help = codes "help"
 
 -- the word of a label's style
-abbrev pub label_style_name : LabelStyle → List ℕ
-label_style_name Primary = codes "primary"
-label_style_name Secondary = codes "secondary"
+abbrev pub label_word : LabelStyle → List ℕ
+label_word Primary = codes "primary"
+label_word Secondary = codes "secondary"
 
 -- two fields, with one space between them
 abbrev pub fields : List ℕ → List ℕ → List ℕ
@@ -115,11 +115,11 @@ label_fields range (Some message) =
 
 -- the line of a statement
 abbrev pub statement_line : Statement → List ℕ
-statement_line (SeverityLine severity) = fields (codes "severity") (severity_word severity)
+statement_line (SeverityLine severity) = fields (codes "severity") (severity_field severity)
 statement_line (CodeLine text) = fields (codes "code") text
 statement_line (MessageLine text) = fields (codes "message") text
 statement_line (LabelLine style range message) =
-    fields (label_style_name style) (label_fields range message)
+    fields (label_word style) (label_fields range message)
 statement_line (NoteLine text) = fields (codes "note") text
 statement_line (CommentLine text) = 35 ∷ text
 statement_line EmptyLine = []

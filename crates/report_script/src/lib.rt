@@ -3,7 +3,7 @@
 //! [`script`] says what a script is.
 #![tactic(auto)]
 
+pub mod diagnostics;
 pub mod laws;
-pub mod messages;
 pub mod request;
 pub mod script;

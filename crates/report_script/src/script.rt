@@ -18,7 +18,7 @@ mod words;
 
 use codespan_base::diagnostic::{LabelStyle, Severity};
 use faults::first_fault;
-use lines::read_lines;
+use lines::split_script;
 use parts::{parsed_labels, parsed_notes, parsed_severity, rest_of_word};
 use std::alloc::{AllocError, Global};
 use std::ops::Range;
@@ -59,7 +59,7 @@ pub enum FaultNumber {
 }
 
 impl FaultNumber {
-    ghost use Rattle.report_script.specs.Messages.{fault_code, fault_message, fault_label_message};
+    ghost use Rattle.report_script.specs.ReportDiagnostics.{fault_code, fault_message, fault_label_message};
 
     /// Returns the code of the diagnostic, `S1` for the first kind.
     pub fn code(self) -> &'static str
@@ -143,7 +143,7 @@ pub fn parse_script(alloc: Global, input: &str) -> Result<Script<'_>, ScriptErro
     ensures { MatchResult result (λ script. read_script input.now ≡ Ok (script_view script))
         (λ error. IsFaultOf (read_script input.now) error) }
 {
-    let (lines, source) = read_lines(alloc, input)?;
+    let (lines, source) = split_script(alloc, input)?;
     if let Some(fault) = first_fault(lines.as_slice()) {
         return Err(ScriptError::Fault(fault));
     }

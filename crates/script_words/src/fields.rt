@@ -5,7 +5,7 @@ ghost use Rattle.script_words.specs.Fields.{field_of, past_space, is_ignored_tex
 
 /// Splits a text at its first space, which is left out. Without one the first part is the whole
 /// text, and the second is empty.
-pub fn cut(text: &str) -> (&str, &str)
+pub fn split_field(text: &str) -> (&str, &str)
     ensures before { result.0.now ≡ field_of text.now }
     ensures after { result.1.now ≡ past_space text.now }
     ensures before_short { length result.0.now ≤ length text.now }

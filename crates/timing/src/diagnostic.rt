@@ -1,6 +1,6 @@
 //! The files and the diagnostic to be rendered.
 
-use crate::error::RunError;
+use crate::error::TimingError;
 use crate::fields::{Fields, Malformed};
 use codespan_base::diagnostic::{Diagnostic, Label, LabelStyle, Severity};
 use codespan_base::files::SimpleFiles;
@@ -15,7 +15,7 @@ use std::alloc::Global;
 pub fn read_files<'a>(
     alloc: Global,
     fields: &mut Fields<'a>,
-) -> Result<SimpleFiles<&'a str, &'a str>, RunError> {
+) -> Result<SimpleFiles<&'a str, &'a str>, TimingError> {
     let mut files = SimpleFiles::new(alloc);
     for _ in 0..fields.number()? {
         let name = fields.text()?;
@@ -33,7 +33,7 @@ pub fn read_files<'a>(
 pub fn read_diagnostic(
     alloc: Global,
     fields: &mut Fields<'_>,
-) -> Result<Diagnostic<usize>, RunError> {
+) -> Result<Diagnostic<usize>, TimingError> {
     Ok(Diagnostic {
         severity: Severity::Error,
         code: read_code(alloc, fields)?,
@@ -44,13 +44,13 @@ pub fn read_diagnostic(
 }
 
 /// Reads the code, if it is not empty.
-fn read_code(alloc: Global, fields: &mut Fields<'_>) -> Result<Option<String>, RunError> {
+fn read_code(alloc: Global, fields: &mut Fields<'_>) -> Result<Option<String>, TimingError> {
     let code = read_string(alloc, fields)?;
     Ok(if code.is_empty() { None } else { Some(code) })
 }
 
 /// Reads the labels.
-fn read_labels(alloc: Global, fields: &mut Fields<'_>) -> Result<Vec<Label<usize>>, RunError> {
+fn read_labels(alloc: Global, fields: &mut Fields<'_>) -> Result<Vec<Label<usize>>, TimingError> {
     let mut labels = Vec::new(alloc);
     for _ in 0..fields.number()? {
         labels.push(read_label(alloc, fields)?)?;
@@ -59,7 +59,7 @@ fn read_labels(alloc: Global, fields: &mut Fields<'_>) -> Result<Vec<Label<usize
 }
 
 /// Reads a label: its style, its file, its range and its message.
-fn read_label(alloc: Global, fields: &mut Fields<'_>) -> Result<Label<usize>, RunError> {
+fn read_label(alloc: Global, fields: &mut Fields<'_>) -> Result<Label<usize>, TimingError> {
     Ok(Label {
         style: read_style(fields)?,
         file_id: fields.number()?,
@@ -78,7 +78,7 @@ fn read_style(fields: &mut Fields<'_>) -> Result<LabelStyle, Malformed> {
 }
 
 /// Reads the notes.
-fn read_notes(alloc: Global, fields: &mut Fields<'_>) -> Result<Vec<String>, RunError> {
+fn read_notes(alloc: Global, fields: &mut Fields<'_>) -> Result<Vec<String>, TimingError> {
     let mut notes = Vec::new(alloc);
     for _ in 0..fields.number()? {
         notes.push(read_string(alloc, fields)?)?;
@@ -87,6 +87,6 @@ fn read_notes(alloc: Global, fields: &mut Fields<'_>) -> Result<Vec<String>, Run
 }
 
 /// Reads a text as a string.
-fn read_string(alloc: Global, fields: &mut Fields<'_>) -> Result<String, RunError> {
+fn read_string(alloc: Global, fields: &mut Fields<'_>) -> Result<String, TimingError> {
     Ok(String::from_str(alloc, fields.text()?)?)
 }

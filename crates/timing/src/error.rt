@@ -7,7 +7,7 @@ use std::io;
 
 /// An error that ends the program.
 #[derive(Debug, Drop)]
-pub enum RunError {
+pub enum TimingError {
     /// The input is malformed.
     Input,
     /// Reading the input or the clock, or writing the output, failed.
@@ -17,36 +17,36 @@ pub enum RunError {
 }
 
 /// Converts a malformed field.
-impl From<Malformed> for RunError {
-    fn from(_cause: Malformed) -> RunError {
-        RunError::Input
+impl From<Malformed> for TimingError {
+    fn from(_cause: Malformed) -> TimingError {
+        TimingError::Input
     }
 }
 
 /// Converts a failed allocation.
-impl From<AllocError> for RunError {
-    fn from(cause: AllocError) -> RunError {
-        RunError::CannotRender(Error::from(cause))
+impl From<AllocError> for TimingError {
+    fn from(cause: AllocError) -> TimingError {
+        TimingError::CannotRender(Error::from(cause))
     }
 }
 
 /// Converts a failed allocation.
-impl<T: Drop> From<AllocFailed<T>> for RunError {
-    fn from(cause: AllocFailed<T>) -> RunError {
-        RunError::CannotRender(Error::from(cause))
+impl<T: Drop> From<AllocFailed<T>> for TimingError {
+    fn from(cause: AllocFailed<T>) -> TimingError {
+        TimingError::CannotRender(Error::from(cause))
     }
 }
 
 /// Converts an error of reading, of writing or of the clock.
-impl From<io::Error> for RunError {
-    fn from(cause: io::Error) -> RunError {
-        RunError::Io(cause)
+impl From<io::Error> for TimingError {
+    fn from(cause: io::Error) -> TimingError {
+        TimingError::Io(cause)
     }
 }
 
 /// Converts an error of rendering.
-impl From<Error> for RunError {
-    fn from(cause: Error) -> RunError {
-        RunError::CannotRender(cause)
+impl From<Error> for TimingError {
+    fn from(cause: Error) -> TimingError {
+        TimingError::CannotRender(cause)
     }
 }

@@ -16,19 +16,19 @@ use codespan_base::files::{Error, SimpleFiles};
 use codespan_base::term::Config;
 use codespan_views::emitting::emit_into_string;
 use diagnostic::{read_diagnostic, read_files};
-use error::RunError;
+use error::TimingError;
 use fields::Fields;
 use std::io::{Read, Write};
 use std::time::Instant;
 
-fn main(rt: HostRuntime) -> Result<(), RunError> {
+fn main(rt: HostRuntime) -> Result<(), TimingError> {
     let mut input = Vec::new(rt.alloc());
     rt.stdin().read_to_end(&mut input)?;
     run(&rt, Fields::new(input.as_slice()))
 }
 
 /// Renders what the fields state, and writes the last output and the time.
-fn run(rt: &HostRuntime, mut fields: Fields<'_>) -> Result<(), RunError> {
+fn run(rt: &HostRuntime, mut fields: Fields<'_>) -> Result<(), TimingError> {
     let times = fields.number()?;
     let files = read_files(rt.alloc(), &mut fields)?;
     let diagnostic = read_diagnostic(rt.alloc(), &mut fields)?;
@@ -55,7 +55,7 @@ fn render(
 }
 
 /// Writes the output, and how long rendering took.
-fn write(rt: &HostRuntime, output: &str, nanos: u128) -> Result<(), RunError> {
+fn write(rt: &HostRuntime, output: &str, nanos: u128) -> Result<(), TimingError> {
     rt.stdout().write_all(output.as_bytes())?;
     writeln!(rt.stderr(), "{nanos}")?;
     Ok(())

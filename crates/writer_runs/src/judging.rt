@@ -3,7 +3,7 @@
 use crate::direct::Direct;
 use crate::direct::rows::DirectRow;
 use crate::failure::{Failure, FailureAt};
-use crate::rendering::{CALLS, Input, Render, RenderCall, Rendering};
+use crate::rendering::{CALLS, Render, RenderCall, RenderInput, Rendering};
 use crate::stops::{judge_stops, judge_style_marks};
 use crate::style_writers::{STYLE_WRITERS, StyleWriterKind};
 use crate::worked_output::{ExpectedColors, WorkedOutput};
@@ -27,7 +27,7 @@ pub const STYLES: [DisplayStyle; 3] = [
 ///
 /// The first error of a run, with its style and its call.
 pub fn judge_output(alloc: Global, worked: &WorkedOutput<'_>) -> Result<usize, FailureAt> {
-    let database = prepared(database_of(alloc, &worked.case))?;
+    let database = before_any_call(database_of(alloc, &worked.case))?;
     judge_styles(alloc, worked, &database)
 }
 
@@ -46,7 +46,7 @@ fn judge_styles(
 }
 
 /// Adds to an error that it occurred before any call.
-fn prepared<T: Drop>(made: Result<T, Error>) -> Result<T, FailureAt> {
+fn before_any_call<T: Drop>(made: Result<T, Error>) -> Result<T, FailureAt> {
     match made {
         Ok(made) => Ok(made),
         Err(error) => at(None, None, Err(Failure::Failed(error))),
@@ -60,8 +60,8 @@ fn judge_style(
     database: &Database<'_>,
     style: DisplayStyle,
 ) -> Result<usize, FailureAt> {
-    let config = prepared(worked.config(style))?;
-    let input = Input {
+    let config = before_any_call(worked.config(style))?;
+    let input = RenderInput {
         config: &config,
         database,
         diagnostic: &worked.case.diagnostic,
@@ -73,10 +73,10 @@ fn judge_style(
 fn judge_input(
     alloc: Global,
     worked: &WorkedOutput<'_>,
-    input: Input<'_, '_>,
+    input: RenderInput<'_, '_>,
 ) -> Result<usize, FailureAt> {
     let style = input.config.display_style;
-    let text = at(Some(style), None, text_of(alloc, worked, input))?;
+    let text = at(Some(style), None, checked_text(alloc, worked, input))?;
     judge_calls(alloc, input, text.as_str(), worked.colors(style))
 }
 
@@ -84,7 +84,7 @@ fn judge_input(
 /// sequences.
 fn judge_calls(
     alloc: Global,
-    input: Input<'_, '_>,
+    input: RenderInput<'_, '_>,
     text: &str,
     colors: ExpectedColors<'_>,
 ) -> Result<usize, FailureAt> {
@@ -132,10 +132,10 @@ const OLD_TEXT: &str = "kept";
 
 /// Returns the plain text in the style of a configuration. It is compared with the one that is
 /// expected, if any, and with what is appended to a string.
-fn text_of(
+fn checked_text(
     alloc: Global,
     worked: &WorkedOutput<'_>,
-    input: Input<'_, '_>,
+    input: RenderInput<'_, '_>,
 ) -> Result<String, Failure> {
     let text = rendered_text(alloc, input)?;
     match worked.plain_text(input.config.display_style) {
@@ -145,7 +145,7 @@ fn text_of(
 }
 
 /// Returns the plain text. It is compared with what is appended to a string.
-fn rendered_text(alloc: Global, input: Input<'_, '_>) -> Result<String, Failure> {
+fn rendered_text(alloc: Global, input: RenderInput<'_, '_>) -> Result<String, Failure> {
     let config = input.config;
     match input.database {
         Database::One(file, diagnostic) => text_over(alloc, config, file, diagnostic),

@@ -67,7 +67,7 @@ pub trait Render {
 
 /// What is rendered: a diagnostic over the file database of its case, in a configuration.
 #[derive(Clone, Copy)]
-pub struct Input<'a, 'text> {
+pub struct RenderInput<'a, 'text> {
     /// The configuration.
     pub config: &'a Config<'text>,
     /// The file database; one of one file has a diagnostic by its own id.
@@ -82,7 +82,7 @@ pub struct Rendering<'a, 'text> {
     /// The call.
     pub call: RenderCall,
     /// What is rendered.
-    pub input: Input<'a, 'text>,
+    pub input: RenderInput<'a, 'text>,
 }
 
 impl<'a, 'text> Render for Rendering<'a, 'text> {

@@ -20,7 +20,7 @@ use codespan_base::term::Chars;
 use gallery_script::errors::LineError;
 use gallery_script::escape::unescape;
 use gallery_script::statement::{Line, Statement, parse_line};
-use script_words::fields::cut;
+use script_words::fields::split_field;
 use std::alloc::Global;
 
 /// Returns the worked outputs of an input.
@@ -46,7 +46,7 @@ fn apply_line<'input>(
     outputs: &mut Vec<WorkedOutput<'input>>,
     line: &'input str,
 ) -> Result<(), LineError> {
-    let (word, rest) = cut(line);
+    let (word, rest) = split_field(line);
     if let Some(kind) = TextKind::named(word) {
         return add_text(alloc, outputs, kind, rest);
     }
@@ -107,7 +107,7 @@ fn last<'outputs, 'input>(
 
 /// Sets a character by the rest of a `character` line.
 fn set_character(chars: &mut Chars<'_>, rest: &str) -> Result<(), LineError> {
-    let (field, text) = cut(rest);
+    let (field, text) = split_field(rest);
     let character = only_character(text).ok_or(LineError::UnknownName)?;
     match field {
         "multi_top" => chars.multi_top = character,

@@ -1,10 +1,10 @@
 //! The characters of styled text, each in its ink, and the cells that they occupy.
 
 ghost use Rattle.std.specs.Prelude.{◌≡◌, ◌≤◌, IfOk, length, map};
-ghost use Rattle.codespan_documents.specs.Glyphs.{cells_of, follows, glyphs_of, glyphs_of_run, goes_on, is_narrow, is_newline_glyph, joined_cells, joins};
+ghost use Rattle.codespan_documents.specs.Glyphs.{cells_of, follows, glyphs_of, glyphs_of_run, joins_next, is_narrow, is_newline_glyph, joined_cells, joins};
 ghost use Rattle.codespan_documents.specs.Runs.{run_view};
 
-use crate::style_sheet::spec_of;
+use crate::style_sheet::color_spec_of_style;
 use crate::svg::ink::Ink;
 use crate::text::Run;
 use codespan_base::term::Styles;
@@ -62,8 +62,8 @@ pub(super) fn follows(before: Option<Glyph>, glyph: Glyph) -> bool
 }
 
 /// Returns whether the first of the glyphs after a glyph belongs to its text.
-pub(super) fn goes_on(glyph: Glyph, others: &[Glyph]) -> bool
-    ensures { result ≡ goes_on glyph others.now }
+pub(super) fn joins_next(glyph: Glyph, others: &[Glyph]) -> bool
+    ensures { result ≡ joins_next glyph others.now }
 {
     match others {
         [next, ..] => glyph.joins(*next),
@@ -108,7 +108,7 @@ pub(super) fn glyphs(alloc: Global, styles: &Styles, runs: &[Run]) -> Result<Vec
 fn glyphs_in(alloc: Global, styles: &Styles, run: &Run) -> Result<Vec<Glyph>, AllocError>
     ensures { IfOk result (λ glyphs. glyphs.items ≡ glyphs_of_run styles.now (run_view run.now)) }
 {
-    let ink = Ink::of(spec_of(styles, run.style));
+    let ink = Ink::of(color_spec_of_style(styles, run.style));
     run.text
         .as_str()
         .chars()

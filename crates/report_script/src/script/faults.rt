@@ -9,7 +9,7 @@ use super::parts::line_of_word;
 use super::words::{Word, parse_word};
 use super::{Fault, FaultNumber};
 use crate::request::parse_number;
-use script_words::fields::cut;
+use script_words::fields::split_field;
 use script_words::names::parse_severity;
 use std::ops::Range;
 
@@ -90,8 +90,8 @@ fn severity_fault(line: &Line<'_>) -> Option<Fault>
 fn number_fault(line: &Line<'_>) -> Option<Fault>
     ensures { result ≡ number_fault (script_line_view line.now) }
 {
-    let (start, after) = cut(line.rest());
-    let (end, _) = cut(after);
+    let (start, after) = split_field(line.rest());
+    let (end, _) = split_field(after);
     if parse_number(start).is_none() {
         return Some(fault(FaultNumber::BadNumber, line.range_at(line.rest(), start)));
     }

@@ -2,7 +2,7 @@
 
 ghost use Rattle.std.specs.Prelude.{◌+◌, ◌<◌, ◌^◌, length};
 
-use script_words::fields::{cut, is_ignored};
+use script_words::fields::{is_ignored, split_field};
 use std::ops::Range;
 
 /// A line of a script.
@@ -26,7 +26,7 @@ impl<'input> Line<'input> {
         ensures word { result.now ≡ word_of (script_line_view self.now) }
         ensures short { length result.now ≤ length self.now.text.now }
     {
-        cut(self.text).0
+        split_field(self.text).0
     }
 
     /// Returns the text after the first space.
@@ -34,7 +34,7 @@ impl<'input> Line<'input> {
         ensures rest { result.now ≡ rest_of (script_line_view self.now) }
         ensures short { length result.now ≤ length self.now.text.now }
     {
-        cut(self.text).1
+        split_field(self.text).1
     }
 
     /// Returns whether the line is empty or begins with `#`.

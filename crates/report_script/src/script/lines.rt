@@ -56,7 +56,7 @@ fn first_line(size: usize, left: &str) -> (Line<'_>, Option<&str>)
 /// # Errors
 ///
 /// `AllocError` if an allocation fails.
-pub(super) fn read_lines(
+pub(super) fn split_script(
     alloc: Global,
     input: &str,
 ) -> Result<(Vec<Line<'_>>, Option<&str>), AllocError>

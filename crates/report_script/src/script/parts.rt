@@ -11,7 +11,7 @@ use super::line::Line;
 use super::words::{Word, parse_word};
 use crate::request::parse_number;
 use codespan_base::diagnostic::{LabelStyle, Severity};
-use script_words::fields::cut;
+use script_words::fields::split_field;
 use script_words::names::parse_severity;
 use std::alloc::{AllocError, Global};
 
@@ -67,8 +67,8 @@ fn parsed_label<'input>(line: &Line<'input>) -> Option<ScriptLabel<'input>>
 fn label_of_rest(style: LabelStyle, rest: &str) -> Option<ScriptLabel<'_>>
     ensures { option_map script_label_view result ≡ label_of_rest style rest.now }
 {
-    let (start, after) = cut(rest);
-    let (end, message) = cut(after);
+    let (start, after) = split_field(rest);
+    let (end, message) = split_field(after);
     Some((style, parse_number(start)?..parse_number(end)?, message))
 }
 

@@ -1,7 +1,7 @@
 //! The words of a script.
 
 ghost use Rattle.std.specs.Prelude.{◌≡◌};
-ghost use Rattle.report_script.specs.ScriptWords.{word_named};
+ghost use Rattle.report_script.specs.ScriptWords.{script_word_named};
 
 /// The word with which a line begins.
 #[derive(Clone, Copy)]
@@ -21,9 +21,9 @@ pub enum Word {
 }
 
 /// Parses a word; `None` for any other text.
-#[tactic(auto, unfolding(crate::specs::ScriptWords::word_named))]
+#[tactic(auto, unfolding(crate::specs::ScriptWords::script_word_named))]
 pub(super) fn parse_word(text: &str) -> Option<Word>
-    ensures { result ≡ word_named text.now }
+    ensures { result ≡ script_word_named text.now }
 {
     match text {
         "severity" => Some(Word::Severity),

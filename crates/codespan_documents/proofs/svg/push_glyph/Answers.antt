@@ -21,11 +21,11 @@ tagged c = elim c.if-not-follows.branch [
 pub returns-in_ok-push_str-2 : goal.returns-in_ok-push_str-2
 returns-in_ok-push_str-2 c =
     glyph-written c.args.pen c.args.glyph c.args.others.now _ _ _ _ (sym c.if-ends_row.ensures) (tagged (goal.at.returns-in_ok-push_str-2 c).In_ok-push_character) c.in_ok-push_character.ensures
-    (rw (← c.if-not-goes_on.ensures) c.in_ok-push_str-2.ensures.bytes)
+    (rw (← c.if-not-joins_next.ensures) c.in_ok-push_str-2.ensures.bytes)
 
 -- the text of the glyph goes on
-pub returns-else-not-goes_on : goal.returns-else-not-goes_on
-returns-else-not-goes_on c =
+pub returns-else-not-joins_next : goal.returns-else-not-joins_next
+returns-else-not-joins_next c =
     glyph-written c.args.pen c.args.glyph c.args.others.now _ _ _ (string_bytes c.push_character.new.document) (sym c.if-ends_row.ensures)
-    (tagged (goal.at.returns-else-not-goes_on c).In_ok-push_character) c.in_ok-push_character.ensures
-    (rw (← c.if-not-goes_on.ensures) (sym (append-nil _)))
+    (tagged (goal.at.returns-else-not-joins_next c).In_ok-push_character) c.in_ok-push_character.ensures
+    (rw (← c.if-not-joins_next.ensures) (sym (append-nil _)))

@@ -1,7 +1,7 @@
 use Rattle.std.proofs.Common.{◌≡◌, false, true, subst, sym}
 use Rattle.std.specs.Str.{IsUtf8}
 use Rattle.codespan_terminal.specs.Terminal.{style_mark_of}
-use Rattle.codespan_terminal.proofs.Readings.{ReadsText-mark}
+use Rattle.codespan_terminal.proofs.TerminalStates.{ReadsText-mark}
 use Rattle.codespan_terminal.proofs.terminal.push_sequence.Goals as goal
 
 pub unreachable-requires : goal.unreachable-requires

@@ -2,7 +2,7 @@ use Rattle.std.proofs.Common.{ℕ, List, ◌++◌, map, string_bytes, ap, ◌∙
 use Rattle.codespan_documents.specs.declared.text.Run.{Run}
 use Rattle.codespan_documents.specs.Runs.{run_view}
 use Rattle.codespan_terminal.specs.Terminal.{terminal_text}
-use Rattle.codespan_terminal.proofs.Readings.{string_shows_safe}
+use Rattle.codespan_terminal.proofs.TerminalStates.{string_shows_safe}
 use Rattle.codespan_terminal.proofs.terminal.to_terminal.Goals as goal
 
 -- the text of the runs is appended to nothing

@@ -72,10 +72,10 @@ pub returns-in-u-clause-read : goal.returns-in-u-clause-read
 unfolding encode_utf8
 returns-in-u-clause-read c =
     number_read c.args.text.now c.next.new.self.rest.now c.as_str-left.result.now _
-    (rw c.in-u.is at (sym c.chars-characters.ensures.rest ∙ c.in_ok-letter.ensures.steps.0)) c.as_str-left.ensures c.read_numbered.ensures.read
+    (rw c.in-u.is at (sym c.chars-characters.ensures.rest ∙ c.in_ok-letter.ensures.steps.0)) c.as_str-left.ensures c.read_unicode_escape.ensures.read
 
 pub returns-in-u-clause-shorter : goal.returns-in-u-clause-shorter
 unfolding encode_utf8
 returns-in-u-clause-shorter c =
-    number_shorter c.args.text.now c.next.new.self.rest.now c.as_str-left.result.now c.read_numbered.result
-    (rw c.in-u.is at (sym c.chars-characters.ensures.rest ∙ c.in_ok-letter.ensures.steps.0)) c.as_str-left.ensures c.read_numbered.ensures.shorter
+    number_shorter c.args.text.now c.next.new.self.rest.now c.as_str-left.result.now c.read_unicode_escape.result
+    (rw c.in-u.is at (sym c.chars-characters.ensures.rest ∙ c.in_ok-letter.ensures.steps.0)) c.as_str-left.ensures c.read_unicode_escape.ensures.shorter

@@ -3,13 +3,13 @@ use Rattle.std.specs.Global.{Global}
 use Rattle.std.specs.Prelude.{if◌then◌else◌}
 use Rattle.std.specs.Str.{bytes_eq}
 use Rattle.std.specs.declared.string.String.{String}
-use Rattle.gallery_script.specs.Requests.{request_of}
-use Rattle.gallery_script.specs.Requests.RequestView.{Styles}
+use Rattle.gallery_script.specs.Requests.{gallery_request_of}
+use Rattle.gallery_script.specs.Requests.GalleryRequestView.{Styles}
 use Rattle.gallery_script.proofs.request.Request.from_arguments.Goals as goal
 
 -- the one argument is `styles`
 styles_requested : (args : List (String Global)) (word : String Global) → 1 ≤ length args → length args < 2 → word ≡ get_or args 0 word
-    → bytes_eq (string_bytes word) (codes "styles") ≡ true → Some Styles ≡ request_of (map string_bytes args)
+    → bytes_eq (string_bytes word) (codes "styles") ≡ true → Some Styles ≡ gallery_request_of (map string_bytes args)
 styles_requested [] word some one is same = absurd (omega (arith, some))
 styles_requested (first ∷ []) word some one is same =
     ap (λ found. if found then Some Styles else None) (sym same ∙ ap (λ (w : String Global). bytes_eq (string_bytes w) (codes "styles")) is)

@@ -3,7 +3,7 @@ use Rattle.std.specs.List.{position_or_len}
 use Rattle.std.proofs.lemmas.List.{drop_all, take_all}
 use Rattle.std.proofs.lemmas.Str.Pattern.{split_once_first}
 use Rattle.script_words.specs.Fields.{is_space}
-use Rattle.script_words.proofs.fields.cut.Goals as goal
+use Rattle.script_words.proofs.fields.split_field.Goals as goal
 
 -- the text is cut at its first space
 pub returns-in-Some-clause-before : goal.returns-in-Some-clause-before

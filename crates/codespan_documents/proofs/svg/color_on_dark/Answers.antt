@@ -1,5 +1,5 @@
 use Rattle.std.proofs.Common.{refl}
-use Rattle.codespan_documents.proofs.svg.shade.Goals as goal
+use Rattle.codespan_documents.proofs.svg.color_on_dark.Goals as goal
 
 -- red has a color of its own
 pub returns-in-Red : goal.returns-in-Red

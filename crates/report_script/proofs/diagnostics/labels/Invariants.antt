@@ -1,7 +1,7 @@
 use Rattle.std.proofs.Common.{◌≡◌, map, take}
 use Rattle.codespan_base.specs.Diagnostics.{label_view}
 use Rattle.report_script.specs.Scripts.{script_label_view}
-use Rattle.report_script.proofs.messages.labels.Given as goal
+use Rattle.report_script.proofs.diagnostics.labels.Given as goal
 
 abbrev pub invariant-loop-style : goal.invariant-loop-style
 invariant-loop-style l = map label_view l.labels.items ≡ map script_label_view (take l.style-index l.stated)

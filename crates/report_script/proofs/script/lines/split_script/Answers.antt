@@ -1,7 +1,7 @@
 use Rattle.std.proofs.Common.{◌≡◌, ◌-◌, ◌++◌, ap, drop, length, map, sym, ◌∙◌, arith}
 use Rattle.std.specs.List.{slice_split}
 use Rattle.report_script.specs.ScriptLines.{body, is_newline, script_line_view, script_lines_from, script_lines, script_source}
-use Rattle.report_script.proofs.script.lines.read_lines.Goals as goal
+use Rattle.report_script.proofs.script.lines.split_script.Goals as goal
 
 pub lines-init : goal.lines-init
 unfolding script_lines

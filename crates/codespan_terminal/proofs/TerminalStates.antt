@@ -24,14 +24,14 @@ use Rattle.codespan_documents.specs.Runs.{AreTexts, StyledRun, run_characters, r
 use Rattle.codespan_documents.specs.declared.style.Style.{Style}
 use Rattle.codespan_documents.specs.declared.style.Style.TheVariants as Kinds
 use Rattle.codespan_base.specs.StyleTables.{ansi_spelling}
-use Rattle.codespan_terminal.specs.Terminal.{columns, is_safe, style_mark_of, next_reading, first_sequences, reading_after, run_bytes, runs_bytes, safe_characters, safe_text, visible, terminal_text, ShowsSafe, Text, Escape, Parameters, Unknown}
+use Rattle.codespan_terminal.specs.Terminal.{columns, is_safe, style_mark_of, next_state, first_sequences, state_after, run_bytes, runs_bytes, safe_characters, safe_text, visible, terminal_text, ShowsSafe, Text, Escape, Parameters, Unknown}
 use Rattle.codespan_terminal.proofs.UnsafeCells.{columns_stay}
 
 -- ---- characters
 
 -- read as text, the characters show these, and what follows them is read as text
 pub record Reads (cs s : List ℕ) : Type 0 where
-  pub after : (rest : List ℕ) → reading_after Text (cs ++ rest) ≡ reading_after Text rest
+  pub after : (rest : List ℕ) → state_after Text (cs ++ rest) ≡ state_after Text rest
   pub shows : (rest : List ℕ) → visible Text (cs ++ rest) ≡ s ++ visible Text rest
 
 Reads-nil : Reads [] []
@@ -39,7 +39,7 @@ Reads-nil = record { after = λ rest. refl; shows = λ rest. refl }
 
 Reads-append : (a s b t : List ℕ) → Reads a s → Reads b t → Reads (a ++ b) (s ++ t)
 Reads-append a s b t p q = record {
-  after = λ rest. ap (reading_after Text) (append_assoc a b rest) ∙ p.after (b ++ rest) ∙ q.after rest;
+  after = λ rest. ap (state_after Text) (append_assoc a b rest) ∙ p.after (b ++ rest) ∙ q.after rest;
   shows = λ rest. ap (visible Text) (append_assoc a b rest) ∙ p.shows (b ++ rest) ∙ ap (λ (l : List ℕ). s ++ l) (q.shows rest) ∙ sym (append_assoc s t (visible Text rest));
 }
 
@@ -48,15 +48,15 @@ no_escape : (c : ℕ) → is_safe c ≡ true → (c == 0x1b) ≡ false
 no_escape c h = ne_eqb c 0x1b (λ (e : c ≡ 0x1b). let bad : false ≡ true = subst (λ x. is_safe x ≡ true) e h in cc bad)
 
 -- it is read as text
-next_safe : (c : ℕ) → is_safe c ≡ true → next_reading Text c ≡ Text
+next_safe : (c : ℕ) → is_safe c ≡ true → next_state Text c ≡ Text
 next_safe c h = ap (λ b. cond b Escape (cond (is_safe c) Text Unknown)) (no_escape c h) ∙ ap (λ b. cond b Text Unknown) h
 
 -- it is shown
 Reads-safe : (c : ℕ) (cs s : List ℕ) → is_safe c ≡ true → Reads cs s → Reads (c ∷ cs) (c ∷ s)
 Reads-safe c cs s h p = record {
-  after = λ rest. ap (λ r. reading_after r (cs ++ rest)) (next_safe c h) ∙ p.after rest;
+  after = λ rest. ap (λ r. state_after r (cs ++ rest)) (next_safe c h) ∙ p.after rest;
   shows = λ rest.
-      ap (λ b. cond b (visible Escape (cs ++ rest)) (c ∷ visible (next_reading Text c) (cs ++ rest))) (no_escape c h)
+      ap (λ b. cond b (visible Escape (cs ++ rest)) (c ∷ visible (next_state Text c) (cs ++ rest))) (no_escape c h)
       ∙ ap (λ r. c ∷ visible r (cs ++ rest)) (next_safe c h) ∙ ap (λ (l : List ℕ). c ∷ l) (p.shows rest);
 }
 
@@ -78,16 +78,16 @@ is_parameter c = is_ascii_digit c || (c == 59)
 no_end : (c : ℕ) → is_parameter c ≡ true → (c == 109) ≡ false
 no_end c h = ne_eqb c 109 (λ (e : c ≡ 109). let bad : false ≡ true = subst (λ x. is_parameter x ≡ true) e h in cc bad)
 
-next_parameter : (c : ℕ) → is_parameter c ≡ true → next_reading Parameters c ≡ Parameters
+next_parameter : (c : ℕ) → is_parameter c ≡ true → next_state Parameters c ≡ Parameters
 next_parameter c h = ap (λ b. cond b Text (cond (is_parameter c) Parameters Unknown)) (no_end c h) ∙ ap (λ b. cond b Parameters Unknown) h
 
 -- parameters and the end of a sequence show nothing
 parameters_after : (ps rest : List ℕ) → list_all is_parameter ps ≡ true
-    → reading_after Parameters (ps ++ 109 ∷ rest) ≡ reading_after Text rest
+    → state_after Parameters (ps ++ 109 ∷ rest) ≡ state_after Text rest
 parameters_after [] rest h = refl
 parameters_after (p ∷ ps) rest h =
     let parts = and_parts (is_parameter p) (list_all is_parameter ps) h in
-    ap (λ r. reading_after r (ps ++ 109 ∷ rest)) (next_parameter p parts.0) ∙ parameters_after ps rest parts.1
+    ap (λ r. state_after r (ps ++ 109 ∷ rest)) (next_parameter p parts.0) ∙ parameters_after ps rest parts.1
 
 parameters_show : (ps rest : List ℕ) → list_all is_parameter ps ≡ true
     → visible Parameters (ps ++ 109 ∷ rest) ≡ visible Text rest
@@ -156,7 +156,7 @@ ReadsText-escape ps h =
     ReadsText-ascii (0x1b ∷ 91 ∷ (ps ++ 109 ∷ [])) []
     (IsAscii-cons 0x1b (91 ∷ (ps ++ 109 ∷ [])) (omega arith) (IsAscii-cons 91 (ps ++ 109 ∷ []) (omega arith) (ascii_parameters ps h)))
     (record {
-      after = λ rest. ap (reading_after Parameters) (append_assoc ps (109 ∷ []) rest) ∙ parameters_after ps rest h;
+      after = λ rest. ap (state_after Parameters) (append_assoc ps (109 ∷ []) rest) ∙ parameters_after ps rest h;
       shows = λ rest. ap (visible Parameters) (append_assoc ps (109 ∷ []) rest) ∙ parameters_show ps rest h;
     })
 
@@ -271,7 +271,7 @@ shows_safe styles runs texts =
     let safe = safe_characters (run_characters runs) in
     let shows : visible Text cs ≡ safe = ap (visible Text) (sym (append-nil cs)) ∙ read.shows [] ∙ append-nil safe in
     record {
-      ends_in_text = ap (reading_after Text) (sym (append-nil cs)) ∙ read.after [];
+      ends_in_text = ap (state_after Text) (sym (append-nil cs)) ∙ read.after [];
       shows = shows;
       in_columns = λ tab. ap (columns tab 0) shows ∙ columns_stay tab 0 (run_characters runs);
     }

@@ -2,7 +2,7 @@
 
 ghost use Rattle.std.specs.Prelude.{◌≡◌, IfOk, map, string_bytes};
 ghost use Rattle.codespan_base.specs.Diagnostics.{diagnostic_view, label_view};
-ghost use Rattle.report_script.specs.Messages.{request_diagnostic, fault_diagnostic};
+ghost use Rattle.report_script.specs.ReportDiagnostics.{request_diagnostic, fault_diagnostic};
 ghost use Rattle.report_script.specs.Requests.{label_request_view};
 ghost use Rattle.report_script.specs.Scripts.{script_label_view, script_view};
 
@@ -18,7 +18,10 @@ use std::alloc::Global;
 /// # Errors
 ///
 /// `OutOfMemory` if an allocation fails.
-pub fn of_request(alloc: Global, label_request: &LabelRequest<'_>) -> Result<Diagnostic<()>, Error>
+pub fn diagnostic_of_request(
+    alloc: Global,
+    label_request: &LabelRequest<'_>,
+) -> Result<Diagnostic<()>, Error>
     ensures { IfOk result (λ d. diagnostic_view d
         ≡ request_diagnostic (label_request_view label_request.now)) }
 {
@@ -34,7 +37,7 @@ pub fn of_request(alloc: Global, label_request: &LabelRequest<'_>) -> Result<Dia
 /// # Errors
 ///
 /// `OutOfMemory` if an allocation fails.
-pub fn of_script(alloc: Global, script: &Script<'_>) -> Result<Diagnostic<()>, Error>
+pub fn diagnostic_of_script(alloc: Global, script: &Script<'_>) -> Result<Diagnostic<()>, Error>
     ensures { IfOk result (λ d. diagnostic_view d ≡ (script_view script.now).diagnostic) }
 {
     let code = match script.code {
@@ -85,7 +88,7 @@ fn notes(alloc: Global, stated: &[&str]) -> Result<Vec<String>, Error>
 /// # Errors
 ///
 /// `OutOfMemory` if an allocation fails.
-pub fn of_fault(alloc: Global, fault: script::Fault) -> Result<Diagnostic<()>, Error>
+pub fn diagnostic_of_fault(alloc: Global, fault: script::Fault) -> Result<Diagnostic<()>, Error>
     ensures { IfOk result (λ d. diagnostic_view d ≡ fault_diagnostic fault) }
 {
     let label = Label::primary(alloc, (), fault.range).with_message(fault.number.label_message())?;

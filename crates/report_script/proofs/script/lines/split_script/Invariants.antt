@@ -1,7 +1,7 @@
 use Rattle.std.proofs.Common.{◌≡◌, ◌≤◌, ◌+◌, ◌-◌, ◌++◌, map, drop, length, IfSome}
 use Rattle.std.specs.Option.{option_map, option_map_or}
 use Rattle.report_script.specs.ScriptLines.{body, script_line_view, lines_left, script_lines, script_source}
-use Rattle.report_script.proofs.script.lines.read_lines.Given as goal
+use Rattle.report_script.proofs.script.lines.split_script.Given as goal
 
 abbrev pub invariant-lines : goal.invariant-lines
 invariant-lines l = record {
