@@ -46,7 +46,7 @@ pub record IsLineOf (f : FileModel) (line : LineInfo) : Type 0 where
 abbrev pub IsLineAt : FileModel → ℕ → LineInfo → Type 0
 IsLineAt f l line = (line.index ≡ l) × IsLineOf f line
 
--- the annotation's line is one of its file, where the files have these ids
+-- the annotation's line is one of its file, where these are the ids of the files
 abbrev pub IsOfFiles : {Id : Type 0} → (Id → FileModel) → List Id → RustAnnotation Id → Type 0
 IsOfFiles {Id} file ids e = (id : Id) → IsIdAt ids e.file id → IsLineOf (file id) e.line
 
@@ -63,8 +63,8 @@ abbrev pub AddsOf : {Id : Type 0} → FileModel → List (RustAnnotation Id) →
     → List Annotation → Type 0
 AddsOf f old new annotations = Adds (λ e. IsLineOf f e.line) old new annotations
 
--- the kind of the mark that a label from line `s` to line `e` has on line `l`, if it is a
--- multi-line label that has one
+-- the kind of the multi-line label mark that a label from line `s` to line `e` has on line `l`, if
+-- it is a multi-line label that has one
 abbrev pub multi_label_kind : ℕ → ℕ → ℕ → Option MultiLabelKind
 multi_label_kind s e l =
     if s == e then None

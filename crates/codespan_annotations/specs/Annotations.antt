@@ -25,13 +25,13 @@ rank_of Shown = 0
 rank_of (Single index label) = 1
 rank_of (Multi lane_mark) = 2
 
--- the start of a single-line label, and the lane of a lane mark
+-- what is compared first of one rank: the start of a single-line label, the lane of a lane mark
 abbrev pub first_of : AnnotationKind → ℕ
 first_of Shown = 0
 first_of (Single index label) = label.start
 first_of (Multi lane_mark) = lane_mark.lane
 
--- the end of a single-line label
+-- what is compared then: the end of a single-line label
 abbrev pub second_of : AnnotationKind → ℕ
 second_of Shown = 0
 second_of (Single index label) = label.end

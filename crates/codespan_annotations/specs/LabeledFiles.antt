@@ -15,7 +15,7 @@ use Rattle.codespan_annotations.specs.LocusStarts.{file_locus_start, no_start, s
 abbrev pub ids_view : {Id : Type 0} → List (RustFile Id) → List Id
 ids_view {Id} files = map (λ (f : RustFile Id). f.file_id) files
 
--- where the snippet of each starts
+-- the byte of the locus of each
 abbrev pub starts_view : {Id : Type 0} → List (RustFile Id) → List LocusStart
 starts_view {Id} files = map (λ (f : RustFile Id). f.start) files
 
@@ -28,7 +28,7 @@ abbrev pub num_multi_labels_of : {Id : Type 0} → (Id → Id → Bool) → (Id 
     → List (InFile Id) → Id → ℕ
 num_multi_labels_of same file xs id = num_multi_labels (labeled_file_model same file xs id)
 
--- the start and the lanes of the file are those of these labels
+-- the byte of the file's locus and the number of its lanes are those of these labels
 pub record HasLabels {Id : Type 0} (same : Id → Id → Bool) (file : Id → FileModel)
     (xs : List (InFile Id)) (f : RustFile Id) : Type 0 where
   pub start_is : f.start ≡ file_locus_start same xs f.file_id
@@ -47,7 +47,7 @@ with_file same ids id known one = if list_any (λ j. same j id) ids then known e
 abbrev pub lanes_by : LabelSpan → ℕ
 lanes_by lines = if lines.first == lines.last then 0 else 1
 
--- where snippets start, with one more label of the file at this index
+-- the bytes of loci, with one more label of the file at this index
 abbrev pub starts_with_label : List LocusStart → ℕ → LabelModel → List LocusStart
 starts_with_label starts index x =
     slice_set starts index (start_with (slice_index_or starts index no_start) x)

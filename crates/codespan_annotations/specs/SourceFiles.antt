@@ -16,8 +16,9 @@ number_lookup (Some number) l = []
 abbrev pub lookups_of_filled : Option ℕ → ℕ → List Lookup
 lookups_of_filled number l = LineRange l ∷ number_lookup number l
 
--- what a line fails with: its range, and, where the file has it, its number; after the last one of
--- a label `LineTooLarge` fails nothing
+-- what the lookups of a line fail with: of its range, and, where the file has the line, of its
+-- number; none where the line is after the last one of a label and its range fails with
+-- `LineTooLarge`
 abbrev pub line_failure : FileModel → (Lookup → Option Error) → ℕ → ℕ → Option Error
 line_failure f failure last l =
     if nat_lt last l && ends_context_lines (failure (LineRange l)) then None
@@ -40,6 +41,7 @@ module _ {F Id Name Source : Type 0} (database : F → FileDatabase Id)
       (line_count model_of ≤ l)
       × (ends_context_lines ((database file.files.now).failure file.file_id (LineRange l)) ≡ true)
 
-  -- what a line of the file fails with, where `last` is the last line of a label
+  -- what the lookups of a line of the file fail with; the first argument is the last line of a
+  -- label
   abbrev pub failure_unless_past_end : ℕ → ℕ → Option Error
   failure_unless_past_end = line_failure model_of ((database file.files.now).failure file.file_id)

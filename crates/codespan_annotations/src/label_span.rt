@@ -38,7 +38,8 @@ impl LabelSpan {
         self.first < index && index < self.last
     }
 
-    /// Returns what the label does on a line, if it is a multi-line label that has a mark on it.
+    /// Returns the kind of the label's multi-line label mark on a line, if it is a multi-line label
+    /// that has one. `index` is 0-based.
     pub fn multi_label_kind(self, index: usize) -> Option<MultiLabelKind>
         ensures { result ≡ multi_label_kind self.first self.last index }
     {
@@ -63,7 +64,7 @@ impl LabelSpan {
     }
 
     /// Returns how many annotations memory is reserved for: as many as the spanned lines make at
-    /// most, if the label starts at or before its end; 1 otherwise.
+    /// most, if the label starts on the line on which it ends or before it; 1 otherwise.
     pub fn annotation_capacity(self, config: &Config<'_>) -> usize {
         let others = self.last.saturating_sub(self.first);
         if others == 0 {
@@ -103,7 +104,7 @@ impl LabelSpan {
     }
 
     /// Returns the lines, and the context lines around them, as 0-based indices, the end exclusive.
-    /// The line of the greatest index is left out.
+    /// The line of index `usize::MAX` is left out.
     pub fn with_context_lines(self, config: &Config<'_>) -> Range<usize> {
         let start = self.first.saturating_sub(config.before_label_lines);
         let end = self.last.saturating_add(config.after_label_lines);

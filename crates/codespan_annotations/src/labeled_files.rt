@@ -136,8 +136,9 @@ fn find_file<FileId: Copy + Eq>(files: &[LabeledFile<FileId>], previous: usize, 
     }
 }
 
-/// Returns the index of the first file with this id, or the number of files if there is none. Each
-/// turn of the loop compares two files, which takes fewer instructions than one turn for each.
+/// Returns the 0-based index of the first file with this id, or the number of files if there is
+/// none. Each turn of the loop compares two files, which takes fewer instructions than one turn for
+/// each.
 fn first_file<FileId: Copy + Eq>(files: &[LabeledFile<FileId>], id: FileId) -> usize
     ensures { result ≡ index_of_file FileId.eq (ids_view files.now) id }
 {

@@ -31,7 +31,7 @@ abbrev pub labels_failure : {Id : Type 0} → Config → FileDatabase Id → Lis
 labels_failure config database xs =
     first_error database.failure (label_lookups config database xs)
 
--- a label with its file, what lookups of the file fail with, the configuration, and its indices
+-- a label with its file, what lookups fail with, the configuration, and its indices
 pub record CollectedLabel (Id : Type 0) : Type 0 where
   pub file_id : Id
   pub file : FileModel
@@ -67,7 +67,7 @@ label_of_collector database collector label = record {
 module _ {Id : Type 0} (x : CollectedLabel Id) where
   -- ---- one line
 
-  -- it has the line looked up
+  -- the line is looked up for it
   abbrev pub IsLookedUp : ℕ → Type 0
   IsLookedUp l = is_looked_up x.config x.file x.label l ≡ true
 
@@ -145,7 +145,7 @@ multi_by collector label line =
     multi_at collector.at collector.lines.first collector.lines.last line.index line.start
     (label_of label).label
 
--- the label looks up a line, which fails with this error
+-- a line is looked up for the label, and its lookups fail with this error
 abbrev pub FailsLine : {F Id Name Source : Type 0} → (F → FileDatabase Id)
     → LabelCollector F Id Name Source → Label Id → ℕ → Error → Type 0
 FailsLine database collector label l e =

@@ -1,4 +1,4 @@
--- The annotations of a label: what it does on each line that it has looked up.
+-- The annotations of a label: what it does on each line that is looked up for it.
 use Rattle.std.specs.Prelude.{ℕ, ◌==◌, ◌&&◌, List, [], ◌++◌, flat_map, Option, Some, None, if◌then◌else◌}
 use Rattle.std.specs.Option.{option_map}
 use Rattle.codespan_picture.specs.Types.{Config}
@@ -27,7 +27,7 @@ module _ (config : Config) (f : FileModel) (at : LabelIndices) (x : LabelModel) 
   line_annotations l = annotation_if_any at.file l (kind_on l)
       ++ annotation_if_any at.file l (multi_on l)
 
-  -- its annotations of all lines that it has looked up
+  -- its annotations of all lines that are looked up for it
   abbrev pub annotations_of : List Annotation
   annotations_of = flat_map line_annotations (looked_up_lines config f x)
 
@@ -45,10 +45,10 @@ multi_at at s e l start x =
     if s == e then None
     else option_map Multi (lane_mark_of at.lane x (multi_label_at s e l start x))
 
--- ---- the lines that it has looked up
+-- ---- the lines that are looked up for it
 
 module _ (config : Config) (f : FileModel) (x : LabelModel) where
-  -- the lookups of a line, where the label has it looked up
+  -- the lookups of a line, where it is looked up for the label
   abbrev pub lookups_on : ℕ → List Lookup
   lookups_on l = if is_looked_up config f x l then line_lookups l else []
 

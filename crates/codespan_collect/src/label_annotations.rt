@@ -98,6 +98,11 @@ impl<'a, 'c, 'files, F: Files<'files>> LabelCollector<'a, 'c, 'files, F> {
     /// # Errors
     ///
     /// `OutOfMemory`: an allocation fails.
+    ///
+    /// # Requires
+    ///
+    /// The label starts and ends on the lines of this collector, and the line is one of the file's,
+    /// inside the label and past the context lines of both ends.
     #[inline(always)]
     fn push_far_line<'d>(
         &self,
@@ -131,6 +136,11 @@ impl<'a, 'c, 'files, F: Files<'files>> LabelCollector<'a, 'c, 'files, F> {
     /// # Errors
     ///
     /// `OutOfMemory`: an allocation fails.
+    ///
+    /// # Requires
+    ///
+    /// The label starts and ends on the lines of this collector, and the line is one of the file's.
+    /// Where `is_far` is set, it is inside the label and past the context lines of both ends.
     fn push_line<'d>(
         &self,
         label: &'d Label<F::FileId>,
@@ -167,14 +177,19 @@ impl<'a, 'c, 'files, F: Files<'files>> LabelCollector<'a, 'c, 'files, F> {
         Ok(())
     }
 
-    /// Looks up a line and appends the label's annotations of it, where the label spans the line or
-    /// its context lines reach it. Returns whether the context goes on: it ends with the file.
-    /// `is_far` is whether the line is known to be far from the label's ends.
+    /// Looks up the line of this 0-based index and appends the label's annotations of it, where the
+    /// label spans the line or its context lines reach it. Returns whether the context goes on: it
+    /// ends with the file. `is_far` is whether the line is known to be far from the label's ends.
     ///
     /// # Errors
     ///
     /// - `OutOfMemory`: an allocation fails, or a lookup fails with it.
     /// - Any other error: that of the first lookup that fails.
+    ///
+    /// # Requires
+    ///
+    /// The label starts and ends on the lines of this collector. Where `is_far` is set, the line is
+    /// inside the label and past the context lines of both ends.
     fn collect_line<'d>(
         &self,
         label: &'d Label<F::FileId>,
@@ -223,6 +238,10 @@ impl<'a, 'c, 'files, F: Files<'files>> LabelCollector<'a, 'c, 'files, F> {
     ///
     /// - `OutOfMemory`: an allocation fails, or a lookup fails with it.
     /// - Any other error: that of the first lookup that fails.
+    ///
+    /// # Requires
+    ///
+    /// The label starts and ends on the lines of this collector.
     fn collect_lines<'d>(
         &self,
         label: &'d Label<F::FileId>,

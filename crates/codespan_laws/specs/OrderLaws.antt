@@ -20,14 +20,16 @@ abbrev pub multi_line_labels_of : {Id : Type 0}
 multi_line_labels_of same file xs id =
     multi_line_labels (file id) (labeled_file_model same file xs id).labels
 
--- the labels of one line that have this drawn range, in the order of the list
+-- the single-line labels of a line that have this drawn range, in the order of the list
 abbrev pub one_range_of : {Id : Type 0}
     → (Id → Id → Bool) → (Id → FileModel) → List (InFile Id) → Id → ℕ → ℕ → ℕ → List LabelModel
 one_range_of same file xs id l start end =
     filter (λ x. is_single (file id) x && (first_line (file id) x == l)
     && is_drawn_at (file id) start end x) (labeled_file_model same file xs id).labels
 
--- the orders that a rich output shows; the ids of the files need only be equal, one by one
+-- two lists of labels agree in each order that a rich output shows: of the files, whose ids need
+-- only be equal, one by one, of each file's multi-line labels, and of the single-line labels of a
+-- line with one drawn range
 pub record SameOrders {Id : Type 0} (same : Id → Id → Bool) (file : Id → FileModel)
     (xs ys : List (InFile Id)) : Type 0 where
   pub files : pointwise same (file_ids same xs) (file_ids same ys) ≡ true

@@ -134,8 +134,8 @@ pub fn each_message_trails_or_hangs()
 
 /// States that a reordering of the labels changes nothing in a rich output, its loci included, if
 /// it keeps the order of the files by their first labels, of each file's multi-line labels, and of
-/// the labels of one line and one drawn range, where ids are compared by an equivalence and equal
-/// ids have one file. The ids of the files in the two orders need only be equal.
+/// the single-line labels of one line and one drawn range, where ids are compared by an equivalence
+/// and equal ids have one file. The ids of the files in the two orders need only be equal.
 pub fn order_is_free<Id>()
     ensures { (same : Id → Id → Bool) (file : Id → FileModel) → OrderIsFree same file }
 {}
@@ -147,7 +147,7 @@ pub fn labels_are_sorted()
     ensures { (labels : List LabelModel) → SortsLabels labels }
 {}
 
-// ---- every row
+// ---- padding, and every row
 
 /// States that the number of each drawn line fits the padding: in the unbroken layout always, and
 /// in the classic one where the configuration shows no lines after labels and the numbers never

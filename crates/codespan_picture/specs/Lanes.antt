@@ -20,7 +20,7 @@ abbrev pub empty_shape : MultiLabel → Shape
 empty_shape (Top start) = Space
 empty_shape _ = Bar
 
--- whether a lane goes on in every row below its corner in a source row
+-- the layout in which a lane goes on in every row below its corner in a source row
 abbrev pub is_unbroken : Layout → Bool
 is_unbroken Classic = false
 is_unbroken Unbroken = true
@@ -88,7 +88,8 @@ unfoldable pub label_glyph : Severity → LabelStyle → ℕ → Stream
 label_glyph severity style c =
     style_mark (LabelStyleMark severity style) ++ glyph c ++ style_mark Reset
 
--- so many characters of a lane, before its own: the line of a corner to the left, or spaces
+-- so many characters of a lane, left of its own character, if it has one: the line of a corner to
+-- the left, or spaces
 unfoldable pub crossing_cells : Severity → Chars → Option LaneMark → ℕ → Stream
 crossing_cells severity chars None n = spaces n
 crossing_cells severity chars (Some m) n =

@@ -85,7 +85,7 @@ module _ {Id : Type 0} (files : FileDatabase Id) (xs : List (InFile Id)) where
   abbrev pub file_at : Id → LabeledFileModel
   file_at id = labeled_file_model files.same files.file xs id
 
-  -- where a file's snippet starts: its name, and the location of the start
+  -- those of the locus of a file's snippet: the file's name, and the location of a byte
   abbrev pub locus_lookups : Id → List Lookup
   locus_lookups id = Name ∷ LocationAt (locus_start (file_at id).labels) ∷ []
 

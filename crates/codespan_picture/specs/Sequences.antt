@@ -20,7 +20,7 @@ in_sequence line_of between own previous (x ∷ xs) =
 abbrev pub break_between : {A : Type 0} → (ℕ → List A) → ℕ → ℕ → List A
 break_between of_break c d = if has_break_between c d then of_break d else []
 
--- between two shown lines: the one line between them, a break, or nothing
+-- between two shown lines: the one line between them, which is filled in, a break, or nothing
 abbrev pub gap_between : {A : Type 0} → (ℕ → List A) → (ℕ → List A) → ℕ → ℕ → List A
 gap_between of_filled of_break c d =
     if d == c + 2 then of_filled (c + 1) else break_between of_break c d

@@ -74,7 +74,7 @@ abbrev pub rows_of_shown : (ℕ → Line) → Option ℕ → List ℕ → List R
 rows_of_shown line =
     in_sequence (λ l. l) (gap_between (line_rows line) (break_rows line)) (line_rows line)
 
--- ---- where a snippet starts
+-- ---- the locus of a snippet
 
 -- the least of some numbers
 abbrev pub least : List ℕ → ℕ
@@ -86,7 +86,8 @@ abbrev pub if_any : {A : Type 0} → List A → List A → List A
 if_any [] others = others
 if_any (x ∷ xs) others = x ∷ xs
 
--- the least start of a primary label, or of any label where none is primary
+-- the byte of a file's locus: the least start of a primary label, or of any label where none is
+-- primary
 abbrev pub locus_start : List LabelModel → ℕ
 locus_start labels =
     least (map (λ (x : LabelModel). x.start) (if_any (filter is_primary labels) labels))
@@ -116,7 +117,7 @@ snippets config has_notes (p ∷ ps) [] = []
 snippets config has_notes (p ∷ ps) (s ∷ ss) =
     snippet config p s ++ row_after (has_any ss || has_notes) s ++ snippets config has_notes ps ss
 
--- the rows of a note's pieces
+-- the rows of a note's lines
 abbrev pub piece_rows : List (List ℕ) → List Row
 piece_rows [] = []
 piece_rows (p ∷ ps) = FirstNoteRow p ∷ map LaterNoteRow ps

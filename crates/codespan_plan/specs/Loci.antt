@@ -1,4 +1,4 @@
--- The loci at which snippets start, and their lookups.
+-- The loci of snippets, and their lookups.
 use Rattle.std.specs.Prelude.{ℕ, List, [], ◌∷◌, flat_map, Option}
 use Rattle.codespan_base.specs.FileModel.{FileModel, Lookup}
 use Rattle.codespan_base.specs.FileModel.Lookup.{LocationAt, Name}
@@ -7,11 +7,11 @@ use Rattle.codespan_picture.specs.Lookups.{Failures, lookups_of_file, first_erro
 use Rattle.codespan_annotations.specs.declared.labeled_files.LabeledFile.{LabeledFile as RustFile}
 use Rattle.codespan_annotations.specs.LocusStarts.{locus_byte}
 
--- a file, and the byte index at which its snippet starts
+-- the byte of a file whose locus its snippet shows
 abbrev pub locus_start_of : {Id : Type 0} → (Id → FileModel) → RustFile Id → FileModel × ℕ
 locus_start_of file f = (file f.file_id, locus_byte f.start)
 
--- the lookups of the locus at which a file's snippet starts
+-- the lookups of the locus of a file's snippet
 abbrev pub locus_lookups_of : {Id : Type 0} → RustFile Id → List (Id × Lookup)
 locus_lookups_of f = lookups_of_file f.file_id (Name ∷ LocationAt (locus_byte f.start) ∷ [])
 

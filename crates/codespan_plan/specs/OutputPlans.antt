@@ -16,7 +16,7 @@ use Rattle.codespan_plan.specs.SnippetLineViews.{IsSnippetLineOf, lookups_of_lin
 use Rattle.codespan_plan.specs.SnippetLines.{rows_of_lines, AreInOrder}
 use Rattle.codespan_annotations.specs.TextLoci.{IsLocusOfFile}
 
--- where the snippet of each file starts
+-- the locus of each file's snippet
 abbrev pub loci_of : {Id : Type 0} → List (SnippetPlan Id) → List Locus
 loci_of {Id} snippet_plans = map (λ (snippet_plan : SnippetPlan Id). locus_view snippet_plan.locus)
     snippet_plans

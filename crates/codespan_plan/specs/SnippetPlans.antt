@@ -1,4 +1,4 @@
--- The plan of each snippet, as annotations in order make it: its lines, and where it starts.
+-- The plan of each snippet, as annotations in order make it: its lines, and its locus.
 use Rattle.std.specs.Prelude.{◌≡◌, ℕ, ◌+◌, List, [], ◌∷◌, ◌++◌, length, take, drop, filter, map, flat_map, fold, max, Option, Some, None}
 use Rattle.std.specs.List.{AllByRecursion}
 use Rattle.codespan_picture.specs.Types.{Error, Layout, Classic, Unbroken}
@@ -81,8 +81,8 @@ line_digits (rust.Filled index (Some number) annotations) = count_digits number 
 line_digits (rust.Filled index None annotations) = []
 line_digits (rust.Break next) = []
 
--- the padding width: this one of the lines that labels span in the classic layout, and that of
--- these lines in the unbroken one
+-- the padding width: in the classic layout `spanned`, that of the lines that labels span, and in
+-- the unbroken one that of the known numbers of these lines
 abbrev pub width_in : {Id : Type 0} → Layout → ℕ → List (RustLine Id) → ℕ
 width_in Classic spanned snippet_lines = spanned
 width_in Unbroken spanned snippet_lines = fold max 0 (flat_map line_digits snippet_lines)

@@ -6,12 +6,13 @@ use Rattle.codespan_picture.specs.RowParts.{multi_label_covers}
 use Rattle.codespan_picture.specs.declared.char_metrics.Metrics.{Metrics}
 use Rattle.codespan_row_parts.specs.declared.primary_cover.PrimaryCover.{PrimaryCover}
 
--- the character begins at the least start or later
+-- the byte index is the least start, if there is one, or after it
 abbrev pub is_from : Option ℕ → ℕ → Bool
 is_from None byte_index = false
 is_from (Some start) byte_index = nat_le start byte_index
 
--- the label of one of the lane marks covers the character
+-- the character is covered: it begins at the least start or later, or ends at the greatest end or
+-- before it
 abbrev pub is_marked : PrimaryCover → Metrics → Bool
 is_marked m c = is_from m.from c.byte_index || nat_le (c.byte_index + c.bytes) m.to
 

@@ -52,7 +52,7 @@ rendered_break config severity padding num_multi_labels lane_marks =
 abbrev pub later_note_rows : ℕ → List (List ℕ) → Stream
 later_note_rows padding pieces = flat_map (λ piece. later_note_row padding piece ++ newline) pieces
 
--- the rows of a note of these pieces
+-- the rows of a note of these lines
 abbrev pub note_stream : Chars → ℕ → List (List ℕ) → Stream
 note_stream chars padding [] = []
 note_stream chars padding (p ∷ ps) =

@@ -100,7 +100,7 @@ messages_view x line found =
     pointer_row (context_view x) (line_view line) ++ newline
     ++ hanging_stream_view x line found.after.now ++ hanging_stream_view x line found.before.now
 
--- the same, where a label of the line hangs
+-- the same for all labels of the line that hang, and nothing where none hangs
 abbrev pub hanging_rows_view : context.RowContext → rust_line.Line → Stream
 hanging_rows_view x line =
     stream_of_rows (context_view x)

@@ -160,7 +160,7 @@ fn write_trailing<W: PutStyle>(
 /// # Requires
 ///
 /// - `characters` has the context's tab width, and the text and labels of `line`.
-/// - `messages.trailing` is the label of `line` whose message trails, where there is one.
+/// - `messages.trailing_label` is the label of `line` whose message trails, where there is one.
 pub fn write_caret_row<W: PutStyle, S: LineCharacters>(
     w: &mut W,
     context: RowContext<'_>,

@@ -28,7 +28,7 @@ pub enum LaneRow<'d> {
     Source,
     /// An empty row or a break row.
     Empty,
-    /// A caret, pointer or hanging row.
+    /// A row of single-line labels: a caret, pointer or hanging row.
     Below,
     /// The underline row of a lane mark: its lane, its style, and what its label does on the line.
     Underline(usize, LabelStyle, MultiLabel<'d>),
@@ -202,8 +202,8 @@ fn next_lane(lanes: Lanes<'_, '_>, next: usize) -> usize
 /// The greatest number of empty lanes that are written at once.
 const MAX_EMPTY_LANES: usize = 32;
 
-/// Returns how many lanes from this one on, up to that of the next lane mark, are empty: no line
-/// runs through them from a corner. At most as many as are written at once.
+/// Returns how many lanes from `lane` on and before `until`, the lane of the next lane mark, are
+/// empty: no line runs through them from a corner. At most [`MAX_EMPTY_LANES`] are counted.
 fn num_empty_lanes(row: LaneRow<'_>, lane: usize, until: usize) -> usize
     ensures bare { (other : ℕ) → lane ≤ other → other < lane + result
         → row_crossing (lane_row_view row.entry) other ≡ None }

@@ -19,8 +19,8 @@ use codespan_base::diagnostic::LabelStyle;
 use codespan_picture::arguments::{MultiLabel, SingleLabel};
 use codespan_picture::char_metrics::Metrics;
 
-/// Returns the style of a character of the source: primary where a primary label covers it, inside
-/// the line or by these lane marks.
+/// Returns the style of a character of the source: primary where a primary label covers it, a
+/// single-line or a multi-line one, else `None`.
 ///
 /// # Requires
 ///
@@ -81,8 +81,8 @@ fn has_tab(text: &str) -> bool
     text.as_bytes().contains(&b'\t')
 }
 
-/// Returns whether the text of a line is written unchanged: it has no tab, and no label of the line
-/// is primary.
+/// Returns whether the text of a line is known to be written unchanged: it has no tab, and no label
+/// of the line and no lane mark is primary.
 #[inline(always)]
 pub fn is_plain(line: Line<'_, '_>) -> bool
     ensures { result ≡ true → (context : RowContextSpec)
@@ -93,9 +93,9 @@ pub fn is_plain(line: Line<'_, '_>) -> bool
         && !has_tab(line.text)
 }
 
-/// Returns the byte index from which on the text of a line is written unchanged: no primary label
-/// covers it, inside the line or by these lane marks, and it has no tab. It is the end of the text
-/// where there is no other.
+/// Returns a byte index from which on the text of a line is written unchanged: no primary label
+/// covers it, neither a single-line nor a multi-line one, and it has no tab. It is the end of the
+/// text where no other is found.
 ///
 /// # Requires
 ///

@@ -45,14 +45,14 @@ pub enum SnippetLine<'e, 'd, FileId> {
 pub enum Gap {
     /// Nothing, or the line is the first shown one.
     Nothing,
-    /// The line of this index.
+    /// The one line of this 0-based index, which is filled in.
     Line(usize),
-    /// Two lines or more.
+    /// Two lines or more, which are left out.
     Lines,
 }
 
 /// Returns what is before the shown line of this index, where `previous` is the index of the shown
-/// line before it.
+/// line before it, if there is one. Both are 0-based.
 pub fn gap_before(previous: Option<usize>, index: usize) -> Gap
     ensures { IsGapBefore previous index result }
 {
@@ -143,6 +143,10 @@ impl<'files, F: Files<'files>> LinePlanner<'files, F> {
     ///
     /// - `OutOfMemory`: an allocation fails, or the lookup fails with it.
     /// - Any other error: that of the lookup.
+    ///
+    /// # Requires
+    ///
+    /// The line is one of the file's.
     fn push_shown<'e, 'd>(
         &self,
         previous: Option<usize>,

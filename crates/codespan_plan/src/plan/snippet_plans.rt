@@ -44,6 +44,10 @@ pub struct SnippetPlan<'e, FileId> {
 /// # Errors
 ///
 /// As [`LinePlanner::push_lines`].
+///
+/// # Requires
+///
+/// The lines of the annotations are lines of the file.
 #[inline(always)]
 fn push_snippet<'files, 'e, 'd, F: Files<'files>>(
     files: &'files F,

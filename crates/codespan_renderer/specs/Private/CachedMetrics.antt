@@ -33,14 +33,15 @@ abbrev pub farther : Option ℕ → ℕ → Option ℕ
 farther None byte_index = Some byte_index
 farther (Some reach) byte_index = Some (max reach byte_index)
 
--- the byte index at which an underline's caret is, or before which it is
+-- the greater of a reach and the byte index of a multi-line label mark: the start of a top mark,
+-- the end of a bottom mark
 abbrev pub farther_lane_mark : Option ℕ → MultiLabel → Option ℕ
 farther_lane_mark reach (Top start) = farther reach start
 farther_lane_mark reach Left = reach
 farther_lane_mark reach (Bottom end message) = farther reach end
 
--- how far the rows under a line reach: the greatest start or end of its labels, and of what
--- underlines have; none where it has neither
+-- how far the rows under a line reach: the greatest start or end of its labels, start of a top mark
+-- and end of a bottom mark; none where it has none of them
 abbrev pub reach_of : List LabelModel → List LaneMark → Option ℕ
 reach_of labels lane_marks =
     fold (λ reach (m : LaneMark). farther_lane_mark reach m.multi_label)

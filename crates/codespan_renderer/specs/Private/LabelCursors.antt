@@ -10,8 +10,8 @@ use Rattle.codespan_row_parts.specs.CharCursors.{is_covered}
 abbrev pub end_with : Bool → ℕ → LabelModel → ℕ
 end_with counts end x = if counts && nat_lt x.start x.end then max end x.end else end
 
--- of a character that ends at this byte index or later: one of the labels that pass has a byte of
--- it where it begins before the end, or where one of the remaining ones has
+-- of a character that ends at this byte index or later: one of the labels that pass the test has a
+-- byte of it exactly where it begins before `end`, or where one of the remaining ones that pass has
 pub record IsReached (passes : LabelModel → Bool) (labels left : List LabelModel)
     (byte_index end : ℕ) : Type 0 where
   pub is : (c : Metrics) → byte_index ≤ c.byte_index + c.bytes → 1 ≤ c.bytes

@@ -1,4 +1,4 @@
--- The characters that an iterator over the characters of a line has left.
+-- The characters that an iterator over the characters of a line has not returned yet.
 use Rattle.std.specs.Prelude.{◌≡◌, ℕ, ◌+◌, ◌≤◌, Bool, true, false, List, [], ◌∷◌, Option, Some, None}
 use Rattle.std.specs.Str.{chars}
 use Rattle.std.specs.Str.Iter.{chars_rest}
@@ -10,11 +10,11 @@ use Rattle.codespan_picture.specs.CharMetrics.{metrics_then, placeholder}
 abbrev pub Afters : Type 0
 Afters = ℕ → ℕ → List Metrics
 
--- nothing is
+-- nothing is after it
 abbrev pub no_more : Afters
 no_more = λ _ _. []
 
--- by a test, the placeholder or nothing
+-- the placeholder where this is true, else nothing
 abbrev pub after_last : Bool → Afters
 after_last true = placeholder
 after_last false = no_more

@@ -9,7 +9,8 @@ use crate::lanes::{LaneRow, Shape};
 use codespan_base::term::Layout;
 use codespan_picture::arguments::MultiLabel;
 
-/// Returns what a multi-line label mark shows in a row of this kind.
+/// Returns what a multi-line label mark shows in a row of this kind. `leading` is the length in
+/// bytes of the white space that the line's text begins with, `lane` the mark's 0-based lane.
 pub fn shape_in(
     layout: Layout,
     leading: usize,

@@ -13,19 +13,20 @@ use Rattle.codespan_plan.specs.SnippetLineViews.{IsSnippetLineOf, lookups_of_lin
 use Rattle.codespan_views.specs.Private.Rendering.{RendersRowsWithLookups}
 use Rattle.codespan_plan.specs.SnippetLines.{SnippetLine, is_line_in_order, rows_of_line, rows_of_lines, AreInOrder}
 
--- these are lines of the file, and they fit in so many lanes
+-- these are lines of the file; the single-line labels of each are in the order of their starts, and
+-- its lane marks ascend in so many lanes
 pub record AreLinesOf {Id : Type 0} (f : FileModel) (num_multi_labels : ℕ)
     (snippet_lines : List (RustLine Id)) : Type 0 where
   pub each : AllByRecursion (IsSnippetLineOf f) snippet_lines
   pub fit : AreInOrder num_multi_labels (map snippet_line_view snippet_lines)
 
--- the snippet has the text of its file, and these are lines of it
+-- the snippet has the text of its file, and these are lines of it, each with its labels in order
 pub record HasLines {F Id Name Source : Type 0} (database : F → FileDatabase Id)
     (snippet : Snippet F Id Name Source) (snippet_lines : List (RustLine Id)) : Type 0 where
   pub text : snippet.text.now ≡ (model_of database snippet.file).text
   pub are : AreLinesOf (model_of database snippet.file) snippet.num_multi_labels snippet_lines
 
--- the snippet has the text of its file, and this is a line of it
+-- the snippet has the text of its file, and this is a line of it, with its labels in order
 pub record HasLine {F Id Name Source : Type 0} (database : F → FileDatabase Id)
     (snippet : Snippet F Id Name Source) (snippet_line : RustLine Id) : Type 0 where
   pub text : snippet.text.now ≡ (model_of database snippet.file).text

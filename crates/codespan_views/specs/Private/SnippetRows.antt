@@ -16,20 +16,20 @@ use Rattle.codespan_views.specs.Private.Rendering.{RendersRowsWithLookups}
 use Rattle.codespan_plan.specs.SnippetLines.{rows_of_lines}
 
 module _ {Id : Type 0} (snippet_plan : SnippetPlan Id) where
-  -- a row with its lanes and nothing else
+  -- an empty row of the plan's snippet, which has its lanes
   abbrev pub snippet_empty_row : Row
   snippet_empty_row =
       EmptyRow (record { count = snippet_plan.file.now.num_multi_labels; lane_marks = [] })
 
-  -- its first rows
+  -- the snippet's first rows
   abbrev pub start_rows : List Row
   start_rows = SnippetStartRow (locus_view snippet_plan.locus) ∷ snippet_empty_row ∷ []
 
-  -- the row after it, where something follows
+  -- the row after the snippet, where something follows
   abbrev pub trailing_border_rows : Bool → List Row
   trailing_border_rows is_followed = if is_followed then snippet_empty_row ∷ [] else []
 
-  -- its rows before that one, where these are its lines
+  -- all rows of the snippet, where these are its lines
   abbrev pub rows_in : FileModel → List (RustLine Id) → List Row
   rows_in f snippet_lines =
       start_rows

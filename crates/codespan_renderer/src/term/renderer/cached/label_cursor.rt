@@ -130,7 +130,7 @@ impl<'row, 'd> LabelCursor<'row, 'd> {
 }
 
 /// A cursor over labels of a line, with or without messages, which passes a label at the character
-/// in which it starts.
+/// in which it starts, or at the first one after.
 #[derive(Clone, Copy)]
 pub struct StartCursor<'row, 'd> {
     /// The labels, in the order of their starts.

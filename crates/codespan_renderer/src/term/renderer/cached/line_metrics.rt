@@ -38,7 +38,8 @@ impl LineMetrics {
     }
 
     /// Replaces the cached characters and pointers by those of a line, as far as its rows need
-    /// them. Nothing is allocated for a line that has neither labels nor underlines.
+    /// them. Nothing is allocated for a line without labels on which no multi-line label starts or
+    /// ends.
     ///
     /// # Errors
     ///

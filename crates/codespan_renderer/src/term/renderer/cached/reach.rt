@@ -7,8 +7,8 @@ ghost use Rattle.codespan_renderer.specs.Private.CachedMetrics.{farther, farther
 use crate::term::renderer::MultiLabel;
 use codespan_row_parts::line::Line;
 
-/// Returns the greatest byte index that a row under the line needs: the greatest start or end of
-/// its labels, and of what underlines have; `None` where it has neither labels nor underlines.
+/// Returns the greatest byte index that a row under the line may need: the greatest start or end of
+/// its labels, start of a `Top` and end of a `Bottom`; `None` where it has none of them.
 pub fn reach_of(line: Line<'_, '_>) -> Option<usize>
     ensures { result ≡ reach_of (single_label_views line.entry.labels.now)
         (map lane_mark_view line.entry.lanes.lane_marks.now) }
@@ -23,8 +23,8 @@ pub fn reach_of(line: Line<'_, '_>) -> Option<usize>
     reach
 }
 
-/// Returns the greater of a reach and the byte index that the underline of a multi-line label mark
-/// needs.
+/// Returns the greater of a reach and the byte index of a multi-line label mark: the start of a
+/// `Top`, the end of a `Bottom`.
 fn farther_lane_mark(reach: Option<usize>, multi_label: MultiLabel<'_>) -> Option<usize>
     ensures { result ≡ farther_lane_mark reach (multi_label_view multi_label.entry) }
 {
