@@ -45,8 +45,8 @@ module _ {Id : Type 0} (x : CollectedLabel Id) (s e l : ℕ) (first : first_line
 
 module _ {Id : Type 0} (x : CollectedLabel Id) (l : ℕ) (looked_up : is_looked_up x.config x.file x.label l ≡ true) where
   -- the annotations of a line that is looked up
-  pub added-looked_up : {old new : List (RustAnnotation Id)} → AddsLine x old new l → AddsOf x.file old new (annotations_on x.config x.file x.label x.at l)
-  added-looked_up = Adds-as (ap (λ (b : Bool). if b then line_annotations x.config x.file x.at x.label l else []) looked_up)
+  pub added-looked_up : {old new : List (RustAnnotation Id)} → AddsLine x old new l → AddsOf x.file old new (annotations_on x.config x.file x.label x.indices l)
+  added-looked_up = Adds-as (ap (λ (b : Bool). if b then line_annotations x.config x.file x.indices x.label l else []) looked_up)
 
   -- its lookups
   pub succeeded-looked_up : failure_in x.failure x.file_id (line_lookups l) ≡ None → failure_on x l ≡ None

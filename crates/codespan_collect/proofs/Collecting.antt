@@ -69,37 +69,37 @@ collected-each P collected annotations es adds perm =
 module _ {Id : Type 0} (x : CollectedLabel Id) where
   -- the carets that a label has on its line are those of the line's start
   by_kind : (b c : Bool) (rendered here : LabelModel) (shown : Option AnnotationKind) → (c ≡ true → rendered ≡ here)
-      → (if b && c then Some (Single x.at.index rendered) else shown) ≡ (if b && c then Some (Single x.at.index here) else shown)
-  by_kind true true rendered here shown same = ap (λ (d : LabelModel). Some (Single x.at.index d)) (same refl)
+      → (if b && c then Some (Single x.indices.index rendered) else shown) ≡ (if b && c then Some (Single x.indices.index here) else shown)
+  by_kind true true rendered here shown same = ap (λ (d : LabelModel). Some (Single x.indices.index d)) (same refl)
   by_kind true false rendered here shown same = refl
   by_kind false c rendered here shown same = refl
 
   -- the annotations of a label on a line of its file, by the indices of its lines
   kind_on-is : (line : LineInfo) → IsLineOf x.file line
-      → kind_on x.config x.file x.at x.label line.index
-      ≡ kind_at x.config x.at (first_line x.file x.label) (last_line x.file x.label) line.index
+      → kind_on x.config x.file x.indices x.label line.index
+      ≡ kind_at x.config x.indices (first_line x.file x.label) (last_line x.file x.label) line.index
       line.start x.label
   kind_on-is line is =
       by_kind (first_line x.file x.label == last_line x.file x.label) (first_line x.file x.label == line.index) (drawn_label x.file x.label) (from_line_start (line_start x.file line.index) x.label) _
       (λ t. ap (λ k. from_line_start (line_start x.file k) x.label) (eqb-true (first_line x.file x.label) line.index t))
-      ∙ ap (λ start. kind_at x.config x.at (first_line x.file x.label) (last_line x.file x.label) line.index start x.label) (sym is.range_is.start_is)
+      ∙ ap (λ start. kind_at x.config x.indices (first_line x.file x.label) (last_line x.file x.label) line.index start x.label) (sym is.range_is.start_is)
 
   -- the annotations of a label on a line, and its multi-line label mark on it
   pub annotation_if_any-line : {line : LineInfo} {first last : ℕ} {kind lane_mark : Option AnnotationKind} → first_line x.file x.label ≡ first → last_line x.file x.label ≡ last → IsLineOf x.file line
-      → kind ≡ kind_at x.config x.at first last line.index line.start x.label → lane_mark ≡ multi_at x.at first last line.index line.start x.label
-      → line_annotations x.config x.file x.at x.label line.index ≡ annotation_if_any x.at.file line.index kind ++ annotation_if_any x.at.file line.index lane_mark
+      → kind ≡ kind_at x.config x.indices first last line.index line.start x.label → lane_mark ≡ multi_at x.indices first last line.index line.start x.label
+      → line_annotations x.config x.file x.indices x.label line.index ≡ annotation_if_any x.indices.file line.index kind ++ annotation_if_any x.indices.file line.index lane_mark
   annotation_if_any-line {line} is_first is_last is kind_is multi_is =
       let l = line.index in
-      let f = x.at.file in
-      let by_kind = kind_on-is line is ∙ (λ i. kind_at x.config x.at (is_first i) (is_last i) l line.start x.label) ∙ sym kind_is in
-      let by_lane_mark = (λ i. multi_at x.at (is_first i) (is_last i) l (sym is.range_is.start_is i) x.label) ∙ sym multi_is in
+      let f = x.indices.file in
+      let by_kind = kind_on-is line is ∙ (λ i. kind_at x.config x.indices (is_first i) (is_last i) l line.start x.label) ∙ sym kind_is in
+      let by_lane_mark = (λ i. multi_at x.indices (is_first i) (is_last i) l (sym is.range_is.start_is i) x.label) ∙ sym multi_is in
       λ i. annotation_if_any f l (by_kind i) ++ annotation_if_any f l (by_lane_mark i)
 
 -- a label does not make a line shown that is far from its ends
-pub far-kind : (config : Config) (at : LabelIndices) (s e l start : ℕ) (x : LabelModel) → IsFarInside config s e l → None ≡ kind_at config at s e l start x
-far-kind config at s e l start x far = grind (arith, nat_tests)
+pub far-kind : (config : Config) (indices : LabelIndices) (s e l start : ℕ) (x : LabelModel) → IsFarInside config s e l → None ≡ kind_at config indices s e l start x
+far-kind config indices s e l start x far = grind (arith, nat_tests)
 
 -- its lane mark on such a line
-pub far-multi_label : {Id : Type 0} (config : Config) (at : LabelIndices) (s e l start : ℕ) (label : Bor (Label Id)) → IsFarInside config s e l
-    → Some (kind_view start (rust.Multi label_kind.Left at.lane label)) ≡ multi_at at s e l start (label_of label.now).label
-far-multi_label config at s e l start label far = grind (arith, nat_tests)
+pub far-multi_label : {Id : Type 0} (config : Config) (indices : LabelIndices) (s e l start : ℕ) (label : Bor (Label Id)) → IsFarInside config s e l
+    → Some (kind_view start (rust.Multi label_kind.Left indices.lane label)) ≡ multi_at indices s e l start (label_of label.now).label
+far-multi_label config indices s e l start label far = grind (arith, nat_tests)

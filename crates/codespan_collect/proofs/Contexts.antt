@@ -35,7 +35,7 @@ module _ {Id : Type 0} (x : CollectedLabel Id) where
 
   -- the annotations of the lines below this one
   abbrev annotations_below : ℕ → List Annotation
-  annotations_below n = flat_map (annotations_on x.config x.file x.label x.at) (range_with_len 0 n)
+  annotations_below n = flat_map (annotations_on x.config x.file x.label x.indices) (range_with_len 0 n)
 
   -- their lookups
   abbrev lookups_below : ℕ → List Lookup
@@ -46,8 +46,8 @@ module _ {Id : Type 0} (x : CollectedLabel Id) where
   digits_below n = flat_map (digits_on x.file x.label) (range_with_len 0 n)
 
   -- there is no annotation of a line that is not looked up
-  no_annotations : (l : ℕ) → is_looked_up x.config x.file x.label l ≡ false → annotations_on x.config x.file x.label x.at l ≡ []
-  no_annotations l skipped = ap (λ (b : Bool). if b then line_annotations x.config x.file x.at x.label l else []) skipped
+  no_annotations : (l : ℕ) → is_looked_up x.config x.file x.label l ≡ false → annotations_on x.config x.file x.label x.indices l ≡ []
+  no_annotations l skipped = ap (λ (b : Bool). if b then line_annotations x.config x.file x.indices x.label l else []) skipped
 
   -- nor has it lookups
   no_lookups : (l : ℕ) → is_looked_up x.config x.file x.label l ≡ false → lookups_on x.config x.file x.label l ≡ []
@@ -101,7 +101,7 @@ module _ {Id : Type 0} {x : CollectedLabel Id} where
       → CollectsLines x xs xs n
   collected-start {xs} {n} there low far = record {
     within = omega (arith, there.last);
-    added = Adds-as (flat_map_none (annotations_on x.config x.file x.label x.at) 0 n (λ l _ high. no_annotations x l (too_far l (omega arith)))) Adds-none;
+    added = Adds-as (flat_map_none (annotations_on x.config x.file x.label x.indices) 0 n (λ l _ high. no_annotations x l (too_far l (omega arith)))) Adds-none;
     counted = sym (ap (fold max xs.padding.digits) (flat_map_none (digits_on x.file x.label) 0 n (λ l _ high. no_digits x l (too_far l (omega arith)))));
     succeeded = ap (failed x) (flat_map_none (lookups_on x.config x.file x.label) 0 n (λ l _ high. no_lookups x l (too_far l (omega arith))));
   }
@@ -117,7 +117,7 @@ module _ {Id : Type 0} {x : CollectedLabel Id} where
         → CollectsLines x xs zs (n + 1)
     collected-line there near inside adds counts none = record {
       within = ⊎_elim (λ looked_up. let k = inside looked_up in omega arith) (λ skipped. further skipped) (cases_Bool (is_looked_up x.config x.file x.label n));
-      added = Adds-as (flat_map_more (annotations_on x.config x.file x.label x.at) n) (Adds-both g.added adds);
+      added = Adds-as (flat_map_more (annotations_on x.config x.file x.label x.indices) n) (Adds-both g.added adds);
       counted = counts ∙ ap (λ k. fold max k (digits_on x.file x.label n)) g.counted
           ∙ sym (greatest-append xs.padding.digits (digits_below x n) (digits_on x.file x.label n))
           ∙ sym (ap (fold max xs.padding.digits) (flat_map_more (digits_on x.file x.label) n));
@@ -136,19 +136,19 @@ module _ {Id : Type 0} {x : CollectedLabel Id} where
 
     -- all annotations of the label
     all_collected : ((l : ℕ) → n ≤ l → l < line_count x.file → is_looked_up x.config x.file x.label l ≡ false)
-        → (annotations_of x.config x.file x.at x.label ≡ annotations_below x n)
+        → (annotations_of x.config x.file x.indices x.label ≡ annotations_below x n)
         × (flat_map line_lookups (looked_up_lines x.config x.file x.label) ≡ lookups_below x n)
         × (label_digits x.file x.label ≡ digits_below x n)
     all_collected skipped = (
-      flat_map_filtered (line_annotations x.config x.file x.at x.label) (is_looked_up x.config x.file x.label) (range_with_len 0 (line_count x.file))
-          ∙ flat_map_same (annotations_on x.config x.file x.label x.at) n (line_count x.file) g.within (λ l low high. no_annotations x l (skipped l low high)),
+      flat_map_filtered (line_annotations x.config x.file x.indices x.label) (is_looked_up x.config x.file x.label) (range_with_len 0 (line_count x.file))
+          ∙ flat_map_same (annotations_on x.config x.file x.label x.indices) n (line_count x.file) g.within (λ l low high. no_annotations x l (skipped l low high)),
       flat_map_filtered line_lookups (is_looked_up x.config x.file x.label) (range_with_len 0 (line_count x.file))
           ∙ flat_map_same (lookups_on x.config x.file x.label) n (line_count x.file) g.within (λ l low high. no_lookups x l (skipped l low high)),
       flat_map_same (digits_on x.file x.label) n (line_count x.file) g.within (λ l low high. no_digits x l (skipped l low high)),
     )
 
     -- the lines that are done with are all
-    collected-up : annotations_of x.config x.file x.at x.label ≡ annotations_below x n → flat_map line_lookups (looked_up_lines x.config x.file x.label) ≡ lookups_below x n
+    collected-up : annotations_of x.config x.file x.indices x.label ≡ annotations_below x n → flat_map line_lookups (looked_up_lines x.config x.file x.label) ≡ lookups_below x n
         → label_digits x.file x.label ≡ digits_below x n → lookup_past_end x.config x.file (x.failure x.file_id) x.label ≡ [] → CollectsLabel x xs ys
     collected-up annotations_are looked_up digits no_lookup_past_end = record {
       added = Adds-as annotations_are g.added;

@@ -128,36 +128,36 @@ module _ (config : Config) where
 
 -- ---- the annotations of a label
 
-module _ (config : Config) (f : FileModel) (at : LabelIndices) (x : LabelModel) where
+module _ (config : Config) (f : FileModel) (indices : LabelIndices) (x : LabelModel) where
   -- an annotation of its file
   abbrev annotation_on : ℕ → AnnotationKind → Annotation
-  annotation_on l kind = record { file = at.file; line = l; kind = kind }
+  annotation_on l kind = record { file = indices.file; line = l; kind = kind }
 
   -- its carets on a line
   abbrev carets : ℕ → Annotation
-  carets l = annotation_on l (Single at.index (drawn_label f x))
+  carets l = annotation_on l (Single indices.index (drawn_label f x))
 
   -- its annotations on a line, where it is inside the line and where it shows it
   abbrev kind_annotations_where : ℕ → Bool → Bool → List Annotation
-  kind_annotations_where l a b = annotation_if_any at.file l (cond a (Some (Single at.index (drawn_label f x))) (cond b (Some Shown) None))
+  kind_annotations_where l a b = annotation_if_any indices.file l (cond a (Some (Single indices.index (drawn_label f x))) (cond b (Some Shown) None))
 
   -- its multi-line label mark on a line, where it has one
   abbrev pub multi_annotations_where : ℕ → Bool → Option LaneMark → List Annotation
-  multi_annotations_where l a o = annotation_if_any at.file l (cond a None (option_map Multi o))
+  multi_annotations_where l a o = annotation_if_any indices.file l (cond a None (option_map Multi o))
 
   -- its multi-line label mark on a line
   abbrev pub multi_annotations_on : ℕ → List Annotation
-  multi_annotations_on l = multi_annotations_where l (is_single f x) (lane_mark_of at.lane x (multi_label_on f l x))
+  multi_annotations_on l = multi_annotations_where l (is_single f x) (lane_mark_of indices.lane x (multi_label_on f l x))
 
   -- its own annotations on a line
   abbrev kind_annotations_on : ℕ → List Annotation
   kind_annotations_on l = kind_annotations_where l (is_single f x && (first_line f x == l)) (shows config (first_line f x) (last_line f x) l)
 
   -- what holds of each annotation that it can have on a line
-  each-line_annotations : (P : Annotation → Type 0) (l : ℕ) → ((s : AnnotationKind) → P (annotation_on l s)) → AllByRecursion P (line_annotations config f at x l)
+  each-line_annotations : (P : Annotation → Type 0) (l : ℕ) → ((s : AnnotationKind) → P (annotation_on l s)) → AllByRecursion P (line_annotations config f indices x l)
   each-line_annotations P l h =
       all-append P (kind_annotations_on l) (multi_annotations_on l) (by_tests (is_single f x && (first_line f x == l)) (shows config (first_line f x) (last_line f x) l))
-      (by_lane_mark (is_single f x) (lane_mark_of at.lane x (multi_label_on f l x)))
+      (by_lane_mark (is_single f x) (lane_mark_of indices.lane x (multi_label_on f l x)))
     where
       by_lane_mark : (a : Bool) (o : Option LaneMark) → AllByRecursion P (multi_annotations_where l a o)
       by_lane_mark true o = tt
@@ -165,27 +165,27 @@ module _ (config : Config) (f : FileModel) (at : LabelIndices) (x : LabelModel) 
       by_lane_mark false (Some m) = (h (Multi m), tt)
 
       by_tests : (a b : Bool) → AllByRecursion P (kind_annotations_where l a b)
-      by_tests true b = (h (Single at.index (drawn_label f x)), tt)
+      by_tests true b = (h (Single indices.index (drawn_label f x)), tt)
       by_tests false true = (h Shown, tt)
       by_tests false false = tt
 
   -- its annotations are of its file
-  pub all-of_file : AllByRecursion (λ e. e.file ≡ at.file) (annotations_of config f at x)
-  all-of_file = all-range (λ e. e.file ≡ at.file) (line_annotations config f at x) (is_looked_up config f x) (line_count f) 0
-      (λ l k. each-line_annotations (λ e. e.file ≡ at.file) l (λ s. refl))
+  pub all-of_file : AllByRecursion (λ e. e.file ≡ indices.file) (annotations_of config f indices x)
+  all-of_file = all-range (λ e. e.file ≡ indices.file) (line_annotations config f indices x) (is_looked_up config f x) (line_count f) 0
+      (λ l k. each-line_annotations (λ e. e.file ≡ indices.file) l (λ s. refl))
 
   -- they are of lines that the file has
-  pub all-below : AllByRecursion (λ e. e.line < line_count f) (annotations_of config f at x)
-  all-below = all-range (λ e. e.line < line_count f) (line_annotations config f at x) (is_looked_up config f x) (line_count f) 0
+  pub all-below : AllByRecursion (λ e. e.line < line_count f) (annotations_of config f indices x)
+  all-below = all-range (λ e. e.line < line_count f) (line_annotations config f indices x) (is_looked_up config f x) (line_count f) 0
       (λ l k. each-line_annotations (λ e. e.line < line_count f) l (λ s. omega arith))
 
   -- it has no annotation on a line that is not looked up for it
-  not_looked_up : (l : ℕ) → is_looked_up config f x l ≡ false → line_annotations config f at x l ≡ []
+  not_looked_up : (l : ℕ) → is_looked_up config f x l ≡ false → line_annotations config f indices x l ≡ []
   not_looked_up l h =
       let a : shows config (first_line f x) (last_line f x) l ≡ false = not_shown config (first_line f x) (last_line f x) l h in
       let b : (first_line f x == l) ≡ false = not_first config (first_line f x) (last_line f x) l h in
       let c : multi_label_on f l x ≡ None = no_multi_label config (first_line f x) (last_line f x) l (line_start f l) x h in
-      (λ i. kind_annotations_where l (is_single f x && b i) (a i) ++ multi_annotations_where l (is_single f x) (lane_mark_of at.lane x (c i)))
+      (λ i. kind_annotations_where l (is_single f x && b i) (a i) ++ multi_annotations_where l (is_single f x) (lane_mark_of indices.lane x (c i)))
       ∙ ap (λ t. kind_annotations_where l t false ++ multi_annotations_where l (is_single f x) None) (and-false (is_single f x)) ∙ without_multi_label (is_single f x)
     where
       without_multi_label : (a : Bool) → kind_annotations_where l false false ++ multi_annotations_where l a None ≡ []
@@ -193,31 +193,31 @@ module _ (config : Config) (f : FileModel) (at : LabelIndices) (x : LabelModel) 
       without_multi_label false = refl
 
   -- on a line that the file has these are its annotations
-  pub annotations-on_line : (l : ℕ) → filter (is_on_line l) (annotations_of config f at x) ≡ cond (nat_lt l (line_count f)) (line_annotations config f at x l) []
+  pub annotations-on_line : (l : ℕ) → filter (is_on_line l) (annotations_of config f indices x) ≡ cond (nat_lt l (line_count f)) (line_annotations config f indices x l) []
   annotations-on_line l =
-      on-line (line_annotations config f at x) (λ k. each-line_annotations (λ e. e.line ≡ k) k (λ s. refl)) (is_looked_up config f x) l (line_count f) 0
-      ∙ ap (λ b. cond (b && is_looked_up config f x l) (line_annotations config f at x l) []) (among-below (line_count f) l)
+      on-line (line_annotations config f indices x) (λ k. each-line_annotations (λ e. e.line ≡ k) k (λ s. refl)) (is_looked_up config f x) l (line_count f) 0
+      ∙ ap (λ b. cond (b && is_looked_up config f x l) (line_annotations config f indices x l) []) (among-below (line_count f) l)
       ∙ ⊎_elim
-      (λ (t : is_looked_up config f x l ≡ true). ap (λ b. cond (nat_lt l (line_count f) && b) (line_annotations config f at x l) []) t ∙ both (nat_lt l (line_count f)))
-      (λ (t : is_looked_up config f x l ≡ false). ap (λ b. cond (nat_lt l (line_count f) && b) (line_annotations config f at x l) []) t
+      (λ (t : is_looked_up config f x l ≡ true). ap (λ b. cond (nat_lt l (line_count f) && b) (line_annotations config f indices x l) []) t ∙ both (nat_lt l (line_count f)))
+      (λ (t : is_looked_up config f x l ≡ false). ap (λ b. cond (nat_lt l (line_count f) && b) (line_annotations config f indices x l) []) t
       ∙ none (nat_lt l (line_count f)) ∙ ap (λ (r : List Annotation). cond (nat_lt l (line_count f)) r []) (sym (not_looked_up l t)))
       (cases_Bool (is_looked_up config f x l))
     where
-      both : (b : Bool) → cond (b && true) (line_annotations config f at x l) [] ≡ cond b (line_annotations config f at x l) []
+      both : (b : Bool) → cond (b && true) (line_annotations config f indices x l) [] ≡ cond b (line_annotations config f indices x l) []
       both true = refl
       both false = refl
 
-      none : (b : Bool) → cond (b && false) (line_annotations config f at x l) [] ≡ cond b [] []
+      none : (b : Bool) → cond (b && false) (line_annotations config f indices x l) [] ≡ cond b [] []
       none true = refl
       none false = refl
 
   -- ---- the kinds of its annotations of a line
 
   -- those of a label inside the line
-  pub single_labels-on_line : (l : ℕ) → filter (is_kind 1) (line_annotations config f at x l) ≡ cond (is_single f x && (first_line f x == l)) (carets l ∷ []) []
+  pub single_labels-on_line : (l : ℕ) → filter (is_kind 1) (line_annotations config f indices x l) ≡ cond (is_single f x && (first_line f x == l)) (carets l ∷ []) []
   single_labels-on_line l =
       filter-append (is_kind 1) (kind_annotations_on l) (multi_annotations_on l)
-      ∙ (λ i. by_tests (is_single f x && (first_line f x == l)) (shows config (first_line f x) (last_line f x) l) i ++ by_lane_mark (is_single f x) (lane_mark_of at.lane x (multi_label_on f l x)) i)
+      ∙ (λ i. by_tests (is_single f x && (first_line f x == l)) (shows config (first_line f x) (last_line f x) l) i ++ by_lane_mark (is_single f x) (lane_mark_of indices.lane x (multi_label_on f l x)) i)
       ∙ append-nil (cond (is_single f x && (first_line f x == l)) (carets l ∷ []) [])
     where
       by_lane_mark : (a : Bool) (o : Option LaneMark) → filter (is_kind 1) (multi_annotations_where l a o) ≡ []
@@ -231,10 +231,10 @@ module _ (config : Config) (f : FileModel) (at : LabelIndices) (x : LabelModel) 
       by_tests false false = refl
 
   -- its multi-line label mark
-  pub marks-on_line : (l : ℕ) → filter (is_kind 2) (line_annotations config f at x l) ≡ multi_annotations_on l
+  pub marks-on_line : (l : ℕ) → filter (is_kind 2) (line_annotations config f indices x l) ≡ multi_annotations_on l
   marks-on_line l =
       filter-append (is_kind 2) (kind_annotations_on l) (multi_annotations_on l)
-      ∙ (λ i. by_tests (is_single f x && (first_line f x == l)) (shows config (first_line f x) (last_line f x) l) i ++ by_lane_mark (is_single f x) (lane_mark_of at.lane x (multi_label_on f l x)) i)
+      ∙ (λ i. by_tests (is_single f x && (first_line f x == l)) (shows config (first_line f x) (last_line f x) l) i ++ by_lane_mark (is_single f x) (lane_mark_of indices.lane x (multi_label_on f l x)) i)
     where
       by_lane_mark : (a : Bool) (o : Option LaneMark) → filter (is_kind 2) (multi_annotations_where l a o) ≡ multi_annotations_where l a o
       by_lane_mark true o = refl
@@ -247,11 +247,11 @@ module _ (config : Config) (f : FileModel) (at : LabelIndices) (x : LabelModel) 
       by_tests false false = refl
 
   -- its annotations make the lines shown that it shows: a label inside a line shows that line
-  pub shown-on_line : (l : ℕ) → list_any shows_line (line_annotations config f at x l) ≡ shows config (first_line f x) (last_line f x) l
+  pub shown-on_line : (l : ℕ) → list_any shows_line (line_annotations config f indices x l) ≡ shows config (first_line f x) (last_line f x) l
   shown-on_line l =
       list_any-append shows_line (kind_annotations_on l) (multi_annotations_on l)
       ∙ (λ i. by_tests (is_single f x) (first_line f x == l) (shows config (first_line f x) (last_line f x) l) (own_shown config (first_line f x) (last_line f x) l) i
-      || by_lane_mark (is_single f x) (lane_mark_of at.lane x (multi_label_on f l x)) i)
+      || by_lane_mark (is_single f x) (lane_mark_of indices.lane x (multi_label_on f l x)) i)
       ∙ or-none (shows config (first_line f x) (last_line f x) l)
     where
       or-none : (b : Bool) → (b || false) ≡ b

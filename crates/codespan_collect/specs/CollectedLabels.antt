@@ -37,18 +37,18 @@ pub record CollectedLabel (Id : Type 0) : Type 0 where
   pub file : FileModel
   pub failure : Failures Id
   pub config : Config
-  pub at : LabelIndices
+  pub indices : LabelIndices
   pub label : LabelModel
 
 -- a label of the files of a database
 abbrev pub collected_label : {Id : Type 0} → FileDatabase Id → Config → LabelIndices → Label Id
     → CollectedLabel Id
-collected_label database config at label = record {
+collected_label database config indices label = record {
   file_id = label.file_id;
   file = database.file label.file_id;
   failure = database.failure;
   config = config;
-  at = at;
+  indices = indices;
   label = (label_of label).label;
 }
 
@@ -60,7 +60,7 @@ label_of_collector database collector label = record {
   file = model_of database collector.file;
   failure = (database collector.file.files.now).failure;
   config = collector.config.now;
-  at = collector.at;
+  indices = collector.indices;
   label = (label_of label).label;
 }
 
@@ -77,13 +77,13 @@ module _ {Id : Type 0} (x : CollectedLabel Id) where
 
   -- its annotations of a line were appended
   abbrev pub AddsLine : List (RustAnnotation Id) → List (RustAnnotation Id) → ℕ → Type 0
-  AddsLine old new l = AddsOf x.file old new (line_annotations x.config x.file x.at x.label l)
+  AddsLine old new l = AddsOf x.file old new (line_annotations x.config x.file x.indices x.label l)
 
   -- its annotations of a line were found, where it is looked up
   abbrev pub FindsLine : FoundAnnotations Id → FoundAnnotations Id → ℕ → Type 0
   FindsLine old new l =
       AddsOf x.file old.annotations.items new.annotations.items
-      (annotations_on x.config x.file x.label x.at l)
+      (annotations_on x.config x.file x.label x.indices l)
 
   -- the padding has grown as far as the number of a line needs, where it spans the line
   abbrev pub ExtendsPaddingForLine : FoundAnnotations Id → FoundAnnotations Id → ℕ → Type 0
@@ -100,7 +100,7 @@ module _ {Id : Type 0} (x : CollectedLabel Id) where
   abbrev pub FindsLines : FoundAnnotations Id → FoundAnnotations Id → Type 0
   FindsLines old new =
       AddsOf x.file old.annotations.items new.annotations.items
-      (annotations_of x.config x.file x.at x.label)
+      (annotations_of x.config x.file x.indices x.label)
 
   -- the padding has grown as far as the numbers of the lines that it spans need
   abbrev pub ExtendsPadding : FoundAnnotations Id → FoundAnnotations Id → Type 0
@@ -133,16 +133,15 @@ abbrev pub kind_by : {F Id Name Source : Type 0} → LabelCollector F Id Name So
     → LineInfo
     → Option AnnotationKind
 kind_by collector label line =
-    kind_at collector.config.now collector.at collector.lines.first collector.lines.last line.index
-    line.start
-    (label_of label).label
+    kind_at collector.config.now collector.indices collector.lines.first collector.lines.last
+    line.index line.start (label_of label).label
 
 -- its lane mark on a line, by the lines of its ends
 abbrev pub multi_by : {F Id Name Source : Type 0} → LabelCollector F Id Name Source → Label Id
     → LineInfo
     → Option AnnotationKind
 multi_by collector label line =
-    multi_at collector.at collector.lines.first collector.lines.last line.index line.start
+    multi_at collector.indices collector.lines.first collector.lines.last line.index line.start
     (label_of label).label
 
 -- a line is looked up for the label, and its lookups fail with this error

@@ -9,23 +9,23 @@ use Rattle.codespan_picture.specs.Lookups.{looked_up_lines, is_looked_up, line_l
 use Rattle.codespan_collect.specs.declared.label_annotations.LabelIndices.{LabelIndices}
 use Rattle.codespan_annotations.specs.Annotations.{Annotation, AnnotationKind, Shown, Single, Multi, annotation_if_any}
 
-module _ (config : Config) (f : FileModel) (at : LabelIndices) (x : LabelModel) where
+module _ (config : Config) (f : FileModel) (indices : LabelIndices) (x : LabelModel) where
   -- what it does on a line, its lane mark aside
   abbrev pub kind_on : ℕ → Option AnnotationKind
   kind_on l =
-      if is_single f x && (first_line f x == l) then Some (Single at.index (drawn_label f x))
+      if is_single f x && (first_line f x == l) then Some (Single indices.index (drawn_label f x))
       else if shows config (first_line f x) (last_line f x) l then Some Shown else None
 
   -- its lane mark on a line, where it is a multi-line label
   abbrev pub multi_on : ℕ → Option AnnotationKind
   multi_on l =
       if is_single f x then None
-      else option_map Multi (lane_mark_of at.lane x (multi_label_on f l x))
+      else option_map Multi (lane_mark_of indices.lane x (multi_label_on f l x))
 
   -- its annotations of a line
   abbrev pub line_annotations : ℕ → List Annotation
-  line_annotations l = annotation_if_any at.file l (kind_on l)
-      ++ annotation_if_any at.file l (multi_on l)
+  line_annotations l = annotation_if_any indices.file l (kind_on l)
+      ++ annotation_if_any indices.file l (multi_on l)
 
   -- its annotations of all lines that are looked up for it
   abbrev pub annotations_of : List Annotation
@@ -35,15 +35,15 @@ module _ (config : Config) (f : FileModel) (at : LabelIndices) (x : LabelModel) 
 
 -- what a label from line `s` to line `e` does on line `l`, which starts at this byte index
 abbrev pub kind_at : Config → LabelIndices → ℕ → ℕ → ℕ → ℕ → LabelModel → Option AnnotationKind
-kind_at config at s e l start x =
-    if (s == e) && (s == l) then Some (Single at.index (from_line_start start x))
+kind_at config indices s e l start x =
+    if (s == e) && (s == l) then Some (Single indices.index (from_line_start start x))
     else if shows config s e l then Some Shown else None
 
 -- its lane mark there, if it is a multi-line label that has one
 abbrev pub multi_at : LabelIndices → ℕ → ℕ → ℕ → ℕ → LabelModel → Option AnnotationKind
-multi_at at s e l start x =
+multi_at indices s e l start x =
     if s == e then None
-    else option_map Multi (lane_mark_of at.lane x (multi_label_at s e l start x))
+    else option_map Multi (lane_mark_of indices.lane x (multi_label_at s e l start x))
 
 -- ---- the lines that are looked up for it
 
@@ -54,4 +54,5 @@ module _ (config : Config) (f : FileModel) (x : LabelModel) where
 
   -- the annotations of such a line
   abbrev pub annotations_on : LabelIndices → ℕ → List Annotation
-  annotations_on at l = if is_looked_up config f x l then line_annotations config f at x l else []
+  annotations_on indices l =
+      if is_looked_up config f x l then line_annotations config f indices x l else []

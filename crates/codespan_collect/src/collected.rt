@@ -89,8 +89,8 @@ fn collect_in_turn<'files, 'd, F: Files<'files>>(
     for (index, label) in labels.iter().enumerate() {
         let file = get_or_insert_file(&mut labeled, previous, label.file_id)?;
         let lane = labeled[file].num_multi_labels;
-        let at = LabelIndices { file, index, lane };
-        let lines = collect_label(files, config, at, label, &mut found)?;
+        let indices = LabelIndices { file, index, lane };
+        let lines = collect_label(files, config, indices, label, &mut found)?;
         add_label(&mut labeled, file, label, lines);
         previous = file;
         if file == 0 {

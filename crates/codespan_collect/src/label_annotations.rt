@@ -48,7 +48,7 @@ struct LabelCollector<'a, 'c, 'files, F: Files<'files>> {
     /// The configuration, which has the numbers of context lines.
     config: &'a Config<'c>,
     /// The label's indices.
-    at: LabelIndices,
+    indices: LabelIndices,
     /// The lines on which it starts and ends.
     lines: LabelSpan,
 }
@@ -65,7 +65,7 @@ impl<'a, 'c, 'files, F: Files<'files>> LabelCollector<'a, 'c, 'files, F> {
     {
         if self.lines.is_single() && self.lines.first == line.index {
             Some(AnnotationKind::Single {
-                index: self.at.index,
+                index: self.indices.index,
                 label,
             })
         } else if self.lines.shows(self.config, line.index) {
@@ -87,7 +87,7 @@ impl<'a, 'c, 'files, F: Files<'files>> LabelCollector<'a, 'c, 'files, F> {
             None => None,
             Some(kind) => Some(AnnotationKind::Multi {
                 kind,
-                lane: self.at.lane,
+                lane: self.indices.lane,
                 label,
             }),
         }
@@ -123,10 +123,10 @@ impl<'a, 'c, 'files, F: Files<'files>> LabelCollector<'a, 'c, 'files, F> {
     {
         let kind = AnnotationKind::Multi {
             kind: MultiLabelKind::Left,
-            lane: self.at.lane,
+            lane: self.indices.lane,
             label,
         };
-        push_annotation(self.at.file, line, Some(kind), annotations)?;
+        push_annotation(self.indices.file, line, Some(kind), annotations)?;
         Ok(())
     }
 
@@ -163,13 +163,13 @@ impl<'a, 'c, 'files, F: Files<'files>> LabelCollector<'a, 'c, 'files, F> {
             return self.push_far_line(label, line, annotations);
         }
         push_annotation(
-            self.at.file,
+            self.indices.file,
             line,
             self.kind_on_line(label, line),
             annotations,
         )?;
         push_annotation(
-            self.at.file,
+            self.indices.file,
             line,
             self.multi_label_on_line(label, line),
             annotations,
@@ -284,7 +284,7 @@ impl<'a, 'c, 'files, F: Files<'files>> LabelCollector<'a, 'c, 'files, F> {
 pub fn collect_label<'files, 'd, F: Files<'files>>(
     files: &'files F,
     config: &Config<'_>,
-    at: LabelIndices,
+    indices: LabelIndices,
     label: &'d Label<F::FileId>,
     found: &mut FoundAnnotations<'d, F::FileId>,
 ) -> Result<LabelSpan, Error>
@@ -293,11 +293,11 @@ pub fn collect_label<'files, 'd, F: Files<'files>>(
     ensures last { IfOk result (λ lines. lines.last
         ≡ line_of_end (F.database files.now).file label.now) }
     ensures added { OnOk result (FindsLines
-        (collected_label (F.database files.now) config.now at label.now) found.old found.new) }
+        (collected_label (F.database files.now) config.now indices label.now) found.old found.new) }
     ensures padding { OnOk result (ExtendsPadding
-        (collected_label (F.database files.now) config.now at label.now) found.old found.new) }
+        (collected_label (F.database files.now) config.now indices label.now) found.old found.new) }
     ensures failed { FailsBy (label_failure
-        (collected_label (F.database files.now) config.now at label.now)) result }
+        (collected_label (F.database files.now) config.now indices label.now)) result }
 {
     let lines = label_span(files, label)?;
     found
@@ -309,7 +309,7 @@ pub fn collect_label<'files, 'd, F: Files<'files>>(
             file_id: label.file_id,
         },
         config,
-        at,
+        indices,
         lines,
     };
     collector.collect_lines(label, found)?;

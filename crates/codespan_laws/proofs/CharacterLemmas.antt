@@ -149,10 +149,10 @@ module _ (context : RowContext) (chars : Chars) where
       (joined _ _ _ _ (same_before _ _ (style_mark (LabelStyleMark context.severity m.style))
       (joined _ _ _ _ (same_after (outer_gutter context.padding) (border_left chars) (border_left context.chars) border_left_as_long) (lanes_as_long _ _ _ _ line.lanes)))
       (underline_as_long m.style (line_metrics context line) m.multi_label))
-  rows_as_long e (FirstNoteRow piece) =
-      same_before _ _ (bytes piece) (same_before _ _ space (same_before _ _ (style_mark Reset)
+  rows_as_long e (FirstNoteRow note_line) =
+      same_before _ _ (bytes note_line) (same_before _ _ space (same_before _ _ (style_mark Reset)
       (same_after (outer_gutter context.padding ++ style_mark NoteBullet) (glyph chars.note_bullet) (glyph context.chars.note_bullet) (glyphs chars.note_bullet context.chars.note_bullet))))
-  rows_as_long e (LaterNoteRow piece) = as_long _
+  rows_as_long e (LaterNoteRow note_line) = as_long _
   rows_as_long e FinalRow = as_long []
 
 -- the rows of other characters are as long

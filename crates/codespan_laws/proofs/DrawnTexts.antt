@@ -16,7 +16,7 @@ use Rattle.codespan_base.specs.LawfulFiles.{IsLawful}
 use Rattle.codespan_picture.specs.CharMetrics.{text_without_line_end, is_line_end}
 use Rattle.codespan_picture.specs.OutputStreams.{locus_starts}
 use Rattle.codespan_picture.specs.Rows.{LaterNoteRow}
-use Rattle.codespan_picture.specs.Snippets.{note_rows, piece_rows}
+use Rattle.codespan_picture.specs.Snippets.{note_rows, note_line_rows}
 use Rattle.codespan_laws.proofs.LaneLineLemmas.{each_map}
 use Rattle.codespan_laws.proofs.RowTexts.{IsTextRow}
 use Rattle.codespan_laws.proofs.ListElements.{all-append}
@@ -145,11 +145,11 @@ lines-utf8 bs u = parts-utf8 (slice_split is_feed bs) (split-utf8 bs u)
 
 -- ---- notes
 
-rows-piece : (pieces : List (List ℕ)) → AllByRecursion IsUtf8 pieces → AllByRecursion IsTextRow (piece_rows pieces)
-rows-piece [] h = tt
-rows-piece (p ∷ ps) h = (h.0, each_map IsTextRow LaterNoteRow ps h.1)
+rows-note_line : (note_lines : List (List ℕ)) → AllByRecursion IsUtf8 note_lines → AllByRecursion IsTextRow (note_line_rows note_lines)
+rows-note_line [] h = tt
+rows-note_line (p ∷ ps) h = (h.0, each_map IsTextRow LaterNoteRow ps h.1)
 
 pub rows-notes : (notes : List (List ℕ)) → AllByRecursion IsUtf8 notes → AllByRecursion IsTextRow (note_rows notes)
 rows-notes [] h = tt
 rows-notes (note ∷ notes) h =
-    all-append IsTextRow (piece_rows (lines note)) (note_rows notes) (rows-piece (lines note) (lines-utf8 note h.0)) (rows-notes notes h.1)
+    all-append IsTextRow (note_line_rows (lines note)) (note_rows notes) (rows-note_line (lines note) (lines-utf8 note h.0)) (rows-notes notes h.1)

@@ -10,7 +10,7 @@ use Rattle.codespan_base.specs.FileModel.{FileModel, line_count, line_of}
 use Rattle.codespan_base.specs.Labels.{LabelModel, first_line, last_line}
 use Rattle.codespan_picture.specs.Lines.{shows, is_drawn, drawn_lines, has_break_between}
 use Rattle.codespan_picture.specs.Rows.{HeaderText, Locus, HeaderRow, SnippetStartRow, EmptyRow, BreakRow, FirstNoteRow, LaterNoteRow, FinalRow, rows_of}
-use Rattle.codespan_picture.specs.Snippets.{LabeledFileModel, empty_lanes, line_at, rows_after, snippet, has_any, row_after, snippets, piece_rows, note_rows, rich_rows}
+use Rattle.codespan_picture.specs.Snippets.{LabeledFileModel, empty_lanes, line_at, rows_after, snippet, has_any, row_after, snippets, note_line_rows, note_rows, rich_rows}
 use Rattle.codespan_laws.proofs.FillLemmas.{breaks_before}
 use Rattle.codespan_laws.proofs.SlotLemmas.{row_slots}
 use Rattle.codespan_laws.proofs.LineSlots.{sum-zero, sum-map, sum-filter_free, sum-flat_map_zero, sum-swap, label_slots, on_line, labels_on_line}
@@ -152,7 +152,7 @@ snippets_sum k config has_notes (p ∷ ps) (s ∷ ss) h =
       sum_by-cons (file_slots k config) s ss,
     )
 
-piece_sum : (k : ℕ) (ps : List (List ℕ)) → sum_by (row_slots k) (piece_rows ps) ≡ 0
+piece_sum : (k : ℕ) (ps : List (List ℕ)) → sum_by (row_slots k) (note_line_rows ps) ≡ 0
 piece_sum k [] = refl
 piece_sum k (p ∷ ps) =
     omega (arith, sum_by-cons (row_slots k) (FirstNoteRow p) (map LaterNoteRow ps), sum-map (row_slots k) LaterNoteRow ps, sum-zero {X = List ℕ} (λ _. 0) (λ _. refl) ps)
@@ -168,5 +168,5 @@ rich_sum k config header_text ps ss notes h =
       sum_by-cons (row_slots k) (HeaderRow None header_text) inner,
       sum_by-cons (row_slots k) FinalRow [],
       snippets_sum k config (has_any notes) ps ss h,
-      sum-flat_map_zero (row_slots k) (λ note. piece_rows (lines note)) (λ note. piece_sum k (lines note)) notes,
+      sum-flat_map_zero (row_slots k) (λ note. note_line_rows (lines note)) (λ note. piece_sum k (lines note)) notes,
     )

@@ -10,7 +10,7 @@ use Rattle.codespan_base.specs.Streams.{Stream}
 use Rattle.codespan_base.specs.Labels.{LabelModel, LaneMark, MultiLabel, Top, Left, Bottom}
 use Rattle.codespan_picture.specs.declared.lanes.Shape.{Shape}
 use Rattle.codespan_picture.specs.declared.lanes.Shape.TheVariants.{Space, Bar, TopCorner, BottomCorner}
-use Rattle.codespan_picture.specs.Lanes.{source_shape, below_shape, underline_shape, lane_mark_in, is_unbroken, begins_in_source_row, shape_of}
+use Rattle.codespan_picture.specs.Lanes.{source_shape, single_labels_shape, underline_shape, lane_mark_in, is_unbroken, begins_in_source_row, shape_of}
 use Rattle.codespan_laws.specs.LaneLaws.{shape_in}
 use Rattle.codespan_picture.specs.Rows.{Line, Row, SourceRow, CaretRow, PointerRow, HangingRow, UnderlineRow, caret_rows, hanging_rows, hanging_labels, underline_rows, rows_of, has_underline}
 use Rattle.codespan_picture.specs.RowParts.{leading_of}
@@ -60,9 +60,9 @@ pub no_lane_mark : (layout : Layout) (lane : ℕ) (line : Line) → lane_mark_in
 no_lane_mark layout lane line none = (
   ap (shape_of (source_shape (leading_of line))) none,
   each_after_source (Shows layout lane Space) line
-      (ap (shape_of (below_shape layout (leading_of line))) none)
-      (ap (shape_of (below_shape layout (leading_of line))) none)
-      (λ y. ap (shape_of (below_shape layout (leading_of line))) none)
+      (ap (shape_of (single_labels_shape layout (leading_of line))) none)
+      (ap (shape_of (single_labels_shape layout (leading_of line))) none)
+      (λ y. ap (shape_of (single_labels_shape layout (leading_of line))) none)
       (λ m. ap (shape_of (underline_shape layout (leading_of line) m.lane lane)) none),
 )
 
@@ -71,9 +71,9 @@ pub left_lane_mark : (layout : Layout) (lane : ℕ) (line : Line) (style : Label
 left_lane_mark layout lane line style is = (
   ap (shape_of (source_shape (leading_of line))) is,
   each_after_source (Shows layout lane Bar) line
-      (ap (shape_of (below_shape layout (leading_of line))) is)
-      (ap (shape_of (below_shape layout (leading_of line))) is)
-      (λ y. ap (shape_of (below_shape layout (leading_of line))) is)
+      (ap (shape_of (single_labels_shape layout (leading_of line))) is)
+      (ap (shape_of (single_labels_shape layout (leading_of line))) is)
+      (λ y. ap (shape_of (single_labels_shape layout (leading_of line))) is)
       (λ m. ap (shape_of (underline_shape layout (leading_of line) m.lane lane)) is),
 )
 
@@ -110,9 +110,9 @@ bottom_lane_mark layout lane line style end message is r = record {
     ap (shape_of (source_shape (leading_of line))) is,
     all-append (Shows layout lane Bar) (below_rows line) (map (UnderlineRow line) (filter (is_underlined line) r.low))
         (each_below (Shows layout lane Bar) line
-        (ap (shape_of (below_shape layout (leading_of line))) is)
-        (ap (shape_of (below_shape layout (leading_of line))) is)
-        (λ y. ap (shape_of (below_shape layout (leading_of line))) is))
+        (ap (shape_of (single_labels_shape layout (leading_of line))) is)
+        (ap (shape_of (single_labels_shape layout (leading_of line))) is)
+        (λ y. ap (shape_of (single_labels_shape layout (leading_of line))) is))
         (each_under (Shows layout lane Bar) line r.low
         (all-weaker (λ (o : LaneMark). o.lane < lane) (λ o. Shows layout lane Bar (UnderlineRow line o)) on_low r.low r.below)),
   );
@@ -187,8 +187,8 @@ top_early layout lane line style start is r early = record {
         ap (λ t. map (UnderlineRow line) (filter (is_underlined line) t)) r.is
         ∙ split_off (UnderlineRow line) (is_underlined line) r.low m r.high (ap not early)
 
-    gap : shape_of (below_shape Classic (leading_of line)) (lane_mark_in line.lanes.lane_marks lane) ≡ Space
-    gap = ap (shape_of (below_shape Classic (leading_of line))) is
+    gap : shape_of (single_labels_shape Classic (leading_of line)) (lane_mark_in line.lanes.lane_marks lane) ≡ Space
+    gap = ap (shape_of (single_labels_shape Classic (leading_of line))) is
 
     shown : (o : LaneMark) → shape_in Classic (UnderlineRow line o) lane ≡ cond (lane == o.lane) TopCorner (cond (nat_lt lane o.lane) Bar Space)
     shown o = ap (shape_of (underline_shape Classic (leading_of line) o.lane lane)) is
@@ -213,9 +213,9 @@ top_early layout lane line style start is r early = record {
         (all-weaker (λ (o : LaneMark). lane < o.lane) (λ o. GoesOn Classic lane line (SourceRow line) (UnderlineRow line o)) on_high r.high r.above))))
     by_layout Unbroken =
         each_after_source (GoesOn Unbroken lane line (SourceRow line)) line
-        (inl (ap (shape_of (below_shape Unbroken (leading_of line))) is ∙ ap (λ b. cond b Bar Space) early))
-        (inl (ap (shape_of (below_shape Unbroken (leading_of line))) is ∙ ap (λ b. cond b Bar Space) early))
-        (λ y. inl (ap (shape_of (below_shape Unbroken (leading_of line))) is ∙ ap (λ b. cond b Bar Space) early))
+        (inl (ap (shape_of (single_labels_shape Unbroken (leading_of line))) is ∙ ap (λ b. cond b Bar Space) early))
+        (inl (ap (shape_of (single_labels_shape Unbroken (leading_of line))) is ∙ ap (λ b. cond b Bar Space) early))
+        (λ y. inl (ap (shape_of (single_labels_shape Unbroken (leading_of line))) is ∙ ap (λ b. cond b Bar Space) early))
         (λ m. inl (ap (shape_of (underline_shape Unbroken (leading_of line) m.lane lane)) is
         ∙ ap (λ b. cond b Bar (cond (lane == m.lane) TopCorner (cond (nat_lt lane m.lane) Bar Space))) early))
 
@@ -223,7 +223,7 @@ top_early layout lane line style start is r early = record {
 late : (layout : Layout) (leading start : ℕ) → begins_in_source_row leading start ≡ false → (is_unbroken layout && begins_in_source_row leading start) ≡ false
 late layout leading start h = ap (λ b. is_unbroken layout && b) h ∙ and-false (is_unbroken layout)
 
-late_below : (layout : Layout) (leading start : ℕ) → begins_in_source_row leading start ≡ false → below_shape layout leading (Top start) ≡ Space
+late_below : (layout : Layout) (leading start : ℕ) → begins_in_source_row leading start ≡ false → single_labels_shape layout leading (Top start) ≡ Space
 late_below layout leading start h = ap (λ b. cond b Bar Space) (late layout leading start h)
 
 late_underline : (layout : Layout) (leading corner_lane lane start : ℕ) → begins_in_source_row leading start ≡ false
@@ -258,8 +258,8 @@ top_late layout lane line style start is r early = record {
     m : LaneMark
     m = lane_mark_with lane style (Top start)
 
-    under : shape_of (below_shape layout (leading_of line)) (lane_mark_in line.lanes.lane_marks lane) ≡ Space
-    under = ap (shape_of (below_shape layout (leading_of line))) is ∙ late_below layout (leading_of line) start early
+    under : shape_of (single_labels_shape layout (leading_of line)) (lane_mark_in line.lanes.lane_marks lane) ≡ Space
+    under = ap (shape_of (single_labels_shape layout (leading_of line))) is ∙ late_below layout (leading_of line) start early
 
     shown : (o : LaneMark) → shape_in layout (UnderlineRow line o) lane ≡ cond (lane == o.lane) TopCorner (cond (nat_lt lane o.lane) Bar Space)
     shown o = ap (shape_of (underline_shape layout (leading_of line) o.lane lane)) is ∙ late_underline layout (leading_of line) o.lane lane start early

@@ -5,7 +5,7 @@ use Rattle.std.specs.List.{range_with_len}
 use Rattle.codespan_base.specs.Labels.{LabelModel, LaneMark, MultiLabel}
 use Rattle.codespan_base.specs.Streams.{Stream, LabelStyleMark, Reset, style_mark, space}
 use Rattle.codespan_picture.specs.declared.lanes.Shape.{Shape}
-use Rattle.codespan_picture.specs.Lanes.{Source, Empty, Below, Underline, row_shape, row_crossing, source_shape, empty_shape, below_shape, lane_mark_in, shape_of, style_of_lane_mark, lane_cells}
+use Rattle.codespan_picture.specs.Lanes.{Source, Empty, SingleLabels, Underline, row_shape, row_crossing, source_shape, empty_shape, single_labels_shape, lane_mark_in, shape_of, style_of_lane_mark, lane_cells}
 use Rattle.codespan_picture.specs.Rows.{RowContext, Lanes, Line, Row, HeaderRow, SnippetStartRow, EmptyRow, BreakRow, SourceRow, CaretRow, PointerRow, HangingRow, UnderlineRow, FirstNoteRow, LaterNoteRow, FinalRow, trailing_label}
 use Rattle.codespan_picture.specs.RowParts.{outer_gutter, outer_gutter_number, border_left, border_left_break, label_message, inner_gutter_column, lanes_in, inner_gutter, line_metrics, line_metrics_to_end, leading_of, colored_text, carets, trailing_message, pointers, metrics_before, underline}
 use Rattle.codespan_picture.specs.RowStreams.{stream_of, empty_row, break_row, source_row, row_start, caret_row, pointer_row, hanging_row, underline_row}
@@ -55,9 +55,9 @@ source_are : (context : RowContext) (line : Line) → inner_gutter context (lead
 unfolding inner_gutter
 source_are context line = lanes_are context (λ _. None) (λ _. source_shape (leading_of line)) line.lanes
 
-below_are : (context : RowContext) (line : Line) → inner_gutter context (leading_of line) Below line.lanes ≡ lanes_shown context (CaretRow line) line.lanes
+below_are : (context : RowContext) (line : Line) → inner_gutter context (leading_of line) SingleLabels line.lanes ≡ lanes_shown context (CaretRow line) line.lanes
 unfolding inner_gutter
-below_are context line = lanes_are context (λ _. None) (λ _. below_shape context.layout (leading_of line)) line.lanes
+below_are context line = lanes_are context (λ _. None) (λ _. single_labels_shape context.layout (leading_of line)) line.lanes
 
 underline_are : (context : RowContext) (line : Line) (m : LaneMark)
     → inner_gutter context (leading_of line) (Underline m) line.lanes ≡ lanes_shown context (UnderlineRow line m) line.lanes
@@ -131,6 +131,6 @@ lanes_are_shown context (HangingRow line x) lanes has =
     subst (ShowsLanes context (HangingRow line x)) (same_Some line.lanes lanes has) (hanging_shows context line x)
 lanes_are_shown context (UnderlineRow line m) lanes has =
     subst (ShowsLanes context (UnderlineRow line m)) (same_Some line.lanes lanes has) (underline_shows context line m)
-lanes_are_shown context (FirstNoteRow piece) lanes has = absurd (none-some lanes has)
-lanes_are_shown context (LaterNoteRow piece) lanes has = absurd (none-some lanes has)
+lanes_are_shown context (FirstNoteRow note_line) lanes has = absurd (none-some lanes has)
+lanes_are_shown context (LaterNoteRow note_line) lanes has = absurd (none-some lanes has)
 lanes_are_shown context FinalRow lanes has = absurd (none-some lanes has)

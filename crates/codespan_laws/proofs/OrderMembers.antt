@@ -23,8 +23,8 @@ is_inside f l start end x = is_single f x && (first_line f x == l) && is_drawn_a
 
 -- the orders of a file's labels that its snippet shows
 pub record AreEqual (f : FileModel) (xs ys : List LabelModel) : Type 0 where
-  pub several_lines : multi_line_labels f xs ≡ multi_line_labels f ys
-  pub one_line : (l start end : ℕ) → filter (is_inside f l start end) xs ≡ filter (is_inside f l start end) ys
+  pub multi_line : multi_line_labels f xs ≡ multi_line_labels f ys
+  pub single_line : (l start end : ℕ) → filter (is_inside f l start end) xs ≡ filter (is_inside f l start end) ys
 
 -- ---- the same labels
 
@@ -64,14 +64,14 @@ passes-equal f xs ys equal p h =
     (λ (t : is_single f w.label ≡ true).
     let q = is_inside f (first_line f w.label) (drawn_label f w.label).start (drawn_label f w.label).end in
     any-filter p q ys
-    (ap (list_any p) (sym (equal.one_line (first_line f w.label) (drawn_label f w.label).start (drawn_label f w.label).end)) ∙ w.stays q (inside f w.label t)))
+    (ap (list_any p) (sym (equal.single_line (first_line f w.label) (drawn_label f w.label).start (drawn_label f w.label).end)) ∙ w.stays q (inside f w.label t)))
     (λ (t : is_single f w.label ≡ false).
-    any-filter p (λ x. not (is_single f x)) ys (ap (list_any p) (sym equal.several_lines) ∙ w.stays (λ x. not (is_single f x)) (ap not t)))
+    any-filter p (λ x. not (is_single f x)) ys (ap (list_any p) (sym equal.multi_line) ∙ w.stays (λ x. not (is_single f x)) (ap not t)))
     (cases_Bool (is_single f w.label))
 
 -- the other list shows the same orders
 equal-sym : (f : FileModel) (xs ys : List LabelModel) → AreEqual f xs ys → AreEqual f ys xs
-equal-sym f xs ys equal = record { several_lines = sym equal.several_lines; one_line = λ l start end. sym (equal.one_line l start end) }
+equal-sym f xs ys equal = record { multi_line = sym equal.multi_line; single_line = λ l start end. sym (equal.single_line l start end) }
 
 -- the lists pass the same tests
 pub same-tests : (f : FileModel) (xs ys : List LabelModel) → AreEqual f xs ys → SameTests xs ys
@@ -144,4 +144,4 @@ line_range f xs l start end =
 -- the labels of a line are in the same order
 pub singles-same : (f : FileModel) (xs ys : List LabelModel) → AreEqual f xs ys → (l : ℕ) → single_labels f xs l ≡ single_labels f ys l
 singles-same f xs ys equal l = sorted-same _ _
-    (λ start end. line_range f xs l start end ∙ ap (λ zs. reverse (map (drawn_label f) zs)) (equal.one_line l start end) ∙ sym (line_range f ys l start end))
+    (λ start end. line_range f xs l start end ∙ ap (λ zs. reverse (map (drawn_label f) zs)) (equal.single_line l start end) ∙ sym (line_range f ys l start end))

@@ -46,10 +46,10 @@ module _ (f : FileModel) (xs ys : List LabelModel) (equal : AreEqual f xs ys) wh
   lanes-same : (l : ℕ) → (line_at s l).lanes ≡ (line_at t l).lanes
   lanes-same l = ap {B = Lanes}
       (λ zs. record { count = length zs; lane_marks = filter_map (λ (entry : ℕ × LabelModel). lane_mark_of entry.0 entry.1 (multi_label_on f l entry.1)) (enumerate_from 0 zs) })
-      equal.several_lines
+      equal.multi_line
 
   bare-same : empty_lanes s ≡ empty_lanes t
-  bare-same = ap {B = Lanes} (λ (zs : List LabelModel). record { count = length zs; lane_marks = [] }) equal.several_lines
+  bare-same = ap {B = Lanes} (λ (zs : List LabelModel). record { count = length zs; lane_marks = [] }) equal.multi_line
 
   line-same : (l : ℕ) → line_at s l ≡ line_at t l
   line-same l = ap₂ {C = Line} (λ zs lanes. record { number = f.line_number l; text = text_without_line_end (line_text f l); labels = zs; lanes = lanes })
@@ -159,7 +159,7 @@ order_is_free {Id} same file xs ys o one_file orders = record {
     others = files-equal same file o one_file ys _ _ orders.files
 
     equal : (id : Id) → AreEqual (file id) (labeled_file_model same file xs id).labels (labeled_file_model same file ys id).labels
-    equal id = record { several_lines = orders.several_lines id; one_line = orders.one_line id }
+    equal id = record { multi_line = orders.multi_line id; single_line = orders.single_line id }
 
     have_same_rows : (view_config : Config) (id : Id) → HaveSameRows view_config (labeled_file_model same file xs id) (labeled_file_model same file ys id)
     have_same_rows view_config id = have_same_rows-same (file id) (labeled_file_model same file xs id).labels (labeled_file_model same file ys id).labels (equal id) view_config

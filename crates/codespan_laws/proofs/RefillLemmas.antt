@@ -11,7 +11,7 @@ use Rattle.codespan_picture.specs.declared.char_metrics.Metrics.{Metrics}
 use Rattle.codespan_picture.specs.Carets.{style_under, covers, max_label_end, is_overlapping}
 use Rattle.codespan_picture.specs.declared.lanes.Shape.{Shape}
 use Rattle.codespan_picture.specs.declared.lanes.Shape.TheVariants.{Space, Bar, TopCorner, BottomCorner}
-use Rattle.codespan_picture.specs.Lanes.{source_shape, empty_shape, below_shape, underline_shape, lane_mark_in, underline_char, crossing_cells, lane_cells, Source, Empty, Below, Underline}
+use Rattle.codespan_picture.specs.Lanes.{source_shape, empty_shape, single_labels_shape, underline_shape, lane_mark_in, underline_char, crossing_cells, lane_cells, Source, Empty, SingleLabels, Underline}
 use Rattle.codespan_picture.specs.Rows.{RowContext, Lanes, Line, trailing_label, hanging_labels}
 use Rattle.codespan_picture.proofs.Rightmost.{Around, others, behind, around_with_end, around_trails, around_rightmost, trailing_of, hanging_of, trailing_is, hanging_is}
 use Rattle.codespan_picture.specs.RowParts.{styled, inner_gutter_column, lanes_in, inner_gutter, line_metrics, multi_label_covers, source_style, source_glyph, colored_text, caret_glyphs, carets, pointer_style, pointer_at, pointers, starts_in, max_label_start}
@@ -184,10 +184,10 @@ module _ (φ : Stream → Stream) (keeps : (s : Stream) → is_empty_stream (φ 
   empty_shape-re Left = refl
   empty_shape-re (Bottom end message) = refl
 
-  below_shape-re : (layout : _) (leading : ℕ) (multi_label : MultiLabel) → below_shape layout leading (re_multi_label φ multi_label) ≡ below_shape layout leading multi_label
-  below_shape-re layout leading (Top start) = refl
-  below_shape-re layout leading Left = refl
-  below_shape-re layout leading (Bottom end message) = refl
+  single_labels_shape-re : (layout : _) (leading : ℕ) (multi_label : MultiLabel) → single_labels_shape layout leading (re_multi_label φ multi_label) ≡ single_labels_shape layout leading multi_label
+  single_labels_shape-re layout leading (Top start) = refl
+  single_labels_shape-re layout leading Left = refl
+  single_labels_shape-re layout leading (Bottom end message) = refl
 
   underline_shape-re : (layout : _) (leading corner_lane lane : ℕ) (multi_label : MultiLabel)
       → underline_shape layout leading corner_lane lane (re_multi_label φ multi_label) ≡ underline_shape layout leading corner_lane lane multi_label
@@ -203,9 +203,9 @@ module _ (φ : Stream → Stream) (keeps : (s : Stream) → is_empty_stream (φ 
   unfolding inner_gutter
   plain_lanes-re context lanes = lanes-re context (λ _. None) (λ _. None) (λ _. empty_shape) lanes (λ _. refl) (λ _. empty_shape-re)
 
-  pub below_lanes-re : (context : RowContext) (leading : ℕ) (lanes : Lanes) → inner_gutter context leading Below (re_lanes φ lanes) ≡ inner_gutter context leading Below lanes
+  pub below_lanes-re : (context : RowContext) (leading : ℕ) (lanes : Lanes) → inner_gutter context leading SingleLabels (re_lanes φ lanes) ≡ inner_gutter context leading SingleLabels lanes
   unfolding inner_gutter
-  below_lanes-re context leading lanes = lanes-re context (λ _. None) (λ _. None) (λ _. below_shape context.layout leading) lanes (λ _. refl) (λ _. below_shape-re context.layout leading)
+  below_lanes-re context leading lanes = lanes-re context (λ _. None) (λ _. None) (λ _. single_labels_shape context.layout leading) lanes (λ _. refl) (λ _. single_labels_shape-re context.layout leading)
 
   pub underline_lanes-re : (context : RowContext) (leading : ℕ) (m : LaneMark) (lanes : Lanes)
       → inner_gutter context leading (Underline (re_lane_mark φ m)) (re_lanes φ lanes) ≡ inner_gutter context leading (Underline m) lanes

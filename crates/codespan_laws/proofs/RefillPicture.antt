@@ -13,7 +13,7 @@ use Rattle.codespan_base.specs.Labels.{LabelModel, is_empty_stream, LaneMark, Mu
 use Rattle.codespan_picture.specs.CharMetrics.{leading_whitespace}
 use Rattle.codespan_picture.specs.Lines.{shows, is_shown, drawn_lines, has_break_between}
 use Rattle.codespan_picture.specs.Rows.{Locus, HeaderText, Lanes, Line, HeaderRow, SnippetStartRow, EmptyRow, BreakRow, SourceRow, PointerRow, HangingRow, UnderlineRow, FirstNoteRow, LaterNoteRow, FinalRow, hanging_labels, has_underline, caret_rows, hanging_rows, underline_rows, rows_of}
-use Rattle.codespan_picture.specs.Snippets.{LabeledFileModel, InFile, labeled_file_model, labeled_file_models, num_multi_labels, empty_lanes, line_at, rows_after, snippet, has_any, row_after, snippets, piece_rows, note_rows, rich_rows}
+use Rattle.codespan_picture.specs.Snippets.{LabeledFileModel, InFile, labeled_file_model, labeled_file_models, num_multi_labels, empty_lanes, line_at, rows_after, snippet, has_any, row_after, snippets, note_line_rows, note_rows, rich_rows}
 use Rattle.codespan_laws.proofs.FillLemmas.{breaks_before}
 use Rattle.codespan_picture.specs.Padding.{spans, spanned_lines, numbered_lines, digits_of, padding_of}
 use Rattle.codespan_laws.proofs.RefillLemmas.{any-map, filter-map, map-append', re, re_multi_label, re_lane_mark, re_lanes, re_line, hanging_labels-re}
@@ -212,14 +212,14 @@ module _ (φ : Stream → Stream) (keeps : (s : Stream) → is_empty_stream (φ 
       ∙ ap (λ b. snippet config p (re_file φ s) ++ row_after b (re_file φ s)) (sym (is_followed-re has_notes ss)))
       (snippets-re config has_notes ps ss)
 
-  piece-re : (ps : List (List ℕ)) → map (re_row φ) (piece_rows ps) ≡ piece_rows ps
-  piece-re [] = refl
-  piece-re (p ∷ ps) = ap (λ rows. FirstNoteRow p ∷ rows) (map-map (re_row φ) LaterNoteRow ps)
+  note_line-re : (ps : List (List ℕ)) → map (re_row φ) (note_line_rows ps) ≡ note_line_rows ps
+  note_line-re [] = refl
+  note_line-re (p ∷ ps) = ap (λ rows. FirstNoteRow p ∷ rows) (map-map (re_row φ) LaterNoteRow ps)
 
   notes-re : (notes : List (List ℕ)) → map (re_row φ) (note_rows notes) ≡ note_rows notes
   notes-re [] = refl
   notes-re (note ∷ notes) =
-      map-append' (re_row φ) (piece_rows (lines note)) (note_rows notes) ∙ ap₂ (λ a b. a ++ b) (piece-re (lines note)) (notes-re notes)
+      map-append' (re_row φ) (note_line_rows (lines note)) (note_rows notes) ∙ ap₂ (λ a b. a ++ b) (note_line-re (lines note)) (notes-re notes)
 
   pub rich-re : (config : Config) (header_text : HeaderText) (ps : List Locus) (ss : List LabeledFileModel) (notes : List (List ℕ))
       → map (re_row φ) (rich_rows config header_text ps ss notes) ≡ rich_rows config header_text ps (map (re_file φ) ss) notes

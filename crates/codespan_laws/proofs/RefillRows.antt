@@ -71,8 +71,8 @@ re_row φ (CaretRow line) = CaretRow (re_line φ line)
 re_row φ (PointerRow line) = PointerRow (re_line φ line)
 re_row φ (HangingRow line x) = HangingRow (re_line φ line) (re φ x)
 re_row φ (UnderlineRow line m) = UnderlineRow (re_line φ line) (re_lane_mark φ m)
-re_row φ (FirstNoteRow piece) = FirstNoteRow piece
-re_row φ (LaterNoteRow piece) = LaterNoteRow piece
+re_row φ (FirstNoteRow note_line) = FirstNoteRow note_line
+re_row φ (LaterNoteRow note_line) = LaterNoteRow note_line
 re_row φ FinalRow = FinalRow
 
 blank-append : (s t : Stream) → is_empty_stream s ≡ false → is_empty_stream (s ++ t) ≡ false
@@ -169,8 +169,8 @@ module _ (m : ℕ → List ℕ) (full : (k : ℕ) → is_empty_stream (map Byte 
       (one-style_mark (LabelStyleMark context.severity a.style)))
       (underline-re context.chars a.style (line_metrics context line) a.multi_label))
       (one-style_mark Reset)
-  fill-row context (FirstNoteRow piece) = without_slots _ (λ k. slot.slots-stream_of k context (FirstNoteRow piece)) refl
-  fill-row context (LaterNoteRow piece) = without_slots _ (λ k. slot.slots-stream_of k context (LaterNoteRow piece)) refl
+  fill-row context (FirstNoteRow note_line) = without_slots _ (λ k. slot.slots-stream_of k context (FirstNoteRow note_line)) refl
+  fill-row context (LaterNoteRow note_line) = without_slots _ (λ k. slot.slots-stream_of k context (LaterNoteRow note_line)) refl
   fill-row context FinalRow = without_slots [] (λ k. slot.slots-nil k) refl
 
   pub fill-rows : (context : RowContext) (rows : List Row) → fill m (stream_of_rows context rows) ≡ stream_of_rows context (map (re_row (fill m)) rows)

@@ -125,9 +125,9 @@ closes-bytes bs = record { closed = ends_reset-bytes true bs }
 
 ends_reset-source_glyph : (closed : Bool) (c : Metrics) → ends_reset closed (source_glyph c) ≡ closed
 unfolding source_glyph
-ends_reset-source_glyph closed c = by_test (c.code == 9)
+ends_reset-source_glyph closed c = by_test (c.ch == 9)
   where
-    by_test : (b : Bool) → ends_reset closed (if b then spaces c.unicode_width else glyph c.code) ≡ closed
+    by_test : (b : Bool) → ends_reset closed (if b then spaces c.unicode_width else glyph c.ch) ≡ closed
     by_test true = ends_reset-spaces closed c.unicode_width
     by_test false = ends_reset-bytes closed _
 
@@ -222,8 +222,8 @@ closes-row context (PointerRow line) = closes-append _ _ (closes-row_start conte
 closes-row context (HangingRow line x) =
     closes-append _ _ (closes-append _ _ (closes-row_start context line) (closes-pointers context line.labels _)) (closes-label_message context.severity x.style x.message)
 closes-row context (UnderlineRow line m) = closes-reset _
-closes-row context (FirstNoteRow piece) = closes-append _ (bytes piece) (closes-append _ space (closes-reset _) (closes-bytes _)) (closes-bytes piece)
-closes-row context (LaterNoteRow piece) = closes-append _ (bytes piece) (closes-append _ space (closes-append _ space (closes-outer_gutter _) (closes-bytes _)) (closes-bytes _)) (closes-bytes piece)
+closes-row context (FirstNoteRow note_line) = closes-append _ (bytes note_line) (closes-append _ space (closes-reset _) (closes-bytes _)) (closes-bytes note_line)
+closes-row context (LaterNoteRow note_line) = closes-append _ (bytes note_line) (closes-append _ space (closes-append _ space (closes-outer_gutter _) (closes-bytes _)) (closes-bytes _)) (closes-bytes note_line)
 closes-row context FinalRow = record { closed = refl }
 
 pub rows_end_reset : RowsEndReset

@@ -20,7 +20,7 @@ use Rattle.codespan_picture.specs.declared.lanes.Shape.{Shape}
 use Rattle.codespan_picture.specs.declared.lanes.Shape.TheVariants.{Space, Bar, TopCorner, BottomCorner}
 use Rattle.codespan_picture.specs.Carets.{caret_for, max_label_end, style_under}
 use Rattle.codespan_picture.specs.CharMetrics.{char_metrics, metrics_then, width_of, width_at}
-use Rattle.codespan_picture.specs.Lanes.{LaneRow, Source, Empty, Below, Underline, underline_char, crossing_cells, label_glyph, lane_cells, lane_mark_in, row_crossing, row_shape, shape_of, style_of_lane_mark}
+use Rattle.codespan_picture.specs.Lanes.{LaneRow, Source, Empty, SingleLabels, Underline, underline_char, crossing_cells, label_glyph, lane_cells, lane_mark_in, row_crossing, row_shape, shape_of, style_of_lane_mark}
 use Rattle.codespan_picture.specs.Rows.{Locus, RowContext, Lanes, Line, Row, HeaderRow, SnippetStartRow, EmptyRow, BreakRow, SourceRow, CaretRow, PointerRow, HangingRow, UnderlineRow, FirstNoteRow, LaterNoteRow, FinalRow, hanging_labels, trailing_label}
 use Rattle.codespan_picture.specs.RowParts.{locus, label_message, inner_gutter_column, inner_gutter, leading_of, line_metrics, line_metrics_to_end, source_style, source_glyph, colored_text, caret_glyphs, carets, trailing_message, starts_in, max_label_start, spaces_up_to, pointer_style, pointer_at, pointers, metrics_before, metrics_up_to, start_caret, end_caret, underline_message, underline}
 use Rattle.codespan_picture.specs.RowStreams.{bracketed, leading_locus, header_row, snippet_start_row, empty_row, break_row, source_row, row_start, caret_row, pointer_row, hanging_row, underline_row, first_note_row, later_note_row, stream_of, stream_of_rows}
@@ -77,23 +77,23 @@ and_true true b e = (refl, e)
 and_true false b e = absurd (cc)
 
 -- the codes of characters are characters where those of the text are
-scalar-metrics_then : (after : ℕ → ℕ → List Metrics) (tab : ℕ) → ((p k : ℕ) → AllByRecursion (λ (c : Metrics). IsScalar c.code) (after p k)) → (cs : List ℕ) → all_scalars cs ≡ true
-    → (byte_index column : ℕ) → AllByRecursion (λ (c : Metrics). IsScalar c.code) (metrics_then after tab byte_index column cs)
+scalar-metrics_then : (after : ℕ → ℕ → List Metrics) (tab : ℕ) → ((p k : ℕ) → AllByRecursion (λ (c : Metrics). IsScalar c.ch) (after p k)) → (cs : List ℕ) → all_scalars cs ≡ true
+    → (byte_index column : ℕ) → AllByRecursion (λ (c : Metrics). IsScalar c.ch) (metrics_then after tab byte_index column cs)
 scalar-metrics_then after tab h [] e byte_index column = h byte_index column
 scalar-metrics_then after tab h (c ∷ cs) e byte_index column =
     let both = and_true (scalar c) (all_scalars cs) e in
     (both.0, scalar-metrics_then after tab h cs both.1 (byte_index + len_utf8 c) (column + width_at tab column c))
 
-scalar-char_metrics : (tab : ℕ) (text : List ℕ) → IsUtf8 text → AllByRecursion (λ (c : Metrics). IsScalar c.code) (char_metrics tab text)
+scalar-char_metrics : (tab : ℕ) (text : List ℕ) → IsUtf8 text → AllByRecursion (λ (c : Metrics). IsScalar c.ch) (char_metrics tab text)
 scalar-char_metrics tab text u = scalar-metrics_then (λ _ _. []) tab (λ p k. tt) (chars text) (scalars-chars text u) 0 0
 
-text-source_glyph : (c : Metrics) → IsScalar c.code → IsText (source_glyph c)
+text-source_glyph : (c : Metrics) → IsScalar c.ch → IsText (source_glyph c)
 unfolding source_glyph
-text-source_glyph c s = by (c.code == 9)
+text-source_glyph c s = by (c.ch == 9)
   where
-    by : (b : Bool) → IsText (if b then spaces c.unicode_width else glyph c.code)
+    by : (b : Bool) → IsText (if b then spaces c.unicode_width else glyph c.ch)
     by true = text-spaces c.unicode_width
-    by false = text-glyph c.code s
+    by false = text-glyph c.ch s
 
 -- ---- what a row is of
 
@@ -116,8 +116,8 @@ IsTextRow (SourceRow line) = IsUtf8 line.text
 IsTextRow (CaretRow line) = AllByRecursion (λ (x : LabelModel). IsText x.message) line.labels
 IsTextRow (HangingRow line x) = IsText x.message
 IsTextRow (UnderlineRow line m) = IsTextMultiLabel m.multi_label
-IsTextRow (FirstNoteRow piece) = IsUtf8 piece
-IsTextRow (LaterNoteRow piece) = IsUtf8 piece
+IsTextRow (FirstNoteRow note_line) = IsUtf8 note_line
+IsTextRow (LaterNoteRow note_line) = IsUtf8 note_line
 IsTextRow _ = Unit {0}
 
 -- ---- rows
@@ -174,7 +174,7 @@ module _ (context : RowContext) (ok : AreCharacters context.chars) where
   unfolding colored_text
   text-colored line u =
       text-styled context.severity (source_style line) source_glyph None (line_metrics context line)
-      (all-weaker (λ (c : Metrics). IsScalar c.code) (λ (c : Metrics). IsText (source_glyph c)) text-source_glyph (line_metrics context line) (scalar-char_metrics context.tab_width line.text u))
+      (all-weaker (λ (c : Metrics). IsScalar c.ch) (λ (c : Metrics). IsText (source_glyph c)) text-source_glyph (line_metrics context line) (scalar-char_metrics context.tab_width line.text u))
 
   -- the carets
   text-caret_glyphs : (end : ℕ) (style : Option LabelStyle) (c : Metrics) → IsText (caret_glyphs context.chars end style c)
@@ -224,7 +224,7 @@ module _ (context : RowContext) (ok : AreCharacters context.chars) where
 
   text-row_start : (line : Line) → IsText (row_start context line)
   unfolding row_start
-  text-row_start line = followed (followed (followed (text-outer_gutter context.padding) (text-border_left context.chars ok)) (text-inner_gutter (leading_of line) Below line.lanes)) text-space
+  text-row_start line = followed (followed (followed (text-outer_gutter context.padding) (text-border_left context.chars ok)) (text-inner_gutter (leading_of line) SingleLabels line.lanes)) text-space
 
   -- the stream of a row is a text where what the row is of is
   pub text-row : (row : Row) → IsTextRow row → IsText (stream_of context row)
@@ -247,10 +247,10 @@ module _ (context : RowContext) (ok : AreCharacters context.chars) where
       followed (followed (text-row_start line) (text-pointers line.labels (metrics_before x.start (line_metrics context line)))) (text-label_message context.severity x.style x.message h)
   text-row (UnderlineRow line m) h =
       followed (followed (followed (followed (followed (text-outer_gutter context.padding) (text-border_left context.chars ok)) (text-inner_gutter (leading_of line) (Underline m) line.lanes)) (text-style_mark (LabelStyleMark context.severity m.style))) (text-underline m.style (line_metrics context line) m.multi_label h)) (text-style_mark Reset)
-  text-row (FirstNoteRow piece) h =
-      followed (followed (followed (followed (followed (text-outer_gutter context.padding) (text-style_mark NoteBullet)) (text-glyph context.chars.note_bullet ok.note_bullet)) (text-style_mark Reset)) text-space) (text-bytes piece h)
-  text-row (LaterNoteRow piece) h =
-      followed (followed (followed (text-outer_gutter context.padding) text-space) text-space) (text-bytes piece h)
+  text-row (FirstNoteRow note_line) h =
+      followed (followed (followed (followed (followed (text-outer_gutter context.padding) (text-style_mark NoteBullet)) (text-glyph context.chars.note_bullet ok.note_bullet)) (text-style_mark Reset)) text-space) (text-bytes note_line h)
+  text-row (LaterNoteRow note_line) h =
+      followed (followed (followed (text-outer_gutter context.padding) text-space) text-space) (text-bytes note_line h)
   text-row FinalRow h = text-none
 
   -- and so are those of many rows

@@ -132,9 +132,9 @@ slots-styled k severity style shown h previous (c ∷ cs) =
 
 pub slots-source_glyph : (k : ℕ) (c : Metrics) → slots k (source_glyph c) ≡ 0
 unfolding source_glyph
-slots-source_glyph k c = by_test (c.code == 9)
+slots-source_glyph k c = by_test (c.ch == 9)
   where
-    by_test : (b : Bool) → slots k (if b then spaces c.unicode_width else glyph c.code) ≡ 0
+    by_test : (b : Bool) → slots k (if b then spaces c.unicode_width else glyph c.ch) ≡ 0
     by_test true = slots-spaces k c.unicode_width
     by_test false = slots-bytes k _
 
@@ -239,8 +239,8 @@ slots-stream_of k context (CaretRow line) = simp (parts, slots-row_start, slots-
 slots-stream_of k context (PointerRow line) = simp (parts, slots-row_start)
 slots-stream_of k context (HangingRow line x) = simp (parts, slots-row_start, slots-label_message) (omega arith)
 slots-stream_of k context (UnderlineRow line m) = simp (parts, slots-underline) (omega arith)
-slots-stream_of k context (FirstNoteRow piece) = simp parts
-slots-stream_of k context (LaterNoteRow piece) = simp parts
+slots-stream_of k context (FirstNoteRow note_line) = simp parts
+slots-stream_of k context (LaterNoteRow note_line) = simp parts
 slots-stream_of k context FinalRow = slots-nil k
 
 pub slots-rows : (k : ℕ) (context : RowContext) (rows : List Row) → slots k (stream_of_rows context rows) ≡ sum_by (row_slots k) rows

@@ -9,7 +9,7 @@ use Rattle.codespan_base.specs.Labels.{LabelModel, first_line, last_line, multi_
 use Rattle.codespan_base.specs.Streams.{Stream}
 use Rattle.codespan_picture.specs.declared.lanes.Shape.{Shape}
 use Rattle.codespan_picture.specs.declared.lanes.Shape.TheVariants.{Space, Bar, TopCorner, BottomCorner}
-use Rattle.codespan_picture.specs.Lanes.{LaneRow, Source, Empty, Below, Underline, row_shape, row_crossing, lane_mark_in, shape_of, style_of_lane_mark, is_unbroken, lane_cells}
+use Rattle.codespan_picture.specs.Lanes.{LaneRow, Source, Empty, SingleLabels, Underline, row_shape, row_crossing, lane_mark_in, shape_of, style_of_lane_mark, is_unbroken, lane_cells}
 use Rattle.codespan_picture.specs.Rows.{Locus, RowContext, Lanes, Line, Row, EmptyRow, BreakRow, SourceRow, CaretRow, PointerRow, HangingRow, UnderlineRow}
 use Rattle.codespan_picture.specs.RowParts.{outer_gutter, outer_gutter_number, border_left, border_left_break, leading_of}
 use Rattle.codespan_picture.specs.RowStreams.{stream_of}
@@ -33,9 +33,9 @@ lanes_of_row row = option_map (λ (line : Line). line.lanes) (line_of_row row)
 -- the kind of a row, as far as its lanes go
 abbrev pub kind_of : Row → LaneRow
 kind_of (SourceRow line) = Source
-kind_of (CaretRow line) = Below
-kind_of (PointerRow line) = Below
-kind_of (HangingRow line x) = Below
+kind_of (CaretRow line) = SingleLabels
+kind_of (PointerRow line) = SingleLabels
+kind_of (HangingRow line x) = SingleLabels
 kind_of (UnderlineRow line m) = Underline m
 kind_of _ = Empty
 

@@ -33,9 +33,9 @@ one_range_of same file xs id l start end =
 pub record SameOrders {Id : Type 0} (same : Id → Id → Bool) (file : Id → FileModel)
     (xs ys : List (InFile Id)) : Type 0 where
   pub files : pointwise same (file_ids same xs) (file_ids same ys) ≡ true
-  pub several_lines : (id : Id)
+  pub multi_line : (id : Id)
       → multi_line_labels_of same file xs id ≡ multi_line_labels_of same file ys id
-  pub one_line : (id : Id) (l start end : ℕ)
+  pub single_line : (id : Id) (l start end : ℕ)
       → one_range_of same file xs id l start end ≡ one_range_of same file ys id l start end
 
 -- the starts of one order are those of the other, and with any loci both render the same

@@ -43,8 +43,8 @@ module _ (config : Config) (severity : Severity) (padding : ℕ) (start other : 
   row_equal (PointerRow line) = refl
   row_equal (HangingRow line x) = refl
   row_equal (UnderlineRow line m) = refl
-  row_equal (FirstNoteRow piece) = refl
-  row_equal (LaterNoteRow piece) = refl
+  row_equal (FirstNoteRow note_line) = refl
+  row_equal (LaterNoteRow note_line) = refl
   row_equal FinalRow = refl
 
   -- all rows are the same

@@ -27,7 +27,7 @@ abbrev pub metrics_then : (ℕ → ℕ → List Metrics) → ℕ → ℕ → ℕ
 metrics_then after tab byte_index column [] = after byte_index column
 metrics_then after tab byte_index column (c ∷ cs) =
     record {
-      code = c;
+      ch = c;
       byte_index = byte_index;
       bytes = len_utf8 c;
       column = column;
@@ -42,7 +42,7 @@ char_metrics tab line = metrics_then (λ _ _. []) tab 0 0 (chars line)
 -- the placeholder after the last character: one more, of one byte and one cell
 abbrev pub placeholder : ℕ → ℕ → List Metrics
 placeholder byte_index column =
-    record { code = 32; byte_index = byte_index; bytes = 1; column = column; unicode_width = 1 }
+    record { ch = 32; byte_index = byte_index; bytes = 1; column = column; unicode_width = 1 }
     ∷ []
 
 -- the same, and the placeholder after the last one

@@ -26,10 +26,10 @@ is_unbroken Classic = false
 is_unbroken Unbroken = true
 
 -- what it shows in the caret, pointer and hanging rows
-abbrev pub below_shape : Layout → ℕ → MultiLabel → Shape
-below_shape layout leading (Top start) =
+abbrev pub single_labels_shape : Layout → ℕ → MultiLabel → Shape
+single_labels_shape layout leading (Top start) =
     if is_unbroken layout && begins_in_source_row leading start then Bar else Space
-below_shape layout leading _ = Bar
+single_labels_shape layout leading _ = Bar
 
 -- what it shows in the underline row of the lane `corner_lane`
 abbrev pub underline_shape : Layout → ℕ → ℕ → ℕ → MultiLabel → Shape
@@ -45,14 +45,14 @@ underline_shape layout leading corner_lane lane (Bottom end message) =
 pub data LaneRow : Type 0 where
   Source : LaneRow
   Empty : LaneRow
-  Below : LaneRow
+  SingleLabels : LaneRow
   Underline : LaneMark → LaneRow
 
 -- the table of lanes: what a multi-line label mark shows in a kind of row
 abbrev pub row_shape : Layout → ℕ → LaneRow → ℕ → MultiLabel → Shape
 row_shape layout leading Source lane = source_shape leading
 row_shape layout leading Empty lane = empty_shape
-row_shape layout leading Below lane = below_shape layout leading
+row_shape layout leading SingleLabels lane = single_labels_shape layout leading
 row_shape layout leading (Underline m) lane = underline_shape layout leading m.lane lane
 
 -- the lane mark, in its own underline row, whose corner is left of the lane

@@ -121,7 +121,7 @@ source_style line c =
 
 -- a tab is written as spaces
 unfoldable pub source_glyph : Metrics → Stream
-source_glyph c = if c.code == 9 then spaces c.unicode_width else glyph c.code
+source_glyph c = if c.ch == 9 then spaces c.unicode_width else glyph c.ch
 
 -- the text of a source row
 unfoldable pub colored_text : RowContext → Line → Stream

@@ -5,7 +5,7 @@ use Rattle.codespan_picture.specs.Types.{Severity, Chars}
 use Rattle.codespan_base.specs.Streams.{Stream, Header, HeaderMessage, NoteBullet, SourceBorder, LabelStyleMark, Reset, style_mark, glyph, bytes, space, newline}
 use Rattle.codespan_base.specs.Labels.{LabelModel, LaneMark}
 use Rattle.codespan_base.specs.SnippetStarts.{start_text}
-use Rattle.codespan_picture.specs.Lanes.{Source, Empty, Below, Underline}
+use Rattle.codespan_picture.specs.Lanes.{Source, Empty, SingleLabels, Underline}
 use Rattle.codespan_picture.specs.Rows.{Locus, HeaderText, RowContext, Lanes, Line, Row, HeaderRow, SnippetStartRow, EmptyRow, BreakRow, SourceRow, CaretRow, PointerRow, HangingRow, UnderlineRow, FirstNoteRow, LaterNoteRow, FinalRow, trailing_label}
 use Rattle.codespan_picture.specs.RowParts.{severity_name, locus, outer_gutter, outer_gutter_number, border_left, border_left_break, label_message, inner_gutter, leading_of, line_metrics, line_metrics_to_end, colored_text, carets, trailing_message, pointers, metrics_before, underline}
 
@@ -58,7 +58,7 @@ source_row context line =
 unfoldable pub row_start : RowContext → Line → Stream
 row_start context line =
     outer_gutter context.padding ++ border_left context.chars
-    ++ inner_gutter context (leading_of line) Below line.lanes ++ space
+    ++ inner_gutter context (leading_of line) SingleLabels line.lanes ++ space
 
 -- the carets under a line
 unfoldable pub caret_row : RowContext → Line → Stream
@@ -88,13 +88,13 @@ underline_row context line m =
 
 -- the first row of a note
 unfoldable pub first_note_row : Chars → ℕ → List ℕ → Stream
-first_note_row chars padding piece =
+first_note_row chars padding note_line =
     outer_gutter padding ++ style_mark NoteBullet ++ glyph chars.note_bullet ++ style_mark Reset
-    ++ space ++ bytes piece
+    ++ space ++ bytes note_line
 
 -- a later row of a note
 unfoldable pub later_note_row : ℕ → List ℕ → Stream
-later_note_row padding piece = outer_gutter padding ++ space ++ space ++ bytes piece
+later_note_row padding note_line = outer_gutter padding ++ space ++ space ++ bytes note_line
 
 -- the stream of a row
 abbrev pub stream_of : RowContext → Row → Stream
@@ -107,8 +107,8 @@ stream_of context (CaretRow line) = caret_row context line
 stream_of context (PointerRow line) = pointer_row context line
 stream_of context (HangingRow line x) = hanging_row context line x
 stream_of context (UnderlineRow line m) = underline_row context line m
-stream_of context (FirstNoteRow piece) = first_note_row context.chars context.padding piece
-stream_of context (LaterNoteRow piece) = later_note_row context.padding piece
+stream_of context (FirstNoteRow note_line) = first_note_row context.chars context.padding note_line
+stream_of context (LaterNoteRow note_line) = later_note_row context.padding note_line
 stream_of context FinalRow = []
 
 -- the stream of many rows, each ended by one newline

@@ -118,13 +118,13 @@ snippets config has_notes (p ∷ ps) (s ∷ ss) =
     snippet config p s ++ row_after (has_any ss || has_notes) s ++ snippets config has_notes ps ss
 
 -- the rows of a note's lines
-abbrev pub piece_rows : List (List ℕ) → List Row
-piece_rows [] = []
-piece_rows (p ∷ ps) = FirstNoteRow p ∷ map LaterNoteRow ps
+abbrev pub note_line_rows : List (List ℕ) → List Row
+note_line_rows [] = []
+note_line_rows (p ∷ ps) = FirstNoteRow p ∷ map LaterNoteRow ps
 
 -- the rows of the notes
 abbrev pub note_rows : List (List ℕ) → List Row
-note_rows notes = flat_map (λ note. piece_rows (lines note)) notes
+note_rows notes = flat_map (λ note. note_line_rows (lines note)) notes
 
 -- the rows of rich style, where the files' snippets have these loci
 abbrev pub rich_rows : Config → HeaderText → List Locus → List LabeledFileModel → List (List ℕ)

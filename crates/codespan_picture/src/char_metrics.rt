@@ -4,7 +4,7 @@
 #[derive(Clone, Copy)]
 pub struct Metrics {
     /// The character.
-    pub code: char,
+    pub ch: char,
     /// The byte index in the line at which it begins.
     pub byte_index: usize,
     /// How many bytes it has in UTF-8.

@@ -20,7 +20,7 @@ use Rattle.codespan_picture.specs.Sequences.{break_between, in_sequence}
 use Rattle.codespan_annotations.specs.FileIndices.{IsIdAt}
 use Rattle.codespan_collect.specs.IndexedLabels.{all_annotations}
 use Rattle.codespan_picture.specs.Snippets.{InFile, LabeledFileModel, labeled_file_model, num_multi_labels, line_at, line_rows, break_rows, rows_after, file_ids}
-use Rattle.codespan_plan.specs.SnippetLines.{are_shown, lane_marks_in, lines_of, single_labels_in, line_of_group, rows_of_lines, fills_of, are_lane_marks_in_order, is_line_in_order}
+use Rattle.codespan_plan.specs.SnippetLines.{are_shown, lane_marks_in, lines_of, single_labels_in, line_of_group, rows_of_lines, filled_lines_of, are_lane_marks_in_order, is_line_in_order}
 use Rattle.codespan_plan.proofs.AnnotationGroups.{lines_after, snippet_lines-by_line, all-on_line}
 use Rattle.codespan_plan.proofs.AnnotationLines as annotation_lines
 use Rattle.codespan_plan.proofs.FileLabels.{HasFileIndex, is_of_range}
@@ -223,8 +223,8 @@ module _ {Id : Type 0} {database : FileDatabase Id} (lawful : AreFiles database)
       ∙ (λ i. in_sequence (λ l. l) (break_between (break_rows (λ l. line-is l i))) (line_rows (λ l. line-is l i)) None (drawn_lines config s.file s.labels))
 
   -- they fill in the lines that are drawn and not shown
-  pub snippet-fills : fills_of (lines_of own) ≡ filled_lines config s
-  snippet-fills = ap fills_of snippet_lines-are ∙ snippet_lines-fills bucket is_shown (line_count (file id)) (none_past config s)
+  pub snippet-fills : filled_lines_of (lines_of own) ≡ filled_lines config s
+  snippet-fills = ap filled_lines_of snippet_lines-are ∙ snippet_lines-fills bucket is_shown (line_count (file id)) (none_past config s)
 
   -- they render the drawn lines
   pub snippet-lines : lines_of_snippet_lines (lines_of own) ≡ drawn_lines config s.file s.labels

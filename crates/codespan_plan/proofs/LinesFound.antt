@@ -12,7 +12,7 @@ use Rattle.codespan_picture.specs.Lookups.{Failures, lookups_of_file, first_erro
 use Rattle.codespan_plan.specs.declared.plan.snippet_lines.SnippetLine.{SnippetLine as RustLine}
 use Rattle.codespan_plan.specs.SnippetLineViews.{AddsLines, IsSnippetLineIn, numbers_looked_up, snippet_line_view}
 use Rattle.codespan_annotations.specs.Annotations.{Annotation}
-use Rattle.codespan_plan.specs.SnippetLines.{SnippetLine, Labeled, fill_of, fills_of}
+use Rattle.codespan_plan.specs.SnippetLines.{SnippetLine, Labeled, filled_line_of, filled_lines_of}
 use Rattle.codespan_collect.proofs.FirstErrors.{first_error-lookups, or_failure-succeeded, or_failure-some}
 use Rattle.codespan_laws.proofs.ListElements.{all-append}
 
@@ -31,8 +31,8 @@ module _ {Id : Type 0} {layout : Layout} {f : FileModel} where
   }
 
 -- a shown line at the end is not filled in
-pub fills_of-shown : (xs : List SnippetLine) (line : ℕ) (annotations : List Annotation) → fills_of (xs ++ Labeled line annotations ∷ []) ≡ fills_of xs
-fills_of-shown xs line annotations = flat_map-append fill_of xs (Labeled line annotations ∷ []) ∙ append-nil (fills_of xs)
+pub filled_lines_of-shown : (xs : List SnippetLine) (line : ℕ) (annotations : List Annotation) → filled_lines_of (xs ++ Labeled line annotations ∷ []) ≡ filled_lines_of xs
+filled_lines_of-shown xs line annotations = flat_map-append filled_line_of xs (Labeled line annotations ∷ []) ∙ append-nil (filled_lines_of xs)
 
 -- the numbers of some lines are looked up, and then those of others
 numbers_looked_up-append : (layout : Layout) (ls ms : List ℕ) → numbers_looked_up layout (ls ++ ms) ≡ numbers_looked_up layout ls ++ numbers_looked_up layout ms
@@ -47,14 +47,14 @@ numbers_looked_up-nothing Unbroken = refl
 module _ {Id : Type 0} (failure : Failures Id) (id : Id) (layout : Layout) where
   -- the first of the numbers of lines filled in by these snippet lines that fails
   abbrev pub numbers_failed : List SnippetLine → Option Error
-  numbers_failed snippet_lines = first_error failure (lookups_of_file id (numbers_looked_up layout (fills_of snippet_lines)))
+  numbers_failed snippet_lines = first_error failure (lookups_of_file id (numbers_looked_up layout (filled_lines_of snippet_lines)))
 
   -- the numbers of some snippet lines, and then those of others
   numbers_failed-append : (xs ys : List SnippetLine) → numbers_failed (xs ++ ys) ≡ or_failure (numbers_failed xs) (numbers_failed ys)
   numbers_failed-append xs ys =
-      ap (λ (ls : List ℕ). first_error failure (lookups_of_file id (numbers_looked_up layout ls))) (flat_map-append fill_of xs ys)
-      ∙ ap (λ (ls : List Lookup). first_error failure (lookups_of_file id ls)) (numbers_looked_up-append layout (fills_of xs) (fills_of ys))
-      ∙ first_error-lookups failure id (numbers_looked_up layout (fills_of xs)) (numbers_looked_up layout (fills_of ys))
+      ap (λ (ls : List ℕ). first_error failure (lookups_of_file id (numbers_looked_up layout ls))) (flat_map-append filled_line_of xs ys)
+      ∙ ap (λ (ls : List Lookup). first_error failure (lookups_of_file id ls)) (numbers_looked_up-append layout (filled_lines_of xs) (filled_lines_of ys))
+      ∙ first_error-lookups failure id (numbers_looked_up layout (filled_lines_of xs)) (numbers_looked_up layout (filled_lines_of ys))
 
   -- of all snippet lines some were added, and the rest remains
   pub record LinesLeft (f : FileModel) (whole rest : List SnippetLine) (old now : List (RustLine Id)) : Type 0 where

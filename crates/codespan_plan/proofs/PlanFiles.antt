@@ -33,8 +33,8 @@ use Rattle.codespan_annotations.specs.SourceFiles.{lookups_of_filled}
 use Rattle.codespan_plan.specs.Loci.{loci_lookups}
 use Rattle.codespan_annotations.specs.LocusStarts.{locus_byte}
 use Rattle.codespan_annotations.specs.FileIndices.{IsIdAt}
-use Rattle.codespan_plan.specs.SnippetPlans.{ArePlans, ArePlansOf, IsPlan, number_lookups, plans_failure, line_digits, lines_at, width_in}
-use Rattle.codespan_plan.specs.SnippetLines.{SnippetLine, fill_of, fills_of, rows_of_lines, AreInOrder}
+use Rattle.codespan_plan.specs.SnippetPlans.{ArePlans, ArePlansOf, IsPlan, number_lookups, plans_failure, line_digits, lines_at, padding_width}
+use Rattle.codespan_plan.specs.SnippetLines.{SnippetLine, filled_line_of, filled_lines_of, rows_of_lines, AreInOrder}
 use Rattle.codespan_plan.proofs.PlansFound.{by_index-same}
 use Rattle.codespan_plan.proofs.SpannedPadding.{spanned-padding_width}
 use Rattle.codespan_plan.proofs.AnnotationOutput.{snippet-fills, snippet-fits, snippet-lines, snippet-rows}
@@ -54,7 +54,7 @@ snippet_line_view-file layout f (rust.Break next) is = is
 -- its lookups are those of the layout for the line that it fills in
 snippet_line-lookups : {Id : Type 0} (layout : Layout) (f : FileModel) (g : RustLine Id)
     → IsSnippetLineIn layout f g → lookups_of_line g
-    ≡ flat_map (filled_line_lookups layout) (fill_of (snippet_line_view g))
+    ≡ flat_map (filled_line_lookups layout) (filled_line_of (snippet_line_view g))
 snippet_line-lookups layout f (rust.Labeled line annotations) is = refl
 snippet_line-lookups Classic f (rust.Filled index number annotations) is = ap (λ (o : Option ℕ). lookups_of_filled o index) is
 snippet_line-lookups Unbroken f (rust.Filled index number annotations) is = ap (λ (o : Option ℕ). lookups_of_filled o index) is
@@ -76,11 +76,11 @@ lines_of-file layout f (g ∷ gs) h = (snippet_line_view-file layout f g h.0, li
 -- their lookups are those of the layout for the lines that they fill in
 snippet_lines-lookups : {Id : Type 0} (layout : Layout) (f : FileModel) (gs : List (RustLine Id))
     → AllByRecursion (IsSnippetLineIn layout f) gs
-    → lookups_of_lines gs ≡ flat_map (filled_line_lookups layout) (fills_of (map snippet_line_view gs))
+    → lookups_of_lines gs ≡ flat_map (filled_line_lookups layout) (filled_lines_of (map snippet_line_view gs))
 snippet_lines-lookups layout f [] h = refl
 snippet_lines-lookups layout f (g ∷ gs) h =
     (λ i. snippet_line-lookups layout f g h.0 i ++ snippet_lines-lookups layout f gs h.1 i)
-    ∙ sym (flat_map-append (filled_line_lookups layout) (fill_of (snippet_line_view g)) (fills_of (map snippet_line_view gs)))
+    ∙ sym (flat_map-append (filled_line_lookups layout) (filled_line_of (snippet_line_view g)) (filled_lines_of (map snippet_line_view gs)))
 
 -- in the unbroken layout the digits of their numbers are those of their lines'
 snippet_lines-digits : {Id : Type 0} (f : FileModel) (gs : List (RustLine Id))
@@ -97,7 +97,7 @@ snippet_lines-digits f (g ∷ gs) h =
 -- the snippet lines are those of a file's labels: the lines that they fill in, the lines that they
 -- show, and their rows are those of its snippet
 record AreLinesOfSnippet (config : Config) (s : LabeledFileModel) (snippet_lines : List SnippetLine) : Type 0 where
-  fills : fills_of snippet_lines ≡ filled_lines config s
+  fills : filled_lines_of snippet_lines ≡ filled_lines config s
   lines : lines_of_snippet_lines snippet_lines ≡ drawn_lines config s.file s.labels
   rows : rows_of_lines s.file (num_multi_labels s) snippet_lines ≡ rows_after s None (drawn_lines config s.file s.labels)
   fits : AreInOrder (num_multi_labels s) snippet_lines
@@ -138,11 +138,11 @@ module _ {Id : Type 0} {database : FileDatabase Id} (lawful : AreFiles database)
   numbers-are =
       ap (number_lookups config.layout es) all.files.ids_are
       ∙ by_index-same (λ k id. lookups_of_file id
-      (numbers_looked_up config.layout (fills_of (lines_at es k))))
+      (numbers_looked_up config.layout (filled_lines_of (lines_at es k))))
       (λ id. lookups_of_file id (numbers_for_padding database xs config config.layout id)) 0
       (file_ids same xs)
       (λ i id at. let e : 0 + i ≡ i = omega arith in
-      ap (λ k. lookups_of_file id (numbers_looked_up config.layout (fills_of (lines_at es k)))) e
+      ap (λ k. lookups_of_file id (numbers_looked_up config.layout (filled_lines_of (lines_at es k)))) e
       ∙ ap (λ (ls : List ℕ). lookups_of_file id (numbers_looked_up config.layout ls)) (snippet i id at).fills
       ∙ ap (λ (ls : List Lookup). lookups_of_file id ls) (by_layout config.layout id))
     where
@@ -174,7 +174,7 @@ module _ {Id : Type 0} {database : FileDatabase Id} (lawful : AreFiles database)
       each = lines_of-file config.layout (file f.file_id) own is.each;
       fits = subst (AreInOrder (num_multi_labels (labeled f.file_id))) (sym is.are) (snippet k f.file_id at).fits;
       rows = ap (rows_of_lines (file f.file_id) (num_multi_labels (labeled f.file_id))) is.are ∙ (snippet k f.file_id at).rows;
-      lookups = snippet_lines-lookups config.layout (file f.file_id) own is.each ∙ ap (λ (snippet_lines : List SnippetLine). flat_map (filled_line_lookups config.layout) (fills_of snippet_lines)) is.are
+      lookups = snippet_lines-lookups config.layout (file f.file_id) own is.each ∙ ap (λ (snippet_lines : List SnippetLine). flat_map (filled_line_lookups config.layout) (filled_lines_of snippet_lines)) is.are
           ∙ ap (λ (ls : List ℕ). flat_map (filled_line_lookups config.layout) ls) (snippet k f.file_id at).fills;
     }
 
@@ -259,10 +259,10 @@ module _ {Id : Type 0} {database : FileDatabase Id} (lawful : AreFiles database)
         ∙ sym (flat_map-map (λ (s : LabeledFileModel). digits_of s (numbered_lines config s)) labeled (file_ids same xs)))
 
     -- so the width that is chosen by the layout fits
-    pub chosen-padding : {padding : ℕ} → padding ≡ width_in config.layout collected.padding snippet_lines → padding ≡ padding_of config (labeled_file_models same file xs)
+    pub chosen-padding : {padding : ℕ} → padding ≡ padding_width config.layout collected.padding snippet_lines → padding ≡ padding_of config (labeled_file_models same file xs)
     chosen-padding {padding} = by_layout config.layout refl
       where
-        by_layout : (layout : Layout) → config.layout ≡ layout → padding ≡ width_in layout collected.padding snippet_lines → padding ≡ padding_of config (labeled_file_models same file xs)
+        by_layout : (layout : Layout) → config.layout ≡ layout → padding ≡ padding_width layout collected.padding snippet_lines → padding ≡ padding_of config (labeled_file_models same file xs)
         by_layout Classic classic is = spanned-padding classic is
         by_layout Unbroken unbroken is = rendered-padding unbroken is
 

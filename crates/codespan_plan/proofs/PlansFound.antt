@@ -29,7 +29,7 @@ use Rattle.codespan_plan.specs.Loci.{locus_lookups_of, loci_lookups, locus_start
 use Rattle.codespan_annotations.specs.TextLoci.{IsTextLocus}
 use Rattle.codespan_annotations.specs.FileIndices.{IsIdAt}
 use Rattle.codespan_plan.specs.SnippetPlans.{ArePlans, IsPlan, by_index, number_lookups, lines_at}
-use Rattle.codespan_plan.specs.SnippetLines.{SnippetLine, fills_of, lines_of}
+use Rattle.codespan_plan.specs.SnippetLines.{SnippetLine, filled_lines_of, lines_of}
 use Rattle.codespan_collect.proofs.FirstErrors.{first_error-append, or_failure-succeeded, or_failure-none, or_failure-some, first_error-none, first_error-some}
 use Rattle.codespan_plan.proofs.FileSlices.{IsFileSlice, from_file, next-file, next_slice}
 use Rattle.codespan_annotations.proofs.FileIndices.{at-get}
@@ -112,9 +112,9 @@ module _ {Id : Type 0} {files : List (RustFile Id)} {xs : List (RustAnnotation I
     own_snippet_lines = ap lines_of own_annotations
 
     -- and what they look up
-    pub own_lookups : (layout : Layout) (failure : Failures Id) → first_error failure (lookups_of_file f.file_id (numbers_looked_up layout (fills_of (lines_of (map annotation_view (next_slice zs at n))))))
-        ≡ first_error failure (lookups_of_file f.file_id (numbers_looked_up layout (fills_of (lines_at (map annotation_view xs) k))))
-    own_lookups layout failure = ap (λ snippet_lines. first_error failure (lookups_of_file f.file_id (numbers_looked_up layout (fills_of snippet_lines)))) own_snippet_lines
+    pub own_lookups : (layout : Layout) (failure : Failures Id) → first_error failure (lookups_of_file f.file_id (numbers_looked_up layout (filled_lines_of (lines_of (map annotation_view (next_slice zs at n))))))
+        ≡ first_error failure (lookups_of_file f.file_id (numbers_looked_up layout (filled_lines_of (lines_at (map annotation_view xs) k))))
+    own_lookups layout failure = ap (λ snippet_lines. first_error failure (lookups_of_file f.file_id (numbers_looked_up layout (filled_lines_of snippet_lines)))) own_snippet_lines
 
   -- the next file's turn is after it
   pub next_inside : at + n ≤ length xs
@@ -232,7 +232,7 @@ module _ {Id : Type 0} {files : List (RustFile Id)} {k : ℕ} {f : RustFile Id} 
       {located : Result (Unit {0}) Error} (before : ArePlanned layout file es failure (take k files) now snippet_lines located) where
     -- the lookups of the numbers of a file's lines
     abbrev lookups_at : ℕ → Id → List (Id × Lookup)
-    lookups_at i id = lookups_of_file id (numbers_looked_up layout (fills_of (lines_at es i)))
+    lookups_at i id = lookups_of_file id (numbers_looked_up layout (filled_lines_of (lines_at es i)))
 
     -- the lookups with this one's
     lookups-more : first_error failure (number_lookups layout es (ids_view (take (k + 1) files))) ≡ first_error failure (lookups_at k f.file_id)

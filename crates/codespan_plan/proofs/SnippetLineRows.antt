@@ -10,7 +10,7 @@ use Rattle.codespan_picture.specs.Snippets.{break_rows, line_rows}
 use Rattle.codespan_laws.proofs.Filling.{given, is_filled, lines-shown}
 use Rattle.codespan_laws.proofs.Sequences.{all-gap, all-sequence, flat_map-gap, flat_map-sequence, sequence-flat}
 use Rattle.codespan_annotations.specs.Annotations.{Annotation}
-use Rattle.codespan_plan.specs.SnippetLines.{SnippetLine, Labeled, Filled, Break, line_of_group, rows_of_line, rows_of_lines, fill_of, fills_of, are_annotations_in_order, are_lane_marks_in_order, is_line_in_order}
+use Rattle.codespan_plan.specs.SnippetLines.{SnippetLine, Labeled, Filled, Break, line_of_group, rows_of_line, rows_of_lines, filled_line_of, filled_lines_of, are_annotations_in_order, are_lane_marks_in_order, is_line_in_order}
 use Rattle.codespan_plan.proofs.AnnotationGroups.{lines_after}
 
 -- the line of a snippet line that has one
@@ -111,8 +111,8 @@ module _ (m : ℕ → List Annotation) (shown : ℕ → Bool) where
 
   -- the snippet lines fill in the lines between two shown ones
   pub snippet_lines-fills : (n : ℕ) → ((l : ℕ) → n ≤ l → shown l ≡ false)
-      → fills_of (lines_after m None (filter shown (range_with_len 0 n))) ≡ filter (λ l. is_filled shown l && not (shown l)) (range_with_len 0 n)
+      → filled_lines_of (lines_after m None (filter shown (range_with_len 0 n))) ≡ filter (λ l. is_filled shown l && not (shown l)) (range_with_len 0 n)
   snippet_lines-fills n none =
-      snippet_lines-rendered fill_of m shown fill (λ l. refl) n none
+      snippet_lines-rendered filled_line_of m shown fill (λ l. refl) n none
       ∙ sequence-flat (λ l. l) fill None (filter (is_filled shown) (range_with_len 0 n))
       ∙ all_fills (range_with_len 0 n)

@@ -115,14 +115,14 @@ module _ (f : FileModel) (count : ℕ) where
 -- ---- the lookups of lines
 
 -- the line, where it is filled in
-abbrev pub fill_of : SnippetLine → List ℕ
-fill_of (Labeled l es) = []
-fill_of (Filled l es) = l ∷ []
-fill_of (Break es) = []
+abbrev pub filled_line_of : SnippetLine → List ℕ
+filled_line_of (Labeled l es) = []
+filled_line_of (Filled l es) = l ∷ []
+filled_line_of (Break es) = []
 
 -- the lines that are filled in
-abbrev pub fills_of : List SnippetLine → List ℕ
-fills_of snippet_lines = flat_map fill_of snippet_lines
+abbrev pub filled_lines_of : List SnippetLine → List ℕ
+filled_lines_of snippet_lines = flat_map filled_line_of snippet_lines
 
 -- ---- labels in order
 

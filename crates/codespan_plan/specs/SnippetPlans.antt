@@ -17,7 +17,7 @@ use Rattle.codespan_plan.specs.SnippetLineViews.{IsSnippetLineIn, numbers_looked
 use Rattle.codespan_annotations.specs.LabeledFiles.{ids_view}
 use Rattle.codespan_plan.specs.Loci.{loci_lookups}
 use Rattle.codespan_annotations.specs.LocusStarts.{locus_byte}
-use Rattle.codespan_plan.specs.SnippetLines.{SnippetLine, fills_of, lines_of}
+use Rattle.codespan_plan.specs.SnippetLines.{SnippetLine, filled_lines_of, lines_of}
 use Rattle.codespan_annotations.specs.TextLoci.{IsTextLocus}
 
 -- the lines of the snippet of the file at an index
@@ -32,8 +32,8 @@ by_index image k (id ∷ ids) = image k id ++ by_index image (k + 1) ids
 -- the lookups of the numbers of lines that are filled in
 abbrev pub number_lookups : {Id : Type 0} → Layout → List Annotation → List Id → List (Id × Lookup)
 number_lookups layout es ids =
-    by_index (λ k id. lookups_of_file id (numbers_looked_up layout (fills_of (lines_at es k)))) 0
-    ids
+    by_index
+    (λ k id. lookups_of_file id (numbers_looked_up layout (filled_lines_of (lines_at es k)))) 0 ids
 
 module _ {Id : Type 0} (layout : Layout) (file : Id → FileModel) (es : List Annotation) where
   -- the plan is that of this file, which is at an index: its locus and its lines
@@ -83,6 +83,6 @@ line_digits (rust.Break next) = []
 
 -- the padding width: in the classic layout `spanned`, that of the lines that labels span, and in
 -- the unbroken one that of the known numbers of these lines
-abbrev pub width_in : {Id : Type 0} → Layout → ℕ → List (RustLine Id) → ℕ
-width_in Classic spanned snippet_lines = spanned
-width_in Unbroken spanned snippet_lines = fold max 0 (flat_map line_digits snippet_lines)
+abbrev pub padding_width : {Id : Type 0} → Layout → ℕ → List (RustLine Id) → ℕ
+padding_width Classic spanned snippet_lines = spanned
+padding_width Unbroken spanned snippet_lines = fold max 0 (flat_map line_digits snippet_lines)

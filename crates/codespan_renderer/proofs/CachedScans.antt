@@ -8,14 +8,14 @@ use Rattle.codespan_picture.specs.CharMetrics.{metrics_then}
 use Rattle.codespan_picture.specs.RowParts.{metrics_up_to}
 use Rattle.codespan_picture.proofs.Consecutive.{char_metrics-consecutive}
 use Rattle.codespan_renderer.specs.declared.term.renderer.char_metrics.CharMetrics.{CharMetrics}
-use Rattle.codespan_renderer.specs.Private.MetricsLeft.{Afters, GoesOver, after_last, metrics_from, metrics_left, no_more}
+use Rattle.codespan_renderer.specs.Private.MetricsLeft.{MetricsAfterEnd, GoesOver, after_last, metrics_from, metrics_left, no_more}
 use Rattle.codespan_renderer.specs.Private.CachedMetrics.{AreCached}
 use Rattle.codespan_row_parts.proofs.Pieces.{taken-dropped}
 use Rattle.codespan_renderer.proofs.WidthSearch.{past-none}
 
 -- a scan that goes on elsewhere yields what the first one would
 cached-after : (tab : ℕ) (text : List ℕ) (cached : List Metrics) (rest fork : CharMetrics) (to_end : Bool) → AreCached tab text cached rest
-    → ((after : Afters) → metrics_from after fork ≡ metrics_from after rest) → fork.to_end ≡ to_end
+    → ((after : MetricsAfterEnd) → metrics_from after fork ≡ metrics_from after rest) → fork.to_end ≡ to_end
     → cached ++ metrics_left fork ≡ metrics_then (after_last to_end) tab 0 0 (chars text)
 cached-after tab text cached rest fork to_end are same end =
     ap (λ (e : Bool). cached ++ metrics_from (after_last e) fork) end
@@ -24,7 +24,7 @@ cached-after tab text cached rest fork to_end are same end =
 
 -- as it would where the first ones are left out
 pub cached-from : (tab : ℕ) (text : List ℕ) (cached : List Metrics) (rest fork : CharMetrics) (to_end : Bool) (n : ℕ) → AreCached tab text cached rest
-    → ((after : Afters) → metrics_from after fork ≡ metrics_from after rest) → fork.to_end ≡ to_end
+    → ((after : MetricsAfterEnd) → metrics_from after fork ≡ metrics_from after rest) → fork.to_end ≡ to_end
     → take n cached ++ (take (length cached - n) (drop n cached) ++ metrics_left fork) ≡ metrics_then (after_last to_end) tab 0 0 (chars text)
 cached-from tab text cached rest fork to_end n are same end =
     sym (append_assoc (take n cached) (take (length cached - n) (drop n cached)) (metrics_left fork))
@@ -34,7 +34,7 @@ cached-from tab text cached rest fork to_end n are same end =
 -- one more character is cached
 cached-more : (tab : ℕ) (text : List ℕ) (cached : List Metrics) (c : Metrics) (old new : CharMetrics) → GoesOver c old new → AreCached tab text cached old
     → AreCached tab text (cached ++ c ∷ []) new
-cached-more tab text cached c old new over are = λ (after : Afters).
+cached-more tab text cached c old new over are = λ (after : MetricsAfterEnd).
     append_assoc cached (c ∷ []) (metrics_from after new) ∙ ap (λ (cs : List Metrics). cached ++ cs) (sym (over.yields after)) ∙ are after
 
 -- the same of characters to which this one was pushed

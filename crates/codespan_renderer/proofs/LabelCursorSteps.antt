@@ -19,7 +19,7 @@ use Rattle.codespan_picture.specs.Carets.{covers}
 use Rattle.codespan_picture.specs.Arguments.{SingleLabelTuple, single_label_view, single_label_views, starts_from}
 use Rattle.codespan_renderer.specs.declared.term.renderer.cached.cached_metrics.CachedMetrics.{CachedMetrics}
 use Rattle.codespan_renderer.specs.Private.CachedMetrics.{cached_left}
-use Rattle.codespan_row_parts.specs.CharCursors.{Follow, is_covered}
+use Rattle.codespan_row_parts.specs.CharCursors.{AreContiguous, is_covered}
 use Rattle.codespan_renderer.specs.Private.CursorStates.{IsBefore, HasReturned}
 use Rattle.codespan_renderer.specs.Private.LabelCursors.{end_with, IsReached, HasPassedLabels}
 
@@ -128,14 +128,14 @@ starts-past low ys xs i byte_index d same h late ordered =
 -- ---- characters one after another
 
 -- the characters of a line, and what comes after the last one
-follow-then : (after : ℕ → ℕ → List Metrics) (tab byte_index column : ℕ) (codes : List ℕ) → ((p q : ℕ) → Follow p (after p q))
-    → Follow byte_index (metrics_then after tab byte_index column codes)
+follow-then : (after : ℕ → ℕ → List Metrics) (tab byte_index column : ℕ) (codes : List ℕ) → ((p q : ℕ) → AreContiguous p (after p q))
+    → AreContiguous byte_index (metrics_then after tab byte_index column codes)
 follow-then after tab byte_index column [] last = last byte_index column
 follow-then after tab byte_index column (c ∷ cs) last =
     (refl, omega (arith, (len_utf8_bounds c).0), follow-then after tab (byte_index + len_utf8 c) (column + width_at tab column c) cs last)
 
 -- the characters of a line, and the placeholder where `to_end` is set
-pub follow-after : (to_end : Bool) (tab : ℕ) (text : List ℕ) → Follow 0 (metrics_then (after_last to_end) tab 0 0 (chars text))
+pub follow-after : (to_end : Bool) (tab : ℕ) (text : List ℕ) → AreContiguous 0 (metrics_then (after_last to_end) tab 0 0 (chars text))
 follow-after true tab text = follow-then placeholder tab 0 0 (chars text) (λ p q. (refl, omega arith, tt))
 follow-after false tab text = follow-then no_more tab 0 0 (chars text) (λ p q. tt)
 
@@ -156,20 +156,20 @@ passed-later s p q h m = record {
 }
 
 -- the characters after some of those that follow one another
-follow-rest : (byte_index : ℕ) (before left : List Metrics) → Follow byte_index (before ++ left) → (q : ℕ) × (byte_index ≤ q) × Follow q left
+follow-rest : (byte_index : ℕ) (before left : List Metrics) → AreContiguous byte_index (before ++ left) → (q : ℕ) × (byte_index ≤ q) × AreContiguous q left
 follow-rest byte_index [] left follow = (byte_index, omega arith, follow)
 follow-rest byte_index (c ∷ cs) left follow =
     let later = follow-rest (byte_index + c.bytes) cs left follow.2 in
     (later.0, omega (arith, later.1), later.2)
 
 -- before some characters of a line, the first ones left out
-pub cursor-start : (s : LabelCursor) (before left : List Metrics) → HasPassedLabels 0 s → Follow 0 (before ++ left) → ∥ IsBefore s left ∥₁
+pub cursor-start : (s : LabelCursor) (before left : List Metrics) → HasPassedLabels 0 s → AreContiguous 0 (before ++ left) → ∥ IsBefore s left ∥₁
 cursor-start s before left passed follow =
     let later = follow-rest 0 before left follow in
     ∣ record { byte_index = later.0; passed = passed-later s 0 later.0 later.1 passed; follow = later.2 } ∣₁
 
 module _ (s : LabelCursor) (left rest : List Metrics) (c : Metrics) (step : left ≡ c ∷ rest) where
-  here : (w : IsBefore s left) → Follow w.byte_index (c ∷ rest)
+  here : (w : IsBefore s left) → AreContiguous w.byte_index (c ∷ rest)
   here w = rw step at w.follow
 
   -- it returns the next character

@@ -22,7 +22,7 @@ width_at-seen tab column c low high =
 pub metrics_then-char : (after : ℕ → ℕ → List Metrics) (tab byte_index column : ℕ) (bs rest : List ℕ) (c bytes width : ℕ)
     → IsUtf8 bs → bs ≡ encode_utf8 c ++ rest → bytes ≡ len_utf8 c → width ≡ width_at tab column c
     → metrics_then after tab byte_index column (chars bs)
-    ≡ record { code = c; byte_index = byte_index; bytes = bytes; column = column; unicode_width = width } ∷ metrics_then after tab (byte_index + bytes) (column + width) (chars rest)
+    ≡ record { ch = c; byte_index = byte_index; bytes = bytes; column = column; unicode_width = width } ∷ metrics_then after tab (byte_index + bytes) (column + width) (chars rest)
 metrics_then-char after tab byte_index column bs rest c bytes width u e b w =
     ap (metrics_then after tab byte_index column) (chars_past_char bs rest c u e) ∙ rw (b, w) refl
 

@@ -4,7 +4,7 @@ use Rattle.std.proofs.lemmas.Bool.{and_parts}
 use Rattle.std.proofs.lemmas.Bool.Decides.{nat_tests}
 use Rattle.codespan_base.specs.Labels.{LabelModel}
 use Rattle.codespan_picture.specs.Arguments.{SingleLabelTuple, single_label_views, starts_from, starts_in_order}
-use Rattle.codespan_row_parts.specs.Runs.{ArePieces}
+use Rattle.codespan_row_parts.specs.Runs.{ArePrefixAndSuffix}
 use Rattle.codespan_renderer.proofs.LabelCursorSteps.{starts-lower}
 use Rattle.codespan_row_parts.proofs.Pieces.{whole}
 
@@ -22,13 +22,13 @@ back-ordered low (x ∷ xs) ys h =
     starts-lower ys low x.start far (back-ordered x.start xs ys parts.1)
 
 -- the labels before the trailing one keep the order
-pub before-ordered : (labels before after : List SingleLabelTuple) → ArePieces labels before after → starts_in_order (single_label_views labels) ≡ true
+pub before-ordered : (labels before after : List SingleLabelTuple) → ArePrefixAndSuffix labels before after → starts_in_order (single_label_views labels) ≡ true
     → starts_in_order (single_label_views before) ≡ true
 before-ordered labels before after p h =
     front-ordered 0 (single_label_views before) (single_label_views p.rest) (ap starts_in_order (whole before p.rest labels p.begins) ∙ h)
 
 -- so do those after it
-pub after-ordered : (labels before after : List SingleLabelTuple) → ArePieces labels before after → starts_in_order (single_label_views labels) ≡ true
+pub after-ordered : (labels before after : List SingleLabelTuple) → ArePrefixAndSuffix labels before after → starts_in_order (single_label_views labels) ≡ true
     → starts_in_order (single_label_views after) ≡ true
 after-ordered labels before after p h =
     back-ordered 0 (single_label_views p.skipped) (single_label_views after) (ap starts_in_order (whole p.skipped after labels p.ends) ∙ h)

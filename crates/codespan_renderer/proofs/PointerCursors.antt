@@ -11,7 +11,7 @@ use Rattle.codespan_picture.specs.Rows.{hanging_labels}
 use Rattle.codespan_picture.specs.RowParts.{max_label_start, starts_in}
 use Rattle.codespan_picture.proofs.HangingStarts.{any-below, any-hanging_labels, starts_in-low}
 use Rattle.std.specs.List.{list_any}
-use Rattle.codespan_renderer.specs.Private.PreferredStyles.{preferred_style, pointer_found}
+use Rattle.codespan_renderer.specs.Private.PreferredStyles.{preferred_style, pointer_style_if_any}
 use Rattle.codespan_row_parts.specs.Runs.{AreHanging}
 use Rattle.codespan_renderer.proofs.ScannedPointers.{pointer_is}
 use Rattle.codespan_picture.proofs.Consecutive.{AreConsecutive}
@@ -67,7 +67,7 @@ passing-more before after s t u v c left w early late same same2 = record {
 pub found-style : (labels before after bs ds : List SingleLabelTuple) (c : Metrics) (first second : Option LabelStyle) → AreHanging labels before after → bs ≡ before → ds ≡ after
     → first ≡ preferred_style (starts_in c) None (filter has_message (single_label_views bs))
     → second ≡ preferred_style (starts_in c) first (filter has_message (single_label_views ds))
-    → second ≡ pointer_found (hanging_labels (single_label_views labels)) c
+    → second ≡ pointer_style_if_any (hanging_labels (single_label_views labels)) c
 found-style labels before after bs ds c first second h e f p q = rw (q, p, e, f) (pointer_is labels before after c h)
 
 -- there is no pointer where no label hangs
@@ -77,13 +77,13 @@ no-pointers (c ∷ cs) = no-pointers cs
 
 -- a pointer comes to those that were found
 pub found-some : (labels : List LabelModel) (ps : List Pointer) (cs left : List Metrics) (c : Metrics) (style : LabelStyle) → cs ≡ c ∷ left
-    → pointer_found (hanging_labels labels) c ≡ Some style
+    → pointer_style_if_any (hanging_labels labels) c ≡ Some style
     → (ps ++ pointer_under c style ∷ []) ++ pointers_in (hanging_labels labels) left ≡ ps ++ pointers_in (hanging_labels labels) cs
 found-some labels ps cs left c style step is = rw (step, is) (append_assoc ps (pointer_under c style ∷ []) (pointers_in (hanging_labels labels) left))
 
 -- none does
 pub found-none : (labels : List LabelModel) (ps : List Pointer) (cs left : List Metrics) (c : Metrics) → cs ≡ c ∷ left
-    → pointer_found (hanging_labels labels) c ≡ None
+    → pointer_style_if_any (hanging_labels labels) c ≡ None
     → ps ++ pointers_in (hanging_labels labels) left ≡ ps ++ pointers_in (hanging_labels labels) cs
 found-none labels ps cs left c step is = rw (step, is) refl
 
@@ -110,7 +110,7 @@ none-test labels c true past is =
 none-test labels c false past is = refl
 
 -- no label hangs from a character there
-none-past : (labels : List LabelModel) (c : Metrics) → max_label_start labels < c.byte_index → pointer_found (hanging_labels labels) c ≡ None
+none-past : (labels : List LabelModel) (c : Metrics) → max_label_start labels < c.byte_index → pointer_style_if_any (hanging_labels labels) c ≡ None
 none-past labels c past = rw (none-test labels c (list_any (starts_in c) (hanging_labels labels)) past refl) refl
 
 -- where all characters begin there, there is no pointer

@@ -1,4 +1,4 @@
--- For `pointer_in` and `scanned_caret_pointers`: the style of a pointer, and the pointers of a
+-- For `pointer_style_if_any` and `scanned_caret_pointers`: the style of a pointer, and the pointers of a
 -- line, character by character.
 use Rattle.std.proofs.Common.{◌≡◌, ℕ, suc, ◌+◌, ◌-◌, ◌<◌, ◌≤◌, Bool, true, false, cond, ◌==◌, ◌&&◌, ◌||◌, nat_lt, nat_le, List, [], ◌∷◌, ◌++◌, length, get_or, drop, filter, fold, Option, Some, None, refl, sym, ap, ◌∙◌, drop-cons, add-one, append_assoc, append-nil}
 use Rattle.std.specs.Prelude.{not, if◌then◌else◌}
@@ -15,7 +15,7 @@ use Rattle.codespan_picture.specs.Arguments.{SingleLabelTuple, single_label_view
 use Rattle.codespan_picture.specs.Lanes.{label_glyph}
 use Rattle.codespan_picture.specs.Rows.{RowContext, hanging_labels}
 use Rattle.codespan_picture.specs.RowParts.{starts_in, pointer_style, max_label_start, spaces_up_to, pointer_at, pointers, metrics_before}
-use Rattle.codespan_renderer.specs.Private.PreferredStyles.{prefer_primary, preferred_style, pointer_found}
+use Rattle.codespan_renderer.specs.Private.PreferredStyles.{prefer_primary, preferred_style, pointer_style_if_any}
 use Rattle.codespan_row_parts.specs.Runs.{AreHanging}
 use Rattle.codespan_renderer.proofs.Best.{best-cons, best-primary}
 use Rattle.codespan_row_parts.proofs.RowEquations.{spaces-add}
@@ -43,11 +43,11 @@ best_later c (x ∷ xs) = best-cons (starts_in c) (Some Secondary) x xs ∙ by_s
     by_style more false Secondary = more
 
 -- the best style of the labels that start in the character is that of its pointer
-best_is : (c : Metrics) (xs : List LabelModel) → preferred_style (starts_in c) None xs ≡ pointer_found xs c
+best_is : (c : Metrics) (xs : List LabelModel) → preferred_style (starts_in c) None xs ≡ pointer_style_if_any xs c
 best_is c [] = refl
 best_is c (x ∷ xs) = best-cons (starts_in c) None x xs ∙ by_style (best_is c xs) (starts_in c x) x.style
   where
-    by_style : preferred_style (starts_in c) None xs ≡ pointer_found xs c → (b : Bool) (s : LabelStyle)
+    by_style : preferred_style (starts_in c) None xs ≡ pointer_style_if_any xs c → (b : Bool) (s : LabelStyle)
         → preferred_style (starts_in c) (if b then prefer_primary None s else None) xs
         ≡ (if b || list_any (starts_in c) xs then Some (if (is_primary_style s && b) || list_any (λ y. is_primary y && starts_in c y) xs then Primary else Secondary) else None)
     by_style more true Primary = best-primary (starts_in c) xs
@@ -58,7 +58,7 @@ best_is c (x ∷ xs) = best-cons (starts_in c) None x xs ∙ by_style (best_is c
 -- the style of a pointer is that of the labels of the one list and then of the other
 pub pointer_is : (labels before after : List SingleLabelTuple) (c : Metrics) → AreHanging labels before after
     → preferred_style (starts_in c) (preferred_style (starts_in c) None (filter has_message (single_label_views before))) (filter has_message (single_label_views after))
-    ≡ pointer_found (hanging_labels (single_label_views labels)) c
+    ≡ pointer_style_if_any (hanging_labels (single_label_views labels)) c
 pointer_is labels before after c h =
     sym (best_append (starts_in c) None (filter has_message (single_label_views before)) (filter has_message (single_label_views after)))
     ∙ ap (preferred_style (starts_in c) None) (hanging_parts labels before after h)
@@ -93,7 +93,7 @@ pointers_next context labels before c cs h =
     rw cached refl
 
 -- no label hangs from the character
-pub pointer_none : (context : RowContext) (labels : List LabelModel) (c : Metrics) → pointer_found (hanging_labels labels) c ≡ None
+pub pointer_none : (context : RowContext) (labels : List LabelModel) (c : Metrics) → pointer_style_if_any (hanging_labels labels) c ≡ None
     → pointer_at context labels (hanging_labels labels) c ≡ spaces_up_to (max_label_start labels) c c.unicode_width
 unfolding pointer_at
 pointer_none context labels c h = by_test (list_any (starts_in c) (hanging_labels labels)) refl h
@@ -104,7 +104,7 @@ pointer_none context labels c h = by_test (list_any (starts_in c) (hanging_label
     by_test false is h = rw is refl
 
 -- a label of this style hangs from it
-pub pointer_some : (context : RowContext) (labels : List LabelModel) (c : Metrics) (style : LabelStyle) → pointer_found (hanging_labels labels) c ≡ Some style
+pub pointer_some : (context : RowContext) (labels : List LabelModel) (c : Metrics) (style : LabelStyle) → pointer_style_if_any (hanging_labels labels) c ≡ Some style
     → pointer_at context labels (hanging_labels labels) c
     ≡ label_glyph context.severity style context.chars.pointer_left ++ spaces_up_to (max_label_start labels) c (c.unicode_width - 1)
 unfolding pointer_at
@@ -133,7 +133,7 @@ spaces_past reach c width s h =
 
 -- what is still to be written begins with the pending spaces and a pointer
 pub pointer_first : (context : RowContext) (labels : List LabelModel) (before reach : ℕ) (left : List Metrics) (c : Metrics) (cs : List Metrics) (pending : ℕ) (style : LabelStyle)
-    → reach ≡ max_label_start labels → left ≡ c ∷ cs → c.byte_index < before → pointer_found (hanging_labels labels) c ≡ Some style
+    → reach ≡ max_label_start labels → left ≡ c ∷ cs → c.byte_index < before → pointer_style_if_any (hanging_labels labels) c ≡ Some style
     → spaces pending ++ pointers context labels (metrics_before before left)
     ≡ (spaces pending ++ label_glyph context.severity style context.chars.pointer_left)
     ++ (spaces_up_to reach c (c.unicode_width - 1) ++ pointers context labels (metrics_before before cs))
@@ -142,7 +142,7 @@ pointer_first context labels before reach left c cs pending style far step h fou
 
 -- it begins with the pending spaces and those of a character
 pub spaces_first : (context : RowContext) (labels : List LabelModel) (before reach : ℕ) (left : List Metrics) (c : Metrics) (cs : List Metrics) (pending : ℕ)
-    → reach ≡ max_label_start labels → left ≡ c ∷ cs → c.byte_index < before → pointer_found (hanging_labels labels) c ≡ None
+    → reach ≡ max_label_start labels → left ≡ c ∷ cs → c.byte_index < before → pointer_style_if_any (hanging_labels labels) c ≡ None
     → spaces pending ++ pointers context labels (metrics_before before left)
     ≡ spaces pending ++ (spaces_up_to reach c c.unicode_width ++ pointers context labels (metrics_before before cs))
 spaces_first context labels before reach left c cs pending far step h found =

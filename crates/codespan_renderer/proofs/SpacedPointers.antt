@@ -13,7 +13,7 @@ use Rattle.codespan_picture.specs.Lanes.{label_glyph}
 use Rattle.codespan_renderer.specs.Private.PointerLists.{pointer_under, pointers_in, pointers_before, spaced}
 use Rattle.codespan_picture.specs.Rows.{RowContext, hanging_labels}
 use Rattle.codespan_picture.specs.RowParts.{starts_in, pointer_style, max_label_start, spaces_up_to, pointers, metrics_before, metrics_up_to}
-use Rattle.codespan_renderer.specs.Private.PreferredStyles.{pointer_found}
+use Rattle.codespan_renderer.specs.Private.PreferredStyles.{pointer_style_if_any}
 use Rattle.std.specs.Prelude.{if◌then◌else◌}
 use Rattle.std.specs.List.{list_any}
 use Rattle.codespan_renderer.proofs.ScannedPointers.{spaces_none, spaces_due, spaces_past, spaces_last, pointer_none, pointer_some}
@@ -48,7 +48,7 @@ spaced-end context edge column before ps i h = let none : drop i ps ≡ [] = gri
 -- ---- the pointers of cells
 
 -- what is found by a test holds only of characters that begin at the greatest start or before it
-found-near : (labels : List LabelModel) (c : Metrics) (style : LabelStyle) → pointer_found (hanging_labels labels) c ≡ Some style → c.byte_index ≤ max_label_start labels
+found-near : (labels : List LabelModel) (c : Metrics) (style : LabelStyle) → pointer_style_if_any (hanging_labels labels) c ≡ Some style → c.byte_index ≤ max_label_start labels
 found-near labels c style found = by_test (list_any (starts_in c) (hanging_labels labels)) refl found
   where
     by_test : (b : Bool) → list_any (starts_in c) (hanging_labels labels) ≡ b → (if b then Some (pointer_style (hanging_labels labels) c) else None) ≡ Some style
@@ -68,9 +68,9 @@ unfolding pointers
 far-char_metrics context labels byte_index column [] adjacent far = record { drawn = refl; found = refl; width = refl }
 far-char_metrics context labels byte_index column (c ∷ cs) adjacent far =
     by_found (let here = adjacent.0 in omega arith) (far-char_metrics context labels (byte_index + c.bytes) (column + c.unicode_width) cs adjacent.3 (omega arith))
-    (pointer_found (hanging_labels labels) c) refl
+    (pointer_style_if_any (hanging_labels labels) c) refl
   where
-    by_found : max_label_start labels < c.byte_index → ShowsNothing context labels cs → (o : Option LabelStyle) → pointer_found (hanging_labels labels) c ≡ o
+    by_found : max_label_start labels < c.byte_index → ShowsNothing context labels cs → (o : Option LabelStyle) → pointer_style_if_any (hanging_labels labels) c ≡ o
         → ShowsNothing context labels (c ∷ cs)
     by_found past rest None is = record {
       drawn = rw (pointer_none context labels c is, spaces_past (max_label_start labels) c c.unicode_width (pointers context labels cs) past) rest.drawn;
@@ -97,7 +97,7 @@ spaced-char_metrics context labels byte_index column at (c ∷ cs) adjacent low 
         → (b : Bool) → nat_le c.byte_index (max_label_start labels) ≡ b
         → spaces (column - at) ++ pointers context labels (c ∷ cs)
         ≡ spaced context (column + width_of (metrics_up_to (max_label_start labels) (c ∷ cs))) at (pointers_in (hanging_labels labels) (c ∷ cs))
-    by_reach again true near = by_found (pointer_found (hanging_labels labels) c) refl
+    by_reach again true near = by_found (pointer_style_if_any (hanging_labels labels) c) refl
       where
         low_byte_index : c.byte_index ≤ max_label_start labels
         low_byte_index = grind (arith, nat_tests)
@@ -105,7 +105,7 @@ spaced-char_metrics context labels byte_index column at (c ∷ cs) adjacent low 
         edges : column + width_of (metrics_up_to (max_label_start labels) (c ∷ cs)) ≡ column + c.unicode_width + width_of (metrics_up_to (max_label_start labels) cs)
         edges = omega (arith, width-in (max_label_start labels) c cs low_byte_index)
 
-        by_found : (o : Option LabelStyle) → pointer_found (hanging_labels labels) c ≡ o
+        by_found : (o : Option LabelStyle) → pointer_style_if_any (hanging_labels labels) c ≡ o
             → spaces (column - at) ++ pointers context labels (c ∷ cs)
             ≡ spaced context (column + width_of (metrics_up_to (max_label_start labels) (c ∷ cs))) at (pointers_in (hanging_labels labels) (c ∷ cs))
         by_found None is =
@@ -159,10 +159,10 @@ before-consecutive before byte_index column (c ∷ cs) adjacent = by_test (befor
 -- their pointers are those before the byte index
 pub before-found : (labels : List LabelModel) (before : ℕ) (cs : List Metrics) → pointers_in labels (metrics_before before cs) ≡ pointers_before before (pointers_in labels cs)
 before-found labels before [] = refl
-before-found labels before (c ∷ cs) = by_both (before-found labels before cs) (nat_lt c.byte_index before) (pointer_found labels c) refl refl
+before-found labels before (c ∷ cs) = by_both (before-found labels before cs) (nat_lt c.byte_index before) (pointer_style_if_any labels c) refl refl
   where
     by_both : pointers_in labels (metrics_before before cs) ≡ pointers_before before (pointers_in labels cs)
-        → (b : Bool) (o : Option LabelStyle) → nat_lt c.byte_index before ≡ b → pointer_found labels c ≡ o
+        → (b : Bool) (o : Option LabelStyle) → nat_lt c.byte_index before ≡ b → pointer_style_if_any labels c ≡ o
         → pointers_in labels (metrics_before before (c ∷ cs)) ≡ pointers_before before (pointers_in labels (c ∷ cs))
     by_both rest true None is found = rw (is, found) rest
     by_both rest true (Some style) is found = rw (is, found, is) (ap (λ ps. pointer_under c style ∷ ps) rest)

@@ -20,7 +20,7 @@ use Rattle.codespan_row_parts.proofs.Widths.{width-in}
 
 -- any cell, for an index past the end of the list
 abbrev pub space_column : Metrics
-space_column = record { code = 0; byte_index = 0; bytes = 0; column = 0; unicode_width = 0 }
+space_column = record { ch = 0; byte_index = 0; bytes = 0; column = 0; unicode_width = 0 }
 
 -- ---- how characters lie
 

@@ -13,7 +13,7 @@ use Rattle.codespan_picture.specs.RowParts.{change, styled, caret_glyphs, carets
 use Rattle.codespan_row_parts.specs.Runs.{caret_run}
 use Rattle.codespan_picture.proofs.CaretEnds.{style_under-below}
 use Rattle.codespan_row_parts.proofs.RowEquations.{spaces-add, repeated-add, change-same, regroup}
-use Rattle.codespan_row_parts.specs.CharCursors.{Follow}
+use Rattle.codespan_row_parts.specs.CharCursors.{AreContiguous}
 
 -- the carets of the remaining characters
 abbrev glyphs_left : RowContext → List LabelModel → Option LabelStyle → List Metrics → Stream
@@ -120,7 +120,7 @@ unfolding caret_glyphs
 glyphs-past chars end c past = let none : nat_lt c.byte_index end ≡ false = le-ltb c.byte_index end past in rw none refl
 
 -- where all characters begin there, the carets end
-glyphs_left-past : (context : RowContext) (labels : List LabelModel) (previous : Option LabelStyle) (byte_index : ℕ) (cs : List Metrics) → Follow byte_index cs → max_label_end labels ≤ byte_index
+glyphs_left-past : (context : RowContext) (labels : List LabelModel) (previous : Option LabelStyle) (byte_index : ℕ) (cs : List Metrics) → AreContiguous byte_index cs → max_label_end labels ≤ byte_index
     → glyphs_left context labels previous cs ≡ change context.severity previous None
 glyphs_left-past context labels previous byte_index [] follow past = refl
 glyphs_left-past context labels previous byte_index (c ∷ cs) follow past =
@@ -129,7 +129,7 @@ glyphs_left-past context labels previous byte_index (c ∷ cs) follow past =
     (append-nil (change context.severity previous None ++ []) ∙ append-nil (change context.severity previous None))
 
 -- the run that has begun is the last one
-pub carets-past : (context : RowContext) (labels : List LabelModel) (previous : Option LabelStyle) (run byte_index : ℕ) (left : List Metrics) → Follow byte_index left → max_label_end labels ≤ byte_index
+pub carets-past : (context : RowContext) (labels : List LabelModel) (previous : Option LabelStyle) (run byte_index : ℕ) (left : List Metrics) → AreContiguous byte_index left → max_label_end labels ≤ byte_index
     → caret_run context.chars previous run ++ change context.severity previous None ≡ carets_left context labels previous run left
 carets-past context labels previous run byte_index left follow past =
     ap (λ (l : Stream). caret_run context.chars previous run ++ l) (sym (glyphs_left-past context labels previous byte_index left follow past))

@@ -10,7 +10,7 @@ use Rattle.std.proofs.lemmas.List.{append_assoc}
 use Rattle.codespan_base.specs.Streams.{Stream, spaces, bytes}
 use Rattle.codespan_row_parts.specs.declared.lanes.LaneRow.{LaneRow as RustLaneRow}
 use Rattle.codespan_picture.specs.Arguments.{LaneMarkTuple, lane_mark_view, lanes_of, lanes_in_order, ascend_from}
-use Rattle.codespan_row_parts.specs.LineViews.{lane_of_view, row_lanes_view, lane_row_view}
+use Rattle.codespan_row_parts.specs.LineViews.{row_lane_view, row_lanes_view, lane_row_view}
 use Rattle.codespan_row_parts.specs.LaneMarksLeft.{lane_mark_here, lane_marks_after}
 use Rattle.codespan_picture.specs.Lanes.{crossing_cells, lane_cells, lane_mark_in, row_shape, row_crossing}
 use Rattle.codespan_picture.specs.Rows.{RowContext, Lanes}
@@ -113,18 +113,18 @@ order count lane (m ∷ ms) h = order-cons count lane m ms _ refl h
 -- a number of lanes from this one on, each with the lane mark that the cursor finds
 abbrev pub cursor : RowContext → ℕ → RustLaneRow → ℕ → ℕ → List LaneMarkTuple → Stream
 cursor context leading row lane zero lane_marks = []
-cursor context leading row lane (suc n) lane_marks = lane_of_view context leading row lane (lane_mark_here lane_marks lane) ++ cursor context leading row (lane + 1) n (lane_marks_after lane_marks lane)
+cursor context leading row lane (suc n) lane_marks = row_lane_view context leading row lane (lane_mark_here lane_marks lane) ++ cursor context leading row (lane + 1) n (lane_marks_after lane_marks lane)
 
 pub cursor-next : (context : RowContext) (leading : ℕ) (row : RustLaneRow) (i n : ℕ) (lane_marks : List LaneMarkTuple) → i < n
-    → cursor context leading row i (n - i) lane_marks ≡ lane_of_view context leading row i (lane_mark_here lane_marks i) ++ cursor context leading row (i + 1) (n - (i + 1)) (lane_marks_after lane_marks i)
+    → cursor context leading row i (n - i) lane_marks ≡ row_lane_view context leading row i (lane_mark_here lane_marks i) ++ cursor context leading row (i + 1) (n - (i + 1)) (lane_marks_after lane_marks i)
 cursor-next context leading row i n lane_marks h = let e : n - i ≡ suc (n - (i + 1)) = omega arith in rw e refl
 
 pub cursor-end : (context : RowContext) (leading : ℕ) (row : RustLaneRow) (i n : ℕ) (lane_marks : List LaneMarkTuple) → n ≤ i → cursor context leading row i (n - i) lane_marks ≡ []
 cursor-end context leading row i n lane_marks h = let e : n - i ≡ 0 = omega arith in rw e refl
 
 -- a lane without a lane mark, and without a line through it, is spaces
-empty-lane : (context : RowContext) (leading : ℕ) (row : RustLaneRow) (lane : ℕ) → row_crossing (lane_row_view row) lane ≡ None → lane_of_view context leading row lane None ≡ spaces 2
-unfolding lane_of_view inner_gutter_column lane_cells crossing_cells
+empty-lane : (context : RowContext) (leading : ℕ) (row : RustLaneRow) (lane : ℕ) → row_crossing (lane_row_view row) lane ≡ None → row_lane_view context leading row lane None ≡ spaces 2
+unfolding row_lane_view inner_gutter_column lane_cells crossing_cells
 empty-lane context leading row lane clear = rw clear refl
 
 -- where no lane mark is taken all remain
@@ -155,7 +155,7 @@ cursor-past context leading row lane_marks (suc n) lane rest clear bare =
     let two : 2 + (n + n) ≡ suc n + suc n = omega arith in
     let none : lane_mark_here lane_marks lane ≡ None = bare lane (omega arith) (omega arith) in
     ap (λ k. cursor context leading row lane k lane_marks) a
-    ∙ (λ i. lane_of_view context leading row lane (none i) ++ cursor context leading row (lane + 1) (n + rest) (left-all lane_marks lane none i))
+    ∙ (λ i. row_lane_view context leading row lane (none i) ++ cursor context leading row (lane + 1) (n + rest) (left-all lane_marks lane none i))
     ∙ (λ i. empty-lane context leading row lane (clear lane (omega arith) (omega arith)) i
     ++ cursor-past context leading row lane_marks n (lane + 1) rest (λ k low high. clear k (omega arith) (omega arith)) (λ k low high. bare k (omega arith) (omega arith)) i)
     ∙ sym (append_assoc (spaces 2) (spaces (n + n)) (cursor context leading row (lane + 1 + n) rest lane_marks))
@@ -174,7 +174,7 @@ cursor_is : (context : RowContext) (leading : ℕ) (row : RustLaneRow) (count : 
     → ((k : ℕ) → lane ≤ k → lane_mark_in whole.lane_marks k ≡ lane_mark_in (map lane_mark_view lane_marks) k) → IsTrue (ascend_from count lane (map lane_mark_view lane_marks))
     → cursor context leading row lane n lane_marks
     ≡ flat_map (λ k. inner_gutter_column context (row_crossing (lane_row_view row) k) (row_shape context.layout leading (lane_row_view row) k) (lane_mark_in whole.lane_marks k)) (range_with_len lane n)
-unfolding lane_of_view
+unfolding row_lane_view
 cursor_is context leading row count whole lane zero lane_marks a h = refl
 cursor_is context leading row count whole lane (suc n) lane_marks a h =
     let e : option_map lane_mark_view (lane_mark_here lane_marks lane) ≡ lane_mark_in whole.lane_marks lane = sym (a lane (omega arith) ∙ here count lane lane_marks h) in

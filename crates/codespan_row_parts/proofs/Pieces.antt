@@ -7,7 +7,7 @@ use Rattle.codespan_base.specs.Labels.{LabelModel}
 use Rattle.codespan_picture.specs.Arguments.{SingleLabelTuple, single_label_view, single_label_views}
 use Rattle.codespan_picture.specs.RowParts.{max_label_start}
 use Rattle.codespan_picture.proofs.HangingStarts.{fold_start-le}
-use Rattle.codespan_row_parts.specs.Runs.{ArePieces}
+use Rattle.codespan_row_parts.specs.Runs.{ArePrefixAndSuffix}
 use Rattle.std.specs.List.{push}
 
 -- the elements before an index of a list and those from there on make the list
@@ -32,13 +32,13 @@ back-near : (xs ys : List LabelModel) → max_label_start ys ≤ max_label_start
 back-near xs ys = let more = grows 0 (max_label_start xs) ys (omega arith) in omega (arith, fold-append (λ k (x : LabelModel). max k x.start) 0 xs ys)
 
 -- no label before the trailing one starts past all
-pub before-near : (labels before after : List SingleLabelTuple) → ArePieces labels before after → max_label_start (single_label_views before) ≤ max_label_start (single_label_views labels)
+pub before-near : (labels before after : List SingleLabelTuple) → ArePrefixAndSuffix labels before after → max_label_start (single_label_views before) ≤ max_label_start (single_label_views labels)
 before-near labels before after p =
     let e = ap max_label_start (whole before p.rest labels p.begins) in
     omega (arith, e, front-near (single_label_views before) (single_label_views p.rest))
 
 -- nor does one after it
-pub after-near : (labels before after : List SingleLabelTuple) → ArePieces labels before after → max_label_start (single_label_views after) ≤ max_label_start (single_label_views labels)
+pub after-near : (labels before after : List SingleLabelTuple) → ArePrefixAndSuffix labels before after → max_label_start (single_label_views after) ≤ max_label_start (single_label_views labels)
 after-near labels before after p =
     let e = ap max_label_start (whole p.skipped after labels p.ends) in
     omega (arith, e, back-near (single_label_views p.skipped) (single_label_views after))

@@ -18,7 +18,7 @@ use Rattle.codespan_picture.specs.Carets.{covers, max_label_end}
 use Rattle.codespan_picture.specs.Types.{LabelStyle, Primary}
 use Rattle.codespan_picture.proofs.CaretEnds.{style_under-below}
 use Rattle.codespan_row_parts.specs.declared.primary_cover.PrimaryCover.{PrimaryCover}
-use Rattle.codespan_row_parts.specs.PrimaryCover.{CoversAsLaneMarks, is_marked}
+use Rattle.codespan_row_parts.specs.PrimaryCover.{CoversAsLaneMarks, covers_char}
 use Rattle.codespan_row_parts.proofs.RowEquations.{change-same}
 use Rattle.codespan_row_parts.proofs.TextRuns.{IsOver, text-end, text_rest}
 use Rattle.codespan_picture.specs.CharMetrics.{metrics_then, width_at}
@@ -65,9 +65,9 @@ no-tab c cs e =
     (λ is. false≢true (sym parts.0 ∙ tab-there c is), parts.1)
 
 -- such a character is shown as it is
-as_is : (c : Metrics) → (c.code ≡ 9 → ⊥) → source_glyph c ≡ glyph c.code
+as_is : (c : Metrics) → (c.ch ≡ 9 → ⊥) → source_glyph c ≡ glyph c.ch
 unfolding source_glyph
-as_is c h = rw (ne_eqb c.code 9 h) refl
+as_is c h = rw (ne_eqb c.ch 9 h) refl
 
 -- so is each of these
 plain-left : (context : RowContext) (line : Line) (tab byte_index column : ℕ) (cs : List ℕ) → ((c : Metrics) → source_style line c ≡ None) → list_any (λ b. b == 9) (encodes cs) ≡ false
@@ -75,7 +75,7 @@ plain-left : (context : RowContext) (line : Line) (tab byte_index column : ℕ) 
 unfolding change bytes
 plain-left context line tab byte_index column [] none e = refl
 plain-left context line tab byte_index column (c ∷ cs) none e =
-    let here : Metrics = record { code = c; byte_index = byte_index; bytes = len_utf8 c; column = column; unicode_width = width_at tab column c } in
+    let here : Metrics = record { ch = c; byte_index = byte_index; bytes = len_utf8 c; column = column; unicode_width = width_at tab column c } in
     let parts = no-tab c cs e in
     rw (none here, as_is here parts.0, plain-left context line tab (byte_index + len_utf8 c) (column + width_at tab column c) cs none parts.1)
     (sym (bytes-append (encode_utf8 c) (encodes cs)))
@@ -112,7 +112,7 @@ no-label-past labels c past = by_test (list_any (λ x. is_primary x && covers x 
     by_test false is = is
 
 -- past that and what marks cover no character is primary
-pub no-style-past : (line : Line) (given : PrimaryCover) (c : Metrics) → CoversAsLaneMarks line.lanes.lane_marks given → is_marked given c ≡ false
+pub no-style-past : (line : Line) (given : PrimaryCover) (c : Metrics) → CoversAsLaneMarks line.lanes.lane_marks given → covers_char given c ≡ false
     → max_label_end line.labels ≤ c.byte_index → 1 ≤ c.bytes → source_style line c ≡ None
 no-style-past line given c are none past some = rw (no-label-past line.labels c past, ← are c some, none) refl
 
@@ -132,7 +132,7 @@ plain-past : (context : RowContext) (line : Line) (tab byte_index column from to
 unfolding bytes
 plain-past context line tab byte_index column from top previous [] low high none e = sym (append-nil (change context.severity previous None))
 plain-past context line tab byte_index column from top previous (c ∷ cs) low high none e =
-    let here : Metrics = record { code = c; byte_index = byte_index; bytes = len_utf8 c; column = column; unicode_width = width_at tab column c } in
+    let here : Metrics = record { ch = c; byte_index = byte_index; bytes = len_utf8 c; column = column; unicode_width = width_at tab column c } in
     let parts = no-tab c cs e in
     let some = (len_utf8_bounds c).0 in
     let size = length-append (encode_utf8 c) (encodes cs) in

@@ -9,7 +9,7 @@ use Rattle.codespan_base.specs.Streams.{Stream, bytes, spaces, repeated, glyph, 
 use Rattle.codespan_base.proofs.Writes.{bytes-append}
 use Rattle.std.proofs.lemmas.Grind.{flat_map-append}
 use Rattle.codespan_base.proofs.Repeats.{repeat-add}
-use Rattle.codespan_row_parts.specs.declared.lanes.LaneRow.TheVariants.{Source, Empty, Below}
+use Rattle.codespan_row_parts.specs.declared.lanes.LaneRow.TheVariants.{Source, Empty, SingleLabels}
 use Rattle.codespan_picture.specs.Arguments.{SingleLabelTuple, single_label_views}
 use Rattle.codespan_row_parts.specs.LineViews.{row_lanes_view}
 use Rattle.codespan_picture.specs.Rows.{RowContext, Lanes, Line, Row, SourceRow, caret_rows, hanging_labels, hanging_rows, underline_rows, rows_of}
@@ -36,7 +36,7 @@ pub plain_lanes_are : (context : RowContext) (leading : ℕ) (lanes : Lanes) →
 unfolding row_lanes_view inner_gutter
 plain_lanes_are context leading lanes = refl
 
-pub below_lanes_are : (context : RowContext) (leading : ℕ) (lanes : Lanes) → row_lanes_view context leading Below lanes ≡ inner_gutter context leading kind.Below lanes
+pub below_lanes_are : (context : RowContext) (leading : ℕ) (lanes : Lanes) → row_lanes_view context leading SingleLabels lanes ≡ inner_gutter context leading kind.SingleLabels lanes
 unfolding row_lanes_view inner_gutter
 below_lanes_are context leading lanes = refl
 

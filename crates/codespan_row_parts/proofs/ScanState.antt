@@ -7,7 +7,7 @@ use Rattle.std.proofs.lemmas.Str.{encodes-chars, length-encode, len_utf8_bounds}
 use lib.Utf8.{encodes}
 use Rattle.codespan_picture.specs.declared.char_metrics.Metrics.{Metrics}
 use Rattle.codespan_picture.specs.CharMetrics.{metrics_then, char_metrics, placeholder, char_metrics_to_end, width_at}
-use Rattle.codespan_row_parts.specs.CharCursors.{Follow}
+use Rattle.codespan_row_parts.specs.CharCursors.{AreContiguous}
 
 -- a character is at this byte index and column, and ends at `top` at the most
 pub record IsMetricsAt (top byte_index column : ℕ) (x : Metrics) : Type 0 where
@@ -30,7 +30,7 @@ pub record ScanState (top run : ℕ) (cs : List Metrics) : Type 0 where
   pub small : run ≤ column
 
 -- they follow one another
-pub consecutive_within-follow : (top byte_index column : ℕ) (cs : List Metrics) → ConsecutiveWithin top byte_index column cs → Follow byte_index cs
+pub consecutive_within-follow : (top byte_index column : ℕ) (cs : List Metrics) → ConsecutiveWithin top byte_index column cs → AreContiguous byte_index cs
 consecutive_within-follow top byte_index column [] l = tt
 consecutive_within-follow top byte_index column (x ∷ cs) l = (l.0.here, l.0.some, consecutive_within-follow top (byte_index + x.bytes) (column + x.unicode_width) cs l.1)
 

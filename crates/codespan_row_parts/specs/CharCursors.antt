@@ -10,7 +10,7 @@ abbrev pub is_covered : (LabelModel → Bool) → List LabelModel → Metrics �
 is_covered passes xs c = list_any (λ x. passes x && covers x c) xs
 
 -- characters of at least one byte each, one after another from a byte index on
-abbrev pub Follow : ℕ → List Metrics → Type 0
-Follow byte_index [] = Unit {0}
-Follow byte_index (c ∷ cs) =
-    (c.byte_index ≡ byte_index) × (1 ≤ c.bytes) × Follow (byte_index + c.bytes) cs
+abbrev pub AreContiguous : ℕ → List Metrics → Type 0
+AreContiguous byte_index [] = Unit {0}
+AreContiguous byte_index (c ∷ cs) =
+    (c.byte_index ≡ byte_index) × (1 ≤ c.bytes) × AreContiguous (byte_index + c.bytes) cs

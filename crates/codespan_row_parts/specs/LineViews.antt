@@ -8,7 +8,7 @@ use Rattle.codespan_row_parts.specs.declared.line.RowContext as context
 use Rattle.codespan_row_parts.specs.declared.line.Lanes as lanes
 use Rattle.codespan_row_parts.specs.declared.line.Line as line
 use Rattle.codespan_picture.specs.Arguments.{LaneMarkTuple, single_label_views, lanes_of, lane_mark_view}
-use Rattle.codespan_picture.specs.Lanes.{LaneRow, Source, Empty, Below, Underline, row_shape, row_crossing}
+use Rattle.codespan_picture.specs.Lanes.{LaneRow, Source, Empty, SingleLabels, Underline, row_shape, row_crossing}
 use Rattle.codespan_picture.specs.Rows.{RowContext, Lanes, Line}
 use Rattle.codespan_picture.specs.RowParts.{inner_gutter_column, inner_gutter}
 
@@ -39,13 +39,13 @@ line_view x = record {
 abbrev pub lane_row_view : RustLaneRow → LaneRow
 lane_row_view rust_variant.Source = Source
 lane_row_view rust_variant.Empty = Empty
-lane_row_view rust_variant.Below = Below
+lane_row_view rust_variant.SingleLabels = SingleLabels
 lane_row_view (rust_variant.Underline corner_lane style multi_label) =
     Underline (lane_mark_view (corner_lane, style, multi_label))
 
 -- one lane of a kind of row, from the lane mark in it
-unfoldable pub lane_of_view : RowContext → ℕ → RustLaneRow → ℕ → Option LaneMarkTuple → Stream
-lane_of_view context leading row lane lane_mark =
+unfoldable pub row_lane_view : RowContext → ℕ → RustLaneRow → ℕ → Option LaneMarkTuple → Stream
+row_lane_view context leading row lane lane_mark =
     inner_gutter_column context (row_crossing (lane_row_view row) lane)
     (row_shape context.layout leading (lane_row_view row) lane)
     (option_map lane_mark_view lane_mark)

@@ -13,12 +13,12 @@ is_from (Some start) byte_index = nat_le start byte_index
 
 -- the character is covered: it begins at the least start or later, or ends at the greatest end or
 -- before it
-abbrev pub is_marked : PrimaryCover → Metrics → Bool
-is_marked m c = is_from m.from c.byte_index || nat_le (c.byte_index + c.bytes) m.to
+abbrev pub covers_char : PrimaryCover → Metrics → Bool
+covers_char m c = is_from m.from c.byte_index || nat_le (c.byte_index + c.bytes) m.to
 
 -- covered are the characters that a primary one of these lane marks covers
 abbrev pub CoversAsLaneMarks : List LaneMark → PrimaryCover → Type 0
 CoversAsLaneMarks lane_marks covered =
-    (c : Metrics) → 1 ≤ c.bytes → is_marked covered c
+    (c : Metrics) → 1 ≤ c.bytes → covers_char covered c
     ≡ list_any (λ (m : LaneMark). is_primary_style m.style && multi_label_covers c m.multi_label)
     lane_marks

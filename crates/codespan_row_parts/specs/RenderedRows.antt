@@ -50,7 +50,8 @@ rendered_break config severity padding num_multi_labels lane_marks =
 
 -- the later rows of a note
 abbrev pub later_note_rows : ℕ → List (List ℕ) → Stream
-later_note_rows padding pieces = flat_map (λ piece. later_note_row padding piece ++ newline) pieces
+later_note_rows padding note_lines =
+    flat_map (λ note_line. later_note_row padding note_line ++ newline) note_lines
 
 -- the rows of a note of these lines
 abbrev pub note_stream : Chars → ℕ → List (List ℕ) → Stream

@@ -38,7 +38,7 @@ pub record AreHanging (labels before after : List SingleLabelTuple) : Type 0 whe
       ≡ hanging_labels (single_label_views labels)
 
 -- the two lists are a prefix of the labels and a suffix of them
-pub record ArePieces (labels before after : List SingleLabelTuple) : Type 0 where
+pub record ArePrefixAndSuffix (labels before after : List SingleLabelTuple) : Type 0 where
   pub rest : List SingleLabelTuple
   pub begins : before ++ rest ≡ labels
   pub skipped : List SingleLabelTuple

@@ -4,7 +4,7 @@ ghost use Rattle.std.specs.Prelude.{◌≡◌, ◌+◌, ◌<◌, ◌≤◌, ℕ,
 ghost use Rattle.std.specs.Option.{option_map};
 ghost use Rattle.codespan_base.specs.WriterLaw.{Writes};
 ghost use Rattle.codespan_picture.specs.Arguments.{lane_mark_view, multi_label_view};
-ghost use Rattle.codespan_row_parts.specs.LineViews.{context_view, lanes_view, lane_row_view, lane_of_view, row_lanes_view};
+ghost use Rattle.codespan_row_parts.specs.LineViews.{context_view, lanes_view, lane_row_view, row_lane_view, row_lanes_view};
 ghost use Rattle.codespan_row_parts.specs.RowViews.{lane_glyph_view};
 ghost use Rattle.codespan_row_parts.specs.LaneMarksLeft.{lane_mark_here, lane_marks_after};
 ghost use Rattle.codespan_picture.specs.Lanes.{crossing_cells, lane_cells, underline_char, row_crossing};
@@ -29,7 +29,7 @@ pub enum LaneRow<'d> {
     /// An empty row or a break row.
     Empty,
     /// A row of single-line labels: a caret, pointer or hanging row.
-    Below,
+    SingleLabels,
     /// The underline row of a lane mark: its lane, its style, and what its label does on the line.
     Underline(usize, LabelStyle, MultiLabel<'d>),
 }
@@ -53,7 +53,8 @@ fn crossing<'d>(row: LaneRow<'d>, lane: usize) -> Option<(usize, LabelStyle, Mul
             style,
             multi_label,
         )),
-        LaneRow::Source | LaneRow::Empty | LaneRow::Below | LaneRow::Underline(_, _, _) => None,
+        LaneRow::Source | LaneRow::Empty | LaneRow::SingleLabels | LaneRow::Underline(_, _, _) =>
+            None,
     }
 }
 
@@ -143,7 +144,7 @@ fn write_lane_cells<W: PutStyle>(
 }
 
 /// Writes one lane, from the lane mark in it.
-#[tactic(auto, unfolding(codespan_picture::specs::RowParts::inner_gutter_column, crate::specs::LineViews::lane_of_view))]
+#[tactic(auto, unfolding(codespan_picture::specs::RowParts::inner_gutter_column, crate::specs::LineViews::row_lane_view))]
 fn inner_gutter_column<W: PutStyle>(
     w: &mut W,
     context: RowContext<'_>,
@@ -152,7 +153,7 @@ fn inner_gutter_column<W: PutStyle>(
     lane: Lane<'_>,
 ) -> Result<(), W::Error>
     ensures { Writes (W.sink w.old)
-        (lane_of_view (context_view context.entry) leading row.entry lane.entry.index
+        (row_lane_view (context_view context.entry) leading row.entry lane.entry.index
         lane.entry.lane_mark)
         result (W.sink w.new) }
 {
@@ -212,7 +213,7 @@ fn num_empty_lanes(row: LaneRow<'_>, lane: usize, until: usize) -> usize
 {
     let end = match row {
         LaneRow::Underline(corner_lane, _, _) => until.min(corner_lane.saturating_add(1)),
-        LaneRow::Source | LaneRow::Empty | LaneRow::Below => until,
+        LaneRow::Source | LaneRow::Empty | LaneRow::SingleLabels => until,
     };
     end.saturating_sub(lane).min(MAX_EMPTY_LANES)
 }

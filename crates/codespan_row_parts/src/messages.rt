@@ -5,7 +5,7 @@ ghost use Rattle.std.specs.List.{list_any};
 ghost use Rattle.std.specs.Option.{option_map_or};
 ghost use Rattle.codespan_base.specs.Labels.{has_message};
 ghost use Rattle.codespan_picture.specs.Arguments.{single_label_view, single_label_views};
-ghost use Rattle.codespan_row_parts.specs.Runs.{optional_label_view, label_entry_view, AreHanging, ArePieces};
+ghost use Rattle.codespan_row_parts.specs.Runs.{optional_label_view, label_entry_view, AreHanging, ArePrefixAndSuffix};
 ghost use Rattle.codespan_picture.specs.Rows.{trailing_label, last_with_end, overlaps_any, does_trail};
 
 use crate::carets::{is_overlapping, max_label_end};
@@ -29,7 +29,7 @@ impl<'row, 'd> Messages<'row, 'd> {
         ensures trailing_label { optional_label_view result.trailing_label
             ≡ trailing_label (single_label_views labels.now) }
         ensures hanging_labels { AreHanging labels.now result.before.now result.after.now }
-        ensures pieces { ArePieces labels.now result.before.now result.after.now }
+        ensures slices { ArePrefixAndSuffix labels.now result.before.now result.after.now }
     {
         match last_with_end(labels, max_label_end(labels)) {
             Some(index) if does_trail(labels, index) => Messages {

@@ -176,6 +176,6 @@ pub fn write_row_start<W: PutStyle>(
 {
     outer_gutter(w, context.padding)?;
     border_left(w, context.chars)?;
-    inner_gutter(w, context, line.leading, LaneRow::Below, line.lanes)?;
+    inner_gutter(w, context, line.leading, LaneRow::SingleLabels, line.lanes)?;
     write_space(w)
 }

@@ -4,7 +4,7 @@ ghost use Rattle.std.specs.Prelude.{◌≡◌, ◌||◌, ◌+◌, ◌^◌, ◌<�
 ghost use Rattle.codespan_picture.specs.declared.char_metrics.Metrics as metrics;
 ghost use Rattle.codespan_picture.specs.Arguments.{lane_mark_view, multi_label_view};
 ghost use Rattle.codespan_picture.specs.RowParts.{multi_label_covers};
-ghost use Rattle.codespan_row_parts.specs.PrimaryCover.{CoversAsLaneMarks, is_from, is_marked};
+ghost use Rattle.codespan_row_parts.specs.PrimaryCover.{CoversAsLaneMarks, is_from, covers_char};
 
 use codespan_base::diagnostic::LabelStyle;
 use codespan_picture::arguments::MultiLabel;
@@ -36,8 +36,8 @@ impl PrimaryCover {
 
     /// Adds what the label of one more multi-line label mark covers.
     fn with(self, multi_label: MultiLabel<'_>) -> PrimaryCover
-        ensures { (c : metrics.Metrics) → 1 ≤ c.bytes → is_marked result c
-            ≡ (is_marked self c || multi_label_covers c (multi_label_view multi_label.entry)) }
+        ensures { (c : metrics.Metrics) → 1 ≤ c.bytes → covers_char result c
+            ≡ (covers_char self c || multi_label_covers c (multi_label_view multi_label.entry)) }
     {
         match multi_label {
             MultiLabel::Top(start) => PrimaryCover {
@@ -60,7 +60,7 @@ impl PrimaryCover {
     pub fn end(self) -> usize
         ensures { (c : metrics.Metrics) → result ≤ c.byte_index → c.byte_index + 1 < 2 ^ 64
             → 1 ≤ c.bytes
-            → is_marked self c ≡ false }
+            → covers_char self c ≡ false }
     {
         match self.from {
             Some(_) => usize::MAX,
@@ -75,7 +75,7 @@ impl PrimaryCover {
     /// The character has a byte.
     pub fn covers_char(self, metrics: Metrics) -> bool
         requires { 1 ≤ metrics.bytes }
-        ensures { result ≡ is_marked self metrics }
+        ensures { result ≡ covers_char self metrics }
     {
         if self.from.is_none() && self.to == 0 {
             return false;

@@ -88,25 +88,25 @@ underlines-out context line leading lane_marks i d h e t =
 
 -- these lines of a text remain
 abbrev pub HasLines : TextLines → List (List ℕ) → Type 0
-HasLines s pieces = YieldsList lines_steps (λ (x : Bor (List ℕ)). x.now) s pieces
+HasLines s note_lines = YieldsList lines_steps (λ (x : Bor (List ℕ)). x.now) s note_lines
 
 -- the rows of the remaining lines are still to be written
 pub record NotesToWrite (s : Sink) (whole : Stream) (padding : ℕ) (left : TextLines) (t : Sink) : Type 0 where
-  pub pieces : List (List ℕ)
-  pub yields : HasLines left pieces
-  pub written_so_far : StillToWrite s whole (later_note_rows padding pieces) t
+  pub note_lines : List (List ℕ)
+  pub yields : HasLines left note_lines
+  pub written_so_far : StillToWrite s whole (later_note_rows padding note_lines) t
 
 -- one line is the next
-pub record Next (x : List ℕ) (t : TextLines) (pieces : List (List ℕ)) : Type 0 where
+pub record Next (x : List ℕ) (t : TextLines) (note_lines : List (List ℕ)) : Type 0 where
   pub after : List (List ℕ)
-  pub is : pieces ≡ x ∷ after
+  pub is : note_lines ≡ x ∷ after
   pub yields : HasLines t after
 
-pub lines-next : (s : TextLines) (x : Bor (List ℕ)) (t : TextLines) (pieces : List (List ℕ)) → HasLines s pieces → lines_steps s (Some x) t → Next x.now t pieces
+pub lines-next : (s : TextLines) (x : Bor (List ℕ)) (t : TextLines) (note_lines : List (List ℕ)) → HasLines s note_lines → lines_steps s (Some x) t → Next x.now t note_lines
 lines-next s x t [] p k = absurd (p.runs x t k)
 lines-next s x t (y ∷ ys) p k = let n = p.runs.1 x t k in record { after = ys; is = ap (λ v. v ∷ ys) (sym n.0); yields = record { runs = n.1 } }
 
 -- no line remains
-pub lines-none : (s t : TextLines) (pieces : List (List ℕ)) → HasLines s pieces → lines_steps s None t → pieces ≡ []
+pub lines-none : (s t : TextLines) (note_lines : List (List ℕ)) → HasLines s note_lines → lines_steps s None t → note_lines ≡ []
 lines-none s t [] p k = refl
 lines-none s t (y ∷ ys) p k = absurd (p.runs.0 t k)

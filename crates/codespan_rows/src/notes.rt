@@ -62,9 +62,9 @@ fn write_first_note_line<W: PutStyle>(
     w: &mut W,
     chars: &Chars<'_>,
     padding: usize,
-    piece: &str,
+    note_line: &str,
 ) -> Result<(), W::Error>
-    ensures { Writes (W.sink w.old) (first_note_row chars.now padding piece.now ++ newline)
+    ensures { Writes (W.sink w.old) (first_note_row chars.now padding note_line.now ++ newline)
         result (W.sink w.new) }
 {
     outer_gutter(w, padding)?;
@@ -72,7 +72,7 @@ fn write_first_note_line<W: PutStyle>(
     put_char(w, chars.note_bullet)?;
     w.reset()?;
     write_space(w)?;
-    put_all(w, piece.as_bytes())?;
+    put_all(w, note_line.as_bytes())?;
     write_newline(w)
 }
 
@@ -80,15 +80,15 @@ fn write_first_note_line<W: PutStyle>(
 fn write_later_note_line<W: PutStyle>(
     w: &mut W,
     padding: usize,
-    piece: &str,
+    note_line: &str,
 ) -> Result<(), W::Error>
-    ensures { Writes (W.sink w.old) (later_note_row padding piece.now ++ newline)
+    ensures { Writes (W.sink w.old) (later_note_row padding note_line.now ++ newline)
         result (W.sink w.new) }
 {
     outer_gutter(w, padding)?;
     write_space(w)?;
     write_space(w)?;
-    put_all(w, piece.as_bytes())?;
+    put_all(w, note_line.as_bytes())?;
     write_newline(w)
 }
 
@@ -106,13 +106,13 @@ pub fn write_note<W: PutStyle>(
     ensures { Writes (W.sink w.old) (note_stream chars.now padding (lines message.now))
         result (W.sink w.new) }
 {
-    let mut pieces = message.lines();
-    let Some(first) = pieces.next() else {
+    let mut note_lines = message.lines();
+    let Some(first) = note_lines.next() else {
         return Ok(());
     };
     write_first_note_line(w, chars, padding, first)?;
-    for piece in pieces {
-        write_later_note_line(w, padding, piece)?;
+    for note_line in note_lines {
+        write_later_note_line(w, padding, note_line)?;
     }
     Ok(())
 }

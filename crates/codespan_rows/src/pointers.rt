@@ -9,7 +9,7 @@ ghost use Rattle.codespan_row_parts.specs.RowViews.{hanging_stream_view, hanging
 ghost use Rattle.codespan_picture.specs.Lanes.{label_glyph};
 ghost use Rattle.codespan_picture.specs.RowParts.{max_label_start};
 ghost use Rattle.codespan_picture.specs.RowStreams.{pointer_row, hanging_row};
-ghost use Rattle.codespan_row_parts.specs.Runs.{AreHanging, ArePieces};
+ghost use Rattle.codespan_row_parts.specs.Runs.{AreHanging, ArePrefixAndSuffix};
 ghost use Rattle.codespan_row_parts.specs.LineCharacters.{char_input};
 
 use codespan_base::diagnostic::LabelStyle;
@@ -139,7 +139,7 @@ fn write_pointers_and_messages<W: PutStyle, S: LineCharacters>(
     requires input { S.input rows.now.characters.now ≡ char_input rows.now.context rows.now.line }
     requires hanging_labels { AreHanging rows.now.line.labels.now
         rows.now.messages.before.now rows.now.messages.after.now }
-    requires pieces { ArePieces rows.now.line.labels.now
+    requires slices { ArePrefixAndSuffix rows.now.line.labels.now
         rows.now.messages.before.now rows.now.messages.after.now }
     ensures { Writes (W.sink w.old) (messages_view rows.now.context rows.now.line rows.now.messages)
         result (W.sink w.new) }
@@ -169,7 +169,7 @@ pub fn write_hanging<W: PutStyle, S: LineCharacters>(
 ) -> Result<(), W::Error>
     requires input { S.input characters.now ≡ char_input context line }
     requires hanging_labels { AreHanging line.labels.now messages.before.now messages.after.now }
-    requires pieces { ArePieces line.labels.now messages.before.now messages.after.now }
+    requires slices { ArePrefixAndSuffix line.labels.now messages.before.now messages.after.now }
     ensures { Writes (W.sink w.old) (hanging_rows_view context.entry line.entry)
         result (W.sink w.new) }
 {

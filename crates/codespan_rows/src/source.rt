@@ -49,7 +49,7 @@ fn write_colored_text<W: PutStyle, C: CharCursor>(
         }
         let style = text_style(&mut characters, primary, line, metrics);
         let next = end + metrics.bytes;
-        if metrics.code == '\t' {
+        if metrics.ch == '\t' {
             end_text_run(w, context, &text[start..end], previous, style)?;
             put_spaces(w, metrics.unicode_width)?;
             start = next;

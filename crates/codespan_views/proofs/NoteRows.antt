@@ -8,7 +8,7 @@ use Rattle.codespan_base.specs.Streams.{Stream, newline}
 use Rattle.codespan_picture.specs.Rows.{RowContext, Row, FinalRow, LaterNoteRow}
 use Rattle.codespan_picture.specs.RowStreams.{first_note_row, later_note_row, stream_of, stream_of_rows}
 use Rattle.codespan_row_parts.specs.RenderedRows.{later_note_rows, note_stream}
-use Rattle.codespan_picture.specs.Snippets.{note_rows, piece_rows}
+use Rattle.codespan_picture.specs.Snippets.{note_rows, note_line_rows}
 
 module _ (context : RowContext) where
   -- the stream of a row and of its end
@@ -21,7 +21,7 @@ module _ (context : RowContext) where
   later-rows (p ∷ ps) = ap (λ (s : Stream). (later_note_row context.padding p ++ newline) ++ s) (later-rows ps)
 
   -- the rows of a note are its stream
-  pub note-rows : (ps : List (List ℕ)) → stream_of_rows context (piece_rows ps) ≡ note_stream context.chars context.padding ps
+  pub note-rows : (ps : List (List ℕ)) → stream_of_rows context (note_line_rows ps) ≡ note_stream context.chars context.padding ps
   note-rows [] = refl
   note-rows (p ∷ ps) = ap (λ (s : Stream). (first_note_row context.chars context.padding p ++ newline) ++ s) (later-rows ps)
 
@@ -38,7 +38,7 @@ module _ {N : Type 0} (text : N → List ℕ) (context : RowContext) where
   notes-both : (ms ns : List N) → stream_of_notes (ms ++ ns) ≡ stream_of_notes ms ++ stream_of_notes ns
   notes-both ms ns =
       ap (λ (texts : List (List ℕ)). stream_of_rows context (note_rows texts)) (map-append text ms ns)
-      ∙ ap (stream_of_rows context) (flat_map-append (λ (n : List ℕ). piece_rows (lines n)) (map text ms) (map text ns))
+      ∙ ap (stream_of_rows context) (flat_map-append (λ (n : List ℕ). note_line_rows (lines n)) (map text ms) (map text ns))
       ∙ flat_map-append (ended context) (note_rows (map text ms)) (note_rows (map text ns))
 
   -- one more note
@@ -47,7 +47,7 @@ module _ {N : Type 0} (text : N → List ℕ) (context : RowContext) where
   notes-next notes i note inside is =
       ap stream_of_notes (take_more notes i note inside ∙ ap (λ (n : N). take i notes ++ n ∷ []) (sym is))
       ∙ notes-both (take i notes) (note ∷ [])
-      ∙ ap (λ (s : Stream). stream_of_notes (take i notes) ++ s) (ap (stream_of_rows context) (append-nil (piece_rows (lines (text note)))) ∙ note-rows context (lines (text note)))
+      ∙ ap (λ (s : Stream). stream_of_notes (take i notes) ++ s) (ap (stream_of_rows context) (append-nil (note_line_rows (lines (text note)))) ∙ note-rows context (lines (text note)))
 
   -- the notes before an index, and those from there on
   pub notes-cut : (notes : List N) (i : ℕ) → stream_of_notes notes ≡ stream_of_notes (take i notes) ++ stream_of_notes (drop i notes)

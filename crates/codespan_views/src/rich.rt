@@ -170,14 +170,20 @@ impl<'diagnostic, 'config, FileId: Copy + Eq> RichDiagnostic<'diagnostic, 'confi
             padding: output_plan.padding,
             severity: diagnostic.severity,
         };
-        let mut labels = LineBuffers::new(*diagnostic.labels.allocator());
+        let mut buffers = LineBuffers::new(*diagnostic.labels.allocator());
         let notes_follow = has_notes(diagnostic);
         let mut start = 0;
         for (index, snippet_plan) in output_plan.snippet_plans.iter().enumerate() {
             let snippet_lines = lines_of_file(output_plan, snippet_plan, start);
             start += snippet_plan.line_total;
             let is_followed = notes_follow | has_next_file(output_plan, index);
-            render_snippet(&context, renderer, &mut labels, snippet_plan, snippet_lines)?;
+            render_snippet(
+                &context,
+                renderer,
+                &mut buffers,
+                snippet_plan,
+                snippet_lines,
+            )?;
             render_trailing_border(&context, renderer, snippet_plan, is_followed)?;
         }
         Ok(())

@@ -56,7 +56,7 @@ fn render_start<F, FileId, W: WriteStyle>(
 pub fn render_snippet<'files, 'd, F: Files<'files>, W: WriteStyle>(
     context: &SnippetContext<'files, F>,
     renderer: &mut Renderer<'_, '_, W>,
-    labels: &mut LineBuffers<'d>,
+    buffers: &mut LineBuffers<'d>,
     snippet_plan: &SnippetPlan<'_, F::FileId>,
     snippet_lines: &[SnippetLine<'_, 'd, F::FileId>],
 ) -> Result<(), Error>
@@ -78,7 +78,7 @@ pub fn render_snippet<'files, 'd, F: Files<'files>, W: WriteStyle>(
         text: source.as_str(),
         num_multi_labels: snippet_plan.file.num_multi_labels,
     };
-    snippet.render_lines(renderer, labels, snippet_lines)
+    snippet.render_lines(renderer, buffers, snippet_lines)
 }
 
 /// Renders the row after a snippet, where something follows.

@@ -1,7 +1,7 @@
 //! The padding width of an output.
 
 ghost use Rattle.std.specs.Prelude.{◌≡◌, flat_map, fold, max};
-ghost use Rattle.codespan_plan.specs.SnippetPlans.{line_digits, width_in};
+ghost use Rattle.codespan_plan.specs.SnippetPlans.{line_digits, padding_width};
 
 use crate::plan::snippet_lines::SnippetLine;
 use codespan_base::term::Layout;
@@ -15,7 +15,7 @@ pub fn padding_width<FileId>(
     spanned: usize,
     snippet_lines: &[SnippetLine<'_, '_, FileId>],
 ) -> usize
-    ensures { result ≡ width_in layout spanned snippet_lines.now }
+    ensures { result ≡ padding_width layout spanned snippet_lines.now }
 {
     match layout {
         Layout::Classic => spanned,

@@ -4,7 +4,7 @@ ghost use Rattle.std.specs.Prelude.{◌≡◌, ◌∷◌, [], All, IfOk, OnOk, m
 ghost use Rattle.codespan_base.specs.LawfulFiles.{FailsBy};
 ghost use Rattle.codespan_annotations.specs.AnnotationViews.{IsLineOf, annotation_view};
 ghost use Rattle.codespan_plan.specs.SnippetLineViews.{IsGapBefore, gap_lines, known_number};
-ghost use Rattle.codespan_plan.specs.SnippetLines.{fills_of, lines_of, lines_to};
+ghost use Rattle.codespan_plan.specs.SnippetLines.{filled_lines_of, lines_of, lines_to};
 ghost use Rattle.codespan_plan.specs.LinePlanners.{AddsPlanned, numbers_failure};
 ghost use Rattle.codespan_annotations.specs.SourceFiles.{model_of};
 
@@ -117,8 +117,8 @@ impl<'files, F: Files<'files>> LinePlanner<'files, F> {
             snippet_lines.new.items
             (gap_lines (map annotation_view hidden.now) (map annotation_view next.now) gap)) }
         ensures failed { FailsBy (numbers_failure F.database self.now
-            (fills_of (gap_lines (map annotation_view hidden.now) (map annotation_view next.now)
-            gap))) result }
+            (filled_lines_of (gap_lines (map annotation_view hidden.now)
+            (map annotation_view next.now) gap))) result }
     {
         match gap {
             Gap::Nothing => {}
@@ -161,7 +161,7 @@ impl<'files, F: Files<'files>> LinePlanner<'files, F> {
             snippet_lines.new.items
             (lines_to previous (map annotation_view hidden.now) line.index
             (map annotation_view annotations.now))) }
-        ensures failed { FailsBy (numbers_failure F.database self.now (fills_of
+        ensures failed { FailsBy (numbers_failure F.database self.now (filled_lines_of
             (lines_to previous (map annotation_view hidden.now) line.index
             (map annotation_view annotations.now))))
             result }
@@ -199,28 +199,28 @@ impl<'files, F: Files<'files>> LinePlanner<'files, F> {
             (AddsPlanned F.database self.now snippet_lines.old.items
             snippet_lines.new.items (lines_of (map annotation_view annotations.now))) }
         ensures failed { FailsBy (numbers_failure F.database self.now
-            (fills_of (lines_of (map annotation_view annotations.now)))) result }
+            (filled_lines_of (lines_of (map annotation_view annotations.now)))) result }
     {
         let mut previous = None;
         let mut hidden = 0;
-        let mut at = 0;
-        while at < annotations.len() {
-            let line = annotations[at].line;
-            let end = at + count_on_line(&annotations[at..], line.index);
-            if shows_line(&annotations[at]) {
+        let mut start = 0;
+        while start < annotations.len() {
+            let line = annotations[start].line;
+            let end = start + count_on_line(&annotations[start..], line.index);
+            if shows_line(&annotations[start]) {
                 self.push_shown(
                     previous,
-                    &annotations[hidden..at],
+                    &annotations[hidden..start],
                     line,
-                    &annotations[at..end],
+                    &annotations[start..end],
                     snippet_lines,
                 )?;
                 previous = Some(line.index);
                 hidden = end;
             } else {
-                hidden = at;
+                hidden = start;
             }
-            at = end;
+            start = end;
         }
         Ok(())
     }

@@ -12,7 +12,7 @@ ghost use Rattle.codespan_annotations.specs.AnnotationViews.{IsLineOf, IsOfFiles
 ghost use Rattle.codespan_annotations.specs.LabeledFiles.{ids_view};
 ghost use Rattle.codespan_plan.specs.Loci.{locus_failure, locus_start_of};
 ghost use Rattle.codespan_plan.specs.SnippetPlans.{ArePlansOf, plans_failure};
-ghost use Rattle.codespan_plan.specs.SnippetLines.{fills_of, lines_of};
+ghost use Rattle.codespan_plan.specs.SnippetLines.{filled_lines_of, lines_of};
 ghost use Rattle.codespan_plan.specs.SnippetLineViews.{AddsLines, numbers_looked_up};
 ghost use Rattle.codespan_annotations.specs.TextLoci.{IsTextLocus};
 
@@ -63,8 +63,8 @@ fn push_snippet<'files, 'e, 'd, F: Files<'files>>(
     ensures count { IfOk result (λ count. count
         ≡ length snippet_lines.new.items - length snippet_lines.old.items) }
     ensures failed { FailsBy (failure_in (F.database files.now).failure id
-        (numbers_looked_up layout (fills_of (lines_of (map annotation_view annotations.now)))))
-        result }
+        (numbers_looked_up layout
+        (filled_lines_of (lines_of (map annotation_view annotations.now))))) result }
 {
     let planner = LinePlanner {
         file: SourceFile { files, file_id: id },

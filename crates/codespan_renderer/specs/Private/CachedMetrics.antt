@@ -7,7 +7,7 @@ use Rattle.codespan_picture.specs.CharMetrics.{metrics_then}
 use Rattle.codespan_picture.specs.RowParts.{metrics_up_to}
 use Rattle.codespan_renderer.specs.declared.term.renderer.char_metrics.CharMetrics.{CharMetrics}
 use Rattle.codespan_renderer.specs.declared.term.renderer.cached.cached_metrics.CachedMetrics.{CachedMetrics}
-use Rattle.codespan_renderer.specs.Private.MetricsLeft.{Afters, metrics_from, metrics_left, no_more}
+use Rattle.codespan_renderer.specs.Private.MetricsLeft.{MetricsAfterEnd, metrics_from, metrics_left, no_more}
 
 -- the characters that are left: the cached ones, and then those of the iterator
 abbrev pub cached_left : CachedMetrics → List Metrics
@@ -17,7 +17,8 @@ cached_left s = s.cached.now ++ metrics_left s.rest
 -- the last one
 abbrev pub AreCached : ℕ → List ℕ → List Metrics → CharMetrics → Type 0
 AreCached tab text cached rest =
-    (after : Afters) → cached ++ metrics_from after rest ≡ metrics_then after tab 0 0 (chars text)
+    (after : MetricsAfterEnd)
+    → cached ++ metrics_from after rest ≡ metrics_then after tab 0 0 (chars text)
 
 -- the characters that begin within a reach
 abbrev pub metrics_within : Option ℕ → List Metrics → List Metrics

@@ -7,20 +7,20 @@ use Rattle.codespan_renderer.specs.declared.term.renderer.char_metrics.CharMetri
 use Rattle.codespan_picture.specs.CharMetrics.{metrics_then, placeholder}
 
 -- what is after the last character, by the byte index and the column there
-abbrev pub Afters : Type 0
-Afters = ℕ → ℕ → List Metrics
+abbrev pub MetricsAfterEnd : Type 0
+MetricsAfterEnd = ℕ → ℕ → List Metrics
 
 -- nothing is after it
-abbrev pub no_more : Afters
+abbrev pub no_more : MetricsAfterEnd
 no_more = λ _ _. []
 
 -- the placeholder where this is true, else nothing
-abbrev pub after_last : Bool → Afters
+abbrev pub after_last : Bool → MetricsAfterEnd
 after_last true = placeholder
 after_last false = no_more
 
 -- the characters that are left, and what is after the last one
-abbrev pub metrics_from : Afters → CharMetrics → List Metrics
+abbrev pub metrics_from : MetricsAfterEnd → CharMetrics → List Metrics
 metrics_from after s =
     metrics_then after s.tab_width s.byte_index s.column (chars (chars_rest s.chars))
 
@@ -30,7 +30,7 @@ metrics_left s = metrics_from (after_last s.to_end) s
 
 -- the iterator goes over a character
 pub record GoesOver (c : Metrics) (old new : CharMetrics) : Type 0 where
-  pub yields : (after : Afters) → metrics_from after old ≡ c ∷ metrics_from after new
+  pub yields : (after : MetricsAfterEnd) → metrics_from after old ≡ c ∷ metrics_from after new
   pub here : c.byte_index ≡ old.byte_index
   pub at : c.column ≡ old.column
   pub some : 1 ≤ c.bytes
@@ -39,8 +39,8 @@ pub record GoesOver (c : Metrics) (old new : CharMetrics) : Type 0 where
 
 -- the iterator has gone over all characters, and stays where it is
 pub record IsPastLast (old new : CharMetrics) : Type 0 where
-  pub none : (after : Afters) → metrics_from after old ≡ after old.byte_index old.column
-  pub still : (after : Afters) → metrics_from after new ≡ after old.byte_index old.column
+  pub none : (after : MetricsAfterEnd) → metrics_from after old ≡ after old.byte_index old.column
+  pub still : (after : MetricsAfterEnd) → metrics_from after new ≡ after old.byte_index old.column
   pub byte_index : new.byte_index ≡ old.byte_index
   pub column : new.column ≡ old.column
 

@@ -12,7 +12,7 @@ use Rattle.codespan_picture.specs.Arguments.{single_label_views, starts_from}
 use Rattle.codespan_picture.specs.Lanes.{label_glyph}
 use Rattle.codespan_picture.specs.Rows.{RowContext}
 use Rattle.codespan_picture.specs.RowParts.{starts_in}
-use Rattle.codespan_renderer.specs.Private.PreferredStyles.{preferred_style, pointer_found}
+use Rattle.codespan_renderer.specs.Private.PreferredStyles.{preferred_style, pointer_style_if_any}
 
 -- the pointer under a character, of this style
 abbrev pub pointer_under : Metrics → LabelStyle → Pointer
@@ -26,7 +26,7 @@ pointer_under c style = record {
 -- the pointers under characters, where labels hang from them
 abbrev pub pointers_in : List LabelModel → List Metrics → List Pointer
 pointers_in hanging_labels cs =
-    filter_map (λ c. option_map (pointer_under c) (pointer_found hanging_labels c)) cs
+    filter_map (λ c. option_map (pointer_under c) (pointer_style_if_any hanging_labels c)) cs
 
 -- the pointers of characters that begin before a byte index
 abbrev pub pointers_before : ℕ → List Pointer → List Pointer

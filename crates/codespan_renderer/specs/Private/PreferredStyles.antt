@@ -19,6 +19,6 @@ preferred_style passes found xs =
     fold (λ best (x : LabelModel). prefer_primary best x.style) found (filter passes xs)
 
 -- the style of the pointer under a character, where a label hangs from it
-abbrev pub pointer_found : List LabelModel → Metrics → Option LabelStyle
-pointer_found hanging_labels c =
+abbrev pub pointer_style_if_any : List LabelModel → Metrics → Option LabelStyle
+pointer_style_if_any hanging_labels c =
     if list_any (starts_in c) hanging_labels then Some (pointer_style hanging_labels c) else None

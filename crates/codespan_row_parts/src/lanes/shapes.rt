@@ -25,13 +25,14 @@ pub fn shape_in(
     match (row, multi_label) {
         (LaneRow::Source, MultiLabel::Top(start)) if start <= leading => Shape::TopCorner,
         (LaneRow::Source | LaneRow::Empty, MultiLabel::Top(_)) => Shape::Space,
-        (LaneRow::Below, MultiLabel::Top(start)) if goes_on(layout, leading, start) => Shape::Bar,
-        (LaneRow::Below, MultiLabel::Top(_)) => Shape::Space,
+        (LaneRow::SingleLabels, MultiLabel::Top(start)) if goes_on(layout, leading, start) =>
+            Shape::Bar,
+        (LaneRow::SingleLabels, MultiLabel::Top(_)) => Shape::Space,
         (LaneRow::Underline(corner_lane, _, _), multi_label) => {
             underline_shape(layout, leading, corner_lane, lane, multi_label)
         }
         (
-            LaneRow::Source | LaneRow::Empty | LaneRow::Below,
+            LaneRow::Source | LaneRow::Empty | LaneRow::SingleLabels,
             MultiLabel::Left | MultiLabel::Bottom(_, _),
         ) => Shape::Bar,
     }

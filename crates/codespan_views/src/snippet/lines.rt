@@ -59,7 +59,7 @@ impl<'context, 'files, F: Files<'files>> Snippet<'context, 'files, F> {
     pub fn render_lines<'d, W: WriteStyle>(
         &self,
         renderer: &mut Renderer<'_, '_, W>,
-        labels: &mut LineBuffers<'d>,
+        buffers: &mut LineBuffers<'d>,
         snippet_lines: &[SnippetLine<'_, 'd, F::FileId>],
     ) -> Result<(), Error>
         requires { HasLines F.database self.now snippet_lines.now }
@@ -68,7 +68,7 @@ impl<'context, 'files, F: Files<'files>> Snippet<'context, 'files, F> {
             renderer.new }
     {
         for snippet_line in snippet_lines {
-            self.render_snippet_line(renderer, labels, snippet_line)?;
+            self.render_snippet_line(renderer, buffers, snippet_line)?;
         }
         Ok(())
     }
@@ -85,7 +85,7 @@ impl<'context, 'files, F: Files<'files>> Snippet<'context, 'files, F> {
     fn render_snippet_line<'d, W: WriteStyle>(
         &self,
         renderer: &mut Renderer<'_, '_, W>,
-        labels: &mut LineBuffers<'d>,
+        buffers: &mut LineBuffers<'d>,
         snippet_line: &SnippetLine<'_, 'd, F::FileId>,
     ) -> Result<(), Error>
         requires { HasLine F.database self.now snippet_line.now }
@@ -96,7 +96,7 @@ impl<'context, 'files, F: Files<'files>> Snippet<'context, 'files, F> {
         match snippet_line {
             SnippetLine::Labeled { line, annotations } => self.render_line(
                 renderer,
-                labels,
+                buffers,
                 *line,
                 *annotations,
             ),
@@ -106,9 +106,9 @@ impl<'context, 'files, F: Files<'files>> Snippet<'context, 'files, F> {
                 annotations,
             } => {
                 let line = self.file.line(*index, *number)?;
-                self.render_line(renderer, labels, line, *annotations)
+                self.render_line(renderer, buffers, line, *annotations)
             }
-            SnippetLine::Break { next } => self.render_break(renderer, labels, *next),
+            SnippetLine::Break { next } => self.render_break(renderer, buffers, *next),
         }
     }
 
@@ -127,7 +127,7 @@ impl<'context, 'files, F: Files<'files>> Snippet<'context, 'files, F> {
     fn render_line<'d, W: WriteStyle>(
         &self,
         renderer: &mut Renderer<'_, '_, W>,
-        labels: &mut LineBuffers<'d>,
+        buffers: &mut LineBuffers<'d>,
         line: LineInfo,
         annotations: &[Annotation<'d, F::FileId>],
     ) -> Result<(), Error>
@@ -141,14 +141,14 @@ impl<'context, 'files, F: Files<'files>> Snippet<'context, 'files, F> {
             (Labeled line.index (map annotation_view annotations.now)) renderer.old result
             renderer.new }
     {
-        labels.refill(annotations)?;
+        buffers.refill(annotations)?;
         let source = &self.text[line.start..line.end];
         let lanes = Lanes {
             count: self.num_multi_labels,
-            lane_marks: labels.multi_labels.as_slice(),
+            lane_marks: buffers.multi_labels.as_slice(),
         };
-        let line = Line::new(line.number, source, labels.single_labels.as_slice(), lanes);
-        let cached = labels.metrics.take_line(renderer, line)?;
+        let line = Line::new(line.number, source, buffers.single_labels.as_slice(), lanes);
+        let cached = buffers.metrics.take_line(renderer, line)?;
         cached.render(renderer, self.context.padding, self.context.severity)
     }
 
@@ -165,7 +165,7 @@ impl<'context, 'files, F: Files<'files>> Snippet<'context, 'files, F> {
     fn render_break<'d, W: WriteStyle>(
         &self,
         renderer: &mut Renderer<'_, '_, W>,
-        labels: &mut LineBuffers<'d>,
+        buffers: &mut LineBuffers<'d>,
         next: &[Annotation<'d, F::FileId>],
     ) -> Result<(), Error>
         requires fits { IsTrue (are_lane_marks_in_order self.now.num_multi_labels
@@ -174,12 +174,12 @@ impl<'context, 'files, F: Files<'files>> Snippet<'context, 'files, F> {
             (Break (map annotation_view next.now))
             renderer.old result renderer.new }
     {
-        fill_multi_labels(&mut labels.multi_labels, next)?;
+        fill_multi_labels(&mut buffers.multi_labels, next)?;
         renderer.render_snippet_break(
             self.context.padding,
             self.context.severity,
             self.num_multi_labels,
-            labels.multi_labels.as_slice(),
+            buffers.multi_labels.as_slice(),
         )
     }
 }

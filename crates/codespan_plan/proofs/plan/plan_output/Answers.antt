@@ -1,7 +1,7 @@
 use contract.Lifetimes.{Lfts}
 use Rattle.std.proofs.Common.{rules, Err, refl, sym, ap, ◌∙◌}
 use Rattle.std.proofs.lemmas.Result.{err_from_is_err_and}
-use Rattle.codespan_plan.specs.SnippetPlans.{width_in}
+use Rattle.codespan_plan.specs.SnippetPlans.{padding_width}
 use Rattle.codespan_collect.proofs.LabelIndexing.{AreFiles, are-files}
 use Rattle.codespan_plan.proofs.PlanFiles.{chosen-padding, failure-is, output_plan-planned}
 use Rattle.codespan_plan.proofs.plan.plan_output.Given.{Over}
@@ -30,7 +30,7 @@ returns-clause-planned g c =
     let found = c.in_ok-snippet_plans.ensures.plans in
     let padding = chosen-padding lawful c.requires snippet_plans snippet_lines found
     (c.padding_width-padding.ensures ∙ ap
-    (width_in c.args.config.now.layout c.args.collected.now.padding) c.deref.ensures.value) in
+    (padding_width c.args.config.now.layout c.args.collected.now.padding) c.deref.ensures.value) in
     output_plan-planned lawful c.requires found padding
 
 pub returns-clause-failed : goal.returns-clause-failed

@@ -30,12 +30,12 @@ impl<'text> CharMetrics<'text> {
     ghost use Rattle.std.specs.Prelude.{true};
     ghost use Rattle.codespan_picture.specs.CharMetrics.{char_metrics, char_metrics_to_end, metrics_then, width_of};
     ghost use Rattle.codespan_picture.specs.RowParts.{metrics_up_to};
-    ghost use Rattle.codespan_renderer.specs.Private.MetricsLeft.{Afters, YieldsCharacter, metrics_from, metrics_left, no_more};
+    ghost use Rattle.codespan_renderer.specs.Private.MetricsLeft.{MetricsAfterEnd, YieldsCharacter, metrics_from, metrics_left, no_more};
     ghost use Rattle.std.specs.Str.{chars};
 
     /// Returns an iterator over the characters of the line alone.
     pub fn new(text: &'text str, tab_width: usize) -> CharMetrics<'text>
-        ensures whole { (after : Afters) → metrics_from after result
+        ensures whole { (after : MetricsAfterEnd) → metrics_from after result
             ≡ metrics_then after tab_width 0 0 (chars text.now) }
         ensures char_metrics { metrics_left result ≡ char_metrics tab_width text.now }
         ensures text { result.text.now ≡ text.now }
@@ -71,7 +71,8 @@ impl<'text> CharMetrics<'text> {
     /// the placeholder where `to_end` is set.
     #[inline(always)]
     pub fn fork(&self, to_end: bool) -> CharMetrics<'text>
-        ensures same { (after : Afters) → metrics_from after result ≡ metrics_from after self.now }
+        ensures same { (after : MetricsAfterEnd)
+            → metrics_from after result ≡ metrics_from after self.now }
         ensures end { result.to_end ≡ to_end }
         ensures byte_index { result.byte_index ≡ self.now.byte_index }
         ensures column { result.column ≡ self.now.column }
@@ -94,13 +95,13 @@ impl<'text> CharMetrics<'text> {
     {
         let left = self.chars.as_str().len();
         match self.chars.next() {
-            Some(code) => {
+            Some(ch) => {
                 let metrics = Metrics {
-                    code,
+                    ch,
                     byte_index: self.byte_index,
                     bytes: left - self.chars.as_str().len(),
                     column: self.column,
-                    unicode_width: width_at(self.tab_width, self.column, code),
+                    unicode_width: width_at(self.tab_width, self.column, ch),
                 };
                 self.byte_index += metrics.bytes;
                 self.column += metrics.unicode_width as u128;
@@ -164,7 +165,7 @@ impl<'text> Iterator for CharMetrics<'text> {
             None if self.to_end => {
                 self.to_end = false;
                 Some(Metrics {
-                    code: ' ',
+                    ch: ' ',
                     byte_index: self.byte_index,
                     bytes: 1,
                     column: self.column,

@@ -8,7 +8,7 @@ ghost use Rattle.codespan_picture.specs.RowParts.{starts_in};
 ghost use Rattle.codespan_picture.specs.Rows.{hanging_labels};
 ghost use Rattle.codespan_row_parts.specs.CharCursors.{is_covered};
 ghost use Rattle.codespan_row_parts.specs.Runs.{AreHanging};
-ghost use Rattle.codespan_renderer.specs.Private.PreferredStyles.{preferred_style, pointer_found, prefer_primary};
+ghost use Rattle.codespan_renderer.specs.Private.PreferredStyles.{preferred_style, pointer_style_if_any, prefer_primary};
 
 use crate::term::renderer::SingleLabel;
 use crate::term::renderer::char_metrics::Metrics;
@@ -95,13 +95,14 @@ fn start_style(
 ///
 /// The labels with a message in `messages.before` and `messages.after` are those of `labels` that
 /// hang.
-pub fn pointer_in(
+pub fn pointer_style_if_any(
     labels: &[SingleLabel<'_>],
     messages: Messages<'_, '_>,
     metrics: Metrics,
 ) -> Option<LabelStyle>
     requires { AreHanging labels.now messages.before.now messages.after.now }
-    ensures { result ≡ pointer_found (hanging_labels (single_label_views labels.now)) metrics }
+    ensures { result
+        ≡ pointer_style_if_any (hanging_labels (single_label_views labels.now)) metrics }
 {
     start_style(
         start_style(None, messages.before, metrics),

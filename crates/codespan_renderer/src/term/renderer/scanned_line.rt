@@ -8,7 +8,7 @@ ghost use Rattle.codespan_row_parts.specs.Runs.{AreHanging};
 
 use crate::term::renderer::SingleLabel;
 use crate::term::renderer::char_metrics::{CharMetrics, Metrics};
-use crate::term::renderer::label_styles::{has_primary_label, pointer_in, style_under};
+use crate::term::renderer::label_styles::{has_primary_label, pointer_style_if_any, style_under};
 use codespan_base::diagnostic::LabelStyle;
 use codespan_base::term::config::put_style::PutStyle;
 use codespan_row_parts::char_cursor::CharCursor;
@@ -135,7 +135,7 @@ fn scanned_caret_pointers<W: PutStyle>(
             break;
         }
         let mut width = metrics.unicode_width;
-        if let Some(style) = pointer_in(line.labels, messages, metrics) {
+        if let Some(style) = pointer_style_if_any(line.labels, messages, metrics) {
             caret_pointer(w, context, pending, style)?;
             pending = 0;
             width = width.saturating_sub(1);

@@ -13,7 +13,7 @@ use Rattle.codespan_row_parts.proofs.ScanState.{ScanState, consecutive_within-fo
 use Rattle.codespan_row_parts.proofs.SkippedCells.{carets-prefix, scan_state-left}
 use Rattle.codespan_row_parts.specs.LineCharacters.{CharInput}
 use Rattle.codespan_row_parts.proofs.carets.write_carets.Goals.{then-ne+in_ok-end_caret_run, else-ne, in_default, in-Some+then-metrics-end}
-use Rattle.codespan_row_parts.specs.CharCursors.{Follow}
+use Rattle.codespan_row_parts.specs.CharCursors.{AreContiguous}
 use Rattle.codespan_row_parts.proofs.carets.write_carets.Given.{Over}
 use Rattle.codespan_row_parts.proofs.carets.write_carets.Goals as goal
 
@@ -83,7 +83,7 @@ returns g c =
       | in-Some+then-metrics-end w ↦
           let scan_state = at.invariant.scan_state in
           let follow = consecutive_within-follow _ scan_state.byte_index scan_state.column _ scan_state.consecutive_within in
-          let here : Follow scan_state.byte_index (w.in-Some.metrics ∷ g.S.Cursor.CharCursor.left c.next_metrics.new.self) = rw w.in-Some.ensures.next at follow in
+          let here : AreContiguous scan_state.byte_index (w.in-Some.metrics ∷ g.S.Cursor.CharCursor.left c.next_metrics.new.self) = rw w.in-Some.ensures.next at follow in
           carets-past context labels at.previous at.run scan_state.byte_index (g.S.Cursor.CharCursor.left at.cursor) follow (omega (arith, here.0, w.if-metrics-end.true, c.max_label_end-end.ensures))
     ] in
     StillToWrite-last _ _ _ _ _ _ at.invariant.written_so_far (rw end at c.end_caret_run-2.ensures)

@@ -3,5 +3,5 @@ use Rattle.codespan_row_parts.specs.RenderedRows.{note_stream}
 use Rattle.codespan_rows.proofs.UnderlineRows.{NotesToWrite}
 use Rattle.codespan_rows.proofs.notes.write_note.Given as goal
 
-abbrev pub invariant-loop-piece : goal.invariant-loop-piece
-invariant-loop-piece g l = NotesToWrite (g.W.PutStyle.sink l.fn.w) (note_stream l.chars l.padding (lines l.message)) l.padding l.piece-iterator (g.W.PutStyle.sink l.w)
+abbrev pub invariant-loop-note_line : goal.invariant-loop-note_line
+invariant-loop-note_line g l = NotesToWrite (g.W.PutStyle.sink l.fn.w) (note_stream l.chars l.padding (lines l.message)) l.padding l.note_line-iterator (g.W.PutStyle.sink l.w)

@@ -24,7 +24,7 @@ loop-metrics-init g c = rw c.requires.left record {
 pub text_style-style-requires-clause-some : goal.text_style-style-requires-clause-some
 text_style-style-requires-clause-some g c =
     let n = over-next c.args.context.tab_width c.args.line.text.now c.loop-metrics.end c.in-Some.metrics _ (g.C.CharCursor.left c.next_metrics.new.self) c.in-Some.ensures.next c.loop-metrics.invariant.over in
-    omega (arith, n.bytes, (len_utf8_bounds c.in-Some.metrics.code).0)
+    omega (arith, n.bytes, (len_utf8_bounds c.in-Some.metrics.ch).0)
 
 pub overflow_add-next : goal.overflow_add-next
 overflow_add-next g c =
@@ -62,7 +62,7 @@ loop-metrics-preserved-in_ok-put_spaces g c =
 pub loop-metrics-preserved-in_ok-end_text_run-2 : goal.loop-metrics-preserved-in_ok-end_text_run-2
 loop-metrics-preserved-in_ok-end_text_run-2 g c =
     let n = over-next c.args.context.tab_width c.args.line.text.now c.loop-metrics.end c.in-Some.metrics _ (g.C.CharCursor.left c.next_metrics.new.self) c.in-Some.ensures.next c.loop-metrics.invariant.over in
-    let grows = piece-grows c.as_bytes-text.result.now c.loop-metrics.end c.loop-metrics.end (encode_utf8 c.in-Some.metrics.code) c.in-Some.metrics.bytes (omega arith) (rw c.as_bytes-text.ensures.value n.text_left) (n.bytes ∙ sym (length-encode c.in-Some.metrics.code)) in
+    let grows = piece-grows c.as_bytes-text.result.now c.loop-metrics.end c.loop-metrics.end (encode_utf8 c.in-Some.metrics.ch) c.in-Some.metrics.bytes (omega arith) (rw c.as_bytes-text.ensures.value n.text_left) (n.bytes ∙ sym (length-encode c.in-Some.metrics.ch)) in
     let none : c.loop-metrics.end - c.loop-metrics.end ≡ 0 = omega arith in
     rw c.text_style-style.ensures.left record {
       written_so_far = rw (grows, none) (StillToWrite-more _ _ _ _ _ _ _ c.loop-metrics.invariant.written_so_far c.in_ok-end_text_run-2.ensures
@@ -77,7 +77,7 @@ pub loop-metrics-preserved : goal.loop-metrics-preserved
 loop-metrics-preserved g c =
     let n = over-next c.args.context.tab_width c.args.line.text.now c.loop-metrics.end c.in-Some.metrics _ (g.C.CharCursor.left c.next_metrics.new.self) c.in-Some.ensures.next c.loop-metrics.invariant.over in
     let same : c.loop-metrics.previous ≡ c.text_style-style.result = search rules in
-    let grows = piece-grows c.as_bytes-text.result.now c.loop-metrics.start c.loop-metrics.end (encode_utf8 c.in-Some.metrics.code) c.in-Some.metrics.bytes c.loop-metrics.invariant.ordered (rw c.as_bytes-text.ensures.value n.text_left) (n.bytes ∙ sym (length-encode c.in-Some.metrics.code)) in
+    let grows = piece-grows c.as_bytes-text.result.now c.loop-metrics.start c.loop-metrics.end (encode_utf8 c.in-Some.metrics.ch) c.in-Some.metrics.bytes c.loop-metrics.invariant.ordered (rw c.as_bytes-text.ensures.value n.text_left) (n.bytes ∙ sym (length-encode c.in-Some.metrics.ch)) in
     let rest = text-same (context_view c.args.context) (line_view c.args.line) c.loop-metrics.previous c.text_style-style.result (piece c.as_bytes-text.result.now c.loop-metrics.start c.loop-metrics.end) c.in-Some.metrics _ (g.C.CharCursor.left c.next_metrics.new.self) c.in-Some.ensures.next c.text_style-style.ensures.style c.if-metrics-eq9.false same in
     rw c.text_style-style.ensures.left record {
       written_so_far = rw (same, grows) (rw rest at c.loop-metrics.invariant.written_so_far);

@@ -21,7 +21,7 @@ returns-then-not-is_around-clause-added g c =
     let x = (label_of c.args.label.now).label in
     let not_looked_up : is_looked_up c.args.self.now.config.now f x c.args.index ≡ false = search rules in
     λ _. Adds-as
-    (ap (λ (b : Bool). if b then line_annotations c.args.self.now.config.now f c.args.self.now.at x c.args.index else []) not_looked_up)
+    (ap (λ (b : Bool). if b then line_annotations c.args.self.now.config.now f c.args.self.now.indices x c.args.index else []) not_looked_up)
     Adds-none
 
 -- the line was found

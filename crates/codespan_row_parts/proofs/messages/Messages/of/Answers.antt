@@ -31,16 +31,16 @@ returns-in_default-clause-hanging_labels c =
       | in_default-via-in_default w ↦ none_trails c.args.labels.now None _ c.max_label_end.ensures w.in_default.ensures.value refl
     ]
 
-pub returns-in-Some-clause-pieces : goal.returns-in-Some-clause-pieces
-returns-in-Some-clause-pieces c = record {
+pub returns-in-Some-clause-slices : goal.returns-in-Some-clause-slices
+returns-in-Some-clause-slices c = record {
   rest = drop c.in-Some.index c.args.labels.now;
   begins = take-append-drop c.in-Some.index c.args.labels.now;
   skipped = take (c.in-Some.index + 1) c.args.labels.now;
   ends = taken-dropped (c.in-Some.index + 1) c.args.labels.now;
 }
 
-pub returns-in_default-clause-pieces : goal.returns-in_default-clause-pieces
-returns-in_default-clause-pieces c = record {
+pub returns-in_default-clause-slices : goal.returns-in_default-clause-slices
+returns-in_default-clause-slices c = record {
   rest = [];
   begins = append-nil c.args.labels.now;
   skipped = c.args.labels.now;

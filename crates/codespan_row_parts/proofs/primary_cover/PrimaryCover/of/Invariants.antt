@@ -3,7 +3,7 @@ use Rattle.std.specs.List.{list_any}
 use Rattle.codespan_base.specs.Labels.{LaneMark, is_primary_style}
 use Rattle.codespan_picture.specs.declared.char_metrics.Metrics.{Metrics}
 use Rattle.codespan_picture.specs.Arguments.{lane_mark_view}
-use Rattle.codespan_row_parts.specs.PrimaryCover.{is_marked}
+use Rattle.codespan_row_parts.specs.PrimaryCover.{covers_char}
 use Rattle.codespan_picture.specs.RowParts.{multi_label_covers}
 use Rattle.codespan_row_parts.proofs.primary_cover.PrimaryCover.of.Given as goal
 
@@ -11,5 +11,5 @@ use Rattle.codespan_row_parts.proofs.primary_cover.PrimaryCover.of.Given as goal
 abbrev pub invariant-loop-lane_mark : goal.invariant-loop-lane_mark
 invariant-loop-lane_mark l =
     (c : Metrics) → 1 ≤ c.bytes
-    → (is_marked l.found c || list_any (λ (m : LaneMark). is_primary_style m.style && multi_label_covers c m.multi_label) (map lane_mark_view (drop l.lane_mark-index l.lane_marks)))
+    → (covers_char l.found c || list_any (λ (m : LaneMark). is_primary_style m.style && multi_label_covers c m.multi_label) (map lane_mark_view (drop l.lane_mark-index l.lane_marks)))
     ≡ list_any (λ (m : LaneMark). is_primary_style m.style && multi_label_covers c m.multi_label) (map lane_mark_view l.lane_marks)

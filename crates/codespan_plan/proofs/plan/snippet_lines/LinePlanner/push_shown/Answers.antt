@@ -3,9 +3,9 @@ use Rattle.std.proofs.lemmas.Result.{err_from_is_err_and}
 use Rattle.codespan_annotations.specs.AnnotationViews.{annotation_view}
 use Rattle.codespan_plan.specs.LinePlanners.{numbers_failure}
 use Rattle.codespan_plan.specs.SnippetLineViews.{AddsLines, gap_lines}
-use Rattle.codespan_plan.specs.SnippetLines.{Labeled, fills_of}
+use Rattle.codespan_plan.specs.SnippetLines.{Labeled, filled_lines_of}
 use Rattle.codespan_annotations.specs.SourceFiles.{model_of}
-use Rattle.codespan_plan.proofs.LinesFound.{adds_then, fills_of-shown}
+use Rattle.codespan_plan.proofs.LinesFound.{adds_then, filled_lines_of-shown}
 use Rattle.codespan_plan.proofs.plan.snippet_lines.LinePlanner.push_shown.Goals as goal
 
 pub returns-clause-added : goal.returns-clause-added
@@ -24,13 +24,13 @@ returns-in_err-push_gap-clause-failed g c =
     let hidden = map annotation_view c.args.hidden.now in
     let own = map annotation_view c.args.annotations.now in
     let p = err_from_is_err_and c.from_residual.result c.from_residual.ensures.1 in
-    rw (p.1 ∙ ap Err p.2) (λ known. ap (λ xs. failure (fills_of (xs ++ Labeled c.args.line.index own ∷ []))) (c.gap_before.ensures hidden own)
-    ∙ ap failure (fills_of-shown (gap_lines hidden own c.gap_before.result) c.args.line.index own) ∙ c.in_err-push_gap.ensures.failed known)
+    rw (p.1 ∙ ap Err p.2) (λ known. ap (λ xs. failure (filled_lines_of (xs ++ Labeled c.args.line.index own ∷ []))) (c.gap_before.ensures hidden own)
+    ∙ ap failure (filled_lines_of-shown (gap_lines hidden own c.gap_before.result) c.args.line.index own) ∙ c.in_err-push_gap.ensures.failed known)
 
 pub returns-clause-failed : goal.returns-clause-failed
 returns-clause-failed g c =
     let failure = numbers_failure g.F.Files.database c.args.self.now in
     let hidden = map annotation_view c.args.hidden.now in
     let own = map annotation_view c.args.annotations.now in
-    ap (λ xs. failure (fills_of (xs ++ Labeled c.args.line.index own ∷ []))) (c.gap_before.ensures hidden own)
-    ∙ ap failure (fills_of-shown (gap_lines hidden own c.gap_before.result) c.args.line.index own) ∙ c.in_ok-push_gap.ensures.failed
+    ap (λ xs. failure (filled_lines_of (xs ++ Labeled c.args.line.index own ∷ []))) (c.gap_before.ensures hidden own)
+    ∙ ap failure (filled_lines_of-shown (gap_lines hidden own c.gap_before.result) c.args.line.index own) ∙ c.in_ok-push_gap.ensures.failed

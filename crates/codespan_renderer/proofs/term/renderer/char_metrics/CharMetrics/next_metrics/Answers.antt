@@ -1,7 +1,7 @@
 use Rattle.std.proofs.Common.{◌≡◌, refl, sym, ◌∙◌, arith}
 use Rattle.std.specs.Str.Iter.{chars_rest}
 use Rattle.std.proofs.lemmas.Str.{IsUtf8-had, IsUtf8-past_char, drop_past_char, len_utf8_bounds}
-use Rattle.codespan_renderer.specs.Private.MetricsLeft.{Afters, metrics_from}
+use Rattle.codespan_renderer.specs.Private.MetricsLeft.{MetricsAfterEnd, metrics_from}
 use Rattle.codespan_renderer.proofs.MetricsSteps.{metrics_then-char, metrics_then-end, bytes-taken}
 use Rattle.codespan_row_parts.proofs.CharSteps.{bytes_left}
 use Rattle.codespan_renderer.proofs.term.renderer.char_metrics.CharMetrics.next_metrics.Goals as goal
@@ -10,10 +10,10 @@ pub invariant_of-self : goal.invariant_of-self
 invariant_of-self c =
     let step = c.in-Some.ensures.steps.0 in
     let whole = sym c.args.self.now.left ∙ step in
-    let bytes = bytes-taken c.as_str-left.result.now c.as_str.result.now _ _ c.in-Some.code c.as_str-left.ensures c.as_str.ensures step in
-    let room = bytes_left c.args.self.now.text.now (chars_rest c.next.new.self) c.args.self.now.byte_index c.in-Some.code whole in
-    let some = len_utf8_bounds c.in-Some.code in
-    let next = drop_past_char c.args.self.now.text.now (chars_rest c.next.new.self) c.args.self.now.byte_index c.in-Some.code whole in
+    let bytes = bytes-taken c.as_str-left.result.now c.as_str.result.now _ _ c.in-Some.ch c.as_str-left.ensures c.as_str.ensures step in
+    let room = bytes_left c.args.self.now.text.now (chars_rest c.next.new.self) c.args.self.now.byte_index c.in-Some.ch whole in
+    let some = len_utf8_bounds c.in-Some.ch in
+    let next = drop_past_char c.args.self.now.text.now (chars_rest c.next.new.self) c.args.self.now.byte_index c.in-Some.ch whole in
     record {
       left = sym (rw bytes next);
       utf8 = ∣ IsUtf8-past_char _ _ _ (IsUtf8-had _ c.args.self.now.utf8) step ∣₁;
@@ -24,12 +24,12 @@ invariant_of-self c =
 pub returns-in-Some-clause-yields : goal.returns-in-Some-clause-yields
 returns-in-Some-clause-yields c =
     let step = c.in-Some.ensures.steps.0 in
-    let bytes = bytes-taken c.as_str-left.result.now c.as_str.result.now _ _ c.in-Some.code c.as_str-left.ensures c.as_str.ensures step in
+    let bytes = bytes-taken c.as_str-left.result.now c.as_str.result.now _ _ c.in-Some.ch c.as_str-left.ensures c.as_str.ensures step in
     record {
       yields = λ after. metrics_then-char after _ _ _ _ _ _ _ _ (IsUtf8-had _ c.args.self.now.utf8) step bytes c.width_at.ensures;
       here = refl;
       at = refl;
-      some = omega (arith, bytes, (len_utf8_bounds c.in-Some.code).0);
+      some = omega (arith, bytes, (len_utf8_bounds c.in-Some.ch).0);
       byte_index = refl;
       column = refl;
     }
@@ -37,7 +37,7 @@ returns-in-Some-clause-yields c =
 pub returns-in-None-clause-yields : goal.returns-in-None-clause-yields
 returns-in-None-clause-yields c =
     let none = c.in-None.ensures.steps.0 in
-    let end : (after : Afters) → metrics_from after c.args.self.now ≡ after c.args.self.now.byte_index c.args.self.now.column =
+    let end : (after : MetricsAfterEnd) → metrics_from after c.args.self.now ≡ after c.args.self.now.byte_index c.args.self.now.column =
     λ after. metrics_then-end after c.args.self.now.tab_width c.args.self.now.byte_index c.args.self.now.column (chars_rest c.args.self.now.chars) none.0 in
     record {
       none = end;

@@ -1,6 +1,6 @@
 use Rattle.std.proofs.Common.{◌∙◌}
 use Rattle.codespan_renderer.proofs.ScannedPointers.{pointer_is}
-use Rattle.codespan_renderer.proofs.term.renderer.label_styles.pointer_in.Goals as goal
+use Rattle.codespan_renderer.proofs.term.renderer.label_styles.pointer_style_if_any.Goals as goal
 
 pub returns : goal.returns
 returns c =
