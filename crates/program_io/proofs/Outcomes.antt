@@ -1,5 +1,5 @@
 -- For the clauses of the runs of programs: what a status says of an outcome.
-use Rattle.std.proofs.Common.{◌≡◌, ◌≢◌, ◌≤◌, ℕ, Result, Ok, Err, IsErrOf, OnOk, refl, subst, arith}
+use Rattle.std.proofs.Common.{◌≡◌, ◌≢◌, ◌≤◌, ◌⊎◌, inl, inr, ℕ, Result, Ok, Err, IsErrOf, OnOk, refl, subst, arith}
 use Rattle.program_io.specs.declared.run_error.RunError.{RunError}
 use Rattle.program_io.specs.declared.run_error.RunError.TheVariants.{WrongArguments, CannotReadInput, NotUtf8, OutOfMemory, CannotWriteOutput, Failed}
 use Rattle.program_io.specs.RunErrors.{IsStatusOf}
@@ -47,3 +47,12 @@ success_by_status (Err NotUtf8) status is zero contents = absurd (omega arith)
 success_by_status (Err OutOfMemory) status is zero contents = absurd (omega arith)
 success_by_status (Err CannotWriteOutput) status is zero contents = absurd (omega arith)
 success_by_status (Err (Failed error)) status is zero contents = absurd (omega arith)
+
+-- an error is that of a failed output, or another one
+pub failed_output_or_other : {E : Type 0} (error : RunError E) → (error ≡ CannotWriteOutput) ⊎ (error ≢ CannotWriteOutput)
+failed_output_or_other WrongArguments = inr (λ output. cc output)
+failed_output_or_other CannotReadInput = inr (λ output. cc output)
+failed_output_or_other NotUtf8 = inr (λ output. cc output)
+failed_output_or_other OutOfMemory = inr (λ output. cc output)
+failed_output_or_other CannotWriteOutput = inl refl
+failed_output_or_other (Failed error) = inr (λ output. cc output)

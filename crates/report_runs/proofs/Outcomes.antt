@@ -1,14 +1,14 @@
 -- For the clauses of `run::conclude` and `run::run`: what the outcome of a run says.
-use Rattle.std.proofs.Common.{◌≤◌, IfErr, OnOk, Result, refl, ◌≡◌, ◌≢◌, ◌⊎◌, inl, inr, ℕ, List, Option, Some, None, Ok, Err, IfSome, IsErrOf, subst, arith, codes, string_bytes}
+use Rattle.std.proofs.Common.{◌≤◌, IfErr, OnOk, Result, ap, ◌≡◌, ◌≢◌, ◌⊎◌, inl, inr, ℕ, List, Option, Some, None, Ok, Err, IfSome, IsErrOf, subst, arith, codes, string_bytes}
 use Rattle.std.specs.Str.{IsUtf8}
 use Rattle.program_io.specs.declared.run_error.RunError.{RunError}
-use Rattle.program_io.specs.declared.run_error.RunError.TheVariants.{WrongArguments, CannotReadInput, NotUtf8, OutOfMemory, CannotWriteOutput, Failed}
+use Rattle.program_io.specs.declared.run_error.RunError.TheVariants.{WrongArguments, CannotWriteOutput, Failed}
 use Rattle.program_io.specs.Output.{AppendsPrefix}
-use Rattle.program_io.specs.RunErrors.{IsStatusOf, failed_output_line}
+use Rattle.program_io.specs.RunErrors.{failed_output_line}
 use Rattle.program_io.proofs.Outcomes as general
 use Rattle.report_runs.specs.declared.report_error.ReportError.{ReportError}
 use Rattle.report_runs.specs.declared.report_error.ReportError.TheVariants.{BadScript}
-use Rattle.report_runs.specs.RenderedTexts.{IsRenderFailure, rendering_of}
+use Rattle.report_runs.specs.RenderedTexts.{rendering_of}
 use Rattle.report_runs.specs.ReportErrors.{ReportErrorMeans, IfBadScript, IsReportStatusOf, UnchangedUnlessRendered}
 use Rattle.report_script.specs.Requests.{RequestView, WhereKnown, request_of}
 
@@ -85,12 +85,12 @@ not_both rendering good bad is other = cc (is, other)
 -- the same of an error
 bad_script_error : (error : RunError ReportError) (status : ℕ) (X : Type 0) (request : RequestView) (source text : List ℕ) → IsReportStatusOf (Err error) status → ReportErrorMeans error request source
     → (error ≢ CannotWriteOutput → X) → rendering_of request source ≡ Err text → ((status ≡ 3) ⊎ (status ≡ 1)) × X
-bad_script_error WrongArguments status X request source text is are_known unchanged bad = absurd are_known
-bad_script_error CannotReadInput status X request source text is are_known unchanged bad = (status_of_error CannotReadInput status is (λ wrong. cc wrong), unchanged (λ output. cc output))
-bad_script_error NotUtf8 status X request source text is are_known unchanged bad = (status_of_error NotUtf8 status is (λ wrong. cc wrong), unchanged (λ output. cc output))
-bad_script_error OutOfMemory status X request source text is are_known unchanged bad = (status_of_error OutOfMemory status is (λ wrong. cc wrong), unchanged (λ output. cc output))
-bad_script_error CannotWriteOutput status X request source text is are_known unchanged bad = absurd (not_both (rendering_of request source) are_known.1.0 text are_known.1.1 bad)
-bad_script_error (Failed error) status X request source text is are_known unchanged bad = (status_of_error (Failed error) status is (λ wrong. cc wrong), unchanged (λ output. cc output))
+bad_script_error error status X request source text is are_known unchanged bad =
+    let means = λ (other : RunError ReportError) (same : error ≡ other). subst (λ (f : RunError ReportError). ReportErrorMeans f request source) same are_known in
+    elim (general.failed_output_or_other error) [
+      | inl output ↦ (let wrote = means CannotWriteOutput output in absurd (not_both (rendering_of request source) wrote.1.0 text wrote.1.1 bad))
+      | inr other ↦ (status_of_error error status is (λ wrong. means WrongArguments wrong), unchanged other)
+    ]
 
 -- where the script has an error, that is written or not, and the output is unchanged
 pub bad_script_status : (words : List (List ℕ)) (bytes : Option (List ℕ)) (outcome : Outcome) (status : ℕ) (X : Type 0) (Wrote : List ℕ → Type 0)
@@ -109,8 +109,8 @@ bad_script_status words bytes (Err error) status X Wrote is rendered are_known u
     (λ request source reported text bad. bad_script_error error status X request source text is reported unchanged bad) are_known
 
 -- the status of a failed output
-status_of_failed_output : (status : ℕ) → IsReportStatusOf (Err CannotWriteOutput) status → status ≡ 1
-status_of_failed_output status is = elim is [ inl one ↦ one | inr bad ↦ (let script = bad.1.1 in absurd (cc script)) ]
+status_of_failed_output : (error : RunError ReportError) (status : ℕ) → IsReportStatusOf (Err error) status → error ≡ CannotWriteOutput → status ≡ 1
+status_of_failed_output error status is output = elim is [ inl other ↦ general.status_of_error error status other (λ wrong. cc (wrong, output)) | inr bad ↦ (let script = bad.1.1 in absurd (cc (script, output))) ]
 
 -- the output is unchanged, or all of it was rendered
 pub unchanged_unless_rendered : (outcome : Outcome) (status : ℕ) (X : Type 0) (old new : Option (List ℕ))
@@ -119,12 +119,8 @@ pub unchanged_unless_rendered : (outcome : Outcome) (status : ℕ) (X : Type 0) 
     → IfErr outcome (λ error. error ≢ CannotWriteOutput → X)
     → UnchangedUnlessRendered X status old new
 unchanged_unless_rendered (Ok done) status X old new is line unchanged = inr (inl (elim is [ inl zero ↦ zero | inr bad ↦ (let script = bad.1.1 in absurd (cc script)) ]))
-unchanged_unless_rendered (Err WrongArguments) status X old new is line unchanged = inl (unchanged (λ output. cc output))
-unchanged_unless_rendered (Err CannotReadInput) status X old new is line unchanged = inl (unchanged (λ output. cc output))
-unchanged_unless_rendered (Err NotUtf8) status X old new is line unchanged = inl (unchanged (λ output. cc output))
-unchanged_unless_rendered (Err OutOfMemory) status X old new is line unchanged = inl (unchanged (λ output. cc output))
-unchanged_unless_rendered (Err (Failed error)) status X old new is line unchanged = inl (unchanged (λ output. cc output))
-unchanged_unless_rendered (Err CannotWriteOutput) status X old new is line unchanged = inr (inr (status_of_failed_output status is, line refl))
+unchanged_unless_rendered (Err error) status X old new is line unchanged =
+    elim (general.failed_output_or_other error) [ inl output ↦ inr (inr (status_of_failed_output error status is output, line (ap Err output))) | inr other ↦ inl (unchanged other) ]
 
 -- where the output changes, it has received a prefix of what was rendered
 pub prefix_written : (words : List (List ℕ)) (bytes : Option (List ℕ)) (outcome : Outcome) (status : ℕ) (X : Type 0) (Wrote : RequestView → List ℕ → Type 0)
@@ -133,10 +129,7 @@ pub prefix_written : (words : List (List ℕ)) (bytes : Option (List ℕ)) (outc
     → IfErr outcome (λ error. error ≢ CannotWriteOutput → X)
     → WhereKnown words bytes (λ request source. X ⊎ Wrote request source)
 prefix_written words bytes (Ok done) status X Wrote is one wrote unchanged = absurd (elim is [ inl zero ↦ omega (arith, zero, one) | inr bad ↦ (let script = bad.1.1 in cc script) ])
-prefix_written words bytes (Err WrongArguments) status X Wrote is one wrote unchanged = is_unchanged (request_of words) bytes X Wrote (unchanged (λ output. cc output))
-prefix_written words bytes (Err CannotReadInput) status X Wrote is one wrote unchanged = is_unchanged (request_of words) bytes X Wrote (unchanged (λ output. cc output))
-prefix_written words bytes (Err NotUtf8) status X Wrote is one wrote unchanged = is_unchanged (request_of words) bytes X Wrote (unchanged (λ output. cc output))
-prefix_written words bytes (Err OutOfMemory) status X Wrote is one wrote unchanged = is_unchanged (request_of words) bytes X Wrote (unchanged (λ output. cc output))
-prefix_written words bytes (Err (Failed error)) status X Wrote is one wrote unchanged = is_unchanged (request_of words) bytes X Wrote (unchanged (λ output. cc output))
-prefix_written words bytes (Err CannotWriteOutput) status X Wrote is one wrote unchanged =
-    known_weaker (request_of words) bytes Wrote (λ request source. X ⊎ Wrote request source) (λ request source appended. inr appended) (wrote refl)
+prefix_written words bytes (Err error) status X Wrote is one wrote unchanged = elim (general.failed_output_or_other error) [
+  | inl output ↦ known_weaker (request_of words) bytes Wrote (λ request source. X ⊎ Wrote request source) (λ request source appended. inr appended) (wrote (ap Err output))
+  | inr other ↦ is_unchanged (request_of words) bytes X Wrote (unchanged other)
+]
