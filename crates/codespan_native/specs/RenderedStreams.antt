@@ -1,4 +1,4 @@
--- What the Rust values of settings, files and a diagnostic render.
+-- What the Rust values of a configuration, files and a diagnostic render.
 use Rattle.std.specs.Prelude.{ℕ, List}
 use Rattle.codespan_base.specs.declared.diagnostic.Diagnostic.{Diagnostic}
 use Rattle.codespan_base.specs.declared.term.config.Config.{Config}

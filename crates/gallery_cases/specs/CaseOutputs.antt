@@ -25,7 +25,7 @@ abbrev pub simple_database : List ℕ → List ℕ → FileDatabase (Unit {0})
 simple_database name source =
     one_file_database (simple_file (Some name) source) (simple_failure source)
 
--- the same, with these settings of line numbers
+-- the same, with these set line numbers
 abbrev pub mapped_database : List (ℕ × ℕ) → List ℕ → List ℕ → FileDatabase (Unit {0})
 mapped_database numbers name source =
     one_file_database (mapped_file (Some name) source numbers) (mapped_failure source numbers)
