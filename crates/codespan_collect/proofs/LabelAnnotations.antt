@@ -231,8 +231,8 @@ module _ (config : Config) (f : FileModel) (indices : LabelIndices) (x : LabelMo
       by_tests false false = refl
 
   -- its multi-line label mark
-  pub marks-on_line : (l : ℕ) → filter (is_kind 2) (line_annotations config f indices x l) ≡ multi_annotations_on l
-  marks-on_line l =
+  pub lane_marks-on_line : (l : ℕ) → filter (is_kind 2) (line_annotations config f indices x l) ≡ multi_annotations_on l
+  lane_marks-on_line l =
       filter-append (is_kind 2) (kind_annotations_on l) (multi_annotations_on l)
       ∙ (λ i. by_tests (is_single f x && (first_line f x == l)) (shows config (first_line f x) (last_line f x) l) i ++ by_lane_mark (is_single f x) (lane_mark_of indices.lane x (multi_label_on f l x)) i)
     where
