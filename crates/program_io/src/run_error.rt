@@ -34,8 +34,10 @@ pub enum RunError<E> {
 
 /// An error of one program alone, with what the lines of all errors say of that program.
 pub trait OwnError: Error {
+    /// The program's name.
     ghost program_name: { List ℕ };
 
+    /// The line of wrong arguments, without its newline.
     ghost usage_line: { List ℕ };
 
     /// Returns the program's name.
