@@ -1,5 +1,5 @@
--- For the clauses `value` of `codespan_native`, and for the outputs of `report_runs`: the picture of
--- a diagnostic is that of its view, by an equal configuration.
+-- For the clauses `value` of `codespan_native`, and for the outputs of `report_runs`: the picture
+-- of a diagnostic is that of its view, by an equal configuration.
 use Rattle.std.proofs.Common.{◌≡◌, List, [], ◌∷◌, map, refl, ap, ◌∙◌}
 use Rattle.codespan_base.specs.declared.diagnostic.Diagnostic.{Diagnostic}
 use Rattle.codespan_base.specs.declared.diagnostic.Label.{Label}

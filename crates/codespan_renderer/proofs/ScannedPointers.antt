@@ -1,5 +1,5 @@
--- For `pointer_style_if_any` and `scanned_caret_pointers`: the style of a pointer, and the pointers of a
--- line, character by character.
+-- For `pointer_style_if_any` and `scanned_caret_pointers`: the style of a pointer, and the pointers
+-- of a line, character by character.
 use Rattle.std.proofs.Common.{◌≡◌, ℕ, suc, ◌+◌, ◌-◌, ◌<◌, ◌≤◌, Bool, true, false, cond, ◌==◌, ◌&&◌, ◌||◌, nat_lt, nat_le, List, [], ◌∷◌, ◌++◌, length, get_or, drop, filter, fold, Option, Some, None, refl, sym, ap, ◌∙◌, drop-cons, add-one, append_assoc, append-nil}
 use Rattle.std.specs.Prelude.{not, if◌then◌else◌}
 use Rattle.std.specs.List.{list_any}
