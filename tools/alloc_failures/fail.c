@@ -1,7 +1,7 @@
 /* Makes allocations of a program fail: of its calls of functions that allocate, counted from 1, those from FIRST_FAILED to LAST_FAILED of the
  * environment.
  *
- * It is loaded before the C library, by LD_PRELOAD. When the program ends it writes how many such calls it made to the file ALLOCATIONS_FILE. */
+ * It is loaded before the C library, by LD_PRELOAD. When the program ends it writes how many such calls it made to the file that ALLOCATIONS_FILE names. */
 #define _GNU_SOURCE
 #include <dlfcn.h>
 #include <errno.h>
@@ -44,7 +44,7 @@ int posix_memalign(void **pointer, size_t alignment, size_t size) {
     return original(pointer, alignment, size);
 }
 
-/* A number of the environment, 0 where it is not there. */
+/* The number that a variable of the environment has, or 0 where it is not set. */
 static unsigned long number_of(const char *name) {
     const char *number = getenv(name);
     return number ? strtoul(number, NULL, 10) : 0;

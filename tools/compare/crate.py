@@ -27,7 +27,7 @@ termcolor = { version = "1.0", optional = true }
 
 
 def settings(out):
-    """The settings of cargo for a copy of the crate, and of a folder of crates, where the environment names them."""
+    """The settings by which cargo takes a copy of the crate, and what that needs from a folder of crates, where the environment names them."""
     source, crates = os.environ.get('CODESPAN_REPORTING'), os.environ.get('CRATES')
     if source:
         copy = out / 'copy'

@@ -18,15 +18,15 @@ class WorkedOutput:
     def __init__(self, name):
         self.name, self.lines, self.stated = name, [], {}
 
-    def take(self, word, rest, line):
-        """Takes in a line."""
+    def apply(self, word, rest, line):
+        """Applies a line."""
         if word in STYLES + COLORED:
             self.stated[word] = self.stated.get(word, '') + unescaped(rest)
         else:
             self.lines.append(line)
 
     def texts(self):
-        """Its texts: the style and the colors of each, the text, and whether it is just the end."""
+        """Its texts: the style and the colors of each, the text, and whether that is only the end of the output."""
         for style in STYLES:
             if style in self.stated:
                 yield style, 'none', self.stated[style], False
@@ -43,5 +43,5 @@ def worked_outputs():
     for line in INPUT.read_bytes().decode().split('\n'):
         if line and not line.startswith('#'):
             word, _, rest = line.partition(' ')
-            read.append(WorkedOutput(rest)) if word == 'case' else read[-1].take(word, rest, line)
+            read.append(WorkedOutput(rest)) if word == 'case' else read[-1].apply(word, rest, line)
     return read

@@ -26,12 +26,12 @@ def unescaped(text, letters=LETTERS):
 
 
 def is_seen(character):
-    """Whether a character shows itself in a text file."""
+    """Whether a character is visible in a text file, or is a space."""
     return character == ' ' or unicodedata.category(character)[0] not in 'CMZ'
 
 
 def escaped(text):
-    """The text as the gallery reads it: one line, with each odd character, and a space at its end, as an escape."""
+    """The text as the gallery reads it: one line, with each invisible character, each backslash, and a space at its end, as an escape."""
     spelled = [SPELLED.get(c, c if is_seen(c) else '\\u{%x}' % ord(c)) for c in text]
     if spelled and spelled[-1] == ' ':
         spelled[-1] = '\\u{20}'
@@ -63,8 +63,8 @@ class Case:
         self.config = {'tab': 4, 'chars': 'box', 'start': 3, 'end': 1, 'before': 0, 'after': 0}
         self.severity, self.code, self.message, self.labels, self.notes = 'error', None, '', [], []
 
-    def take(self, word, rest):
-        """Takes in a line."""
+    def apply(self, word, rest):
+        """Applies a line."""
         if word == 'database':
             self.database = rest
         elif word == 'file':
@@ -124,7 +124,7 @@ def read_cases(text):
         line = line[:-1] if line.endswith('\r') else line
         if line and not line.startswith('#'):
             word, _, rest = line.partition(' ')
-            cases.append(Case(rest)) if word == 'case' else cases[-1].take(word, rest)
+            cases.append(Case(rest)) if word == 'case' else cases[-1].apply(word, rest)
     return cases
 
 

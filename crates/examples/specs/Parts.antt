@@ -8,7 +8,7 @@ abbrev pub part_name : Part → Option (List ℕ)
 part_name Schema = Some (codes "schema")
 part_name Document = Some (codes "document")
 
--- of what the schema and the document have, that of a part
+-- of two values, one for the schema and one for the document, that of a part
 abbrev pub of_part : {A : Type 0} → A → A → Part → A
 of_part schema document Schema = schema
 of_part schema document Document = document

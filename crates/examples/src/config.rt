@@ -1,4 +1,4 @@
-//! Reports every error in a text of settings, by the front end of a small language of settings.
+//! Prints every error in a text of settings, by the front end of a small language of settings.
 
 use codespan_reporting::files::{Error, SimpleFile};
 use codespan_reporting::term::{Config, emit_to_io_write};

@@ -1,4 +1,4 @@
-//! Reports two errors and a warning, all of an application's error type, over one text of settings.
+//! Prints two errors and a warning over one text of settings, all of an application's error type.
 
 mod settings;
 

@@ -1,4 +1,4 @@
-//! Reports two diagnostics, each over another file, in one text.
+//! Prints the outputs of two diagnostics, each over a file of its own, as one text.
 
 use codespan_reporting::diagnostic::{Diagnostic, Label};
 use codespan_reporting::files::{Error, SimpleFiles};
@@ -7,7 +7,7 @@ use examples_library::several::render_all;
 use std::alloc::Global;
 use std::io::Write;
 
-/// Prints the text.
+/// Prints both outputs.
 ///
 /// # Errors
 ///

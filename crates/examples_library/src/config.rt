@@ -10,12 +10,12 @@ use codespan_base::diagnostic::{Diagnostic, Label, LabelStyle};
 use codespan_base::files::Error;
 use std::alloc::{AllocError, Global};
 
-/// A word: a range of bytes of the text, the end exclusive.
+/// A word, as a byte range of the text.
 #[derive(Clone, Copy)]
 pub struct Word {
-    /// Where it starts.
+    /// The byte index at which it starts.
     pub start: usize,
-    /// Where it ends.
+    /// The byte index at which it ends, exclusive.
     pub end: usize,
 }
 
@@ -33,9 +33,9 @@ pub struct Setting {
 pub struct ParseError {
     /// Its message.
     pub message: &'static str,
-    /// The word that it is about.
+    /// The word that is wrong.
     pub word: Word,
-    /// The same name, where it is set first, if that is the error.
+    /// If the word is a name that is set twice, the name where it is set first.
     pub first: Option<Word>,
 }
 
@@ -97,7 +97,7 @@ pub fn word_text(text: &str, word: Word) -> &str {
     text.get(word.start..word.end).unwrap_or("")
 }
 
-/// Returns the setting of a name, if there is one.
+/// Returns the setting with the name that this word is, if there is one.
 fn find(text: &str, settings: &[Setting], name: Word) -> Option<Setting> {
     let is_named = |s: &&Setting| word_text(text, s.name) == word_text(text, name);
     settings.iter().find(is_named).copied()
@@ -130,7 +130,7 @@ pub fn parse(text: &str, above: &[Setting], line: &[Word]) -> Result<Option<Sett
     })
 }
 
-/// Returns the value of a word: its number, or the value of the setting of this name.
+/// Returns the value of a word: its number, or else the value of the setting with this name.
 fn evaluate(text: &str, settings: &[Setting], word: Word) -> Option<u16> {
     match word_text(text, word).parse() {
         Ok(number) => Some(number),

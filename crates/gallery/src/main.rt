@@ -1,5 +1,5 @@
 //! `gallery < CASES` writes the rendered diagnostic of each case of a list, under its name.
-//! `gallery svg NAME < CASES` writes that of the first case of a name in colors, as an SVG
+//! `gallery svg NAME < CASES` writes that of the first case with this name in colors, as an SVG
 //! document, `gallery html NAME` as an HTML element, and `gallery terminal NAME` as text that is
 //! safe to print on a terminal. `gallery styles < CASES` writes the style sheet of HTML elements.
 //!
@@ -9,10 +9,10 @@
 //! | status | standard output | standard error |
 //! |---|---|---|
 //! | 0 | every case, the document of the named one, or the style sheet | nothing |
-//! | 1 | nothing, or a prefix if writing failed | one line: the error |
+//! | 1 | nothing, or a prefix of the output if writing it failed | one line: the error |
 //! | 2 | nothing: the arguments are wrong | one line: the usage |
 //!
-//! The line of an error has the number of the line of the input that is wrong, if one is.
+//! If a line of the input is wrong, the line of the error has its number, from 1.
 #![tactic(auto)]
 
 use gallery_cases::run::run;

@@ -36,12 +36,12 @@ module _ (case : Case) (name source : List ℕ) (diagnostic : Diagnostic (Unit {
       (subst (λ ns. HoldsOfOnlyFile (mapped_database ns) case Holds) set
       (over_one_file (mapped_database numbers) holds))
 
--- this holds of what a call returns, where that does
+-- what follows from a fact of what a call returns
 pub ok_follows : {T E : Type 0} {P Q : T → Type 0} (r : Result T E) → ((x : T) → P x → Q x) → IfOk r P → IfOk r Q
 ok_follows (Ok x) follows holds = follows x holds
 ok_follows (Err error) follows holds = tt
 
--- this holds where a call succeeds, where that does
+-- what follows from a fact that holds where a call succeeds
 pub done_follows : {T E X Y : Type 0} (r : Result T E) → (X → Y) → OnOk r X → OnOk r Y
 done_follows (Ok x) follows holds = follows holds
 done_follows (Err error) follows holds = tt

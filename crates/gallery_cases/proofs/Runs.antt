@@ -1,4 +1,5 @@
--- The runs of a case are those of its output: for `runs_over` and `runs_of_case`.
+-- For the clauses of `rendering::runs_over` and `rendering::runs_of_case`: the runs of a case are
+-- those of its output.
 use Rattle.std.proofs.Common.{ℕ, List, IsSome, None, Some, Result, Ok, Err, IfOk, refl, ◌∙◌, ap}
 use Rattle.std.specs.List.{slice_get}
 use Rattle.std.specs.Prelude.{Contains}

@@ -25,7 +25,7 @@ abbrev pub simple_database : List ℕ → List ℕ → FileDatabase (Unit {0})
 simple_database name source =
     one_file_database (simple_file (Some name) source) (simple_failure source)
 
--- the same, with these set line numbers
+-- a simple file with these set line numbers
 abbrev pub mapped_database : List (ℕ × ℕ) → List ℕ → List ℕ → FileDatabase (Unit {0})
 mapped_database numbers name source =
     one_file_database (mapped_file (Some name) source numbers) (mapped_failure source numbers)
@@ -38,11 +38,11 @@ several_database files = record {
   failure = database_failure (λ source. source.now) files;
 }
 
--- what may hold of a diagnostic over a file database
+-- a property of a diagnostic over a file database
 abbrev pub Property : Type 1
 Property = (Id : Type 0) → FileDatabase Id → Diagnostic Id → Type 0
 
--- this holds of the diagnostic of a case over such a database of its only file
+-- the property holds of a case's diagnostic over such a database of its only file
 pub record HoldsOfOnlyFile (database : List ℕ → List ℕ → FileDatabase (Unit {0}))
     (case : Case) (Holds : Property) : Type 0 where
   pub name : List ℕ
@@ -52,13 +52,13 @@ pub record HoldsOfOnlyFile (database : List ℕ → List ℕ → FileDatabase (U
   pub same : diagnostic_view diagnostic ≡ by_unit_id (diagnostic_view case.diagnostic)
   pub holds : Holds (Unit {0}) (database name source) diagnostic
 
--- this holds of the diagnostic of a case over all its files
+-- the property holds of a case's diagnostic over all its files
 pub record HoldsOfAllFiles (case : Case) (Holds : Property) : Type 0 where
   pub files : List BorrowedFile
   pub same : map borrowed_view files ≡ map file_view case.files.items
   pub holds : Holds ℕ (several_database files) case.diagnostic
 
--- this holds of the diagnostic of a case over its file database
+-- the property holds of a case's diagnostic over its file database
 abbrev pub HoldsOfCase : DatabaseKind → Case → Property → Type 0
 HoldsOfCase One case Holds = HoldsOfOnlyFile simple_database case Holds
 HoldsOfCase Several case Holds = HoldsOfAllFiles case Holds

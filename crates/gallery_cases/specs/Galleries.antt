@@ -12,8 +12,8 @@ use Rattle.gallery_cases.specs.Documents.{IsSvg}
 abbrev pub heading : List ℕ → List ℕ
 heading name = codes "== " ++ name ++ 10 ∷ []
 
--- a byte of an output as it is shown: the escape character, the null character, the carriage
--- return and the tab by a backslash
+-- a byte of an output, escaped if it is that of the escape character, the null character, the
+-- carriage return or the tab
 abbrev pub shown_byte : ℕ → List ℕ
 shown_byte b =
     if b == 27 then codes "\\e"
@@ -22,7 +22,7 @@ shown_byte b =
     else if b == 9 then codes "\\t"
     else b ∷ []
 
--- an output as it is shown
+-- an output with these bytes escaped
 abbrev pub with_escapes : List ℕ → List ℕ
 with_escapes output = flat_map shown_byte output
 
@@ -32,9 +32,9 @@ IsFailureLine (Ok done) error_line = error_line ≡ []
 IsFailureLine (Err error) error_line =
     IfSome (error_text error) (λ text. error_line ≡ codes "failed: " ++ text ++ 10 ∷ [])
 
--- the section of a case after its heading: the output as it is shown, and, if rendering failed, a
--- line of the error; in plain text the output is the rendered case, and as SVG the document that
--- shows it
+-- the section of a case after its heading: the output, escaped, and, if rendering failed, a line
+-- with the error; in plain text the output is the rendered case, and as SVG the document that shows
+-- it
 pub record IsSection (case : Case) (text : List ℕ) : Type 0 where
   pub rendered : Result (Unit {0}) Error
   pub output : List ℕ

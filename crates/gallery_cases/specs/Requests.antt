@@ -1,4 +1,4 @@
--- What is returned for what the arguments request.
+-- The response to what the arguments request, and why a request fails.
 use Rattle.std.specs.Prelude.{◌≡◌, ℕ, List, [], Option, Some, None, IsSomeAnd, string_bytes}
 use Rattle.std.specs.Str.Lines.{lines}
 use Rattle.codespan_base.specs.StyleTables.{default_styles}
@@ -36,7 +36,8 @@ IsFailureOf request cases (Failed (CannotRender error)) = Unit {0}
 IsFailureOf request cases OutOfMemory = Unit {0}
 IsFailureOf request cases _ = ⊥
 
--- what an error says of the input: it is its first error, or no case has the requested name
+-- what an error says of the input: a line's is the first of the input, and no case has an unknown
+-- name
 abbrev pub GalleryErrorMeans : Option GalleryRequestView → RunError GalleryError → List ℕ → Type 0
 GalleryErrorMeans request (Failed (Line number line_error)) input =
     IsFirstLineError (lines input) (Failed (Line number line_error))

@@ -13,7 +13,7 @@ use gallery_script::case::Case;
 use gallery_script::request::Format;
 use std::alloc::Global;
 
-/// Returns the document of the rendered case in a format, whatever colors the case states.
+/// Renders a case in colors, whatever colors it states, and returns the document in a format.
 ///
 /// # Errors
 ///

@@ -13,7 +13,7 @@ use gallery_script::case::{Case, Colors};
 use gallery_script::request::Format;
 use std::alloc::{AllocError, Global};
 
-/// Returns the sections of the cases, one after another.
+/// Returns the heading and the output of each case, one after another.
 ///
 /// # Errors
 ///
@@ -39,7 +39,7 @@ fn add_heading(gallery: &mut Vec<u8>, name: &str) -> Result<(), AllocError>
     Ok(())
 }
 
-/// Appends the output of a case, and, if it failed, a line with the error.
+/// Appends the output of a case, and, if rendering failed, a line with the error.
 fn add_output(alloc: Global, gallery: &mut Vec<u8>, case: &Case<'_>) -> Result<(), AllocError>
     ensures { OnOk result ((section : List ℕ) × (gallery.new.items ≡ gallery.old.items ++ section)
         × IsSection case.now section) }
@@ -71,7 +71,7 @@ fn render_as_stated(alloc: Global, case: &Case<'_>, output: &mut Vec<u8>) -> Res
     }
 }
 
-/// Appends a line with the error of a case, if it failed.
+/// Appends a line with the error, if rendering a case failed.
 fn add_failure(
     alloc: Global,
     gallery: &mut Vec<u8>,
@@ -90,8 +90,8 @@ fn add_failure(
     }
 }
 
-/// Appends an output as it is shown: the escape character, the null character, the carriage return
-/// and the tab by a backslash and a letter or digit, all else unchanged.
+/// Appends an output with four characters escaped: the escape character as `\e`, the null character
+/// as `\0`, the carriage return as `\r`, and the tab as `\t`.
 fn add_with_escapes(gallery: &mut Vec<u8>, rendered: &[u8]) -> Result<(), AllocError>
     ensures { OnOk result (gallery.new.items ≡ gallery.old.items ++ with_escapes rendered.now) }
 {

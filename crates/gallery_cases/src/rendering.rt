@@ -66,8 +66,8 @@ fn render_colored<'files, F: Files<'files>, W: WriteColor + Drop>(
     emit_to_write_style(&mut writer, &case.config, files, diagnostic)
 }
 
-/// Renders a case over its files, whatever colors it states, and returns its runs of text, each in
-/// one style.
+/// Renders a case over its files in colors, whatever colors it states, and returns its runs of
+/// text, each in one style.
 ///
 /// # Errors
 ///

@@ -21,7 +21,7 @@ use std::io::{Read, Write};
 /// after one line about the error on `error_output`, 2 for wrong arguments and 1 for any other
 /// error.
 ///
-/// Nothing is written to the output before all is rendered. An error of `error_output` is ignored.
+/// Nothing is written to the output before all is rendered. A failure of `error_output` is ignored.
 pub fn run<R: Read, W: Write, E: Write>(
     alloc: Global,
     args: &[String],
@@ -69,7 +69,7 @@ fn respond<R: Read, W: Write>(
     write_output(output, response.as_slice())
 }
 
-/// Renders what is requested of cases.
+/// Returns what is requested of the cases.
 fn response(
     alloc: Global,
     request: Request<'_>,
@@ -92,7 +92,7 @@ fn response(
     }
 }
 
-/// Returns the bytes of a document.
+/// Returns the bytes of a document; fails with `CannotRender` if that could not be rendered.
 fn bytes_of(document: Result<String, Error>) -> Result<Vec<u8>, RunError<GalleryError>>
     ensures { MatchResult result
         (λ bytes. IsOkAnd document (λ text. bytes.items ≡ string_bytes text))

@@ -86,16 +86,16 @@ numbered text inner x c is split number =
 
 -- ---- escaped texts
 
--- what the rest of a text means follows what precedes it
+-- the text stands for the unescaped bytes, followed by what its rest stands for
 abbrev pub ContinuesUnescaped : List ℕ → List ℕ → List ℕ → Type 0
 ContinuesUnescaped text unescaped rest = (outcome : Option (List ℕ)) → Unescapes rest outcome → Unescapes text (after_bytes unescaped outcome)
 
--- nothing precedes the start
+-- at the start of the text nothing has been unescaped
 pub none_unescaped : (text unescaped : List ℕ) → unescaped ≡ [] → ContinuesUnescaped text unescaped text
 none_unescaped text unescaped empty None h = h
 none_unescaped text unescaped empty (Some bytes) h = subst (λ front. Unescapes text (Some (front ++ bytes))) (sym empty) h
 
--- what precedes an escape, and its character, precede what is left
+-- one more escape has been unescaped, and the plain text before it
 pub one_more : (text unescaped new rest left : List ℕ) (c : ℕ) (x : Bor (List ℕ) × Bor (List ℕ)) → ContinuesUnescaped text unescaped rest → IsSplitOnceResult 92 rest (Some x)
     → ReadsEscape x.1.now (Some (c, left)) → new ≡ (unescaped ++ x.0.now) ++ encode_utf8 c → ContinuesUnescaped text new left
 one_more text unescaped new rest left c x before split read is outcome h =
@@ -109,13 +109,13 @@ one_more text unescaped new rest left c x before split read is outcome h =
     joined unescaped plain character new None is = refl
     joined unescaped plain character new (Some bytes) is = ap Some (sym (ap (λ front. front ++ bytes) is ∙ simp append_assoc))
 
--- a rest without a backslash means itself
+-- a rest without a backslash stands for itself
 pub all_unescaped : (text unescaped rest new : List ℕ) → ContinuesUnescaped text unescaped rest → IsSplitOnceResult 92 rest None → new ≡ unescaped ++ rest → Unescapes text (Some new)
 all_unescaped text unescaped rest new before split is =
     let plain : IsPlain rest = split_parts 92 rest None split (omega arith) in
     subst (λ bytes. Unescapes text (Some bytes)) (sym is) (before (Some rest) (whole rest plain))
 
--- a backslash that begins no escape
+-- a backslash that does not begin an escape
 pub nothing_unescaped : (text unescaped rest : List ℕ) (x : Bor (List ℕ) × Bor (List ℕ)) → ContinuesUnescaped text unescaped rest → IsSplitOnceResult 92 rest (Some x) → ReadsEscape x.1.now None → Unescapes text None
 nothing_unescaped text unescaped rest x before split unread =
     let parts = split_parts 92 rest (Some x) split (omega arith) in

@@ -10,7 +10,7 @@ use Rattle.gallery_script.specs.declared.errors.LineError.TheVariants.{NoFile, O
 use Rattle.gallery_script.specs.declared.statement.Statement.{Statement}
 use Rattle.gallery_script.specs.Cases.{Applies, AppliesToLast, FailsAtLast, IsSource, ContinuesSource, file_view}
 
--- several are those before the last one, and that one; the last one can be set
+-- a list is the elements before the last one, and that one; the last one can be set
 pub record IsLast {X : Type 0} (xs : List X) (k : ℕ) (old new : X) : Type 0 where
   pub front : List X
   pub was : xs ≡ front ++ old ∷ []
@@ -33,7 +33,7 @@ last_applied cases n statement old new (Ok done) count some at applied =
     record { front = last.front; old = old; new = new; was = last.was; is = last.is; applied = applied }
 last_applied cases n statement old new (Err line_error) count some at applied = tt
 
--- it has not been applied
+-- the statement could not be applied to the last case
 pub last_failed : (cases : List Case) (n : ℕ) (statement : Statement) (old : Case) (r : Result (Unit {0}) LineError) → n ≡ length cases → 0 < n → old ≡ slice_index_or cases (n - 1) old
     → IfErr r (λ line_error. (line_error ≡ OutOfMemory) ⊎ ((line_error ≡ NoFile) × IsSource statement × (old.files.items ≡ []))) → IfErr r (FailsAtLast statement cases)
 last_failed cases n statement old (Ok done) count some at failed = tt

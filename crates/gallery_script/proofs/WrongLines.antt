@@ -16,12 +16,12 @@ pub number_missing : (word : Word) (rest : List ℕ) (r : Result Statement LineE
 number_missing word rest (Ok statement) line_error same is lacks = tt
 number_missing word rest (Err y) line_error same is lacks = subst (IsWrong (Some word) rest) (sym same) (subst (IsWrong (Some word) rest) (sym is) lacks)
 
--- a text is no number
+-- a text is not a number
 pub no_number : (text rest : List ℕ) (line_error : LineError) → text ≡ rest → line_error ≡ BadNumber → ParsesUnsigned {E = LineError} 64 10 text (Err line_error) → IsNoNumber rest
 no_number text rest line_error same is unparsed =
     subst (λ (t : List ℕ). IsNoNumber t) same (subst (λ e. ParsesUnsigned {E = LineError} 64 10 text (Err e)) is unparsed)
 
--- the second field is no number, or the third
+-- the second field is not a number, or the third is not
 pub lacks_second : (rest left : List ℕ) → left ≡ past_space rest → IsNoNumber (field_of left) → LacksOneOfThree rest
 lacks_second rest left is none = inr (inl (subst (λ (text : List ℕ). IsNoNumber (field_of text)) is none))
 

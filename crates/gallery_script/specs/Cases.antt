@@ -28,7 +28,7 @@ use Rattle.program_io.specs.declared.run_error.RunError.TheVariants as run_error
 abbrev pub file_view : File → List ℕ × List ℕ
 file_view file = (string_bytes file.name, string_bytes file.source)
 
--- a case of this name alone
+-- a new case with this name
 pub record IsNew (name : List ℕ) (case : Case) : Type 0 where
   pub called : case.name.now ≡ name
   pub database_kind : case.database_kind ≡ Several
@@ -108,7 +108,7 @@ pub record AppliesToLast (statement : Statement) (before after : List Case) : Ty
   pub is : after ≡ front ++ new ∷ []
   pub applied : Applies statement old new
 
--- a case of this name is added
+-- a new case with this name is added
 pub record AddsCase (name : List ℕ) (before after : List Case) : Type 0 where
   pub case : Case
   pub is : after ≡ before ++ case ∷ []
@@ -132,7 +132,7 @@ AppliesLines [] before after = after ≡ before
 AppliesLines (line ∷ lines) before after =
     (between : List Case) × AppliesLine line before between × AppliesLines lines between after
 
--- why a statement can not be applied to the last case: there is none, it has no file whose source
+-- why a statement cannot be applied to the last case: there is none, it has no file whose source
 -- could be continued, or an allocation failed
 abbrev pub FailsAtLast : Statement → List Case → LineError → Type 0
 FailsAtLast statement before NoCase = before ≡ []
@@ -141,8 +141,8 @@ FailsAtLast statement before NoFile = IsSource statement
 FailsAtLast statement before OutOfMemory = Unit {0}
 FailsAtLast statement before _ = ⊥
 
--- what is wrong with a line after these cases: an allocation failed, the line is wrong, or it can
--- not be applied to them
+-- what is wrong with a line after these cases: an allocation failed, the line is wrong, or it
+-- cannot be applied to them
 abbrev pub IsLineError : List ℕ → List Case → LineError → Type 0
 IsLineError line before line_error =
     (line_error ≡ OutOfMemory)
@@ -160,9 +160,9 @@ IsFirstLineError lines (run_errors.Failed (gallery_errors.Line number line_error
 IsFirstLineError lines run_errors.OutOfMemory = Unit {0}
 IsFirstLineError lines _ = ⊥
 
--- ---- the case of a name
+-- ---- the case with a name
 
--- the first case of a name
+-- the first case with this name
 abbrev pub case_named : List ℕ → List Case → Option Case
 case_named name [] = None
 case_named name (case ∷ cases) =

@@ -11,12 +11,12 @@ use Rattle.gallery_script.specs.declared.database.Database.{Database}
 use Rattle.gallery_script.specs.declared.database.Database.TheVariants.{One, Several, Mapped}
 use Rattle.gallery_script.specs.Cases.{file_view}
 
--- a label by the id of a database of one file
+-- a label with the file id `()`, which is that of a database of one file
 abbrev pub label_by_unit_id : LabelView ℕ → LabelView (Unit {0})
 label_by_unit_id label =
     record { style = label.style; file_id = tt; range = label.range; message = label.message }
 
--- a diagnostic by the id of a database of one file
+-- a diagnostic with the file id `()`
 abbrev pub by_unit_id : DiagnosticView ℕ → DiagnosticView (Unit {0})
 by_unit_id diagnostic =
     record {
@@ -27,7 +27,7 @@ by_unit_id diagnostic =
       notes = diagnostic.notes;
     }
 
--- the settings of line numbers after those of a list, one after another
+-- the line numbers that are set after those of a list are set too, one after another
 abbrev pub with_numbers : List (ℕ × ℕ) → List (ℕ × ℕ) → List (ℕ × ℕ)
 with_numbers settings [] = settings
 with_numbers settings (setting ∷ more) =
@@ -37,18 +37,18 @@ with_numbers settings (setting ∷ more) =
 abbrev pub BorrowedFile : Type 0
 BorrowedFile = Bor (List ℕ) × Bor (List ℕ)
 
--- the same by their texts
+-- their texts
 abbrev pub borrowed_view : BorrowedFile → List ℕ × List ℕ
 borrowed_view file = (file.0.now, file.1.now)
 
--- the only file of a case has this name and this source, and this is its diagnostic by the file's
--- id
+-- the only file of a case has this name and this source, and the diagnostic is that of the case,
+-- with the file id `()`
 pub record IsOnlyFile (case : Case) (name source : List ℕ)
     (diagnostic : Diagnostic (Unit {0})) : Type 0 where
   pub only : map file_view case.files.items ≡ (name, source) ∷ []
   pub same : diagnostic_view diagnostic ≡ by_unit_id (diagnostic_view case.diagnostic)
 
--- this is the file database of a case
+-- the file database is that of the case
 abbrev pub IsDatabaseOf : Case → Database → Type 0
 IsDatabaseOf case (One file diagnostic) =
     (case.database_kind ≡ kinds.One)

@@ -4,8 +4,8 @@ use Rattle.std.specs.Char.{IsScalar}
 use Rattle.std.specs.Option.{option_map}
 use Rattle.std.specs.Str.Parse.{ParsesUnsigned}
 
--- the character of a letter: that of `n` is the newline, and those of `r`, `t`, `0` and the
--- backslash are the carriage return, the tab, the null character and the backslash
+-- the character of an escape of one letter: for `n` the newline, and for `r`, `t`, `0` and the
+-- backslash the carriage return, the tab, the null character and the backslash
 abbrev pub letter_character : ℕ → Option ℕ
 letter_character letter =
     if letter == 110 then Some 10
@@ -23,7 +23,7 @@ Lacks b text = EachIndex text (λ k. slice_index text k ≢ b)
 abbrev pub IsHexCharacter : List ℕ → ℕ → Type 0
 IsHexCharacter digits c = ParsesUnsigned {E = Unit {0}} 32 16 digits (Ok c) × IsScalar c
 
--- the text is `{`, some digits, `}`, and then the remaining text
+-- the text is `{`, the digits, `}`, and then the remaining text
 abbrev pub IsBraced : List ℕ → List ℕ → List ℕ → Type 0
 IsBraced text digits left = (text ≡ 123 ∷ digits ++ 125 ∷ left) × Lacks 125 digits
 
@@ -46,11 +46,11 @@ ReadsEscape (letter ∷ left) read =
 abbrev pub IsPlain : List ℕ → Type 0
 IsPlain text = Lacks 92 text
 
--- the text that is meant, after these bytes
+-- an unescaped text, with these bytes before it
 abbrev pub after_bytes : List ℕ → Option (List ℕ) → Option (List ℕ)
 after_bytes front unescaped = option_map (λ bytes. front ++ bytes) unescaped
 
--- the text that an escaped text stands for; none if a backslash begins no escape
+-- the text that an escaped text stands for; none if a backslash does not begin an escape
 pub data Unescapes : List ℕ → Option (List ℕ) → Type 0 where
   whole : (text : List ℕ) → IsPlain text → Unescapes text (Some text)
   broken : (plain escape : List ℕ) → IsPlain plain → ReadsEscape escape None

@@ -8,6 +8,6 @@ use Rattle.gallery_script.specs.declared.errors.LineError.TheVariants.{BadNumber
 abbrev pub IsNumber : List ℕ → ℕ → Type 0
 IsNumber text n = ParsesUnsigned {E = LineError} 64 10 text (Ok n)
 
--- the text is no number, or one that does not fit
+-- the text is not a number, or does not fit a `usize`
 abbrev pub IsNoNumber : List ℕ → Type 0
 IsNoNumber text = ParsesUnsigned {E = LineError} 64 10 text (Err BadNumber)

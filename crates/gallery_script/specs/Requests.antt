@@ -7,7 +7,7 @@ use Rattle.gallery_script.specs.declared.request.Format.TheVariants.{Html, Svg, 
 use Rattle.gallery_script.specs.declared.request.Request.{Request}
 use Rattle.gallery_script.specs.declared.request.Request.TheVariants as requests
 
--- the format of this name
+-- the format with this name
 abbrev pub format_named : List ℕ → Option Format
 format_named name =
     if bytes_eq name (codes "svg") then Some Svg
@@ -15,14 +15,14 @@ format_named name =
     else if bytes_eq name (codes "terminal") then Some Terminal
     else None
 
--- a request: every case, the style sheet of HTML elements, or a document of the case of a name
+-- a request: every case, the style sheet of HTML elements, or the case with a name in a format
 pub data GalleryRequestView : Type 0 where
   All : GalleryRequestView
   Styles : GalleryRequestView
   Document : Format → List ℕ → GalleryRequestView
 
--- the request of the arguments: without any every case, for `styles` the style sheet, and for
--- `FORMAT NAME` that document of the case; nothing for any others
+-- what the arguments request: without any, every case; with `styles`, the style sheet; with
+-- `FORMAT NAME`, the case in that format; with any others, nothing
 abbrev pub gallery_request_of : List (List ℕ) → Option GalleryRequestView
 gallery_request_of [] = Some All
 gallery_request_of (word ∷ []) = if bytes_eq word (codes "styles") then Some Styles else None

@@ -28,11 +28,11 @@ past_two text = past_space (past_space text)
 abbrev pub past_three : List ℕ → List ℕ
 past_three text = past_space (past_two text)
 
--- the text stands for these bytes
+-- the escaped text stands for these bytes
 abbrev pub UnescapesTo : List ℕ → List ℕ → Type 0
 UnescapesTo text bytes = Unescapes text (Some bytes)
 
--- the word of labels of a style
+-- the word with which a label of this style begins
 abbrev pub label_style_word : LabelStyle → Word
 label_style_word styles.Primary = Primary
 label_style_word styles.Secondary = Secondary
@@ -52,7 +52,7 @@ pub record IsLabel (rest : List ℕ) (label : Label ℕ) : Type 0 where
   pub end : IsNumber (field_of (past_two rest)) label.range.end
   pub message : UnescapesTo (past_three rest) (string_bytes label.message)
 
--- what the word and the rest of a line state of a case
+-- what a line describes, by its word and its rest
 abbrev pub Describes : Option Word → List ℕ → Statement → Type 0
 Describes word rest (statements.Database kind) =
     (word ≡ Some Database) × (database_kind_named rest ≡ Some kind)
@@ -105,7 +105,7 @@ HasUnknownName rest Colors = colors_named rest ≡ None
 HasUnknownName rest Severity = severity_named rest ≡ None
 HasUnknownName rest _ = ⊥
 
--- one of the first three fields of the rest is no number
+-- one of the first three fields of the rest is not a number
 abbrev pub LacksOneOfThree : List ℕ → Type 0
 LacksOneOfThree rest =
     IsNoNumber (field_of rest)
@@ -120,7 +120,7 @@ LacksNumber rest Primary = LacksOneOfThree rest
 LacksNumber rest Secondary = LacksOneOfThree rest
 LacksNumber rest _ = ⊥
 
--- the text of the rest has a backslash that begins no escape
+-- the text of the rest has a backslash that does not begin an escape
 abbrev pub HasBadEscape : List ℕ → Word → Type 0
 HasBadEscape rest File = Unescapes rest None
 HasBadEscape rest Source = Unescapes rest None

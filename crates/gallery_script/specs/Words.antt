@@ -14,7 +14,7 @@ use Rattle.gallery_script.specs.declared.case.CharacterSet.TheVariants as sets
 use Rattle.gallery_script.specs.declared.words.Word.{Word}
 use Rattle.gallery_script.specs.declared.words.Word.TheVariants.{Database, File, Source, Number, Style, Layout, Tab, Context, Characters, Colors, Severity, Code, Message, Primary, Secondary, Note}
 
--- the word of this text
+-- the word that this text is
 unfoldable pub case_word_named : List ℕ → Option Word
 case_word_named text =
     if bytes_eq text (codes "database") then Some Database
@@ -35,7 +35,7 @@ case_word_named text =
     else if bytes_eq text (codes "note") then Some Note
     else None
 
--- the kind of file database of this name
+-- the kind of file database with this name
 unfoldable pub database_kind_named : List ℕ → Option DatabaseKind
 database_kind_named text =
     if bytes_eq text (codes "one") then Some One
@@ -43,21 +43,21 @@ database_kind_named text =
     else if bytes_eq text (codes "mapped") then Some Mapped
     else None
 
--- the layout of this name
+-- the layout with this name
 unfoldable pub layout_named : List ℕ → Option layouts.Layout
 layout_named text =
     if bytes_eq text (codes "classic") then Some Classic
     else if bytes_eq text (codes "unbroken") then Some Unbroken
     else None
 
--- the characters of this name
+-- the set of characters with this name
 unfoldable pub characters_named : List ℕ → Option CharacterSet
 characters_named text =
     if bytes_eq text (codes "box") then Some sets.Box
     else if bytes_eq text (codes "ascii") then Some sets.Ascii
     else None
 
--- the way to write colors of this name
+-- the way to write colors with this name
 unfoldable pub colors_named : List ℕ → Option colors.Colors
 colors_named text =
     if bytes_eq text (codes "none") then Some Plain

@@ -23,12 +23,12 @@ pub enum DatabaseKind {
     Mapped,
 }
 
-/// A set of characters for borders, carets and lanes.
+/// A set of characters for borders, carets and lanes, by its name.
 #[derive(Clone, Copy)]
 pub enum CharacterSet {
-    /// Those of box drawing.
+    /// `Chars::box_drawing()`.
     Box,
-    /// ASCII alone.
+    /// `Chars::ascii()`.
     Ascii,
 }
 
@@ -44,14 +44,14 @@ impl CharacterSet {
     }
 }
 
-/// How colors are written.
+/// Whether an output has colors, and how these are written.
 #[derive(Clone, Copy, PartialEq, Eq)]
 pub enum Colors {
-    /// Not at all.
+    /// Plain text, without colors.
     Plain,
-    /// By escape sequences.
+    /// Colors as ANSI escape sequences.
     Ansi,
-    /// As an SVG document.
+    /// Colors in an SVG document.
     Svg,
 }
 
@@ -64,7 +64,7 @@ pub struct File {
     pub source: String,
 }
 
-/// A diagnostic to be rendered.
+/// A case: a diagnostic to be rendered, its files, and a configuration.
 #[derive(Drop)]
 pub struct Case<'input> {
     /// The name of the case.
@@ -73,20 +73,20 @@ pub struct Case<'input> {
     pub database_kind: DatabaseKind,
     /// The files in their order.
     pub files: Vec<File>,
-    /// The lines whose numbers are set, by their indices from 0, with these numbers. Only a
-    /// `MappedFile` uses them.
+    /// The set line numbers: the index of a line, from 0, and its number. Only a `MappedFile` uses
+    /// them.
     pub numbers: Vec<(usize, usize)>,
     /// The configuration.
     pub config: Config<'input>,
-    /// How colors are written.
+    /// Whether the output has colors, and how these are written.
     pub colors: Colors,
     /// The diagnostic.
     pub diagnostic: Diagnostic<usize>,
 }
 
 impl<'input> Case<'input> {
-    /// Returns a case of this name alone: an empty error, by the default configuration, without
-    /// colors.
+    /// Returns a new case with this name: an error without message, label or note, no files, and
+    /// the default configuration, without colors.
     pub fn new(alloc: Global, name: &'input str) -> Case<'input>
         ensures { IsNew name.now result }
     {
@@ -101,13 +101,13 @@ impl<'input> Case<'input> {
         }
     }
 
-    /// Applies a statement. It replaces an earlier one of the same kind, unless the kind adds to a
-    /// list.
+    /// Applies a statement. It replaces an earlier one of the same kind, except that files,
+    /// sources, line numbers, labels and notes are added.
     ///
     /// # Errors
     ///
-    /// `NoFile` for the continuation of a source if there is no file, and `OutOfMemory` if an
-    /// allocation fails.
+    /// - `NoFile`: the statement continues a source, and the case has no file.
+    /// - `OutOfMemory`: an allocation fails.
     pub fn apply(&mut self, statement: Statement) -> Result<(), LineError>
         ensures applied { OnOk result (Applies statement self.old self.new) }
         ensures failed { IfErr result (λ line_error. (line_error ≡ OutOfMemory)

@@ -1,7 +1,7 @@
 //! The parser of cases.
 //!
-//! The input is a text of lines. A line begins with a word, which ends before the first space; its
-//! rest is what follows that space. Lines that are empty or begin with `#` are ignored. A line
+//! The input is a text of lines. A line begins with a word, which ends at the first space; its rest
+//! is what follows that space. Lines that are empty or begin with `#` are ignored. A line
 //! `case NAME` begins a case, and the lines after it describe it ([`Statement`] lists their words);
 //! texts in these are escaped ([`unescape`] lists the escapes).
 //!
@@ -23,8 +23,8 @@ use std::alloc::Global;
 ///
 /// # Errors
 ///
-/// - `Failed` of a `Line`: the first line that has an error, by its number from 1, and that error,
-///   also a failed allocation for it.
+/// - `Failed` with [`GalleryError::Line`]: the number, from 1, of the first line that has an error,
+///   and that error, or a failed allocation for the line.
 /// - `OutOfMemory`: an allocation for the list of lines fails.
 pub fn parse_cases(alloc: Global, input: &str) -> Result<Vec<Case<'_>>, RunError<GalleryError>>
     ensures cases { IfOk result (λ cases. AppliesLines (lines input.now) [] cases.items) }
@@ -80,7 +80,7 @@ fn apply_to_last(cases: &mut Vec<Case<'_>>, statement: Statement) -> Result<(), 
     }
 }
 
-/// Returns the first case of a name.
+/// Returns the first case with this name, or `None` if there is none.
 pub fn case_named<'cases, 'input>(
     cases: &'cases [Case<'input>],
     name: &str,

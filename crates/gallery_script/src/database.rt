@@ -11,14 +11,15 @@ use codespan_base::diagnostic::{Diagnostic, Label};
 use codespan_base::files::{Error, MappedFile, SimpleFile, SimpleFiles};
 use std::alloc::Global;
 
-/// The file database of a case; for a database of one file, with the diagnostic by its id.
+/// The file database of a case; with a database of one file, the case's diagnostic with the file id
+/// `()` in place of 0.
 #[derive(Drop)]
 pub enum Database<'case> {
     /// A database of one file.
     One(SimpleFile<&'case str, &'case str>, Diagnostic<()>),
-    /// A database of all files; the case has the diagnostic by their ids.
+    /// A database of all files, whose ids are those of the case's own diagnostic.
     Several(SimpleFiles<&'case str, &'case str>),
-    /// A database of one file, with the line numbers that are set.
+    /// A database of one file, with set line numbers.
     Mapped(MappedFile<&'case str, &'case str>, Diagnostic<()>),
 }
 
@@ -26,9 +27,10 @@ pub enum Database<'case> {
 ///
 /// # Errors
 ///
-/// `FileMissing` if a database of one file has another number of files, or a label is in another
-/// file; `LineTooLarge` if the number of a line that the source lacks is set; `OutOfMemory` if an
-/// allocation fails.
+/// - `FileMissing`: the database is of one file, and the case has none or several, or a label in
+///   another file than 0.
+/// - `LineTooLarge`: the number of a line that the source lacks is set.
+/// - `OutOfMemory`: an allocation fails.
 pub fn database_of<'case>(alloc: Global, case: &'case Case<'_>) -> Result<Database<'case>, Error>
     ensures { IfOk result (IsDatabaseOf case.now) }
 {
@@ -49,7 +51,7 @@ pub fn database_of<'case>(alloc: Global, case: &'case Case<'_>) -> Result<Databa
     }
 }
 
-/// Returns the file, if there is exactly one.
+/// Returns the only file; fails with `FileMissing` if there is none or several.
 fn only_file(files: &[File]) -> Result<&File, Error>
     ensures { IfOk result (λ file. files.now ≡ file.now ∷ []) }
 {
@@ -71,7 +73,7 @@ fn several_files(alloc: Global, files: &[File]) -> Result<SimpleFiles<&str, &str
     Ok(database)
 }
 
-/// Returns the file, with the line numbers that are set.
+/// Returns a database of the file, with these line numbers set.
 fn mapped_file<'case>(
     alloc: Global,
     file: &'case File,

@@ -1,4 +1,4 @@
-//! The errors of the program.
+//! The errors of a line, and those that only `gallery` has.
 
 ghost use Rattle.std.specs.Prelude.{◌≡◌, codes};
 ghost use Rattle.gallery_script.specs.declared.errors.LineError.TheVariants as line_errors;
@@ -11,30 +11,30 @@ use std::fmt;
 /// An error in a line of the input.
 #[derive(Clone, Copy, Debug)]
 pub enum LineError {
-    /// It begins with an unknown word.
+    /// The line begins with an unknown word.
     UnknownWord,
-    /// Its rest is none of the names that may follow its word.
+    /// The rest of the line is none of the names that may follow its word.
     UnknownName,
     /// A number is missing or malformed.
     BadNumber,
-    /// A backslash of its text begins no escape.
+    /// A backslash in its text does not begin an escape.
     BadEscape,
-    /// It precedes the first case.
+    /// The line describes a case, and no case precedes it.
     NoCase,
-    /// It continues a source, and its case has no file yet.
+    /// The line continues a source, and its case has no file yet.
     NoFile,
     /// An allocation failed.
     OutOfMemory,
 }
 
-/// An error of a run of `gallery` alone.
+/// An error that only `gallery` has.
 #[derive(Debug, Drop)]
 pub enum GalleryError {
-    /// The line of this number, from 1, has an error.
+    /// The line with this number, from 1, has an error.
     Line(usize, LineError),
-    /// No case has this name.
+    /// No case has this name, which the arguments request.
     UnknownCase(String),
-    /// Rendering the case failed.
+    /// Rendering the requested document or style sheet failed.
     CannotRender(Error),
 }
 
@@ -70,7 +70,7 @@ impl<T: Drop> From<AllocFailed<T>> for LineError {
     }
 }
 
-/// Writes a message of a few words.
+/// Writes what is wrong, in a few words.
 impl fmt::Display for LineError {
     fn fmt<W: fmt::Write>(&self, f: &mut fmt::Formatter<W>) -> fmt::Result {
         f.write_str(match self {

@@ -21,7 +21,8 @@ use std::alloc::Global;
 ///
 /// # Errors
 ///
-/// `BadEscape` if a backslash begins no escape; `OutOfMemory` if an allocation fails.
+/// - `BadEscape`: a backslash does not begin an escape.
+/// - `OutOfMemory`: an allocation fails.
 pub fn unescape(alloc: Global, text: &str) -> Result<String, LineError>
     ensures { MatchResult result (λ unescaped. Unescapes text.now (Some (string_bytes unescaped)))
         (λ line_error. (line_error ≡ OutOfMemory) ⊎
@@ -41,8 +42,8 @@ pub fn unescape(alloc: Global, text: &str) -> Result<String, LineError>
     Ok(unescaped)
 }
 
-/// Parses the escape at the start of a text, after its backslash, and returns its character with
-/// what follows.
+/// Parses the escape with which a text begins after its backslash, and returns its character and
+/// what follows it.
 fn read_escape(text: &str) -> Option<(char, &str)>
     ensures read { ReadsEscape text.now (option_map (λ read. (read.0, read.1.now)) result) }
     ensures shorter { IfSome result (λ read. length read.1.now < length text.now) }
@@ -61,7 +62,8 @@ fn read_escape(text: &str) -> Option<(char, &str)>
     }
 }
 
-/// Parses the number in braces at the start of a text, and returns its character with what follows.
+/// Parses the number in braces with which a text begins, and returns its character and what follows
+/// it.
 fn read_unicode_escape(text: &str) -> Option<(char, &str)>
     ensures read { ReadsUnicodeEscape text.now (option_map (λ read. (read.0, read.1.now)) result) }
     ensures shorter { IfSome result (λ read. length read.1.now ≤ length text.now) }
@@ -71,7 +73,7 @@ fn read_unicode_escape(text: &str) -> Option<(char, &str)>
     Some((hex_character(digits)?, left))
 }
 
-/// Returns the character of a number in hexadecimal digits, if there is one.
+/// Returns the character with this number in hexadecimal digits, if there is one.
 fn hex_character(digits: &str) -> Option<char>
     ensures found { IfSome result (IsHexCharacter digits.now) }
     ensures absent { result ≡ None → (c : ℕ) → ¬ (IsHexCharacter digits.now c) }

@@ -1,4 +1,4 @@
-//! What `gallery` is requested to render: its arguments, and its cases with their files.
+//! What `gallery` is requested to render: its arguments, and the cases of its input.
 //!
 //! [`cases`] documents the input.
 #![tactic(auto)]

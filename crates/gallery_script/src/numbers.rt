@@ -13,7 +13,7 @@ use script_words::fields::split_field;
 ///
 /// # Errors
 ///
-/// `BadNumber` if the text is no number or it does not fit.
+/// `BadNumber` if the text is not a number, or does not fit a `usize`.
 pub fn parse_number(text: &str) -> Result<usize, LineError>
     ensures value { ParsesUnsigned 64 10 text.now result }
     ensures failed { IfErr result (λ line_error. line_error ≡ BadNumber) }
@@ -24,11 +24,11 @@ pub fn parse_number(text: &str) -> Result<usize, LineError>
     }
 }
 
-/// Parses the number before the first space of a text, and returns it with what follows that space.
+/// Parses the number before the first space of a text, and returns it and what follows that space.
 ///
 /// # Errors
 ///
-/// `BadNumber` if that is no number or it does not fit.
+/// `BadNumber` if what precedes the space is not a number, or does not fit a `usize`.
 pub fn split_number(text: &str) -> Result<(usize, &str), LineError>
     ensures number { IfOk result (λ read. IsNumber (field_of text.now) read.0) }
     ensures left { IfOk result (λ read. read.1.now ≡ past_space text.now) }

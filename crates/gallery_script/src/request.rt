@@ -16,8 +16,8 @@ pub enum Format {
 }
 
 impl Format {
-    /// Returns the format of this name; `None` for any other.
-    pub fn named(name: &str) -> Option<Format>
+    /// Parses the name of a format: `svg`, `html` or `terminal`. Returns `None` for any other text.
+    pub fn parse(name: &str) -> Option<Format>
         ensures { result ≡ format_named name.now }
     {
         match name {
@@ -36,14 +36,15 @@ pub enum Request<'args> {
     All,
     /// `styles`: the style sheet of HTML elements.
     Styles,
-    /// `svg NAME`, `html NAME` or `terminal NAME`: the case of this name in a format.
+    /// `svg NAME`, `html NAME` or `terminal NAME`: the first case with this name, in a format.
     Document(Format, &'args str),
 }
 
 impl<'args> Request<'args> {
     ghost use Rattle.gallery_script.specs.Requests.{gallery_request_of, gallery_request_view};
 
-    /// Returns the request of the arguments; `None` if their number or the first word is another.
+    /// Parses the arguments: none, `styles`, or a format and the name of a case. Returns `None` for
+    /// any others.
     pub fn from_arguments(args: &'args [String]) -> Option<Request<'args>>
         ensures { option_map gallery_request_view result
             ≡ gallery_request_of (map string_bytes args.now) }
@@ -51,7 +52,7 @@ impl<'args> Request<'args> {
         match args {
             [] => Some(Request::All),
             [word] if word.as_str() == "styles" => Some(Request::Styles),
-            [word, name] => match Format::named(word.as_str()) {
+            [word, name] => match Format::parse(word.as_str()) {
                 Some(format) => Some(Request::Document(format, name.as_str())),
                 None => None,
             },

@@ -22,11 +22,11 @@ use std::alloc::Global;
 /// A parsed line.
 #[derive(Drop)]
 pub enum Line<'input> {
-    /// It is empty or begins with `#`, and is ignored.
+    /// A line that is ignored: it is empty or begins with `#`.
     Ignored,
-    /// `case NAME`: it begins a case of this name.
+    /// `case NAME`: the beginning of a case with this name.
     NewCase(&'input str),
-    /// It describes the last case.
+    /// A line that describes the last case.
     Description(Statement),
 }
 
@@ -39,20 +39,20 @@ pub enum Statement {
     File(String),
     /// `| TEXT`: the continuation of the source of the last file.
     Source(String),
-    /// `number LINE NUMBER`: the number of a line, by its index from 0.
+    /// `number LINE NUMBER`: the index of a line, from 0, and its number.
     Number(usize, usize),
     /// `style NAME`: the display style.
     Style(DisplayStyle),
     /// `layout NAME`: the layout of line numbers and lanes.
     Layout(Layout),
-    /// `tab WIDTH`: the cells between tab stops.
+    /// `tab WIDTH`: the tab width, in cells.
     Tab(usize),
     /// `context START END BEFORE AFTER`: how many context lines are shown, around labels and inside
     /// multi-line labels.
     Context(ContextLines),
     /// `characters NAME`: the characters of borders, carets and lanes.
     Characters(CharacterSet),
-    /// `colors NAME`: how colors are written.
+    /// `colors NAME`: whether the output has colors, and how these are written.
     Colors(Colors),
     /// `severity NAME`: the severity.
     Severity(Severity),
@@ -86,7 +86,7 @@ pub struct ContextLines {
 /// - `UnknownWord`: the line begins with an unknown word.
 /// - `UnknownName`: its rest is none of the names that may follow its word.
 /// - `BadNumber`: a number is missing or malformed.
-/// - `BadEscape`: a backslash of its text begins no escape.
+/// - `BadEscape`: a backslash in its text does not begin an escape.
 /// - `OutOfMemory`: an allocation fails.
 pub fn parse_line<'input>(alloc: Global, line: &'input str) -> Result<Line<'input>, LineError>
     ensures parsed { IfOk result (ParsesTo line.now) }
@@ -103,7 +103,7 @@ pub fn parse_line<'input>(alloc: Global, line: &'input str) -> Result<Line<'inpu
     Ok(Line::Description(parse_statement(alloc, word, rest)?))
 }
 
-/// Parses the rest of a line that begins with this word.
+/// Parses the rest of a line that begins with the word.
 fn parse_statement(alloc: Global, word: Word, rest: &str) -> Result<Statement, LineError>
     ensures parsed { IfOk result (Describes (Some word) rest.now) }
     ensures wrong { IfErr result (IsWrong (Some word) rest.now) }
@@ -128,7 +128,7 @@ fn parse_statement(alloc: Global, word: Word, rest: &str) -> Result<Statement, L
     }
 }
 
-/// Returns what a name stands for, or `UnknownName`.
+/// Returns what a name stands for; fails with `UnknownName` if that is nothing.
 fn or_unknown_name<T: Drop>(named: Option<T>) -> Result<T, LineError>
     ensures { result ≡ ok_or named UnknownName }
 {

@@ -22,13 +22,13 @@ pub enum Word {
     Style,
     /// The layout of line numbers and lanes.
     Layout,
-    /// The cells between tab stops.
+    /// The tab width.
     Tab,
     /// How many context lines are shown.
     Context,
     /// The characters of borders, carets and lanes.
     Characters,
-    /// How colors are written.
+    /// Whether the output has colors, and how these are written.
     Colors,
     /// The severity.
     Severity,
@@ -44,7 +44,7 @@ pub enum Word {
     Note,
 }
 
-/// Returns the word of this text, or `None`.
+/// Parses a word. Returns `None` for any other text.
 #[tactic(auto, unfolding(crate::specs::Words::case_word_named))]
 pub fn parse_word(text: &str) -> Option<Word>
     ensures { result ≡ case_word_named text.now }
@@ -70,7 +70,7 @@ pub fn parse_word(text: &str) -> Option<Word>
     }
 }
 
-/// Returns the kind of file database of this name, or `None`.
+/// Parses the name of a kind of file database. Returns `None` for any other text.
 #[tactic(auto, unfolding(crate::specs::Words::database_kind_named))]
 pub fn parse_database_kind(text: &str) -> Option<DatabaseKind>
     ensures { result ≡ database_kind_named text.now }
@@ -83,7 +83,7 @@ pub fn parse_database_kind(text: &str) -> Option<DatabaseKind>
     }
 }
 
-/// Returns the layout of this name, or `None`.
+/// Parses the name of a layout. Returns `None` for any other text.
 #[tactic(auto, unfolding(crate::specs::Words::layout_named))]
 pub fn parse_layout(text: &str) -> Option<Layout>
     ensures { result ≡ layout_named text.now }
@@ -95,7 +95,7 @@ pub fn parse_layout(text: &str) -> Option<Layout>
     }
 }
 
-/// Returns the characters of this name, or `None`.
+/// Parses the name of a set of characters. Returns `None` for any other text.
 #[tactic(auto, unfolding(crate::specs::Words::characters_named))]
 pub fn parse_characters(text: &str) -> Option<CharacterSet>
     ensures { result ≡ characters_named text.now }
@@ -107,7 +107,7 @@ pub fn parse_characters(text: &str) -> Option<CharacterSet>
     }
 }
 
-/// Returns the way to write colors of this name, or `None`.
+/// Parses the name of a way to write colors. Returns `None` for any other text.
 #[tactic(auto, unfolding(crate::specs::Words::colors_named))]
 pub fn parse_colors(text: &str) -> Option<Colors>
     ensures { result ≡ colors_named text.now }

@@ -7,11 +7,11 @@ use Rattle.std.specs.Io.{StartsWith}
 use Rattle.std.specs.Io.KnownBytes.{Appends, Keeps}
 use Rattle.program_io.specs.Output.{AppendsPrefix}
 
--- n more of those that were left were received
+-- n more bytes of the rest were received
 pub moved : (bs done rest : List ℕ) (n : ℕ) → bs ≡ done ++ rest → bs ≡ (done ++ take n rest) ++ drop n rest
 moved bs done rest n e = e ∙ ap (λ (l : List ℕ). done ++ l) (sym (take-append-drop n rest)) ∙ sym (append_assoc done (take n rest) (drop n rest))
 
--- the same, where what is left is a range of what was
+-- the same, where the new rest is a range of the old one
 pub moved_range : (bs done rest : List ℕ) (n : ℕ) → bs ≡ done ++ rest → bs ≡ (done ++ take n rest) ++ take (length rest - n) (drop n rest)
 moved_range bs done rest n e = moved bs done rest n e ∙ ap (λ (l : List ℕ). (done ++ take n rest) ++ l) (sym (take_rest rest n))
 

@@ -14,7 +14,7 @@ IsStatusOf (Err WrongArguments) status = status ≡ 2
 IsStatusOf (Err _) status = status ≡ 1
 
 -- what an error's `Display` writes, by the program's name, the line of its usage, and what the
--- errors of this program alone write: a line without its newline
+-- `Display` of the program's own errors writes: a line without its newline
 abbrev pub displayed_error : {E : Type 0} → List ℕ → List ℕ → (E → Option (List ℕ))
     → RunError E → Option (List ℕ)
 displayed_error program usage own WrongArguments = Some usage
@@ -29,12 +29,12 @@ displayed_error program usage own (Failed error) = own error
 abbrev pub failed_output_line : List ℕ → List ℕ
 failed_output_line program = program ++ codes ": cannot write output\n"
 
--- the error of a run whose arguments can not be read
+-- the error of a run whose arguments cannot be read
 abbrev pub arguments_error : {E : Type 0} → ArgumentsError → RunError E
 arguments_error arguments.NotUtf8 = WrongArguments
 arguments_error arguments.OutOfMemory = OutOfMemory
 
--- the error of a run whose input can not be read as text
+-- the error of a run whose input cannot be read as text
 abbrev pub input_error : {E : Type 0} → InputError → RunError E
 input_error input.Unreadable = CannotReadInput
 input_error input.NotUtf8 = NotUtf8

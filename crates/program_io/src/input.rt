@@ -10,9 +10,9 @@ use std::io::Read;
 /// An error of reading the input as text.
 #[derive(Clone, Copy, Debug, PartialEq, Eq)]
 pub enum InputError {
-    /// Reading it failed, or an allocation for it.
+    /// Reading the input failed, or an allocation for it.
     Unreadable,
-    /// It is not UTF-8.
+    /// The input is not UTF-8.
     NotUtf8,
 }
 

@@ -1,4 +1,4 @@
-//! What a program does at its edges: its arguments, the whole of its input as text, its output, and
+//! The input and output of the programs: their arguments, the whole input as text, the output, and
 //! the line and the status of an error.
 #![tactic(auto)]
 

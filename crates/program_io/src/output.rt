@@ -29,7 +29,7 @@ pub fn write_and_flush<W: Write>(output: &mut W, bytes: &[u8]) -> io::Result<()>
 /// # Errors
 ///
 /// - The error of a write, if it is not `Interrupted`.
-/// - `WriteZero`: a write takes nothing.
+/// - `WriteZero`: a write returns `Ok(0)`.
 /// - `Other`: there were `u64::MAX` writes.
 ///
 /// A prefix of the bytes has then been written.

@@ -15,7 +15,7 @@ use std::error::Error;
 use std::io::Write;
 use std::{fmt, io};
 
-/// The error of a run; `E` are the errors of one program alone.
+/// The error of a run; `E` is the type of the errors that only this program has.
 #[derive(Debug, Drop)]
 pub enum RunError<E> {
     /// The arguments are wrong.
@@ -24,15 +24,16 @@ pub enum RunError<E> {
     CannotReadInput,
     /// The input is not UTF-8.
     NotUtf8,
-    /// An allocation failed that no other variant is about, as one for the arguments.
+    /// An allocation failed that no other variant covers, for instance one for the arguments.
     OutOfMemory,
     /// Writing or flushing the output failed.
     CannotWriteOutput,
-    /// An error of one program alone.
+    /// An error that only this program has.
     Failed(E),
 }
 
-/// An error of one program alone, with what the lines of all errors say of that program.
+/// An error that only one program has. Its type also has the name and the usage of that program,
+/// from which [`RunError`] makes its lines.
 pub trait OwnError: Error {
     /// The program's name.
     ghost program_name: { List ℕ };
@@ -117,7 +118,7 @@ pub fn write_output<E, W: Write>(output: &mut W, bytes: &[u8]) -> Result<(), Run
     }
 }
 
-/// Converts an error of the arguments: those that are not UTF-8 are wrong.
+/// Converts an error of reading the arguments: arguments that are not UTF-8 are wrong.
 impl<E> From<ArgumentsError> for RunError<E> {
     ghost use Rattle.program_io.specs.RunErrors.{arguments_error};
 
@@ -154,8 +155,8 @@ impl<E> From<AllocError> for RunError<E> {
     }
 }
 
-/// Writes the error's line, without its newline; of an error of one program alone what its
-/// `Display` writes.
+/// Writes the error's line, without its newline; for [`RunError::Failed`], what the `Display` of
+/// the program's own error writes.
 impl<E: OwnError> fmt::Display for RunError<E> {
     ghost output = { displayed_error E.program_name E.usage_line E.output };
 

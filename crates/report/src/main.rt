@@ -1,15 +1,15 @@
 //! `report STYLE NAME START END MESSAGE` renders an error with one label over the source on
-//! standard input. `report STYLE NAME` renders what the script there says, over the source that
-//! follows it.
+//! standard input. `report STYLE NAME` renders the diagnostic that the script there states, over
+//! the source that follows it.
 //!
-//! `STYLE` is `rich`, `medium` or `short`. `START` and `END`, in decimal digits, are the byte
-//! range of the label in the source. `NAME` is the file's name, and `MESSAGE` the message of both
-//! the error and the label. [`report_script::script`] says what a script is.
+//! `STYLE` is `rich`, `medium` or `short`. `START` and `END`, in decimal digits, are the byte range
+//! of the label in the source, from 0, the end exclusive. `NAME` is the file's name, and `MESSAGE`
+//! the message of both the error and the label. [`report_script::script`] says what a script is.
 //!
 //! | status | standard output | standard error |
 //! |---|---|---|
 //! | 0 | the output | nothing |
-//! | 1 | nothing, or a prefix of the output if writing it failed | one line: which error |
+//! | 1 | nothing, or a prefix of the output if writing it failed | one line: the error |
 //! | 2 | nothing: the arguments are wrong | one line: the usage |
 //! | 3 | nothing: the script has an error | its whole diagnostic |
 //!
@@ -18,7 +18,7 @@
 //! prefix of it and no line. The usage names the first form of the arguments alone.
 //!
 //! Nothing is written to standard output before the whole output is rendered. Arguments that are
-//! not UTF-8 are wrong; where memory for them runs out, the status is 1.
+//! not UTF-8 are wrong; if an allocation for them fails, the status is 1.
 #![tactic(auto)]
 
 use program_io::arguments::arguments;

@@ -49,7 +49,7 @@ is_unchanged None b X Y contents = tt
 is_unchanged (Some x) None X Y contents = tt
 is_unchanged (Some x) (Some y) X Y contents = inl contents
 
--- where the source is not UTF-8 the output stays
+-- where the source is not UTF-8 the output is unchanged
 pub unchanged_at_not_utf8 : (words : List (List ℕ)) (bytes : Option (List ℕ)) (X : Type 0) (outcome : Outcome)
     → OnOk outcome (WhereKnown words bytes (λ _ source. IsUtf8 source))
     → IfErr outcome (λ error. WhereKnown words bytes (ReportErrorMeans error))
@@ -78,11 +78,11 @@ reported_at_bad_script words bytes outcome status Reported is three are_known re
       (λ request source same. (string_bytes text, same, received)) means
 ]
 
--- no rendering is both
+-- no rendering is both an output and the diagnostic of a script's error
 not_both : (rendering : Result (List ℕ) (List ℕ)) (good bad : List ℕ) → rendering ≡ Ok good → rendering ≡ Err bad → ⊥
 not_both rendering good bad is other = cc (is, other)
 
--- the same of an error
+-- the status and the output of a run with an error, where the script has one
 bad_script_error : (error : RunError ReportError) (status : ℕ) (X : Type 0) (request : RequestView) (source text : List ℕ) → IsReportStatusOf (Err error) status → ReportErrorMeans error request source
     → (error ≢ CannotWriteOutput → X) → rendering_of request source ≡ Err text → ((status ≡ 3) ⊎ (status ≡ 1)) × X
 bad_script_error error status X request source text is are_known unchanged bad =

@@ -22,7 +22,7 @@ use Rattle.report_script.specs.Scripts.{ScriptView, read_script}
 abbrev pub report_config : DisplayStyle → Config
 report_config style = record default_config { display_style = style }
 
--- the one file of a name and a source, whatever its id
+-- the only file of a database: it has this name and this source, whatever the id
 abbrev pub only_file : List ℕ → List ℕ → Unit {0} → FileModel
 only_file name source id = simple_file (Some name) source
 

@@ -20,7 +20,7 @@ IsReportStatusOf outcome status =
     IsStatusOf outcome status
     ⊎ ((status ≡ 3) × ((text : String Global) × (outcome ≡ Err (Failed (BadScript text)))))
 
--- what the `Display` of an error of `report` alone writes: a line without its newline, or the
+-- what the `Display` of an error that only `report` has writes: a line without its newline, or the
 -- rendered diagnostic of a script's error
 abbrev pub displayed_report_error : ReportError → Option (List ℕ)
 displayed_report_error (CannotRender error) =

@@ -1,4 +1,4 @@
-//! Renders the diagnostic that the arguments request.
+//! The output of the diagnostic that the arguments request.
 
 ghost use Rattle.std.specs.Prelude.{◌≡◌, IfOk, IfErr, Ok, string_bytes};
 ghost use Rattle.codespan_base.specs.ConfigEquality.{IsEqualConfig};
@@ -23,9 +23,9 @@ use std::alloc::Global;
 ///
 /// # Errors
 ///
-/// - `BadScript` if a script is requested and the input is no script: the rendered diagnostic of
-///   its first error.
-/// - `CannotRender` if rendering fails, or an allocation for the script.
+/// - `BadScript` if a script is requested and the input is not one: the rendered diagnostic of its
+///   first error.
+/// - `CannotRender` if rendering fails, or an allocation for the script or for its diagnostic.
 pub fn render(alloc: Global, request: &Request<'_>, input: &str) -> Result<String, ReportError>
     ensures text { IfOk result (λ text. rendering_of (request_view request.now) input.now
         ≡ Ok (string_bytes text)) }
@@ -102,7 +102,7 @@ fn render_over(
     emit_into_string(&config_in(style), &file, diagnostic)
 }
 
-/// Returns the default configuration, in a display style.
+/// Returns the default configuration, with this display style.
 fn config_in(style: DisplayStyle) -> Config<'static>
     ensures { IsEqualConfig (report_config style) result }
 {

@@ -1,4 +1,4 @@
-//! The errors of a run of `report` alone.
+//! The errors that only `report` has.
 
 ghost use Rattle.std.specs.Prelude.{◌≡◌, codes};
 ghost use Rattle.program_io.specs.declared.run_error.RunError.TheVariants.{Failed};
@@ -8,12 +8,12 @@ use codespan_base::files::Error;
 use program_io::run_error::{OwnError, RunError};
 use std::fmt;
 
-/// An error of a run of `report` alone.
+/// An error that only `report` has.
 #[derive(Debug, Drop)]
 pub enum ReportError {
-    /// Rendering failed, or an allocation for the script.
+    /// Rendering failed, or an allocation for the script or for the diagnostic.
     CannotRender(Error),
-    /// The input is no script: the rendered diagnostic of its first error.
+    /// The input is not a script: the rendered diagnostic of its first error.
     BadScript(String),
 }
 
@@ -40,7 +40,7 @@ impl From<Error> for ReportError {
     }
 }
 
-/// Converts an error of `report` alone to `Failed`.
+/// Converts an error that only `report` has to `Failed`.
 impl From<ReportError> for RunError<ReportError> {
     ghost from_gives = { λ report_error run_error. run_error ≡ Failed report_error };
 
@@ -49,7 +49,7 @@ impl From<ReportError> for RunError<ReportError> {
     }
 }
 
-/// Writes the error's line, without its newline; of a script's error the rendered diagnostic.
+/// Writes the error's line, without its newline; for `BadScript`, the rendered diagnostic.
 impl fmt::Display for ReportError {
     ghost use Rattle.report_runs.specs.ReportErrors.{displayed_report_error};
 

@@ -18,7 +18,7 @@ use report_script::request::Request;
 use std::alloc::Global;
 use std::io::{Read, Write};
 
-/// Renders what the arguments request over the input, and returns the program's status.
+/// Writes the output that the arguments request over the input, and returns the program's status.
 ///
 /// If nothing is rendered, or writing the output fails, the error is written to `error_output`:
 /// that of a script as a rendered diagnostic, any other in one line. The status is 0 if the output

@@ -26,12 +26,12 @@ use Rattle.report_script.specs.ScriptLines.{script_source, word_of, word_range}
 use Rattle.report_script.specs.ScriptWords.{script_word_named}
 use Rattle.report_script.specs.Scripts.{read_lines, read_script}
 
--- what holds of each element holds of each of none or all
+-- what holds of each element of a list holds of each of the list or of none
 each_if : {X : Type 0} (P : X → Type 0) (b : Bool) (xs : List X) → AllByRecursion P xs → AllByRecursion P (if b then [] else xs)
 each_if P true xs all = tt
 each_if P false xs all = all
 
--- and of one more
+-- what holds of each element, and of one more
 each_push : {X : Type 0} (P : X → Type 0) (xs : List X) (y : X) → AllByRecursion P xs → P y → AllByRecursion P (xs ++ y ∷ [])
 each_push P [] y all more = (more, tt)
 each_push P (x ∷ xs) y all more = (all.0, each_push P xs y all.1 more)
@@ -83,18 +83,18 @@ field_at input at text is_at =
       same = λ k below. is_at.same k (omega (arith, long)) ∙ sym (get_or-take n text k 0 (omega (arith, long)));
     }
 
--- a list has a last element where one is read there
+-- a list whose last element is a carriage return is not empty
 has_last : (xs : List ℕ) → get_or xs (length xs - 1) 0 ≡ 13 → 0 < length xs
 has_last [] is = absurd (omega arith)
 has_last (x ∷ xs) is = omega arith
 
--- what is left of an input goes past a newline in it
+-- a newline in what is left of an input is inside the input
 goes_past : (input : List ℕ) (start : ℕ) (piece rest : List ℕ) → drop start input ≡ piece ++ 10 ∷ rest → start + length piece < length input
 goes_past input start piece rest is =
     let long : length (drop start input) ≡ length piece + length (10 ∷ rest) = ap length is ∙ length-append piece (10 ∷ rest) in
     omega (arith, long, length-drop start input)
 
--- and the newline is read there
+-- and the input has it there
 newline_after : (input : List ℕ) (start : ℕ) (piece rest : List ℕ) → drop start input ≡ piece ++ 10 ∷ rest → get_or input (start + length piece) 0 ≡ 10
 newline_after input start piece rest is =
     sym (get_or-drop start input (length piece) 0) ∙ ap (λ xs. get_or xs (length piece) 0) is ∙ get_or_at piece 10 rest 0 (length piece) refl
@@ -272,7 +272,7 @@ module _ (input : List ℕ) (utf8 : IsUtf8 input) where
       (some_if (FaultLiesIn input) (is_ignored line) None (word_fault before line (script_word_named (word_of line))) tt (word_fault_lies before line earlier later.0 (script_word_named (word_of line))))
       (fault_lies (before ++ line ∷ []) lines (each_push IsLineAt before line earlier later.0) later.1)
 
-  -- what was read of lines
+  -- the error of what is read of lines
   read_lies : (lines : List ScriptLine) (fault : Option Fault) (source : Option (List ℕ)) → IfSome fault (FaultLiesIn input) → IfErr (read_lines input lines fault source) (FaultLiesIn input)
   read_lies lines (Some fault) source inside = inside
   read_lies lines None None inside =

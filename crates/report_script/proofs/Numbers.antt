@@ -1,4 +1,4 @@
--- For the clause of `request::parse_number`: what `parse` reads of digits alone is their number.
+-- For the clause of `request::parse_number`: `parse` returns the number of digits alone.
 use Rattle.std.proofs.Common.{◌≡◌, ℕ, ◌<◌, ◌^◌, ◌&&◌, nat_lt, true, false, List, [], ◌∷◌, length, get_or, decimal, Option, Some, None, Result, Ok, Err, refl, ap, sym, ◌∙◌, if◌then◌else◌, arith}
 use Rattle.std.specs.Char.{is_ascii_digit}
 use Rattle.std.specs.Int.{IsInRange}
@@ -16,7 +16,7 @@ use Rattle.report_script.specs.Requests.{number_of}
 pub digits_are : (bs : List ℕ) → list_all is_ascii_digit bs ≡ all_ascii_digits bs
 digits_are bs = same_from_clauses (list_all is_ascii_digit) all_ascii_digits (λ c rest. is_ascii_digit c && rest) refl (λ _ _. refl) (λ _ _. refl) bs
 
--- a text of other characters is no number
+-- a text with another character is not a number
 pub number_of-others : (bs : List ℕ) → all_ascii_digits bs ≡ false → None ≡ number_of bs
 unfolding number_of
 number_of-others [] others = refl
@@ -35,19 +35,19 @@ fitting v n fits is = grind (arith, nat_tests)
 too_large : (v : ℕ) → (v < 2 ^ 64 → ⊥) → ◌≡◌ {A = Option ℕ} None (if nat_lt v (2 ^ 64) then Some v else None)
 too_large v large = grind (arith, nat_tests)
 
--- what was read of digits that there are
+-- what was parsed of one or more digits
 of_digits : {E : Type 0} (d : ℕ) (ds : List ℕ) (r : Result ℕ E)
     → OkIff r ((0 < length (d ∷ ds)) × (digits_value 10 (d ∷ ds) < 2 ^ 64)) (digits_value 10 (d ∷ ds))
     → result_ok r ≡ (if nat_lt (digits_value 10 (d ∷ ds)) (2 ^ 64) then Some (digits_value 10 (d ∷ ds)) else None)
 of_digits d ds (Ok n) read = fitting (digits_value 10 (d ∷ ds)) n read.0.1 read.1
 of_digits d ds (Err e) unread = too_large (digits_value 10 (d ∷ ds)) (λ fits. unread (omega arith, fits))
 
--- what was read of no digits
+-- what was parsed of no digits
 of_nothing : {E : Type 0} (r : Result ℕ E) → OkIff r ((0 < length {A = ℕ} []) × (digits_value 10 [] < 2 ^ 64)) (digits_value 10 []) → result_ok r ≡ None
 of_nothing (Ok n) read = absurd (omega arith)
 of_nothing (Err e) unread = refl
 
--- what is read of digits alone
+-- what is parsed of digits alone
 pub number_of-parsed : {E : Type 0} (bs : List ℕ) (r : Result ℕ E) → all_ascii_digits bs ≡ true → ParsesUnsigned 64 10 bs r
     → result_ok r ≡ number_of bs
 unfolding number_of
@@ -58,7 +58,7 @@ number_of-parsed (d ∷ ds) r digits parsed =
 
 -- ---- decimal digits
 
--- the number of digits that are there, where it fits
+-- the number of one or more digits, where it fits
 number_of-digits : (ds : List ℕ) → 0 < length ds → all_ascii_digits ds ≡ true → digits_value 10 ds < 2 ^ 64 → number_of ds ≡ Some (digits_value 10 ds)
 unfolding number_of
 number_of-digits [] some digits fits = absurd (omega arith)

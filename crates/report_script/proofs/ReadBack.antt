@@ -27,7 +27,7 @@ use Rattle.report_script.proofs.ReadLines.{rest_by, severity_read, code_read, me
 
 -- ---- no line has an error
 
--- the first line of a word has the first of the rests
+-- the rest of the first line with a word is the first of the rests
 rest_of_word_first : (word : List ℕ) (lines : List ScriptLine) → rest_of_word word lines ≡ slice_get (filter_map (rest_by word) lines) 0
 rest_of_word_first word [] = refl
 rest_of_word_first word (line ∷ lines) = by_test (bytes_eq (word_of line) word) (rest_of_word_first word lines)
@@ -51,7 +51,7 @@ no_line_of_word word (line ∷ lines) none = by_test (bytes_eq (word_of line) wo
 abbrev IsOnce : List ℕ → List ScriptLine → Type 0
 IsOnce word lines = length (filter_map (rest_by word) lines) ≤ 1
 
--- so no line before one that does
+-- no line before one that begins with the word does so too
 none_before : (word : List ℕ) (before : List ScriptLine) (line : ScriptLine) (lines : List ScriptLine) → IsOnce word (before ++ line ∷ lines)
     → bytes_eq (word_of line) word ≡ true → line_of_word word before ≡ None
 none_before word before line lines once is =
@@ -81,7 +81,7 @@ severity_right before start severity lines once =
     ap (λ fault. or_fault fault (severity_fault line)) (not_repeated before line (none_before (codes "severity") before line lines once.severity refl))
     ∙ ap (λ named. if is_some named then None else Some (fault_at UnknownSeverity (range_at line (rest_of line) (rest_of line)))) (name_read severity)
 
--- two numbers are no error
+-- where both fields are numbers there is no error
 both_numbers : (first last : Option ℕ) (start end : Option Fault) (m n : ℕ) → first ≡ Some m → last ≡ Some n
     → (if is_some first then (if is_some last then None else end) else start) ≡ None
 both_numbers first last start end m n p q = rw (p, q)
@@ -153,7 +153,7 @@ module _ (ss : List Statement) (can : AllByRecursion IsStatable ss) where
   message_same : rest_of_word (codes "message") (statement_lines 0 ss) ≡ first_stated message_stated ss
   message_same = rest_of_word_first (codes "message") (statement_lines 0 ss) ∙ ap (λ rests. slice_get rests 0) (all_read (rest_by (codes "message")) message_stated message_read 0 ss can)
 
-  -- the lines say what the statements do
+  -- the lines state what the statements do
   diagnostic_same : script_diagnostic (statement_lines 0 ss) ≡ stated_diagnostic ss
   diagnostic_same = λ i. record {
     severity = severity_same i;

@@ -69,7 +69,7 @@ note_read start (NoteLine text) can = refl
 note_read start (CommentLine text) can = ap (λ word. if bytes_eq word (codes "note") then Some (past_space (35 ∷ text)) else None) (comment_word text)
 note_read start EmptyLine can = refl
 
--- the name of a severity names it
+-- the name of a severity is read as that severity
 pub name_read : (severity : Severity) → severity_named (severity_field severity) ≡ Some severity
 unfolding severity_named
 name_read Bug = refl
@@ -128,7 +128,7 @@ label_read start (NoteLine text) can = refl
 label_read start (CommentLine text) can = ap (λ word. label_by_word (line_at start (CommentLine text)) (script_word_named word)) (comment_word text)
 label_read start EmptyLine can = refl
 
--- what is read of each line is read of all of them
+-- what is read of each line of statements is read of all of them
 pub all_read : {T : Type 0} (read : ScriptLine → Option T) (stated : Statement → Option T) → ((start : ℕ) (s : Statement) → IsStatable s → read (line_at start s) ≡ stated s)
     → (start : ℕ) (ss : List Statement) → AllByRecursion IsStatable ss → filter_map read (statement_lines start ss) ≡ filter_map stated ss
 all_read read stated same start [] can = refl

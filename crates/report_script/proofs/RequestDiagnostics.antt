@@ -1,5 +1,5 @@
--- The diagnostic of a request, as its fields are set: for the clause of
--- `diagnostics::diagnostic_of_request`.
+-- For the clause of `diagnostics::diagnostic_of_request`: the diagnostic of a request, as its
+-- fields are set.
 use Rattle.std.proofs.Common.{◌≡◌, ℕ, List, [], ◌∷◌, ◌++◌, ap, ◌∙◌, refl, string_bytes, None, Result, Ok, Err, IfOk}
 use Rattle.std.specs.declared.ops.Range.{Range}
 use Rattle.codespan_base.specs.declared.diagnostic.Diagnostic.{Diagnostic}

@@ -1,5 +1,5 @@
--- For the clauses of `LabelRequest::from_arguments` and `Request::from_arguments`: what the arguments
--- request, word by word.
+-- For the clauses of `LabelRequest::from_arguments` and `Request::from_arguments`: what the
+-- arguments request, word by word.
 use Rattle.std.proofs.Common.{◌≡◌, ℕ, ◌<◌, ◌≤◌, ◌⊎◌, inl, inr, List, [], ◌∷◌, length, get_or, map, Option, None, refl, ap, sym, ◌∙◌, arith}
 use Rattle.codespan_base.specs.declared.term.config.DisplayStyle.{DisplayStyle}
 use Rattle.std.specs.Option.{option_map}
@@ -19,7 +19,7 @@ five_words (v ∷ w ∷ x ∷ y ∷ []) a b c d e least most p q r s t = absurd 
 five_words (v ∷ w ∷ x ∷ y ∷ z ∷ []) a b c d e least most p q r s t = cc
 five_words (v ∷ w ∷ x ∷ y ∷ z ∷ u ∷ more) a b c d e least most p q r s t = absurd (omega arith)
 
--- another number of words is no request
+-- any other number of words requests nothing
 pub other_words : {A : Type 0} (text : A → List ℕ) (xs : List A) → (length xs < 5) ⊎ (6 ≤ length xs) → None ≡ label_request_of (map text xs)
 unfolding label_request_of
 other_words text [] others = refl

@@ -97,7 +97,7 @@ end_name Warning = end_after (codes "warning") [] (above (codes "warning") refl)
 end_name Note = end_after (codes "note") [] (above (codes "note") refl) end_nothing
 end_name Help = end_after (codes "help") [] (above (codes "help") refl) end_nothing
 
--- a line that a statement is written in is one line
+-- a statement is written in one line
 line_ends : (s : Statement) → IsStatable s → IsLineEnd (statement_line s)
 line_ends (SeverityLine severity) can = end_after (codes "severity ") (severity_field severity) (above (codes "severity ") refl) (end_name severity)
 line_ends (CodeLine text) can = end_after (codes "code ") text (above (codes "code ") refl) can
@@ -108,11 +108,11 @@ line_ends (NoteLine text) can = end_after (codes "note ") text (above (codes "no
 line_ends (CommentLine text) can = end_after (35 ∷ []) text (above (35 ∷ []) refl) can
 line_ends EmptyLine can = end_nothing
 
--- it keeps its end
+-- the line of a statement loses no carriage return
 line_unchanged : (s : Statement) → IsStatable s → strip_carriage_return (statement_line s) ≡ statement_line s
 line_unchanged s can = ap (λ b. if b then take (length (statement_line s) - 1) (statement_line s) else statement_line s) (ne_eqb _ _ (line_ends s can).no_return)
 
--- and is not the end of the script
+-- and is not the line `---`
 line_goes_on : (s : Statement) → bytes_eq (statement_line s) (codes "---") ≡ false
 line_goes_on (SeverityLine severity) = refl
 line_goes_on (CodeLine text) = refl

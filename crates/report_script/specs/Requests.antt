@@ -27,14 +27,14 @@ label_request_view label_request = record {
   message = label_request.message.now;
 }
 
--- the number that one or more ASCII digits write, where a usize holds it
+-- the number that is written in one or more ASCII digits, if it fits a `usize`
 unfoldable pub number_of : List ℕ → Option ℕ
 number_of [] = None
 number_of (d ∷ ds) =
     if all_ascii_digits (d ∷ ds) && nat_lt (digits_value 10 (d ∷ ds)) (2 ^ 64)
     then Some (digits_value 10 (d ∷ ds)) else None
 
--- the request of a name and a message, where the style is one and both ends are numbers
+-- the request with this name and this message, if there are a style, a start and an end
 abbrev pub with_parts : List ℕ → List ℕ → Option DisplayStyle → Option ℕ → Option ℕ
     → Option LabelRequestView
 with_parts name message (Some style) (Some start) (Some end) =
@@ -43,14 +43,14 @@ with_parts name message (Some style) (Some start) None = None
 with_parts name message (Some style) None end = None
 with_parts name message None start end = None
 
--- the request of the arguments: a style, a name, two numbers and a message
+-- what the arguments request: they are a style, a name, two numbers and a message
 unfoldable pub label_request_of : List (List ℕ) → Option LabelRequestView
 label_request_of (style ∷ name ∷ start ∷ end ∷ message ∷ []) =
     with_parts name message (display_style_named style) (number_of start) (number_of end)
 label_request_of _ = None
 
--- what a run renders: an error with one label over the input, or the script at the input's start,
--- in a style, over a file of a name
+-- what a run renders: an error with one label over the input, or the diagnostic of the script at
+-- the start of the input, in a style, over a file with a name
 pub data RequestView : Type 0 where
   OneLabel : LabelRequestView → RequestView
   OfScript : DisplayStyle → List ℕ → RequestView
@@ -60,12 +60,12 @@ abbrev pub request_view : Request → RequestView
 request_view (variants.OneLabel label_request) = OneLabel (label_request_view label_request)
 request_view (variants.OfScript style name) = OfScript style name.now
 
--- what the arguments request: two of them a script, others an error with one label
+-- what the arguments request: with two of them a script, with five an error with one label
 unfoldable pub request_of : List (List ℕ) → Option RequestView
 request_of (style ∷ name ∷ []) = option_map (λ s. OfScript s name) (display_style_named style)
 request_of words = option_map OneLabel (label_request_of words)
 
--- the fact holds of what the words request and of the bytes that the reader has, where both are
+-- the fact holds of what the arguments request and of the bytes that the reader has, where both are
 -- known
 abbrev pub WhereKnown : List (List ℕ) → Option (List ℕ) → (RequestView → List ℕ → Type 0) → Type 0
 WhereKnown words bytes P = IfSome (request_of words) (λ request. IfSome bytes (P request))

@@ -26,14 +26,14 @@ abbrev pub or_fault : Option Fault → Option Fault → Option Fault
 or_fault (Some fault) other = Some fault
 or_fault None other = other
 
--- the first line whose word is this
+-- the first line that begins with the word
 abbrev pub line_of_word : List ℕ → List ScriptLine → Option ScriptLine
 line_of_word word [] = None
 line_of_word word (line ∷ lines) =
     if bytes_eq (word_of line) word then Some line else line_of_word word lines
 
--- the word is that of an earlier line: the error is at the later word, and has the range of the
--- first
+-- the error of a line whose word is that of an earlier line: it is at the later word, and has the
+-- range of the first
 unfoldable pub repetition : List ScriptLine → ScriptLine → Option Fault
 repetition before line =
     option_map
@@ -44,14 +44,14 @@ repetition before line =
     })
     (line_of_word (word_of line) before)
 
--- the rest of a severity line is not the name of one
+-- the error of a `severity` line whose rest is not the name of a severity
 unfoldable pub severity_fault : ScriptLine → Option Fault
 severity_fault line =
     if is_some (severity_named (rest_of line))
     then None
     else Some (fault_at UnknownSeverity (range_at line (rest_of line) (rest_of line)))
 
--- one of the first two fields of a label's rest is no number
+-- the error of a label's line whose start or end is not a number
 unfoldable pub number_fault : ScriptLine → Option Fault
 number_fault line =
     let rest = rest_of line in
@@ -78,7 +78,7 @@ abbrev pub line_fault : List ScriptLine → ScriptLine → Option Fault
 line_fault before line =
     if is_ignored line then None else word_fault before line (script_word_named (word_of line))
 
--- the first error of lines that follow these
+-- the first error of lines, by the lines before them
 abbrev pub fault_from : List ScriptLine → List ScriptLine → Option Fault
 fault_from before [] = None
 fault_from before (line ∷ lines) =
@@ -88,7 +88,7 @@ fault_from before (line ∷ lines) =
 abbrev pub missing_end : List ℕ → Fault
 missing_end input = fault_at MissingEnd (record { start = length input; end = length input })
 
--- the script's error is the one returned, unless memory ran out
+-- the error that is returned is the script's, unless an allocation failed
 abbrev pub IsFaultOf : {T : Type 0} → Result T Fault → ScriptError → Type 0
 IsFaultOf read (errors.Fault fault) = read ≡ Err fault
 IsFaultOf read errors.OutOfMemory = Unit {0}

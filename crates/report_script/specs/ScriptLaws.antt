@@ -7,7 +7,7 @@ use Rattle.report_script.specs.declared.script.Fault.{Fault}
 use Rattle.report_script.specs.Scripts.{read_script}
 use Rattle.report_script.specs.Statements.{AreScript, Statement, stated_diagnostic, written}
 
--- a script that is written out from its statements is read as what they say
+-- a script that is written out from its statements is read as what they state
 abbrev pub ScriptReadsBack : List Statement → List ℕ → Type 0
 ScriptReadsBack statements source =
     AreScript statements
@@ -26,6 +26,6 @@ pub record FaultLiesIn (input : List ℕ) (fault : Fault) : Type 0 where
   pub inside : LiesIn input fault.range
   pub first : IfSome fault.first (LiesIn input)
 
--- where an input that is UTF-8 is no script, the ranges of its error lie inside it
+-- where an input that is UTF-8 is not a script, the ranges of its error lie inside it
 abbrev pub FaultsLieInside : List ℕ → Type 0
 FaultsLieInside input = IsUtf8 input → IfErr (read_script input) (FaultLiesIn input)

@@ -7,7 +7,8 @@ use Rattle.std.specs.declared.ops.Range.{Range}
 use Rattle.script_words.specs.Fields.{field_of, is_ignored_text, past_space}
 use Rattle.report_script.specs.declared.script.line.Line.{Line}
 
--- a line: where it starts in the input, its text without its end, and where the next line starts
+-- a line: the byte at which it starts, its text without its newline and a carriage return before
+-- that, and the byte at which the next line starts
 pub record ScriptLine : Type 0 where
   pub start : ℕ
   pub text : List ℕ
@@ -17,7 +18,7 @@ pub record ScriptLine : Type 0 where
 abbrev pub script_line_view : Line → ScriptLine
 script_line_view line = record { start = line.start; text = line.text.now; next = line.next }
 
--- the byte at which lines are cut
+-- whether a byte is the newline, at which lines are cut
 abbrev pub is_newline : ℕ → Bool
 is_newline b = b == 10
 
@@ -35,7 +36,7 @@ script_lines_from start (piece ∷ other ∷ more) =
 unfoldable pub script_lines : List ℕ → List ScriptLine
 script_lines input = script_lines_from 0 (slice_split is_newline input)
 
--- the line `---`, which ends the script
+-- whether a line is `---`, which ends the script
 abbrev pub is_end : ScriptLine → Bool
 is_end line = bytes_eq line.text (codes "---")
 
@@ -55,7 +56,7 @@ abbrev pub lines_left : ℕ → Option (List ℕ) → List ScriptLine
 lines_left size None = []
 lines_left size (Some text) = script_lines_from (size - length text) (slice_split is_newline text)
 
--- the line is ignored
+-- whether a line is ignored
 abbrev pub is_ignored : ScriptLine → Bool
 is_ignored line = is_ignored_text line.text
 

@@ -4,7 +4,7 @@ use Rattle.std.specs.Str.{bytes_eq}
 use Rattle.report_script.specs.declared.script.words.Word.{Word}
 use Rattle.report_script.specs.declared.script.words.Word.TheVariants.{Severity, Code, Message, Primary, Secondary, Note}
 
--- the word of this text
+-- the word that this text is
 unfoldable pub script_word_named : List ℕ → Option Word
 script_word_named text =
     if bytes_eq text (codes "severity") then Some Severity

@@ -44,11 +44,11 @@ script_view script = record {
   source = script.source.now;
 }
 
--- the rest of the first line whose word is this
+-- the rest of the first line that begins with the word
 abbrev pub rest_of_word : List ℕ → List ScriptLine → Option (List ℕ)
 rest_of_word word lines = option_map rest_of (line_of_word word lines)
 
--- the severity that is stated, an error without one
+-- the severity that the lines state; `Error` if they state none
 unfoldable pub parsed_severity : List ScriptLine → Severity
 parsed_severity lines =
     unwrap_or (option_and_then severity_named (rest_of_word (codes "severity") lines))
@@ -104,8 +104,8 @@ script_diagnostic lines = record {
   notes = parsed_notes lines;
 }
 
--- what is read of lines by their first error and the source: the error, else that the end is
--- missing, else what they state
+-- what is read of lines, by their first error and the source: the error, if there is one; else that
+-- the end is missing, if there is no source; else what they state
 abbrev pub read_lines : List ℕ → List ScriptLine → Option Fault → Option (List ℕ)
     → Result ScriptView Fault
 read_lines input lines (Some fault) source = Err fault

@@ -65,12 +65,12 @@ abbrev pub note_stated : Statement → Option (List ℕ)
 note_stated (NoteLine text) = Some text
 note_stated _ = None
 
--- the first thing of its kind that statements have, if they have one
+-- the first severity, code or message that statements state, if they state one
 abbrev pub first_stated : {T : Type 0} → (Statement → Option T) → List Statement → Option T
 first_stated stated statements = slice_get (filter_map stated statements) 0
 
--- what statements state: an error without a severity, an empty message without one, and the labels
--- and notes in their order
+-- what statements state together: the severity, `Error` without one; the code; the message, empty
+-- without one; and the labels and notes in their order
 abbrev pub stated_diagnostic : List Statement → DiagnosticView (Unit {0})
 stated_diagnostic statements = record {
   severity = unwrap_or (first_stated severity_stated statements) Error;
@@ -107,7 +107,7 @@ label_word Secondary = codes "secondary"
 abbrev pub fields : List ℕ → List ℕ → List ℕ
 fields first second = first ++ 32 ∷ second
 
--- where a label starts and ends, and then its message, if it has one
+-- the fields of a label: its start, its end, and its message, if it has one
 abbrev pub label_fields : Range ℕ → Option (List ℕ) → List ℕ
 label_fields range None = fields (decimal range.start) (decimal range.end)
 label_fields range (Some message) =

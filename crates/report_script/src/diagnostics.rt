@@ -13,7 +13,8 @@ use codespan_base::diagnostic::{Diagnostic, Label};
 use codespan_base::files::Error;
 use std::alloc::Global;
 
-/// Returns an error with the message, and with one primary label that has the same message.
+/// Returns the diagnostic of a request: an error with its message, and with one primary label that
+/// has the same message.
 ///
 /// # Errors
 ///

@@ -7,7 +7,7 @@ ghost use Rattle.report_script.specs.Requests.{number_of};
 use codespan_base::term::DisplayStyle;
 use script_words::names::parse_display_style;
 
-/// A request for an error with one label over the input.
+/// A request for an error with one label, whose source is the input.
 #[derive(Clone, Copy)]
 pub struct LabelRequest<'args> {
     /// The display style.
@@ -25,8 +25,9 @@ pub struct LabelRequest<'args> {
 impl<'args> LabelRequest<'args> {
     ghost use Rattle.report_script.specs.Requests.{label_request_view, label_request_of};
 
-    /// Parses the arguments `STYLE NAME START END MESSAGE`; `None` if their number or form is
-    /// another.
+    /// Parses the arguments `STYLE NAME START END MESSAGE`. Returns `None` if there are more or
+    /// fewer, if `STYLE` is not the name of a display style, or if `START` or `END` is not a
+    /// number.
     pub fn from_arguments(args: &'args [String]) -> Option<LabelRequest<'args>>
         ensures { option_map label_request_view result
             ≡ label_request_of (map string_bytes args.now) }
@@ -47,18 +48,18 @@ impl<'args> LabelRequest<'args> {
 /// What the arguments request.
 #[derive(Clone, Copy)]
 pub enum Request<'args> {
-    /// An error with one label over the input.
+    /// An error with one label, whose source is the input.
     OneLabel(LabelRequest<'args>),
-    /// The script at the input's start, in this display style; the file has this name, and its
-    /// source follows the script.
+    /// The diagnostic of the script at the start of the input, in this display style. The file has
+    /// this name, and its source follows the script in the input.
     OfScript(DisplayStyle, &'args str),
 }
 
 impl<'args> Request<'args> {
     ghost use Rattle.report_script.specs.Requests.{request_of, request_view};
 
-    /// Parses the arguments `STYLE NAME`, or those of a [`LabelRequest`]; `None` if their number or
-    /// form is another.
+    /// Parses the arguments `STYLE NAME`, or those of a [`LabelRequest`]. Returns `None` for any
+    /// others.
     pub fn from_arguments(args: &'args [String]) -> Option<Request<'args>>
         ensures { option_map request_view result ≡ request_of (map string_bytes args.now) }
     {
@@ -72,8 +73,8 @@ impl<'args> Request<'args> {
     }
 }
 
-/// Parses one or more ASCII digits; `None` if there is another character or the number does not
-/// fit.
+/// Parses a number of one or more ASCII digits. Returns `None` if there are none, if there is any
+/// other character, or if the number does not fit a `usize`.
 pub fn parse_number(text: &str) -> Option<usize>
     ensures { result ≡ number_of text.now }
 {

@@ -2,7 +2,7 @@
 //!
 //! A script is a text of lines, up to the first line that is `---`; the source follows that line.
 //! Each line begins with a word, which ends at the first space; its rest is what follows that
-//! space. A carriage return right before a newline is no part of its line. Lines that are empty or
+//! space. A carriage return right before a newline is not part of its line. Lines that are empty or
 //! begin with `#` are ignored. `docs/SCRIPT.md` lists the words and their rests.
 
 ghost use Rattle.std.specs.Prelude.{◌≡◌, MatchResult};
@@ -23,13 +23,14 @@ use parts::{parsed_labels, parsed_notes, parsed_severity, rest_of_word};
 use std::alloc::{AllocError, Global};
 use std::ops::Range;
 
-/// A label of a script: its style, the bytes of the source that it covers, and its message.
+/// A label of a script: its style, its byte range in the source, the end exclusive, and its
+/// message.
 pub type ScriptLabel<'input> = (LabelStyle, Range<usize>, &'input str);
 
 /// What a script states, with texts borrowed from the input that it was parsed from.
 #[derive(Drop)]
 pub struct Script<'input> {
-    /// The severity; an error if the script states none.
+    /// The severity; `Error` if the script states none.
     pub severity: Severity,
     /// The code, if the script states one.
     pub code: Option<&'input str>,
@@ -48,20 +49,20 @@ pub struct Script<'input> {
 pub enum FaultNumber {
     /// A line begins with a word that scripts do not have.
     UnknownWord,
-    /// The rest of a `severity` line is no severity.
+    /// The rest of a `severity` line is not the name of a severity.
     UnknownSeverity,
-    /// The start or the end of a label is no number.
+    /// The start or the end of a label is not a number, or does not fit a `usize`.
     BadNumber,
     /// `severity`, `code` or `message` is repeated.
     RepeatedWord,
-    /// No line is `---`.
+    /// No line is `---`. Reported only if no line has an error.
     MissingEnd,
 }
 
 impl FaultNumber {
     ghost use Rattle.report_script.specs.ReportDiagnostics.{fault_code, fault_message, fault_label_message};
 
-    /// Returns the code of the diagnostic, `S1` for the first kind.
+    /// Returns the code of the diagnostic, from `S1` to `S5` in the order of the kinds.
     pub fn code(self) -> &'static str
         ensures { result.now ≡ fault_code self }
     {
@@ -108,16 +109,16 @@ impl FaultNumber {
 pub struct Fault {
     /// The kind of error.
     pub number: FaultNumber,
-    /// The byte range of the input that is wrong.
+    /// The byte range of the input that is wrong, the end exclusive.
     pub range: Range<usize>,
-    /// Of a repeated word, the byte range of its first occurrence.
+    /// For a repeated word, the byte range of its first occurrence; `None` for any other error.
     pub first: Option<Range<usize>>,
 }
 
-/// Why a text was not read as a script.
+/// An error of parsing a script.
 #[derive(Drop)]
 pub enum ScriptError {
-    /// The text is no script.
+    /// The text is not a script: its first error.
     Fault(Fault),
     /// An allocation failed.
     OutOfMemory,
@@ -136,8 +137,8 @@ impl From<AllocError> for ScriptError {
 ///
 /// # Errors
 ///
-/// - `Fault` if the text is no script: its first error, by lines, and within a line from left to
-///   right.
+/// - `Fault` if the text is not a script: its first error, by lines, and within a line the word,
+///   then its repetition, then the fields from left to right.
 /// - `OutOfMemory` if an allocation fails.
 pub fn parse_script(alloc: Global, input: &str) -> Result<Script<'_>, ScriptError>
     ensures { MatchResult result (λ script. read_script input.now ≡ Ok (script_view script))

@@ -2,7 +2,7 @@
 use Rattle.std.specs.Prelude.{ℕ, ◌==◌, Bool, true, List, [], ◌∷◌}
 use Rattle.std.specs.List.{before_first, after_first}
 
--- the byte at which a line is cut into fields: one space
+-- whether a byte is the space, at which a line is cut into fields
 abbrev pub is_space : ℕ → Bool
 is_space b = b == 32
 
@@ -14,7 +14,7 @@ field_of text = before_first is_space text
 abbrev pub past_space : List ℕ → List ℕ
 past_space text = after_first is_space text
 
--- the text of a line that is ignored: it is empty or begins with `#`
+-- whether a line is ignored, by its text: it is empty or begins with `#`
 abbrev pub is_ignored_text : List ℕ → Bool
 is_ignored_text [] = true
 is_ignored_text (b ∷ bs) = b == 35

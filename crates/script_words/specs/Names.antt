@@ -7,7 +7,7 @@ use Rattle.codespan_base.specs.declared.diagnostic.Severity.TheVariants.{Note, H
 use Rattle.codespan_base.specs.declared.term.config.DisplayStyle.{DisplayStyle}
 use Rattle.codespan_base.specs.declared.term.config.DisplayStyle.TheVariants.{Rich, Medium, Short}
 
--- the display style of this name
+-- the display style with this name
 unfoldable pub display_style_named : List ℕ → Option DisplayStyle
 display_style_named text =
     if bytes_eq text (codes "rich") then Some Rich
@@ -15,7 +15,7 @@ display_style_named text =
     else if bytes_eq text (codes "short") then Some Short
     else None
 
--- the severity of this name
+-- the severity with this name
 unfoldable pub severity_named : List ℕ → Option Severity
 severity_named text =
     if bytes_eq text (codes "bug") then Some Bug

@@ -3,8 +3,8 @@
 ghost use Rattle.std.specs.Prelude.{◌≡◌, ◌≤◌, length};
 ghost use Rattle.script_words.specs.Fields.{field_of, past_space, is_ignored_text};
 
-/// Splits a text at its first space, which is left out. Without one the first part is the whole
-/// text, and the second is empty.
+/// Splits a text at its first space, which is in neither part. Without a space the first part is
+/// the whole text, and the second is empty.
 pub fn split_field(text: &str) -> (&str, &str)
     ensures before { result.0.now ≡ field_of text.now }
     ensures after { result.1.now ≡ past_space text.now }

@@ -6,7 +6,7 @@ ghost use Rattle.script_words.specs.Names.{display_style_named, severity_named};
 use codespan_base::diagnostic::Severity;
 use codespan_base::term::DisplayStyle;
 
-/// Returns the display style of this name, or `None`.
+/// Returns the display style with this name, or `None` if there is none.
 #[tactic(auto, unfolding(crate::specs::Names::display_style_named))]
 pub fn parse_display_style(text: &str) -> Option<DisplayStyle>
     ensures { result ≡ display_style_named text.now }
@@ -19,7 +19,7 @@ pub fn parse_display_style(text: &str) -> Option<DisplayStyle>
     }
 }
 
-/// Returns the severity of this name, or `None`.
+/// Returns the severity with this name, or `None` if there is none.
 #[tactic(auto, unfolding(crate::specs::Names::severity_named))]
 pub fn parse_severity(text: &str) -> Option<Severity>
     ensures { result ≡ severity_named text.now }

@@ -24,7 +24,7 @@ pub fn read_files<'a>(
     Ok(files)
 }
 
-/// Reads the diagnostic, whose severity is error.
+/// Reads the diagnostic, an error.
 ///
 /// # Errors
 ///

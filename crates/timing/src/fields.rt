@@ -3,8 +3,9 @@
 //! They are, in this order: how many times to render; the number of files, and of each its name and
 //! its source; the code; the message; the number of labels, and of each `primary` or `secondary`,
 //! its file, its start, its end and its message; the number of notes, and each note. A number is a
-//! line. A text is a line with its length in bytes, and then that many bytes and a newline. An
-//! empty code is none.
+//! line. A text is a line with its length in bytes, and then that many bytes and a newline. With an
+//! empty code the diagnostic has none. Files are numbered from 0; starts and ends are byte indices
+//! in the source, the end exclusive.
 
 use std::str;
 
@@ -12,7 +13,7 @@ use std::str;
 #[derive(Clone, Copy)]
 pub struct Malformed;
 
-/// The remaining fields.
+/// The fields that are left to be read.
 #[derive(Drop)]
 pub struct Fields<'a> {
     left: &'a [u8],
@@ -40,7 +41,7 @@ impl<'a> Fields<'a> {
     ///
     /// # Errors
     ///
-    /// `Malformed` if there is no line, or it is no number.
+    /// `Malformed` if there is no line, or it is not a number.
     pub fn number(&mut self) -> Result<usize, Malformed> {
         match self.line()?.parse() {
             Ok(number) => Ok(number),
@@ -58,7 +59,7 @@ impl<'a> Fields<'a> {
         self.bytes_and_newline(length)
     }
 
-    /// Reads this many bytes and the newline after them. Fails with `Malformed` if they are not
+    /// Reads `length` bytes and the newline after them. Fails with `Malformed` if these are not
     /// there, or the bytes are not UTF-8.
     fn bytes_and_newline(&mut self, length: usize) -> Result<&'a str, Malformed> {
         let Some((taken, rest)) = self.left.split_at_checked(length) else {

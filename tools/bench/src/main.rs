@@ -7,23 +7,23 @@ use codespan_reporting::term::{emit_into_string, Config};
 use std::io::{self, Read, Write};
 use std::time::Instant;
 
-/// The fields that are left.
+/// The fields that are left to be read.
 struct Fields<'a>(&'a str);
 
 impl<'a> Fields<'a> {
-    /// A line.
+    /// Reads a line.
     fn line(&mut self) -> &'a str {
         let (line, left) = self.0.split_once('\n').expect("a line");
         self.0 = left;
         line
     }
 
-    /// A number.
+    /// Reads a number.
     fn number(&mut self) -> usize {
         self.line().parse().expect("a number")
     }
 
-    /// A text.
+    /// Reads a text.
     fn text(&mut self) -> &'a str {
         let length = self.number();
         let (text, left) = self.0.split_at(length);

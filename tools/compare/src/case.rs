@@ -58,8 +58,8 @@ impl Case {
         }
     }
 
-    /// Takes in a line. Returns `None` where it is no line of a case.
-    fn take(&mut self, word: &str, rest: &str) -> Option<()> {
+    /// Applies a line. Returns `None` where it is not a line of a case.
+    fn apply(&mut self, word: &str, rest: &str) -> Option<()> {
         match word {
             "database" => self.database_kind = database_kind(rest)?,
             "file" => self.files.push(Source { name: unescaped(rest)?, text: String::new() }),
@@ -91,14 +91,14 @@ impl Case {
         Some(())
     }
 
-    /// Returns whether a database of one file has this file alone.
-    fn is_whole(&self) -> bool {
+    /// Returns whether the files fit the file database: one of a single file has one, and all labels in it.
+    fn fits_database(&self) -> bool {
         let is_one = self.files.len() == 1 && self.labels.iter().all(|label| label.file == 0);
         self.database_kind == DatabaseKind::Several || is_one
     }
 }
 
-/// Returns the file database of a name.
+/// Returns the kind of file database with this name.
 fn database_kind(name: &str) -> Option<DatabaseKind> {
     match name {
         "one" => Some(DatabaseKind::One),
@@ -108,7 +108,7 @@ fn database_kind(name: &str) -> Option<DatabaseKind> {
     }
 }
 
-/// Returns the display style of a name.
+/// Returns the display style with this name.
 fn style_of(name: &str) -> Option<DisplayStyle> {
     match name {
         "rich" => Some(DisplayStyle::Rich),
@@ -130,7 +130,7 @@ fn set_context(config: &mut Config, rest: &str) -> Option<()> {
     Some(())
 }
 
-/// Returns the characters of a name.
+/// Returns the set of characters with this name.
 fn chars_of(name: &str) -> Option<Chars> {
     match name {
         "box" => Some(Chars::box_drawing()),
@@ -139,7 +139,7 @@ fn chars_of(name: &str) -> Option<Chars> {
     }
 }
 
-/// Returns whether the output is in colors, by the name of how these are written.
+/// Returns whether the output is in colors, by the name of the way to write them.
 fn has_colors(name: &str) -> Option<bool> {
     match name {
         "none" => Some(false),
@@ -148,7 +148,7 @@ fn has_colors(name: &str) -> Option<bool> {
     }
 }
 
-/// Returns the severity of a name.
+/// Returns the severity with this name.
 fn severity_of(name: &str) -> Option<Severity> {
     match name {
         "bug" => Some(Severity::Bug),
@@ -160,7 +160,7 @@ fn severity_of(name: &str) -> Option<Severity> {
     }
 }
 
-/// Returns the character of a name, where a row has another.
+/// Returns the field of the characters with this name, for the `character` lines.
 fn character_of<'chars>(chars: &'chars mut Chars, name: &str) -> Option<&'chars mut char> {
     match name {
         "multi_top" => Some(&mut chars.multi_top),
@@ -216,14 +216,14 @@ pub fn read(input: &str) -> Result<Vec<Case>, String> {
     let mut cases: Vec<Case> = Vec::new();
     for (index, line) in input.lines().enumerate() {
         let (word, rest) = line.split_once(' ').unwrap_or((line, ""));
-        let taken = match word {
+        let applied = match word {
             _ if line.is_empty() || line.starts_with('#') => Some(()),
             "case" => Some(cases.push(Case::new(rest))),
-            _ => cases.last_mut().and_then(|case| case.take(word, rest)),
+            _ => cases.last_mut().and_then(|case| case.apply(word, rest)),
         };
-        taken.ok_or_else(|| format!("line {}: not understood", index + 1))?;
+        applied.ok_or_else(|| format!("line {}: not understood", index + 1))?;
     }
-    match cases.iter().find(|case| !case.is_whole()) {
+    match cases.iter().find(|case| !case.fits_database()) {
         Some(case) => Err(format!("{}: a database of one file has not just this file", case.name)),
         None => Ok(cases),
     }

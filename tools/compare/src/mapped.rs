@@ -1,5 +1,5 @@
-//! A file whose lines have numbers that were set: the crate has no such file database, so it is a
-//! custom one of this tool.
+//! A file with set line numbers: the crate has no such file database, so it is a custom one of this
+//! tool.
 
 use codespan_reporting::files::{line_starts, Error, Files};
 use std::collections::BTreeMap;

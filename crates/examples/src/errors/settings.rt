@@ -32,7 +32,7 @@ impl fmt::Display for Key {
     }
 }
 
-/// An error in a text of settings. Ranges are in bytes of the text.
+/// An error in a text of settings. Ranges are byte ranges of the text, their ends exclusive.
 #[derive(Drop)]
 pub enum SettingsError {
     /// The value of a key is not a number.
@@ -61,8 +61,8 @@ pub enum SettingsError {
 }
 
 impl SettingsError {
-    /// Returns the diagnostic of the error, in this file. Its first label is on the bytes that are
-    /// wrong.
+    /// Returns the diagnostic of the error, in this file. Its first label is primary, and covers
+    /// the bytes that are wrong.
     ///
     /// # Errors
     ///

@@ -58,7 +58,7 @@ fn fault(number: FaultNumber, range: Range<usize>) -> Fault
     }
 }
 
-/// Returns the error of a line whose word an earlier line has.
+/// Returns the error of a line whose word is that of an earlier line.
 #[tactic(auto, unfolding(crate::specs::ScriptFaults::repetition))]
 fn repetition(before: &[Line<'_>], line: &Line<'_>) -> Option<Fault>
     ensures { result ≡ repetition (map script_line_view before.now) (script_line_view line.now) }
@@ -71,7 +71,7 @@ fn repetition(before: &[Line<'_>], line: &Line<'_>) -> Option<Fault>
     })
 }
 
-/// Returns the error of a `severity` line whose rest is no severity.
+/// Returns the error of a `severity` line whose rest is not the name of a severity.
 #[tactic(auto, unfolding(crate::specs::ScriptFaults::severity_fault))]
 fn severity_fault(line: &Line<'_>) -> Option<Fault>
     ensures { result ≡ severity_fault (script_line_view line.now) }
@@ -85,7 +85,7 @@ fn severity_fault(line: &Line<'_>) -> Option<Fault>
     }
 }
 
-/// Returns the error of a label's line whose start or end is no number.
+/// Returns the error of a label's line whose start or end is not a number.
 #[tactic(auto, unfolding(crate::specs::ScriptFaults::number_fault))]
 fn number_fault(line: &Line<'_>) -> Option<Fault>
     ensures { result ≡ number_fault (script_line_view line.now) }

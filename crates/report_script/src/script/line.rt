@@ -21,7 +21,7 @@ impl<'input> Line<'input> {
     ghost use Rattle.std.specs.Prelude.{◌≡◌, ◌≤◌};
     ghost use Rattle.report_script.specs.ScriptLines.{script_line_view, range_at, word_of, rest_of, is_ignored};
 
-    /// Returns the text before the first space.
+    /// Returns the word: the text before the first space.
     pub(super) fn word(&self) -> &'input str
         ensures word { result.now ≡ word_of (script_line_view self.now) }
         ensures short { length result.now ≤ length self.now.text.now }
@@ -29,7 +29,7 @@ impl<'input> Line<'input> {
         split_field(self.text).0
     }
 
-    /// Returns the text after the first space.
+    /// Returns the rest: the text after the first space.
     pub(super) fn rest(&self) -> &'input str
         ensures rest { result.now ≡ rest_of (script_line_view self.now) }
         ensures short { length result.now ≤ length self.now.text.now }
@@ -44,7 +44,12 @@ impl<'input> Line<'input> {
         is_ignored(self.text)
     }
 
-    /// Returns the range in the input of a field with which `from`, a suffix of the line, begins.
+    /// Returns the byte range in the input of the field with which `from`, a suffix of the line,
+    /// begins.
+    ///
+    /// # Requires
+    ///
+    /// The field is not longer than `from`, and `from` is not longer than the line.
     pub(super) fn range_at(&self, from: &str, field: &str) -> Range<usize>
         requires { (length field.now ≤ length from.now)
             × (length from.now ≤ length self.now.text.now) }

@@ -19,8 +19,12 @@ fn without_return(text: &str) -> &str
     }
 }
 
-/// Returns the first line of `left`, the rest of an input of `size` bytes, and what follows its
+/// Returns the first line of `left`, a suffix of an input of `size` bytes, and what follows its
 /// newline, if it has one.
+///
+/// # Requires
+///
+/// `left` is not longer than the input.
 fn first_line(size: usize, left: &str) -> (Line<'_>, Option<&str>)
     requires { length left.now ≤ size }
     ensures line { lines_left size (Some left.now)

@@ -15,7 +15,7 @@ use script_words::fields::split_field;
 use script_words::names::parse_severity;
 use std::alloc::{AllocError, Global};
 
-/// Returns the first line whose word is this.
+/// Returns the first line that begins with the word.
 pub(super) fn line_of_word<'a, 'input>(
     word: &str,
     lines: &'a [Line<'input>],
@@ -31,7 +31,7 @@ pub(super) fn line_of_word<'a, 'input>(
     None
 }
 
-/// Returns the rest of the first line whose word is this.
+/// Returns the rest of the first line that begins with the word.
 pub(super) fn rest_of_word<'input>(word: &str, lines: &[Line<'input>]) -> Option<&'input str>
     ensures { option_map (λ rest. rest.now) result
         ≡ rest_of_word word.now (map script_line_view lines.now) }
@@ -40,7 +40,7 @@ pub(super) fn rest_of_word<'input>(word: &str, lines: &[Line<'input>]) -> Option
     Some(line.rest())
 }
 
-/// Returns the severity that the lines state; an error if they state none.
+/// Returns the severity that the lines state; `Error` if they state none.
 #[tactic(auto, unfolding(crate::specs::Scripts::parsed_severity))]
 pub(super) fn parsed_severity(lines: &[Line<'_>]) -> Severity
     ensures { result ≡ parsed_severity (map script_line_view lines.now) }

@@ -12,10 +12,10 @@ pub loop-index-preserved-in-loop-index : goal.loop-index-preserved-in-loop-index
 loop-index-preserved-in-loop-index c =
     let text = c.args.text.now in
     let Inside = λ (word : Word). word.end ≤ length text in
-    let place = length c.loop-index.yielded in
+    let count = length c.loop-index.yielded in
     let turn = YieldsList-turn (YieldsList-from_enumerate (YieldsList-from_bytes text cc) cc) c.loop-index.yielded _ c.loop-index.yielded_by _ _ _ c.in-Some.is c.next.ensures.steps in
-    let inside : place < length text = omega (arith, turn.0, length-enumerate_from 0 text) in
-    let at : c.in-Some.index ≡ 0 + place = ap (λ (p : ℕ × ℕ). p.0) (turn.1 ∙ get_or-enumerate_from 0 text place (c.in-Some.index, c.in-Some.byte) inside) in
+    let inside : count < length text = omega (arith, turn.0, length-enumerate_from 0 text) in
+    let at : c.in-Some.index ≡ 0 + count = ap (λ (p : ℕ × ℕ). p.0) (turn.1 ∙ get_or-enumerate_from 0 text count (c.in-Some.index, c.in-Some.byte) inside) in
     let within : c.in-Some.index < length text = omega (arith, inside, at) in
     let ended : All Inside c.match-take.words.items =
     elim c.match-take.branch [

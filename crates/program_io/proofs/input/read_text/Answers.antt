@@ -4,14 +4,14 @@ use Rattle.std.specs.Str.{IsUtf8}
 use Rattle.std.proofs.lemmas.Str.{IsUtf8-had}
 use Rattle.program_io.proofs.input.read_text.Goals as goal
 
--- what was read to the end and is no text was no text
+-- if the bytes that were read to the end are not UTF-8, the input was not
 no_text : {E : Type 0} (left : Option (List ℕ)) (read : Result ℕ E) (old new : List ℕ) → is_err read ≡ false
     → OnOk read (IfSome left (λ bytes. new ≡ old ++ bytes)) → old ≡ [] → ¬ (IsUtf8 new) → IfSome left (λ bytes. ¬ (IsUtf8 bytes))
 no_text left (Err e) old new done all empty not_utf8 = absurd (cc done)
 no_text None (Ok n) old new done all empty not_utf8 = tt
 no_text (Some bytes) (Ok n) old new done all empty not_utf8 = λ text. not_utf8 (subst IsUtf8 (sym (all ∙ ap (λ front. front ++ bytes) empty)) text)
 
--- an error is no success
+-- a result is not both an error and a success
 not_both : {T E : Type 0} (r : Result T E) (e : E) → r ≡ Err e → IsOk r → ⊥
 not_both (Ok x) e is ok = cc is
 not_both (Err d) e is ok = cc ok
