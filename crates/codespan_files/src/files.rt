@@ -101,24 +101,29 @@ pub struct Location {
 ///         Ok(*self.file(id).source())
 ///     }
 ///
-///     fn line_index(&'a self, id: Part, byte: usize) -> Result<usize, Error> {
-///         self.file(id).line_index((), byte)
+///     fn line_index(&'a self, id: Part, byte_index: usize) -> Result<usize, Error> {
+///         self.file(id).line_index((), byte_index)
 ///     }
 ///
-///     fn line_number(&'a self, _id: Part, line: usize) -> Result<usize, Error> {
-///         default_line_number(line)
+///     fn line_number(&'a self, _id: Part, line_index: usize) -> Result<usize, Error> {
+///         default_line_number(line_index)
 ///     }
 ///
-///     fn column_number(&'a self, id: Part, line: usize, byte: usize) -> Result<usize, Error> {
-///         self.file(id).column_number((), line, byte)
+///     fn column_number(
+///         &'a self,
+///         id: Part,
+///         line_index: usize,
+///         byte_index: usize,
+///     ) -> Result<usize, Error> {
+///         self.file(id).column_number((), line_index, byte_index)
 ///     }
 ///
-///     fn location(&'a self, id: Part, byte: usize) -> Result<Location, Error> {
-///         self.file(id).location((), byte)
+///     fn location(&'a self, id: Part, byte_index: usize) -> Result<Location, Error> {
+///         self.file(id).location((), byte_index)
 ///     }
 ///
-///     fn line_range(&'a self, id: Part, line: usize) -> Result<Range<usize>, Error> {
-///         self.file(id).line_range((), line)
+///     fn line_range(&'a self, id: Part, line_index: usize) -> Result<Range<usize>, Error> {
+///         self.file(id).line_range((), line_index)
 ///     }
 ///
 ///     // The file of a text is lawful.
@@ -134,7 +139,7 @@ pub struct Location {
 ///
 ///     ghost same_is = { λ s. refl };
 ///
-///     // A line past the last one fails as there.
+///     // A line past the last one fails as in its `SimpleFile`.
 ///     ghost past_end = { λ s id i.
 ///         simple_past_end (part_name id) (source_of (of_part s.schema s.document id)).now i };
 /// }

@@ -48,7 +48,7 @@ pub enum Error {
         /// its character begins.
         given: usize,
     },
-    /// A write to a writer failed or took none of its bytes, or a file database failed to read.
+    /// A write failed, or took none of some bytes, or a file database failed to read.
     Io(io::Error),
     /// A `Display` failed, and no allocation of its text did.
     FormatError,

@@ -87,7 +87,7 @@ pub fn put_spaces<W: PutStyle>(w: &mut W, count: usize) -> Result<(), W::Error>
     put_all(w, &SPACES[..left])
 }
 
-/// Writes `count` copies of a character in UTF-8.
+/// Writes `count` copies of a character in UTF-8. One and two copies are written without a chunk.
 ///
 /// # Errors
 ///
