@@ -15,8 +15,8 @@ use std::io::ErrorKind;
 ///
 /// Each [`WriteStyle`] is one, by the `impl` below, and fails with its [`io::Error`]. The calls
 /// that write whole texts and rows are generic over this trait, for speed: a result that may be an
-/// `io::Error` takes 96 bytes, which each call fills and its caller copies. So rows are written to a
-/// writer that keeps the error and fails with a zero-sized one.
+/// `io::Error` takes 96 bytes, which each call fills and its caller copies. So rows are written to
+/// a writer that keeps the error and fails with a zero-sized one.
 pub trait PutStyle {
     ghost use Rattle.codespan_base.specs.WriterLaw.{Sink};
 
