@@ -10,7 +10,7 @@ pub ansi_color-none : (plane : List ℕ) (b : Bool) → ansi_color plane b None 
 unfolding ansi_color
 ansi_color-none plane b = refl
 
--- one of the eight colors
+-- a color that is not intense
 pub ansi_color-plain : (plane : ℕ) (c : Color) → ansi_color (plane ∷ []) false (Some c) ≡ 0x1b ∷ 91 ∷ plane ∷ (48 + color_number c) ∷ 109 ∷ []
 unfolding ansi_color escape digits
 ansi_color-plain plane Black = refl
@@ -22,7 +22,7 @@ ansi_color-plain plane Magenta = refl
 ansi_color-plain plane Cyan = refl
 ansi_color-plain plane White = refl
 
--- a bright color whose number has one digit
+-- an intense color whose number plus 8 has one digit
 pub ansi_color-bright : (plane : ℕ) (c : Color) → color_number c < 2 → ansi_color (plane ∷ []) true (Some c) ≡ 0x1b ∷ 91 ∷ plane ∷ 56 ∷ 59 ∷ 53 ∷ 59 ∷ (56 + color_number c) ∷ 109 ∷ []
 unfolding ansi_color escape digits
 ansi_color-bright plane Black h = refl
@@ -34,7 +34,7 @@ ansi_color-bright plane Magenta h = absurd (omega arith)
 ansi_color-bright plane Cyan h = absurd (omega arith)
 ansi_color-bright plane White h = absurd (omega arith)
 
--- a bright color whose number has two digits
+-- an intense color whose number plus 8 has two digits
 pub ansi_color-bright_two : (plane : ℕ) (c : Color) → 2 ≤ color_number c → ansi_color (plane ∷ []) true (Some c) ≡ 0x1b ∷ 91 ∷ plane ∷ 56 ∷ 59 ∷ 53 ∷ 59 ∷ 49 ∷ (48 + (color_number c - 2)) ∷ 109 ∷ []
 unfolding ansi_color escape digits
 ansi_color-bright_two plane Black h = absurd (omega arith)

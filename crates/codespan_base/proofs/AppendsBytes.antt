@@ -37,16 +37,16 @@ pub prefix-then : (o : Option (List ℕ)) (a b : List ℕ) (m k : Option (List �
 prefix-then o a b m k p q = λ known.
     let e = p known in PrefixAppended-last o a b k (subst (λ (x : Option (List ℕ)). PrefixAppended x b k) e (q (are_known-after o m a known e)))
 
--- none of the bytes after them were written
+-- a prefix of the first bytes was written, and none of the bytes after them
 pub prefix-before : (o : Option (List ℕ)) (a b : List ℕ) (k : Option (List ℕ)) → BytesPrefixAppended o a k → BytesPrefixAppended o (a ++ b) k
 prefix-before o a b k p = λ known. PrefixAppended-first o a k b (p known)
 
--- from the last call follows the clause of all
+-- the clause of all calls follows from that of the last one
 pub appends-last : {E : Type 0} (o : Option (List ℕ)) (a b : List ℕ) (m k : Option (List ℕ)) (r : Result (Unit {0}) E) → BytesAppended o a m → AppendsBytes m b r k → AppendsBytes o (a ++ b) r k
 appends-last o a b m k (Ok x) p q = appended-then o a b m k p q
 appends-last o a b m k (Err x) p q = prefix-then o a b m k p q
 
--- from the call that failed follows the clause of all
+-- the clause of all calls follows from the call that failed
 pub appends-failed : {E : Type 0} (Q : E → Type 0) (o : Option (List ℕ)) (a : List ℕ) (k : Option (List ℕ)) (r : Result (Unit {0}) E) → IsErrAnd r Q → BytesPrefixAppended o a k → AppendsBytes o a r k
 appends-failed Q o a k r h p = let e = (err_from_is_err_and r h).1 in rw e p
 

@@ -43,7 +43,7 @@ StillToWrite-failed s whole rest t u piece next p e r = (
       (PrefixWritten-last s q.done (piece ++ next) u (PrefixWritten-first (with_written s q.done) piece u next (subst (λ (x : Sink). PrefixWritten x piece u) q.is (e.1 (known_then s whole rest t h p))))),
 )
 
--- the same is still to be written, in other words
+-- what is still to be written, as an equal stream
 pub StillToWrite-same : (s : Sink) (whole rest other : Stream) (t : Sink) → rest ≡ other → StillToWrite s whole rest t → StillToWrite s whole other t
 StillToWrite-same s whole rest other t e p = subst (λ (l : Stream). StillToWrite s whole l t) e p
 

@@ -10,11 +10,11 @@ use Rattle.codespan_base.proofs.StyleMarks.{sink-by}
 use Rattle.codespan_base.proofs.KnownBytes.{append_known-nil}
 use Rattle.codespan_base.proofs.Writes.{spelled-bytes, bytes-append}
 
--- to take none of some bytes sets the flag
+-- a `put` that takes none of some bytes sets the flag
 pub after_put-none : (f : Frame) (bs : List ℕ) (n : ℕ) → n ≡ 0 → 0 < length bs → after_put f bs n ≡ failing f
 after_put-none f bs n e h = rw e (let t : ltb 0 (length bs) ≡ true = grind (arith, nat_tests) in rw t refl)
 
--- some bytes were taken, or there were none
+-- one that takes some bytes, or that is passed none, does not
 pub after_put-some : (f : Frame) (bs : List ℕ) (n : ℕ) → (n ≡ 0 → length bs ≡ 0) → after_put f bs n ≡ f
 after_put-some f [] zero h = refl
 after_put-some f (b ∷ bs) zero h = absurd (omega (arith, h refl))
@@ -42,7 +42,7 @@ put-failed s bs t p =
 pub bytes-take : (n : ℕ) (bs : List ℕ) → bytes bs ≡ bytes (take n bs) ++ bytes (drop n bs)
 bytes-take n bs = ap bytes (sym (take-append-drop n bs)) ∙ bytes-append (take n bs) (drop n bs)
 
--- ---- a `put` that is one `write` of a writer inside
+-- ---- a `put` that is one `write` of the inner writer
 
 Appends-some : (o m : Option (List ℕ)) (bs : List ℕ) → is_some o ≡ true → Appends o m bs → m ≡ append_known o bs
 Appends-some None m bs h a = absurd (false≢true h)
@@ -54,12 +54,12 @@ Keeps-some None m h a = absurd (false≢true h)
 Keeps-some (Some xs) None h a = absurd a
 Keeps-some (Some xs) (Some ys) h a = ap (λ (l : List ℕ). Some l) a
 
--- a write to the writer inside
+-- a write to the inner writer
 pub known-appends : (s : Sink) (m : Option (List ℕ)) (bs : List ℕ) → is_known s ≡ true → Appends s.contents m bs → m ≡ append_known s.contents bs
 unfolding is_known are_known
 known-appends s m bs h a = Appends-some s.contents m bs h a
 
--- a write to the writer inside that failed
+-- a write to the inner writer that failed
 pub known-keeps : (s : Sink) (m : Option (List ℕ)) → is_known s ≡ true → Keeps s.contents m → m ≡ s.contents
 unfolding is_known are_known
 known-keeps s m h a = Keeps-some s.contents m h a

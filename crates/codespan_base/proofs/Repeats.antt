@@ -46,7 +46,7 @@ pub bytes-repeat : (n : ℕ) (bs : List ℕ) → bytes (repeat n bs) ≡ repeat 
 bytes-repeat zero bs = bytes-nil
 bytes-repeat (suc n) bs = bytes-append bs (repeat n bs) ∙ ap (λ (l : Stream). bytes bs ++ l) (bytes-repeat n bs)
 
--- the bytes of some copies
+-- the number of bytes of k copies
 length-repeat : (k : ℕ) (bs : List ℕ) → length (repeat k bs) ≡ k * length bs
 length-repeat zero bs = omega arith
 length-repeat (suc k) bs = let e : length (repeat k bs) ≡ k * length bs = length-repeat k bs in omega (arith, length-append bs (repeat k bs))
@@ -86,7 +86,7 @@ repeated-next k n c g run e h r =
     let front : bytes (take (k * length g) run) ≡ repeat k (glyph c) = ap bytes r ∙ bytes-repeat k g ∙ ap (λ (l : List ℕ). repeat k (bytes l)) e in
     ap (λ (m : ℕ). repeat m (glyph c)) all ∙ repeat-add k (n - k) (glyph c) ∙ ap (λ (l : Stream). l ++ repeat (n - k) (glyph c)) (sym front)
 
--- and any fewer
+-- and the first n copies, where there are no more than k
 pub repeated-front : (k n c : ℕ) (g run : List ℕ) → g ≡ encode_utf8 c → n ≤ k → take (k * length g) run ≡ repeat k g → bytes (take (n * length g) run) ≡ repeated n c
 unfolding repeated
 repeated-front k n c g run e h r =
@@ -94,7 +94,7 @@ repeated-front k n c g run e h r =
     let fewer : take (n * length g) run ≡ repeat n g = sym (take-take (n * length g) (k * length g) run f) ∙ ap (take (n * length g)) r ∙ take-repeat n k g h in
     ap bytes fewer ∙ bytes-repeat n g ∙ ap (λ (l : List ℕ). repeat n (bytes l)) e
 
--- the bytes of one copy more
+-- the number of bytes of one more copy
 pub add-one_mul : (n m : ℕ) → (n + 1) * m ≡ n * m + m
 add-one_mul n m = grind (arith, common_steps)
 
@@ -111,11 +111,11 @@ digits_fit n rest start ds h l s e =
     let parts : length (decimal n) ≡ length (decimal rest) + length (drop start ds) = ap length e ∙ length-append (decimal rest) (drop start ds) in
     omega (arith, length-drop start ds)
 
--- so one more fits
+-- so one more digit fits
 pub digits_room : (n rest start : ℕ) (ds : List ℕ) → n < 2 ^ 64 → rest < 2 ^ 64 → length ds ≡ 20 → start ≤ 20 → decimal n ≡ decimal rest ++ drop start ds → 0 < start
 digits_room n rest start ds h k l s e = omega (arith, digits_fit n rest start ds h l s e, decimal_nonempty rest k)
 
--- one digit more
+-- one more digit was written
 pub digits-more : (n rest start : ℕ) (ds : List ℕ) → n < 2 ^ 64 → rest < 2 ^ 64 → length ds ≡ 20 → start ≤ 20 → 10 ≤ rest → decimal n ≡ decimal rest ++ drop start ds
     → decimal n ≡ decimal (rest / 10) ++ drop (start - 1) (slice_set ds (start - 1) (48 + rest % 10))
 digits-more n rest start ds h k l s t e =
@@ -126,7 +126,7 @@ digits-more n rest start ds h k l s t e =
     e ∙ ap (λ (d : List ℕ). d ++ drop start ds) step ∙ append_assoc (decimal (rest / 10)) ((48 + rest % 10) ∷ []) (drop start ds)
     ∙ ap (λ (d : List ℕ). decimal (rest / 10) ++ d) (sym (set ∙ ap (λ (i : ℕ). (48 + rest % 10) ∷ drop i ds) same))
 
--- the first digit
+-- the first digit, which is written last
 pub digits-last : (n rest start : ℕ) (ds : List ℕ) → n < 2 ^ 64 → length ds ≡ 20 → start ≤ 20 → rest < 10 → decimal n ≡ decimal rest ++ drop start ds
     → drop (start - 1) (slice_set ds (start - 1) (48 + rest)) ≡ decimal n
 digits-last n rest start ds h l s t e =

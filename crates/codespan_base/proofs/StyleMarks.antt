@@ -6,7 +6,7 @@ use Rattle.codespan_base.specs.WriterLaw.{Frame, Sink, is_known, are_known, exte
 use Rattle.codespan_base.proofs.KnownBytes.{extended-nil}
 use Rattle.codespan_base.proofs.Writes.{spelled-bytes}
 
--- a style mark that is spelled as nothing changes nothing
+-- a style mark that is spelled as no bytes changes nothing
 pub written_no_style_mark : (s : Sink) (m : StyleMark) → s.frame.spelling m ≡ [] → with_written s (style_mark m) ≡ s
 unfolding with_written style_mark
 written_no_style_mark s m e = rw e (ap (λ (o : Option (List ℕ)). record s { contents = o }) (extended-nil s.contents))

@@ -28,7 +28,7 @@ unfoldable pub ansi_bold : Bool → List ℕ
 ansi_bold true = escape (codes "1")
 ansi_bold false = []
 
--- the sequence that sets a color in a plane: `3` is the text, `4` the background
+-- the sequence that sets a color: the plane is `3` for the text and `4` for the background
 unfoldable pub ansi_color : List ℕ → Bool → Option Color → List ℕ
 ansi_color plane intense None = []
 ansi_color plane true (Some color) =

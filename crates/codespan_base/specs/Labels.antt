@@ -42,12 +42,12 @@ first_line f x = line_of f.starts x.start
 abbrev pub last_line : FileModel → LabelModel → ℕ
 last_line f x = line_of f.starts x.end
 
--- the label ends on the line that it begins on
+-- the label is a single-line label: it ends on the line that it begins on
 abbrev pub is_single : FileModel → LabelModel → Bool
 is_single f x = first_line f x == last_line f x
 
--- the label with its drawn range, where its line starts at this byte: counted from there, and at
--- least one byte long, but its end is at most the greatest usize
+-- the label with its drawn range, where its line starts at this byte: it counts from there, and is
+-- at least one byte long, except that its end is at most the greatest `usize`
 abbrev pub from_line_start : ℕ → LabelModel → LabelModel
 from_line_start start x = record x {
   start = x.start - start;
@@ -65,15 +65,17 @@ abbrev pub first_seen : {Id : Type 0} → (Id → Id → Bool) → List Id → L
 first_seen same [] = []
 first_seen same (id ∷ ids) = id ∷ filter (λ other. not (same id other)) (first_seen same ids)
 
--- the labels that end on another line than they begin on; each one's index in this list is its lane
+-- the multi-line labels, which end on another line than they begin on; each one's index in this
+-- list is its lane
 abbrev pub multi_line_labels : FileModel → List LabelModel → List LabelModel
 multi_line_labels f labels = filter (λ x. not (is_single f x)) labels
 
--- by their starts, and by their ends where these are equal
+-- the first label's range is before the second's: by their starts, and by their ends where the
+-- starts are equal
 abbrev pub range_precedes : LabelModel → LabelModel → Bool
 range_precedes x y = nat_lt x.start y.start || (x.start == y.start && nat_lt x.end y.end)
 
--- labels in order with one more, before those of its range
+-- sorted labels with one more, which is before those of its range
 abbrev pub insert_sorted : LabelModel → List LabelModel → List LabelModel
 insert_sorted x [] = x ∷ []
 insert_sorted x (y ∷ ys) = if range_precedes y x then y ∷ insert_sorted x ys else x ∷ y ∷ ys

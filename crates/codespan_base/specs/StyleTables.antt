@@ -6,7 +6,8 @@ use Rattle.codespan_config.specs.declared.config.styles.Styles.{Styles}
 use Rattle.codespan_base.specs.Streams.{StyleMark, Header, HeaderMessage, LineNumber, NoteBullet, SourceBorder, LabelStyleMark, Reset, Spelling}
 use Rattle.codespan_base.specs.Ansi.{ansi_reset, ansi_style}
 
--- how a writer of colors spells a style mark, by its bytes for each style and for the reset
+-- how a writer of colors spells a style mark, where `set` is its bytes for each style, and `reset`
+-- those for the reset
 abbrev pub spelling_by : Styles → (ColorSpec → List ℕ) → List ℕ → StyleMark → List ℕ
 spelling_by styles set reset (Header severity) = set (header_style styles severity)
 spelling_by styles set reset HeaderMessage = set styles.header_message

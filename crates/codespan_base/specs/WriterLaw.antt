@@ -22,7 +22,7 @@ pub record PrefixAppended (old : Option (List ℕ)) (bs : List ℕ) (new : Optio
   pub whole : prefix ++ rest ≡ bs
   pub contents : new ≡ extended old prefix
 
--- where the writer's bytes are known, these were appended, or where the call fails a prefix
+-- where the writer's bytes are known, these are appended, or, where the call fails, a prefix
 abbrev pub AppendsBytes : {E : Type 0}
     → Option (List ℕ) → List ℕ → Result (Unit {0}) E → Option (List ℕ) → Type 0
 AppendsBytes old bs r new =
@@ -37,7 +37,7 @@ pub record Frame : Type 0 where
   pub spelling : Spelling
   -- a style mark or a `put` failed, or a `put` of some bytes took none
   pub failed : Bool
-  -- the references that it writes through
+  -- the names of the references that it writes through
   pub through : List GName
 
 -- a writer, as a contract sees it; the bytes of some writers are not known
@@ -68,7 +68,7 @@ pub record PrefixWritten (s : Sink) (items : Stream) (t : Sink) : Type 0 where
 abbrev pub KeepsFrame : {T E : Type 0} → Frame → Result T E → Frame → Type 0
 KeepsFrame old r new = MatchResult r (λ _. new ≡ old) (λ _. new ≡ failing old)
 
--- where the writer's bytes are known, the stream was appended, or where the call fails a prefix
+-- where the writer's bytes are known, the stream is appended, or, where the call fails, a prefix
 abbrev pub WritesOrPrefix : {E : Type 0} → Sink → Stream → Result (Unit {0}) E → Sink → Type 0
 WritesOrPrefix old items r new =
     is_known old ≡ true
@@ -78,7 +78,7 @@ WritesOrPrefix old items r new =
 abbrev pub Writes : {E : Type 0} → Sink → Stream → Result (Unit {0}) E → Sink → Type 0
 Writes old items r new = KeepsFrame old.frame r new.frame × WritesOrPrefix old items r new
 
--- the frame after `put` took n of these bytes: to take none of some is an error
+-- the frame after a `put` that took n of these bytes; one that takes none of some has failed
 abbrev pub after_put : Frame → List ℕ → ℕ → Frame
 after_put f bs n = if n == 0 && nat_lt 0 (length bs) then failing f else f
 
@@ -89,6 +89,6 @@ Puts old bs r new =
     × (is_known old ≡ true → MatchResult r
     (λ n. new.contents ≡ append_known old.contents (take n bs)) (λ _. new.contents ≡ old.contents))
 
--- a writer of this frame, but for whether it has failed, and with these bytes
+-- a writer of this frame with another flag, and with these bytes
 abbrev pub with_flag : Frame → Bool → Option (List ℕ) → Sink
 with_flag f flag bytes = record { frame = record f { failed = flag }; contents = bytes }

@@ -37,10 +37,9 @@ pub record WritesNothing {T E : Type 0} (old : T) (result : Result (Unit {0}) E)
   pub ok : result ≡ Ok tt
   pub same : new ≡ old
 
--- ---- the two that own their writer and take style marks
+-- ---- the two writers of style marks that own the writer they write to
 
--- a writer that spells style marks so and has these bytes, owns what it writes to, and has not
--- failed
+-- a writer of this spelling and these bytes that owns the writer it writes to, and has not failed
 abbrev pub fresh_sink : Spelling → Option (List ℕ) → Sink
 fresh_sink spelling bytes = record {
   frame = record { spelling = spelling; failed = false; through = [] };
@@ -72,7 +71,7 @@ styles_sink contents color reset p = record {
 abbrev pub borrowed_writer : {W : Type 0} → PlainWriterRef W → W
 borrowed_writer p = p.writer.now
 
--- the reference by which it is borrowed
+-- the name of the reference by which it is borrowed
 abbrev pub borrow_name : {W : Type 0} → PlainWriterRef W → GName
 borrow_name p = p.writer.ghost_name
 
@@ -83,7 +82,7 @@ plain_ref_sink contents p = record {
   contents = contents (borrowed_writer p);
 }
 
--- one that has not failed
+-- a plain writer over the reference of this name that has not failed
 abbrev pub fresh_plain_ref : GName → Option (List ℕ) → Sink
 fresh_plain_ref name bytes = record {
   frame = record { spelling = no_style_marks; failed = false; through = name ∷ [] };

@@ -1,4 +1,5 @@
--- When two sets of characters, or two configurations, are equal but for the memory of their texts.
+-- When two sets of characters, or two configurations, are equal, but for how the text before a
+-- locus is stored.
 use Rattle.std.specs.Prelude.{◌≡◌}
 use Rattle.codespan_config.specs.declared.config.chars.Chars.{Chars}
 use Rattle.codespan_config.specs.declared.config.Config.{Config}

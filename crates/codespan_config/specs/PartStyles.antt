@@ -41,7 +41,7 @@ default_styles = record {
 
 -- ---- the styles of headers and labels
 
--- the style of a header
+-- the style of the severity and the code in a header
 abbrev pub header_style : Styles → Severity → ColorSpec
 header_style styles Bug = styles.header_bug
 header_style styles Error = styles.header_error
@@ -58,13 +58,13 @@ label_style styles Warning Primary = styles.primary_label_warning
 label_style styles Note Primary = styles.primary_label_note
 label_style styles Help Primary = styles.primary_label_help
 
--- ---- styles with nothing set
+-- ---- plain styles
 
--- nothing is set
+-- the style of plain text
 abbrev pub unset : ColorSpec
 unset = record { fg = None; bg = None; bold = false; intense = false }
 
--- no part has a style
+-- each part has the style of plain text
 abbrev pub no_color_styles : Styles
 no_color_styles = record {
   header_bug = unset;

@@ -33,8 +33,8 @@ use codespan_files::files::Error;
 pub struct Config<'chars> {
     /// How much of a diagnostic is rendered. By default [`DisplayStyle::Rich`].
     pub display_style: DisplayStyle,
-    /// The distance of tab stops, in cells of the terminal. Where it is 0, a tab takes no cell. By
-    /// default 4.
+    /// The distance between tab stops, in cells of the terminal. Where it is 0, a tab occupies no
+    /// cell. By default 4.
     pub tab_width: usize,
     /// The characters of the output. By default [`Chars::box_drawing`].
     pub chars: Chars<'chars>,
@@ -132,10 +132,10 @@ pub enum DisplayStyle {
 /// Which line numbers the padding width fits, and how the lanes of multi-line labels are rendered.
 #[derive(Clone, Copy, Debug, PartialEq, Eq)]
 pub enum Layout {
-    /// The Rust crate's layout: the padding width fits the numbers of the lines from the start to
-    /// the end of each label, and below a corner that is in a source row its lane is left out in
-    /// the caret, pointer and hanging rows of that line, and in the underline rows of lanes left of
-    /// it.
+    /// The Rust crate's layout. The padding width fits the numbers of the lines from the start to
+    /// the end of each label. Where the top corner of a lane is in a source row, the lane is left
+    /// out in the caret, pointer and hanging rows of that line, and in the underline rows of the
+    /// lanes left of it.
     Classic,
     /// This project's own layout: the padding width fits the numbers of all drawn lines, and each
     /// lane is one line from corner to corner.

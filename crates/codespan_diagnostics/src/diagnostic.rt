@@ -51,7 +51,7 @@ pub enum LabelStyle {
     /// Labels what the diagnostic is about. Short and medium style render a header for each primary
     /// label.
     Primary,
-    /// Labels a range that explains more of it.
+    /// Labels a range that gives more context.
     Secondary,
 }
 
@@ -73,8 +73,8 @@ pub struct Label<FileId> {
     /// also one past the end of the text, off character boundaries, or with its start after its
     /// end.
     pub range: Range<usize>,
-    /// The message: one line, without line breaks, by the Rust crate's documentation. An empty one
-    /// is not rendered.
+    /// The message. It should be one line: the Rust crate's documentation excludes line breaks. An
+    /// empty one is not rendered.
     pub message: String,
 }
 
@@ -164,12 +164,12 @@ pub struct Diagnostic<FileId> {
     pub severity: Severity,
     /// The code of this kind of diagnostic. An empty one is not rendered.
     pub code: Option<String>,
-    /// The message: one line that makes sense without labels and notes, by the Rust crate's
-    /// documentation.
+    /// The message. It should be one line that makes sense without labels and notes, as the Rust
+    /// crate's documentation says.
     pub message: String,
     /// The labels.
     pub labels: Vec<Label<FileId>>,
-    /// The notes, each of any number of lines.
+    /// The notes. Each may have several lines.
     pub notes: Vec<String>,
 }
 

@@ -13,19 +13,19 @@ use Rattle.codespan_files.specs.FileModel.{FileModel, line_of}
 use Rattle.codespan_files.specs.LawfulFiles.{IsLineRange, column_of, location_of}
 use Rattle.codespan_files.specs.Lines.{is_char_boundary, column_index_of}
 
--- the test finds a boundary
+-- the test is true of a boundary
 pub is_char_boundary_yes : (text : List ℕ) (i : ℕ) → IsCharBoundary text i → is_char_boundary text i ≡ true
 is_char_boundary_yes text i b = grind (arith, nat_tests, b)
 
--- and only a boundary
+-- and only of a boundary
 boundary_from_test : (text : List ℕ) (i : ℕ) → is_char_boundary text i ≡ true → IsCharBoundary text i
 boundary_from_test text i e = grind (arith, nat_tests, e)
 
--- and no other index
+-- so it is false of any other index
 pub is_char_boundary_no : (text : List ℕ) (i : ℕ) → ¬ (IsCharBoundary text i) → is_char_boundary text i ≡ false
 is_char_boundary_no text i b = false_from_ne_true (is_char_boundary text i) (λ e. b (boundary_from_test text i e))
 
--- a count over one index more
+-- a count over one more index
 count_range_more : (p : ℕ → Bool) (a n : ℕ) → count_by p (range_with_len a (n + 1)) ≡ count_by p (range_with_len a n) + cond (p (a + n)) 1 0
 count_range_more p a n = simp (map-id {A = ℕ}) at (sum_by-map-range_with_len_more (λ x. cond (p x) 1 0) (λ x. x) a n (a + n) refl)
 

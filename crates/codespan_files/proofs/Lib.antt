@@ -4,6 +4,6 @@ pub mod SetLineNumbers
 pub mod NumbersCountOn
 pub mod LineCuts
 pub mod LineCounts
-pub mod LineRuns
+pub mod LineStartsEnd
 pub mod PastEndFailures
-pub mod Numbers
+pub mod SimpleFilesNumbers

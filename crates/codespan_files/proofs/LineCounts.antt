@@ -10,7 +10,7 @@ use Rattle.codespan_files.specs.SimpleModel.{simple_file}
 use Rattle.codespan_files.specs.Lines.{starts_after, line_starts_of}
 use Rattle.codespan_files.specs.Lemmas.Lines.{cuts, count_split}
 
--- one byte more in front
+-- one more byte in front
 newlines_more : (b : ℕ) (bs : List ℕ) (n : ℕ) → newlines (b ∷ bs) (suc n) ≡ cond (eqb b 10) 1 0 + newlines bs n
 newlines_more b bs n = sum_by-cons (λ b. cond (b == 10) 1 0) b (take n bs)
 
@@ -68,6 +68,6 @@ line_past_text text byte h =
     sum_by-cons (λ s. cond (nat_le s byte) 1 0) 0 starts ∙ rw (le-leb 0 byte (omega arith)) refl in
     omega (arith, n, m)
 
--- so it is for the file of any text
+-- this holds for the file of any text
 pub line_counts : (name : Option (List ℕ)) (text : List ℕ) → LineCountsNewlines (simple_file name text)
 line_counts name text = record { before = line_before text; past_text = line_past_text text }

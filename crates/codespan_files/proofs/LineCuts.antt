@@ -1,4 +1,5 @@
--- For the law `lines_join_to_source`, that the lines of a text join to it, and for `columns_rise`.
+-- For the laws `lines_join_to_source` and `columns_rise`: the lines of a text join to it, and
+-- columns never decrease along a line.
 use Rattle.std.proofs.Common.{◌≡◌, ℕ, zero, suc, ◌+◌, ◌-◌, ◌≤◌, min, Bool, cond, List, ◌++◌, drop, flat_map, length, get_or, Option, refl, sym, ap, ◌∙◌, arith}
 use Rattle.std.specs.Prelude.{count_by, slice_range}
 use Rattle.std.specs.List.{range_with_len}
@@ -11,7 +12,7 @@ use Rattle.codespan_files.specs.SimpleModel.{simple_file, line_ends}
 use Rattle.codespan_files.specs.Lemmas.Simple.{ascending, end_before_last, end_of_last}
 use Rattle.codespan_files.specs.FileLaws.{LinesJoin, ColumnsRise}
 
--- two ranges that touch
+-- a range and the rest of the list after it
 touching : {X : Type 0} (a b : ℕ) (xs : List X) → a ≤ b → slice_range xs a b ++ drop b xs ≡ drop a xs
 touching a b xs h =
     let e : a + (b - a) ≡ b = omega arith in
@@ -44,7 +45,7 @@ lines_join name text u = record {
   joined = joined-from name text u (length (starts_after 0 text)) 0 (omega arith);
 }
 
--- more byte indices have no fewer boundaries
+-- a longer range counts no fewer numbers
 counts-rise : (p : ℕ → Bool) (a m n : ℕ) → m ≤ n → count_by p (range_with_len a m) ≤ count_by p (range_with_len a n)
 counts-rise p a zero n h = omega arith
 counts-rise p a (suc m) zero h = absurd (omega arith)
@@ -56,7 +57,7 @@ counts-rise p a (suc m) (suc n) h =
       counts-rise p (a + 1) m n (omega arith),
     )
 
--- columns ascend along a line
+-- columns never decrease along a line
 pub columns_rise : ColumnsRise
 columns_rise text start end byte later h =
     counts-rise (is_char_boundary text) (start + 1) (min byte (min end (length text)) - start) (min later (min end (length text)) - start) (omega arith)

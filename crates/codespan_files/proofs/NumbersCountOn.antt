@@ -12,7 +12,7 @@ found_step b x l i t first (Some u) same later found =
     grind (arith, nat_tests)
 found_step b x l i t first None same later found = grind (arith, nat_tests)
 
--- where all set indices are above b, so is the one that a line counts from
+-- where all line indices are above b, so is that of the set number that a line counts from
 found_above : (b : ℕ) (l : List (ℕ × ℕ)) (i : ℕ) (t : ℕ × ℕ) → ((j : ℕ) → j < length l → b < set_index_at l j) → nearest_set l i ≡ Some t → b < t.0
 found_above b [] i t above found = absurd (cc)
 found_above b (x ∷ l) i t above found =
@@ -25,7 +25,7 @@ set_step x l k v i (Some t) same later rest =
     grind (arith, nat_tests)
 set_step x l k v i None same later rest = grind (arith, nat_tests)
 
--- the set number that a line counts from, once a number more is set
+-- the set number that a line counts from, once one more number is set
 pub nearest_set_once_set : (l : List (ℕ × ℕ)) (k v i : ℕ) → IsStrictlySorted l → nearest_set (with_number k v l) i ≡ nearest_set_after k v i (nearest_set l i)
 nearest_set_once_set [] k v i sorted = grind (arith, nat_tests)
 nearest_set_once_set (x ∷ l) k v i sorted =

@@ -1,4 +1,5 @@
--- For the clauses `failed`: a line past the last, and the line of a byte, which never is.
+-- For the clauses `failed` of the file databases: a line past the last fails, and the line of a
+-- byte is never past the last.
 use Rattle.std.proofs.Common.{◌≡◌, ◌≢◌, ℕ, suc, ◌-◌, ◌^◌, ◌<◌, ◌≤◌, List, length, refl, ap, ◌∙◌, arith, Option, Some, None}
 use Rattle.std.proofs.lemmas.Bool.{lt-leb, le-leb, ne_eqb}
 use Rattle.codespan_files.specs.declared.files.error.Error.{Error}
@@ -15,18 +16,19 @@ past_end_failure_late text starts i n same count late =
     let e : n ≡ length (line_starts_of text) = count ∙ ap length same in
     rw e (rw (lt-leb (suc i) (length (line_starts_of text)) (omega arith)) refl)
 
--- a line below the number of starts does not fail so
+-- a line that is below the number of starts does not fail
 pub past_end_failure_early : (text starts : List ℕ) (i : ℕ) → starts ≡ line_starts_of text → i < length starts → past_end_failure text i ≡ None
 past_end_failure_early text starts i same early =
     let e : length starts ≡ length (line_starts_of text) = ap length same in
     rw (le-leb (suc i) (length (line_starts_of text)) (omega arith)) refl
 
--- the line of a byte is there
+-- the line of a byte exists
 byte_line_below : (text : List ℕ) (byte i : ℕ) → i ≡ line_of (line_starts_of text) byte → i < length (line_starts_of text)
 byte_line_below text byte i line = rw line (line_of_below (line_starts_of text) byte (omega arith))
 
-pub byte_line_there : (text : List ℕ) (byte i : ℕ) → i ≡ line_of (line_starts_of text) byte → past_end_failure text i ≡ None
-byte_line_there text byte i line = past_end_failure_early text (line_starts_of text) i refl (byte_line_below text byte i line)
+-- so a lookup of it does not fail
+pub byte_line_exists : (text : List ℕ) (byte i : ℕ) → i ≡ line_of (line_starts_of text) byte → past_end_failure text i ≡ None
+byte_line_exists text byte i line = past_end_failure_early text (line_starts_of text) i refl (byte_line_below text byte i line)
 
 -- and has a number, where there are fewer than 2^64 starts
 pub byte_line_numbered : (text starts : List ℕ) (byte i : ℕ) → starts ≡ line_starts_of text → length starts < 2 ^ 64 → i ≡ line_of (line_starts_of text) byte

@@ -39,7 +39,7 @@ replaced (x ∷ l) k v (suc at) low below here =
     let later : set l at (k, v) ≡ with_number k v l = replaced l k v at (omega arith) (λ j h. below (suc j) (omega arith)) here in
     grind (arith, nat_tests)
 
--- it leaves each index
+-- which changes no line index
 kept : (l : List (ℕ × ℕ)) (at k v : ℕ) → at < length l → set_index_at l at ≡ k → (q : ℕ) → set_index_at (set l at (k, v)) q ≡ set_index_at l q
 kept [] at k v low here q = absurd (omega arith)
 kept (x ∷ l) zero k v low here zero = sym here
@@ -47,7 +47,7 @@ kept (x ∷ l) zero k v low here (suc q) = refl
 kept (x ∷ l) (suc at) k v low here zero = refl
 kept (x ∷ l) (suc at) k v low here (suc q) = kept l at k v (omega arith) here q
 
--- a new one at the point where it is inserted
+-- inserting a set number of a new line index
 inserted : (l : List (ℕ × ℕ)) (k v at : ℕ) → at ≤ length l → ((j : ℕ) → j < at → set_index_at l j < k) → (at < length l → k < set_index_at l at) → insert l at (k, v) ≡ with_number k v l
 inserted [] k v zero low below above = refl
 inserted [] k v (suc at) low below above = absurd (omega arith)
@@ -59,7 +59,7 @@ inserted (x ∷ l) k v (suc at) low below above =
     let later : insert l at (k, v) ≡ with_number k v l = inserted l k v at (omega arith) (λ j h. below (suc j) (omega arith)) (λ h. above (omega arith)) in
     grind (arith, nat_tests)
 
--- where all indices are above the line, it counts from none
+-- where all line indices are greater, the line counts from no set number
 none_set : (l : List (ℕ × ℕ)) (k : ℕ) → ((j : ℕ) → j < length l → k < set_index_at l j) → nearest_set l k ≡ None
 none_set [] k above = refl
 none_set (x ∷ l) k above =
@@ -67,7 +67,7 @@ none_set (x ∷ l) k above =
     let rest : nearest_set l k ≡ None = none_set l k (λ j h. above (suc j) (omega arith)) in
     grind (arith, nat_tests)
 
--- the line counts from the last index that is not above it
+-- the line counts from the last set number whose line index is not greater
 last_set : (l : List (ℕ × ℕ)) (k at : ℕ) → at < length l → set_index_at l at ≤ k → ((j : ℕ) → at < j → j < length l → k < set_index_at l j) → nearest_set l k ≡ Some (get_or l at (0, 0))
 last_set [] k at low here above = absurd (omega arith)
 last_set (x ∷ l) k zero low here above =
@@ -97,16 +97,16 @@ module _ (l : List (ℕ × ℕ)) (k at : ℕ) (point : IsInsertionPoint l k at) 
   pub insert_adds : (v : ℕ) → insert l at (k, v) ≡ with_number k v l
   insert_adds v = inserted l k v at point.in_range point.smaller_before (λ h. point.greater_after at (omega arith) h)
 
-  -- a line before all set ones counts from none
+  -- a line above all set ones counts from none
   pub nearest_set_before_all : at ≡ 0 → nearest_set l k ≡ None
   nearest_set_before_all e = none_set l k (λ j h. point.greater_after j (omega arith) h)
 
-  -- any other line counts from the set one before the point
+  -- any other line counts from the set number before the point
   pub nearest_set_before : 0 < at → nearest_set l k ≡ Some (get_or l (at - 1) (0, 0))
   nearest_set_before some = last_set l k (at - 1) (omega (arith, point.in_range)) (omega (arith, point.smaller_before (at - 1) (omega arith))) (λ j g h. point.greater_after j (omega arith) h)
 
-  -- it keeps the order: each new index is an old one below the point, k at it, or an old one moved
-  -- up by one
+  -- which keeps the order: each line index is, by its position, an old one before the point, k at
+  -- the point, or an old one moved by one position
   pub sorted_insert : (v : ℕ) → IsStrictlySorted l → IsStrictlySorted (insert l at (k, v))
   sorted_insert v sorted i j lt in_range =
       let new = insert l at (k, v) in
@@ -117,11 +117,11 @@ module _ (l : List (ℕ × ℕ)) (k at : ℕ) (point : IsInsertionPoint l k at) 
       let key_above : (i : ℕ) → at < i → set_index_at new i ≡ set_index_at l (i - 1) = λ i above. subst (λ q. set_index_at new q ≡ set_index_at l (i - 1)) {x = i - 1 + 1} (omega arith) (ap key (get_or-insert_above l at (k, v) (0, 0) (i - 1) (omega arith) point.in_range)) in
       grind (arith, key_below i, key_here i, key_above i, key_below j, key_here j, key_above j, sorted i j, sorted i (j - 1), sorted (i - 1) (j - 1), point.smaller_before i, point.greater_after (j - 1))
 
-  -- so it is whether the insert succeeded or failed
+  -- whether the insert succeeds or fails, the order is kept
   pub sorted_either : (v : ℕ) → IsStrictlySorted l → (b : Bool) (xs : List (ℕ × ℕ)) → xs ≡ (if b then insert l at (k, v) else l) → IsStrictlySorted xs
   sorted_either v sorted true xs e = rw e (sorted_insert v sorted)
   sorted_either v sorted false xs e = rw e sorted
 
--- no set numbers are in order
+-- an empty list is sorted
 pub sorted_none : (l : List (ℕ × ℕ)) → l ≡ [] → IsStrictlySorted l
 sorted_none l none i j lt in_range = absurd (omega (arith, rw none at in_range))

@@ -1,5 +1,5 @@
--- What the lines of a text are together, that columns never decrease, how lines are counted and
--- numbered.
+-- Laws of files: the lines of a text join to it, a line's index counts newlines, columns never
+-- decrease along a line, and what setting a line number does to all lines.
 use Rattle.std.specs.Prelude.{◌≡◌, ℕ, ◌+◌, ◌-◌, ◌<◌, ◌≤◌, ◌==◌, ◌||◌, nat_lt, if◌then◌else◌, List, length, flat_map, take, count_by, Option, Some, None}
 use Rattle.std.specs.List.{range_with_len}
 use Rattle.codespan_files.specs.FileModel.{FileModel, line_count, line_start, line_of, line_text}
@@ -27,8 +27,8 @@ abbrev pub ColumnsRise : Type 0
 ColumnsRise = (text : List ℕ) (start end byte later : ℕ) → byte ≤ later
     → column_index_of text start end byte ≤ column_index_of text start end later
 
--- the set number that line i counts from once `line` has `number`, from the one before: lines above
--- stay, and so do those that count from a line further down
+-- the set number that line i counts from once `line` has `number`, from the one that it counted
+-- from before: it stays for the lines above `line`, and for those that count from a later line
 abbrev pub nearest_set_after : ℕ → ℕ → ℕ → Option (ℕ × ℕ) → Option (ℕ × ℕ)
 nearest_set_after line number i None = if nat_lt i line then None else Some (line, number)
 nearest_set_after line number i (Some s) =

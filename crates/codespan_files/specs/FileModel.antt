@@ -22,7 +22,8 @@ pub record FileModel : Type 0 where
   -- the location of a byte index from 0
   pub location : ℕ → Location
 
--- what is looked up in a file
+-- what is looked up in a file: `LineIndex` and `LocationAt` by a byte index, `LineNumber` and
+-- `LineRange` by a line index, `ColumnNumber` by a line index and a byte index
 pub data Lookup : Type 0 where
   Name : Lookup
   Source : Lookup
@@ -41,7 +42,7 @@ pub record FileDatabase (Id : Type 0) : Type 0 where
   -- the error that a lookup of it fails with, if any, `OutOfMemory` aside
   pub failure : Id → Lookup → Option Error
 
--- how many lines a file has
+-- the number of lines of a file
 abbrev pub line_count : FileModel → ℕ
 line_count f = length f.starts
 
@@ -49,7 +50,7 @@ line_count f = length f.starts
 unfoldable pub line_of : List ℕ → ℕ → ℕ
 line_of starts byte = count_by (λ s. nat_le s byte) starts - 1
 
--- the first error of the two, if there is one
+-- the first of two errors, or the second where there is no first
 abbrev pub or_failure : Option Error → Option Error → Option Error
 or_failure (Some e) o = Some e
 or_failure None o = o

@@ -1,4 +1,5 @@
--- What the lookups of a file return, when a file is lawful, and what lookups by default return.
+-- What the lookups of a file return, when a file is lawful, and what the default columns and
+-- locations are.
 use Rattle.std.specs.Prelude.{◌≡◌, ◌≢◌, ℕ, ◌+◌, ◌-◌, ◌<◌, ◌≤◌, ◌↔◌, true, false, [], length, slice_index, Option, Some, None, Result, MatchResult, IfErr, ◌^◌, ◌==◌, if◌then◌else◌}
 use Rattle.std.specs.Str.{IsCharBoundary, IsUtf8}
 use Rattle.std.specs.declared.ops.Range.{Range}
@@ -76,11 +77,11 @@ location_of f byte =
 abbrev pub line_number_failure : ℕ → Option Error
 line_number_failure i = if i == 2 ^ 64 - 1 then Some (LineTooLarge i (2 ^ 64 - 2)) else None
 
--- what the column by default fails with
+-- what the default column number fails with
 abbrev pub column_failure : (Lookup → Option Error) → ℕ → Option Error
 column_failure failure i = or_failure (failure Source) (failure (LineRange i))
 
--- what the location by default fails with
+-- what the default location fails with
 abbrev pub location_failure : FileModel → (Lookup → Option Error) → ℕ → Option Error
 location_failure f failure byte =
     let i = line_of f.starts byte in

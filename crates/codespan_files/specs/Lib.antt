@@ -11,5 +11,5 @@ pub mod Errors
 pub mod FileLaws
 pub mod DatabaseViews
 pub mod Lemmas
--- what the clauses of `worked` open
+-- what the clauses of `worked` unfold
 pub mod Worked

@@ -1,9 +1,9 @@
--- What the iterator over line starts has yet to return.
+-- The line starts that the iterator over them has not returned yet.
 use Rattle.std.specs.Prelude.{ℕ, List, ◌∷◌, drop, if◌then◌else◌}
 use Rattle.codespan_files.specs.Lines.{starts_after}
 use Rattle.codespan_files.specs.declared.files.starts.LineStarts.{LineStarts}
 
--- the starts that are left
+-- the line starts that are left
 abbrev pub starts_left : LineStarts → List ℕ
 starts_left s =
     if s.started then starts_after s.at (drop s.at s.source.now)

@@ -1,5 +1,5 @@
--- A text as a file whose line numbers are set, in the manner of `#line`: a line's end leaves out
--- its newline.
+-- A text as a file whose line numbers can be set, as `#line` does in C. A line ends before its
+-- newline.
 use Rattle.std.specs.Prelude.{ℕ, ◌+◌, ◌-◌, ◌^◌, nat_le, nat_lt, ◌==◌, if◌then◌else◌, List, [], ◌∷◌, ◌++◌, length, map, Option, Some, None}
 use Rattle.codespan_files.specs.declared.files.error.Error.{Error}
 use Rattle.codespan_files.specs.declared.files.error.Error.TheVariants.{LineTooLarge}
@@ -14,8 +14,8 @@ use Rattle.codespan_files.specs.SimpleModel.{simple_file, past_end_failure}
 abbrev pub mapped_ends : List ℕ → List ℕ
 mapped_ends text = map (λ s. s - 1) (starts_after 0 text) ++ length text ∷ []
 
--- the set number that line i counts from, with its index: the nearest at the line or above it; the
--- indices ascend
+-- the set number that line i counts from, after its line index: the nearest at the line or above
+-- it, in a list whose line indices ascend
 abbrev pub nearest_set : List (ℕ × ℕ) → ℕ → Option (ℕ × ℕ)
 nearest_set [] i = None
 nearest_set (s ∷ ss) i = nearer (nearest_set ss i) (if nat_le s.0 i then Some s else None)
@@ -24,7 +24,7 @@ nearest_set (s ∷ ss) i = nearer (nearest_set ss i) (if nat_le s.0 i then Some 
     nearer (Some later) earlier = Some later
     nearer None earlier = earlier
 
--- the set numbers with one more, which replaces an earlier one of the same index
+-- the set numbers with one more, which replaces an earlier one of the same line index
 abbrev pub with_number : ℕ → ℕ → List (ℕ × ℕ) → List (ℕ × ℕ)
 with_number i number [] = (i, number) ∷ []
 with_number i number (s ∷ ss) =
@@ -37,8 +37,9 @@ abbrev pub number_from : Option (ℕ × ℕ) → ℕ → ℕ
 number_from None i = i + 1
 number_from (Some s) i = s.1 + (i - s.0)
 
--- what the lookup of the number of line i fails with, from the set number that it counts from: a
--- number past the greatest `usize` does
+-- what the lookup of the number of line i fails with, from the set number that it counts from:
+-- `LineTooLarge`, where the number is past the greatest `usize`; its second field is the greatest
+-- line index that counts from the same set number and whose number is not
 abbrev pub number_failure : Option (ℕ × ℕ) → ℕ → Option Error
 number_failure None i = line_number_failure i
 number_failure (Some s) i =

@@ -1,4 +1,4 @@
--- Set line numbers: pairs of an index and a number, in the order of the indices.
+-- Set line numbers: pairs of a line index and a number, in the order of the line indices.
 use Rattle.std.specs.Prelude.{◌≡◌, ℕ, ◌<◌, ◌≤◌, List, length, slice_index_or}
 
 -- the line index of the set number at a position of the list
@@ -6,18 +6,19 @@ abbrev pub set_index_at : List (ℕ × ℕ) → ℕ → ℕ
 set_index_at set_numbers position =
     let set_number = slice_index_or set_numbers position (0, 0) in set_number.0
 
--- the indices ascend strictly
+-- the line indices ascend strictly
 abbrev pub IsStrictlySorted : List (ℕ × ℕ) → Type 0
 IsStrictlySorted set_numbers =
     (i j : ℕ) → i < j → j < length set_numbers
     → set_index_at set_numbers i < set_index_at set_numbers j
 
--- the set number at this position has the index
+-- the set number at this position has this line index
 pub record IsSetAt (set_numbers : List (ℕ × ℕ)) (index position : ℕ) : Type 0 where
   pub in_range : position < length set_numbers
   pub has_index : set_index_at set_numbers position ≡ index
 
--- the index would be inserted at this position: smaller ones before it, and greater ones from it on
+-- a number of this line index would be inserted at this position: smaller indices are before it,
+-- and greater ones from it on
 pub record IsInsertionPoint (set_numbers : List (ℕ × ℕ)) (index position : ℕ) : Type 0 where
   pub in_range : position ≤ length set_numbers
   pub smaller_before : (j : ℕ) → j < position → set_index_at set_numbers j < index

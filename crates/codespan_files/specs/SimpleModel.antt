@@ -37,7 +37,8 @@ simple_file name text = record {
   location = simple_location text;
 }
 
--- what the lookup of a line's range or of its column fails with: a line past the last does
+-- what the lookup of the range of line i, or of a column on it, fails with: `LineTooLarge`, where
+-- the line is past the last
 abbrev pub past_end_failure : List ℕ → ℕ → Option Error
 past_end_failure text i =
     if nat_lt i (length (line_starts_of text)) then None
@@ -63,7 +64,7 @@ missing_file = record {
   location = λ byte. record { line_number = 1; column_number = 1 };
 }
 
--- what a lookup of such an id fails with: each but that of a line's number with `FileMissing`
+-- what a lookup of such an id fails with: `FileMissing`, unless it is that of a line's number
 abbrev pub missing_failure : Lookup → Option Error
 missing_failure (LineNumber i) = line_number_failure i
 missing_failure _ = Some FileMissing

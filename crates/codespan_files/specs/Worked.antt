@@ -1,8 +1,8 @@
--- What opens the definitions of a file, so that the clauses of `worked` compute.
+-- The definitions that have to be unfolded for the clauses of `worked` to compute.
 use Rattle.std.specs.Char.{encode_utf8}
 use Rattle.codespan_files.specs.FileModel.{line_of}
 
--- opens all definitions of a file, so that it computes
+-- unfolds all definitions of a file
 unfoldable pub file_definitions : Unit {0}
 unfolding encode_utf8 line_of
 file_definitions = tt

@@ -2,8 +2,8 @@
 //!
 //! [`Files`] is the trait of file databases. This module has three implementations: [`SimpleFile`]
 //! has one text, [`SimpleFiles`] many, and [`MappedFile`] one text whose line numbers can be set as
-//! `#line` does in C. They keep one text for each file; implement [`Files`] for other databases, as
-//! over the sources that a compiler keeps.
+//! `#line` does in C. They keep one text for each file; implement [`Files`] for any other database,
+//! such as one over the sources that a compiler holds.
 //!
 //! Line indices and byte indices count from 0, and the end of a range is exclusive. Line numbers
 //! and column numbers are for users.
@@ -30,7 +30,7 @@ use std::convert::AsStr;
 use std::fmt::Display;
 use std::ops::Range;
 
-/// A location in a file, as users count. Returned by [`Files::location`].
+/// A location in a file, as users see it. Returned by [`Files::location`].
 #[derive(Clone, Copy, Debug, PartialEq, Eq)]
 pub struct Location {
     /// The line's number, in most databases from 1.
@@ -63,6 +63,7 @@ pub struct Location {
 ///   [`Error::LineTooLarge`] exactly where the index is not below the number of lines.
 /// - An id that names no file has a model too: `exists` is false, the name is the empty text, and
 ///   the text is empty.
+/// - Line numbers, column numbers and locations are free: they are what `database` says.
 ///
 /// A name is the text that its `Display` states; where it states none, nothing is known of it.
 ///
@@ -100,24 +101,29 @@ pub struct Location {
 ///         Ok(*self.file(id).source())
 ///     }
 ///
-///     fn line_index(&'a self, id: Part, byte: usize) -> Result<usize, Error> {
-///         self.file(id).line_index((), byte)
+///     fn line_index(&'a self, id: Part, byte_index: usize) -> Result<usize, Error> {
+///         self.file(id).line_index((), byte_index)
 ///     }
 ///
-///     fn line_number(&'a self, _id: Part, line: usize) -> Result<usize, Error> {
-///         default_line_number(line)
+///     fn line_number(&'a self, _id: Part, line_index: usize) -> Result<usize, Error> {
+///         default_line_number(line_index)
 ///     }
 ///
-///     fn column_number(&'a self, id: Part, line: usize, byte: usize) -> Result<usize, Error> {
-///         self.file(id).column_number((), line, byte)
+///     fn column_number(
+///         &'a self,
+///         id: Part,
+///         line_index: usize,
+///         byte_index: usize,
+///     ) -> Result<usize, Error> {
+///         self.file(id).column_number((), line_index, byte_index)
 ///     }
 ///
-///     fn location(&'a self, id: Part, byte: usize) -> Result<Location, Error> {
-///         self.file(id).location((), byte)
+///     fn location(&'a self, id: Part, byte_index: usize) -> Result<Location, Error> {
+///         self.file(id).location((), byte_index)
 ///     }
 ///
-///     fn line_range(&'a self, id: Part, line: usize) -> Result<Range<usize>, Error> {
-///         self.file(id).line_range((), line)
+///     fn line_range(&'a self, id: Part, line_index: usize) -> Result<Range<usize>, Error> {
+///         self.file(id).line_range((), line_index)
 ///     }
 ///
 ///     // The file of a text is lawful.
@@ -133,7 +139,7 @@ pub struct Location {
 ///
 ///     ghost same_is = { λ s. refl };
 ///
-///     // A line past the last one fails as there.
+///     // A line past the last one fails as in its `SimpleFile`.
 ///     ghost past_end = { λ s id i.
 ///         simple_past_end (part_name id) (source_of (of_part s.schema s.document id)).now i };
 /// }
@@ -161,7 +167,8 @@ pub trait Files<'a> {
     ///
     /// # Errors
     ///
-    /// - [`Error::FileMissing`], or another variant, where the database has no such file.
+    /// - The error that `database` states, such as [`Error::FileMissing`] where there is no such
+    ///   file.
     /// - [`Error::OutOfMemory`] where an allocation fails.
     fn name(&'a self, id: Self::FileId) -> Result<Self::Name, Error>
         ensures value { IfOk result (λ n. Self.Name.output n ≡ ((database self.now).file id).name) }
@@ -171,22 +178,23 @@ pub trait Files<'a> {
     ///
     /// # Errors
     ///
-    /// - [`Error::FileMissing`], or another variant, where the database has no such file or can not
-    ///   read it.
+    /// - The error that `database` states, such as [`Error::FileMissing`] where there is no such
+    ///   file, or another one where the text can not be read.
     /// - [`Error::OutOfMemory`] where an allocation fails.
     fn source(&'a self, id: Self::FileId) -> Result<Self::Source, Error>
         ensures value { IfOk result (λ s. Self.Source.text s ≡ ((database self.now).file id).text) }
         ensures failed { FailsBy ((database self.now).failure id Source) result };
 
-    /// Returns the index of the byte's line, from 0. `byte_index` is in bytes of the text, from 0,
-    /// and none is too large: past the end of the text the line is the last one. The rule is the
-    /// Rust crate's.
+    /// Returns the index of the byte's line, from 0. `byte_index` is in bytes of the text, from 0.
+    /// No byte index is too large: past the end of the text the line is the last one. The rule is
+    /// the Rust crate's.
     ///
     /// Keep the starts that [`line_starts`] returns, and search among them, as [`SimpleFile`] does.
     ///
     /// # Errors
     ///
-    /// - [`Error::FileMissing`], or another variant, where the database has no such file.
+    /// - The error that `database` states, such as [`Error::FileMissing`] where there is no such
+    ///   file.
     /// - [`Error::OutOfMemory`] where an allocation fails.
     fn line_index(&'a self, id: Self::FileId, byte_index: usize) -> Result<usize, Error>
         ensures value { IfOk result (λ i.
@@ -201,8 +209,8 @@ pub trait Files<'a> {
     ///
     /// # Errors
     ///
-    /// - [`Error::LineTooLarge`], or another variant, where the number does not fit into a `usize`
-    ///   or the line has none.
+    /// - The error that `database` states, such as [`Error::LineTooLarge`] where the number does
+    ///   not fit into a `usize` or the line has none.
     /// - [`Error::OutOfMemory`] where an allocation fails.
     fn line_number(&'a self, id: Self::FileId, line_index: usize) -> Result<usize, Error>
         ensures value { IfOk result (λ n.
@@ -212,13 +220,13 @@ pub trait Files<'a> {
     /// Returns the column number of a byte on a line as users see it: in most databases the
     /// characters from the line's start to the byte, counted from 1, as
     /// [`default_column_number`](codespan_reporting::files::default_column_number) has it. Both
-    /// indices count from 0. An implementation can not call that function, which requires the
-    /// implementation that is being checked;
+    /// indices count from 0. An implementation can not call that function, since its proof would
+    /// then rest on itself;
     /// [`column_number_by_default!`](codespan_base::column_number_by_default) expands to its body.
     ///
     /// # Errors
     ///
-    /// - In most databases those of `source` and `line_range`.
+    /// - The error that `database` states: in most databases that of `source` or `line_range`.
     /// - [`Error::OutOfMemory`] where an allocation fails.
     fn column_number(
         &'a self,
@@ -233,13 +241,14 @@ pub trait Files<'a> {
 
     /// Returns the line number and the column number of a byte, as users see them: in most
     /// databases as [`default_location`](codespan_reporting::files::default_location) has it. The
-    /// byte index counts from 0. An implementation can not call that function, which requires the
-    /// implementation that is being checked;
-    /// [`location_by_default!`](codespan_base::location_by_default) expands to its body.
+    /// byte index counts from 0. An implementation can not call that function, since its proof
+    /// would then rest on itself; [`location_by_default!`](codespan_base::location_by_default)
+    /// expands to its body.
     ///
     /// # Errors
     ///
-    /// - In most databases those of `line_index`, `line_number` and `column_number`.
+    /// - The error that `database` states: in most databases that of `line_index`, `line_number` or
+    ///   `column_number`.
     /// - [`Error::OutOfMemory`] where an allocation fails.
     fn location(&'a self, id: Self::FileId, byte_index: usize) -> Result<Location, Error>
         ensures value { IfOk result (λ p. p ≡ ((database self.now).file id).location byte_index) }
@@ -252,8 +261,8 @@ pub trait Files<'a> {
     ///
     /// - [`Error::LineTooLarge`] where the file exists and has no such line, and for no line that
     ///   the file has.
-    /// - [`Error::FileMissing`], or another variant, where the database has no such file or does
-    ///   not show the line.
+    /// - Any other error that `database` states, such as [`Error::FileMissing`] where there is no
+    ///   such file.
     /// - [`Error::OutOfMemory`] where an allocation fails.
     fn line_range(&'a self, id: Self::FileId, line_index: usize) -> Result<Range<usize>, Error>
         ensures value { IfOk result (IsLineRange ((database self.now).file id) line_index) }

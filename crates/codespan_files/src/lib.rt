@@ -1,5 +1,5 @@
-//! File databases, in which rendering looks texts and locations up, and `Error`, which most calls
-//! of the crates above return.
+//! File databases, in which rendering looks up texts and locations, and `Error`, with which most
+//! calls of the crates above fail.
 //!
 //! This crate is a layer of `codespan_base`. Users name its items as `codespan_reporting::files`
 //! and `codespan_base::laws`.

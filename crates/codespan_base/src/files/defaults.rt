@@ -1,5 +1,5 @@
-//! Column numbers and locations as most files have them, for file databases that count so. The
-//! rules are those of the Rust crate's default bodies.
+//! Column numbers and locations as most databases count them, as functions and as macros. The rules
+//! are those of the Rust crate's default bodies.
 
 ghost use Rattle.std.specs.Prelude.{◌≡◌, ◌+◌, IfOk};
 ghost use Rattle.codespan_files.specs.LawfulFiles.{FailsBy, column_of, location_of, column_failure, location_failure};
@@ -7,13 +7,12 @@ ghost use Rattle.codespan_files.specs.LawfulFiles.{FailsBy, column_of, location_
 use crate::files::{Error, Files, Location};
 use std::convert::AsStr;
 
-/// Returns the column number of a byte on a line as most files have it, in characters from 1:
+/// Returns the column number of a byte on a line as most databases count it, in characters from 1:
 /// [`column_index`] of the source, the line's range and the byte, plus 1. Both indices count from
 /// 0.
 ///
-/// A database's own `column_number` can not call this, which requires the implementation that is
-/// being checked; its body is
-/// [`column_number_by_default!`](codespan_base::column_number_by_default).
+/// A database's own `column_number` can not call this, since its proof would then rest on itself;
+/// [`column_number_by_default!`](codespan_base::column_number_by_default) expands to the body.
 ///
 /// # Errors
 ///
@@ -32,11 +31,11 @@ pub fn default_column_number<'a, F: Files<'a>>(
     crate::column_number_by_default!(files, id, line_index, byte_index)
 }
 
-/// Returns the location of a byte as most files have it: the number of its line, and its column
+/// Returns the location of a byte as most databases have it: the number of its line, and its column
 /// number there. The byte index counts from 0.
 ///
-/// A database's own `location` can not call this, which requires the implementation that is being
-/// checked; its body is [`location_by_default!`](codespan_base::location_by_default).
+/// A database's own `location` can not call this, since its proof would then rest on itself;
+/// [`location_by_default!`](codespan_base::location_by_default) expands to the body.
 ///
 /// # Errors
 ///

@@ -37,7 +37,8 @@ impl<'chars> SnippetStart<'chars> {
 
 /// The characters of the output. The fields are the Rust crate's.
 ///
-/// [`Chars::ascii`] is for terminals that do not show box drawing.
+/// Each field's documentation shows its default, that of [`Chars::box_drawing`], and that of
+/// [`Chars::ascii`] where it differs. The latter is for terminals that do not show box drawing.
 ///
 /// # Examples
 ///
@@ -106,8 +107,8 @@ impl<'chars> Chars<'chars> {
     ghost use Rattle.codespan_config.specs.ConfigEquality.{IsEqualChars};
     ghost use Rattle.codespan_config.specs.Characters.{box_drawing, ascii};
 
-    /// Returns the characters of box drawing, which are the default, with a text before a locus
-    /// that is `Fixed`.
+    /// Returns the characters of box drawing, which are the default. The text before a locus is
+    /// [`SnippetStart::Fixed`].
     pub fn box_drawing() -> Chars<'chars>
         ensures equal { IsEqualChars box_drawing result }
         ensures fixed { IsTrue (is_fixed result.snippet_start) }
@@ -132,7 +133,7 @@ impl<'chars> Chars<'chars> {
         }
     }
 
-    /// Returns characters of ASCII alone, with a text before a locus that is `Fixed`.
+    /// Returns characters of ASCII alone. The text before a locus is [`SnippetStart::Fixed`].
     pub fn ascii() -> Chars<'chars>
         ensures equal { IsEqualChars ascii result }
         ensures fixed { IsTrue (is_fixed result.snippet_start) }

@@ -26,20 +26,20 @@ pub enum Color {
 /// A style of text: its colors and weight.
 #[derive(Clone, Copy, Debug, PartialEq, Eq)]
 pub struct ColorSpec {
-    /// The color of the text; `None` leaves it.
+    /// The color of the text; `None` for the default one.
     pub fg: Option<Color>,
-    /// The color of the background; `None` leaves it.
+    /// The color of the background; `None` for the default one.
     pub bg: Option<Color>,
     /// Whether the text is bold.
     pub bold: bool,
-    /// Whether both colors are the bright ones.
+    /// Whether the colors that are set are the bright ones.
     pub intense: bool,
 }
 
 impl ColorSpec {
     ghost use Rattle.codespan_config.specs.PartStyles.{unset};
 
-    /// Returns a style that sets nothing.
+    /// Returns the style of plain text: the default colors, not bold and not intense.
     pub fn new() -> ColorSpec
         ensures { result ≡ unset }
     {

@@ -21,17 +21,17 @@ use codespan_diagnostics::diagnostic::{LabelStyle, Severity};
 /// ```
 #[derive(Clone, Copy, Debug, PartialEq, Eq)]
 pub struct Styles {
-    /// The severity in the header of a bug. By default red, bold and intense.
+    /// The severity and the code in the header of a bug. By default red, bold and intense.
     pub header_bug: ColorSpec,
-    /// The severity in the header of an error. By default red, bold and intense.
+    /// The severity and the code in the header of an error. By default red, bold and intense.
     pub header_error: ColorSpec,
-    /// The severity in the header of a warning. By default yellow, bold and intense.
+    /// The severity and the code in the header of a warning. By default yellow, bold and intense.
     pub header_warning: ColorSpec,
-    /// The severity in the header of a note. By default green, bold and intense.
+    /// The severity and the code in the header of a note. By default green, bold and intense.
     pub header_note: ColorSpec,
-    /// The severity in the header of a help. By default cyan, bold and intense.
+    /// The severity and the code in the header of a help. By default cyan, bold and intense.
     pub header_help: ColorSpec,
-    /// The message of a header. By default bold and intense.
+    /// The message of a header, with the colon before it. By default bold and intense.
     pub header_message: ColorSpec,
 
     /// Primary labels of a bug. By default red.
@@ -58,7 +58,7 @@ pub struct Styles {
 impl Styles {
     ghost use Rattle.codespan_config.specs.PartStyles.{no_color_styles, header_style, label_style as style_of_label};
 
-    /// Borrows the style of the severity in a header.
+    /// Borrows the style of the severity and the code in a header.
     pub fn header(&self, severity: Severity) -> &ColorSpec
         ensures { result.now ≡ header_style self.now severity }
     {
@@ -71,7 +71,7 @@ impl Styles {
         }
     }
 
-    /// Borrows the style of the message in a header.
+    /// Borrows the style of the message of a header, with the colon before it.
     pub fn header_message(&self) -> &ColorSpec
         ensures { result.now ≡ self.now.header_message }
     {
@@ -92,7 +92,7 @@ impl Styles {
         &self.note_bullet
     }
 
-    /// Borrows the style of the border left of the source.
+    /// Borrows the style of the border left of the source, and of the start of a snippet.
     pub fn source_border(&self) -> &ColorSpec
         ensures { result.now ≡ self.now.source_border }
     {
@@ -114,7 +114,7 @@ impl Styles {
         }
     }
 
-    /// Returns styles that set nothing.
+    /// Returns the styles that are all [`ColorSpec::new`], that of plain text.
     pub fn no_color() -> Styles
         ensures { result ≡ no_color_styles }
     {
@@ -166,7 +166,7 @@ impl Default for Styles {
     }
 }
 
-/// Returns the style of a color.
+/// Returns the style that has this color and nothing else.
 fn colored(color: Color) -> ColorSpec
     ensures { result ≡ colored color }
 {
@@ -176,7 +176,7 @@ fn colored(color: Color) -> ColorSpec
     }
 }
 
-/// Returns a bold and intense style of a color, or of none.
+/// Returns a bold and intense style, with this color if there is one.
 fn bright(color: Option<Color>) -> ColorSpec
     ensures { result ≡ bright color }
 {

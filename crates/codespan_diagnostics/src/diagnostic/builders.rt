@@ -83,8 +83,7 @@ impl<FileId: Drop> Diagnostic<FileId> {
     ///
     /// # Requires
     ///
-    /// Of each iterator that `into_iter` may return, `next` may be called, and its items come to an
-    /// end.
+    /// Each iterator that `into_iter` may return is finite, and its `next` may be called.
     pub fn with_labels_iter<I: IntoIterator<Item = Label<FileId>>>(
         self,
         labels: I,
@@ -147,8 +146,7 @@ impl<FileId: Drop> Diagnostic<FileId> {
     ///
     /// # Requires
     ///
-    /// Of each iterator that `into_iter` may return, `next` may be called, and its items come to an
-    /// end.
+    /// Each iterator that `into_iter` may return is finite, and its `next` may be called.
     pub fn with_notes_iter<I: IntoIterator<Item = String>>(self, notes: I) -> Result<Self, Error>
     where
         I::IntoIter: Drop,

@@ -8,11 +8,12 @@ use std::alloc::Global;
 use std::fmt;
 use std::fmt::{Display, Write};
 
-/// Collects a text, and keeps whether an allocation for it failed.
+/// A buffer for the text that a `Display` writes. It keeps whether an allocation failed, since
+/// both that and a `Display` that fails return a `fmt::Error`.
 #[derive(Drop)]
 struct DisplayBuffer {
     text: String,
-    failed: bool,
+    alloc_failed: bool,
 }
 
 impl Write for DisplayBuffer {
@@ -22,7 +23,7 @@ impl Write for DisplayBuffer {
         match self.text.push_str(piece) {
             Ok(()) => Ok(()),
             Err(_) => {
-                self.failed = true;
+                self.alloc_failed = true;
                 Err(fmt::Error)
             }
         }
@@ -42,11 +43,11 @@ pub fn display_text<D: Display + Drop>(alloc: Global, value: D) -> Result<String
 {
     let mut buffer = DisplayBuffer {
         text: String::new(alloc),
-        failed: false,
+        alloc_failed: false,
     };
     match write!(buffer, "{value}") {
         Ok(()) => Ok(buffer.text),
-        Err(_) if buffer.failed => Err(Error::OutOfMemory),
+        Err(_) if buffer.alloc_failed => Err(Error::OutOfMemory),
         Err(_) => Err(Error::FormatError),
     }
 }

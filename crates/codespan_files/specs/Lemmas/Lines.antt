@@ -32,7 +32,7 @@ cuts_no from b bs xs c = record {
   rising = c.rising;
 }
 
--- with one start more, all are after `from`
+-- with one more start in front, all are after `from`
 above_cons : (from b : ℕ) (bs xs : List ℕ) → Cuts (from + 1) bs xs → (k : ℕ)
     → k < length ((from + 1) ∷ xs) → from < get_or ((from + 1) ∷ xs) k 0
 above_cons from b bs xs c zero h = omega arith
@@ -54,7 +54,7 @@ newline_cons from bs xs c zero h =
 newline_cons from bs xs c (suc k) h =
     later_byte 10 bs from _ (c.above k (omega arith)) (c.newline k (omega arith))
 
--- and they rise
+-- and they ascend
 rising_cons : (from : ℕ) (bs xs : List ℕ) → Cuts (from + 1) bs xs → (k : ℕ)
     → k + 1 < length ((from + 1) ∷ xs)
     → get_or ((from + 1) ∷ xs) k 0 < get_or ((from + 1) ∷ xs) (k + 1) 0
@@ -73,13 +73,13 @@ cuts_yes from b bs xs e c = record {
   rising = rising_cons from bs xs c;
 }
 
--- either way
+-- a first byte adds a start exactly where it is a newline
 cuts_by : (from b : ℕ) (bs xs : List ℕ) (v : Bool) → eqb b 10 ≡ v → Cuts (from + 1) bs xs
     → Cuts from (b ∷ bs) (if v then (from + 1) ∷ xs else xs)
 cuts_by from b bs xs true e c = cuts_yes from b bs xs (eqb-true b 10 e) c
 cuts_by from b bs xs false e c = cuts_no from b bs xs c
 
--- the starts after newlines are so
+-- `starts_after` returns such starts
 pub cuts : (from : ℕ) (bs : List ℕ) → Cuts from bs (starts_after from bs)
 cuts from [] = record {
   above = λ k h. absurd (omega arith);
@@ -107,11 +107,11 @@ count_split b (x ∷ xs) (suc i) h low high =
     (λ k p q. high (suc k) (omega arith) (omega arith)) in
     sum_by-cons (λ s. cond (nat_le s b) 1 0) x xs ∙ rw (le-leb x b head) (omega (arith, rest))
 
--- two numbers that differ are not equal by the test
+-- the test of equality is false of two numbers that differ
 ne-eqb : (a b : ℕ) → a ≢ b → eqb a b ≡ false
 ne-eqb a b n = elim (eqb_tells a b) [ inl p ↦ absurd (n p.1) | inr p ↦ p.0 ]
 
--- a step over one byte
+-- a step over a newline
 pub starts_after_newline : (bs : List ℕ) (i : ℕ) → i < length bs → get_or bs i 0 ≡ 10
     → starts_after i (drop i bs) ≡ (i + 1) ∷ starts_after (i + 1) (drop (i + 1) bs)
 starts_after_newline bs i h e = rw (drop_more bs i 0 h) (rw (eq-eqb (get_or bs i 0) 10 e) refl)
@@ -134,20 +134,20 @@ unfolding line_of
 line_of_below starts byte h = omega (arith, count_by-le-length (λ s. nat_le s byte) starts)
 
 module _ (f : FileModel) (law : IsLawful f) where
-  -- each line before a line has a byte
+  -- each line before a line has at least one byte
   pub start_from_index : (i : ℕ) → i < line_count f → i ≤ slice_index f.starts i
   start_from_index zero h = omega arith
   start_from_index (suc i) h =
       let e : suc i ≡ i + 1 = omega arith in
       rw e (omega (arith, start_from_index i (omega arith), law.ascending i (omega arith)))
 
-  -- and so a file has one line more than bytes at most
+  -- so a file has at most one line more than bytes
   pub lines_within_text : line_count f ≤ length f.text + 1
   lines_within_text =
       let last : ℕ = line_count f - 1 in
       let below : last < line_count f = omega (arith, law.some_line) in
       omega (arith, start_from_index last below, (law.starts_cut last below).0)
 
-  -- and has no more lines than there are indices
+  -- and at most as many lines as there are `usize` indices
   pub lines_have_indices : line_count f ≤ 2 ^ 64
   lines_have_indices = omega (arith, lines_within_text, law.fits)

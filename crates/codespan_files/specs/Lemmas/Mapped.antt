@@ -92,7 +92,7 @@ mapped_lawful name text set_numbers u fits =
       missing_text = law.missing_text;
     }
 
--- and fails past its last line
+-- and its lookup of a range fails past its last line
 pub mapped_past_end : (name : Option (List ℕ)) (text : List ℕ) (set_numbers : List (ℕ × ℕ)) (i : ℕ)
     → FailsPastEnd (mapped_file name text set_numbers) i
     (mapped_failure text set_numbers (LineRange i))

@@ -1,5 +1,5 @@
 -- For the members `lawful`, `same_file` and `past_end` of `SimpleFiles`: the law of a file database
--- of which an id may name no file.
+-- some of whose ids name no file.
 use Rattle.std.proofs.Common.{◌≡◌, ℕ, zero, suc, ◌<◌, true, Option, Some, None, refl, ap, arith, eqb}
 use Rattle.std.proofs.lemmas.Bool.{eqb-true}
 use Rattle.std.specs.Option.{option_map_or}
@@ -13,7 +13,7 @@ use Rattle.codespan_files.specs.LawfulFiles.{IsLawful, FailsPastEnd}
 use Rattle.codespan_files.specs.FileModel.Lookup.{LineRange}
 use Rattle.codespan_files.specs.SimpleModel.{missing_file, missing_failure}
 
--- the only start and end of an empty text is a boundary
+-- the one start and the one end of an empty text are boundaries
 cut_at_zero : (i : ℕ) → i < 1 → IsCharBoundary [] (get_or (0 ∷ []) i 0)
 cut_at_zero zero h = (omega arith, λ k. absurd (omega arith))
 cut_at_zero (suc i) h = absurd (omega arith)
@@ -35,8 +35,8 @@ missing_lawful = record {
   missing_text = λ _. refl;
 }
 
--- the files of a database are lawful, seen through a view of what it holds, and so is that of an id
--- that names none
+-- where the file of each item of a list is lawful, by a view of the item, so is the file of each
+-- id, also of one that names none
 pub database_lawful : {X Y : Type 0} (view : X → Y) (file : Y → FileModel) (xs : List X) (id : ℕ)
     → ((x : X) → IsLawful (file (view x)))
     → IsLawful (option_map_or file (slice_get (map view xs) id) missing_file)
@@ -44,7 +44,7 @@ database_lawful view file [] id h = missing_lawful
 database_lawful view file (x ∷ xs) zero h = h x
 database_lawful view file (x ∷ xs) (suc id) h = database_lawful view file xs id h
 
--- their errors past the last line are as the law has them
+-- and where the file of each item fails past its last line as the law says, so does that of each id
 pub past_end_or : {X : Type 0} (file : X → FileModel) (failure : X → Lookup → Option Error) (i : ℕ)
     (o : Option X) → ((x : X) → FailsPastEnd (file x) i (failure x (LineRange i)))
     → FailsPastEnd (option_map_or file o missing_file) i
@@ -52,7 +52,7 @@ pub past_end_or : {X : Type 0} (file : X → FileModel) (failure : X → Lookup 
 past_end_or file failure i None h = λ there. absurd (cc)
 past_end_or file failure i (Some x) h = h x
 
--- what two equal numbers have
+-- two functions have the same values at two numbers that are equal by the test
 pub same_at : {A B : Type 0} (f : ℕ → A) (g : ℕ → B) (i j : ℕ) → eqb i j ≡ true
     → (f i ≡ f j) × (g i ≡ g j)
 same_at f g i j e = (ap f (eqb-true i j e), ap g (eqb-true i j e))

@@ -100,7 +100,7 @@ simple_lawful name text u fits = record {
   missing_text = λ e. absurd (cc);
 }
 
--- of n lines the error past the last is returned exactly from n on
+-- of n lines, exactly those from n on fail with the error past the last
 pub past_end_is : (n i : ℕ)
     → IsPastEndError (if nat_lt i n then None else Some (LineTooLarge i (n - 1))) ↔ (n ≤ i)
 past_end_is n i =
@@ -114,7 +114,7 @@ pub simple_past_end : (name : Option (List ℕ)) (text : List ℕ) (i : ℕ)
     → FailsPastEnd (simple_file name text) i (simple_failure text (LineRange i))
 simple_past_end name text i there = past_end_is (length (line_starts_of text)) i
 
--- a line that exists may fail too, with an error other than that of a line past the last
+-- the law still holds where lines that exist may fail too, with any other error
 pub or_failure-past_end : (f : FileModel) (i : ℕ) (o p : Option Error) → (IsPastEndError p → ⊥)
     → FailsPastEnd f i o → FailsPastEnd f i (or_failure o p)
 or_failure-past_end f i None p other h =
@@ -166,12 +166,12 @@ line_found_inside text xs byte i e found =
     elim (cases_lt 0 i) [ inl p ↦ p | inr p ↦ absurd (omega (arith, f.2 0 p (omega arith))) ] in
     (some, omega arith)
 
--- what a file returns as its source is UTF-8
+-- the text of a `SimpleFile` is UTF-8
 pub text_is_utf8 : {Name Source : Type 0} {texts : Ghosts Source}
     (file : SimpleFile Name Source texts) → IsUtf8 (texts.text (source_of file))
 text_is_utf8 file = IsUtf8-had _ file.utf8
 
--- and is short enough for a string
+-- and is short enough for a `str`
 pub text_fits : {Name Source : Type 0} {texts : Ghosts Source} (file : SimpleFile Name Source texts)
     → length (texts.text (source_of file)) < 2 ^ 64
 text_fits file = file.fits

@@ -64,7 +64,7 @@ impl<Name, Source: AsStr> SimpleFiles<Name, Source> {
     ///
     /// [`Error::FileMissing`] exactly where the id is not below the number of files.
     pub fn get(&self, id: usize) -> Result<&SimpleFile<Name, Source>, Error>
-        ensures there { IsOk result ↔ (id < length (entries self.now)) }
+        ensures succeeds { IsOk result ↔ (id < length (entries self.now)) }
         ensures found { IfOk result (λ file.
             slice_get (entries self.now) id ≡ Some (name_of file.now, source_of file.now)) }
         ensures missing { IfErr result (λ e.

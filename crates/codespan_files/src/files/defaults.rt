@@ -5,8 +5,8 @@ ghost use Rattle.codespan_files.specs.LawfulFiles.{NeedsNoMemory, FailsBy, line_
 
 use crate::files::Error;
 
-/// Returns the number of a line as most files have it: the 0-based index plus 1, as the Rust
-/// crate's default does.
+/// Returns the number of a line as most databases have it, which is also the Rust crate's default:
+/// the 0-based index plus 1.
 ///
 /// # Errors
 ///

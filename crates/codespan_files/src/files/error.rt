@@ -28,7 +28,8 @@ pub enum Error {
     LineTooLarge {
         /// The line index that was looked up, from 0.
         given: usize,
-        /// The greatest line index with which the lookup succeeds.
+        /// The greatest line index with which the lookup succeeds; of a line number of a
+        /// `MappedFile`, among the lines that count from the same set number.
         max: usize,
     },
     /// The line has no such column. Returned by custom file databases, and by `codespan_lsp` where
@@ -40,13 +41,14 @@ pub enum Error {
         /// The greatest column with which the lookup succeeds, in the same unit.
         max: usize,
     },
-    /// The byte is inside a character, or the position between its code units. Returned by custom
-    /// file databases and by `codespan_lsp`.
+    /// The byte index is inside a character, or the position is between the code units of one.
+    /// Returned by custom file databases and by `codespan_lsp`.
     InvalidCharBoundary {
-        /// The byte index that was looked up, from 0; of a position that of the character.
+        /// The byte index that was looked up, from 0; where a position was, the byte index at which
+        /// its character begins.
         given: usize,
     },
-    /// A write to a writer failed or took none of its bytes, or a file database failed to read.
+    /// A write failed, or took none of some bytes, or a file database failed to read.
     Io(io::Error),
     /// A `Display` failed, and no allocation of its text did.
     FormatError,

@@ -6,8 +6,8 @@ ghost use Rattle.codespan_files.specs.LineStarts.{starts_left};
 use crate::files::LineStarts;
 use std::ops::Range;
 
-/// Returns the byte indices at which the lines of a text start: 0, and after each newline the next
-/// one. They count from 0 and ascend.
+/// Returns an iterator over the byte indices at which the lines of a text start, in ascending
+/// order: 0, and for each newline the index after it.
 ///
 /// File databases keep them, and search them for a byte's line:
 /// [`Files::line_index`](codespan_reporting::files::Files::line_index).
@@ -30,8 +30,8 @@ pub fn line_starts(source: &str) -> LineStarts<'_>
 /// The rule is the Rust crate's.
 ///
 /// `line_range` and `byte_index` are in bytes of `source`, from 0, with an exclusive end. Before
-/// the line's start the column is 0, inside a character that of the character, and past the line's
-/// end that of the end. Any range and byte are valid.
+/// the line's start the column is 0, inside a character it is that of the character, and past the
+/// line's end that of the end. Any range and any byte index are valid.
 ///
 /// # Examples
 ///

@@ -11,7 +11,7 @@ use std::fmt::Display;
 use std::ops::Range;
 
 /// A file database of one file, whose line numbers can be set as `#line` does in C. The id is `()`.
-/// It is this project's own.
+/// The Rust crate has no such database.
 ///
 /// A line whose number is set has that number, and the lines after it count on from there, up to
 /// the next line whose number is set. Before the first such line they count from 1. A line starts
@@ -100,7 +100,7 @@ impl<Name, Source: AsStr> MappedFile<Name, Source> {
         }
     }
 
-    /// Returns the index, among the set numbers, of that of the line, or as `Err` the index at
+    /// Returns the index of the line's number among the set numbers, or, as `Err`, the index at
     /// which it would be inserted.
     fn search(&self, line_index: usize) -> Result<usize, usize>
         ensures found { IfOk result (IsSetAt (set_numbers_of self.now) line_index) }
@@ -110,8 +110,8 @@ impl<Name, Source: AsStr> MappedFile<Name, Source> {
             .binary_search_by_key(&line_index, |&(index, _)| index)
     }
 
-    /// Returns the set number that this line counts from, with its line index; `None` where none is
-    /// set at it or above it.
+    /// Returns the set number that this line counts from, after its line index; `None` where no
+    /// number is set at the line or above it.
     fn nearest(&self, line_index: usize) -> Option<(usize, usize)>
         ensures value { result ≡ nearest_set (set_numbers_of self.now) line_index }
         ensures below { IfSome result (λ s. s.0 ≤ line_index) }
@@ -192,14 +192,15 @@ impl<'a, Name: Display + 'a, Source: AsStr + 'a> Files<'a> for MappedFile<Name, 
         self.file.line_index(id, byte_index)
     }
 
-    /// Returns the number that is set nearest at or above the line, plus the lines from there on,
-    /// by binary search; where none is set there, the 0-based index plus 1. The line need not
-    /// exist.
+    /// Returns the set number that the line counts from, the nearest at or above it, plus the
+    /// number of lines from there to the line, by binary search. Where no number is set there,
+    /// returns the 0-based index plus 1. The line need not exist.
     ///
     /// # Errors
     ///
-    /// [`Error::LineTooLarge`] with `given` the index and `max` the greatest index whose number
-    /// fits into a `usize`, where this one does not.
+    /// [`Error::LineTooLarge`] where the number does not fit into a `usize`, with `given` the index
+    /// and `max` the greatest index that counts from the same set number and whose number fits;
+    /// where no number is set at or above the line, that of [`default_line_number`].
     fn line_number(&'a self, _id: (), line_index: usize) -> Result<usize, Error>
         ensures value { IfOk result (λ number.
             number ≡ number_from (nearest_set (set_numbers_of self.now) line_index) line_index) }

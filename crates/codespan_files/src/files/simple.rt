@@ -81,7 +81,7 @@ impl<Name, Source: AsStr> SimpleFile<Name, Source> {
         &self.source
     }
 
-    /// Returns how many lines the text has: at least one.
+    /// Returns the number of lines of the text, which is at least one.
     pub(super) fn line_count(&self) -> usize
         ensures value { result ≡ length (line_starts_of (file_text_of self.now)) }
         ensures some { 1 ≤ result }
@@ -152,7 +152,7 @@ impl<'a, Name: Display + 'a, Source: AsStr + 'a> Files<'a> for SimpleFile<Name, 
     {
         match self.line_starts.binary_search(&byte_index) {
             Ok(line) => Ok(line),
-            Err(next) => Ok(next - 1),
+            Err(next_line) => Ok(next_line - 1),
         }
     }
 

@@ -1,15 +1,15 @@
 //! The iterator over the line starts of a text.
 ghost use Rattle.std.specs.Prelude.{◌≤◌, length};
 
-/// An iterator over the byte indices at which the lines of a text start, in ascending order. They
-/// count from 0.
+/// An iterator over the byte indices at which the lines of a text start, from 0, in ascending
+/// order.
 ///
 /// Returned by [`line_starts`](codespan_reporting::files::line_starts). It ends, by the law
 /// [`codespan_base::laws::line_starts_end`].
 #[derive(Debug, Drop)]
 pub struct LineStarts<'a> {
     source: &'a str,
-    // The byte index from which the next newline is searched.
+    // The byte index from which the next newline is searched for.
     at: usize,
     // Whether the first start has been returned.
     started: bool,

@@ -93,7 +93,7 @@ fn write_bold<W: Write>(w: &mut W, bold: bool) -> io::Result<()>
 }
 
 /// Writes the sequence that sets a color, where there is one; the plane is `3` for the text and `4`
-/// for the background.
+/// for the background. The number of an intense color, plus 8, has one digit or two.
 #[tactic(auto, using(crate::proofs::AppendsBytes::append_chains, crate::proofs::AnsiLemmas::sequences))]
 fn write_color<W: Write>(
     w: &mut W,

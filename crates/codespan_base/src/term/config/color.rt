@@ -1,4 +1,4 @@
-//! The trait of writers that write styles, beside colors and styles.
+//! Colors and styles of text, and the trait of writers that write them.
 
 ghost use Rattle.codespan_base.specs.WriterLaw.{AppendsBytes};
 
@@ -6,7 +6,7 @@ pub use codespan_config::config::color::{Color, ColorSpec};
 use std::io;
 use std::io::Write;
 
-/// A writer with fixed bytes for each style and for the reset.
+/// A writer of bytes and colors, with fixed bytes for each style of text and for the reset.
 /// [`StylesWriter`](codespan_reporting::term::StylesWriter) makes a
 /// [`WriteStyle`](codespan_reporting::term::WriteStyle) of it.
 ///
@@ -15,10 +15,10 @@ pub trait WriteColor: Write {
     ghost use Rattle.std.specs.Prelude.{ℕ, List};
     ghost use Rattle.codespan_config.specs.declared.config.color.ColorSpec.{ColorSpec};
 
-    /// The bytes of a style.
+    /// The bytes that the writer writes for a style.
     ghost color_bytes: { ColorSpec → List ℕ };
 
-    /// The bytes of the reset.
+    /// The bytes that the writer writes for the reset, which ends a style.
     ghost reset_bytes: { List ℕ };
 
     /// Writes the bytes of the style.

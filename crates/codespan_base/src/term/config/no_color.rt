@@ -8,7 +8,7 @@ use crate::term::config::color::{ColorSpec, WriteColor};
 use std::io;
 use std::io::Write;
 
-/// A [`WriteColor`] whose styles and reset have no bytes. Its `set_color` and `reset` succeed.
+/// A [`WriteColor`] of plain text: `set_color` and `reset` write nothing, and succeed.
 #[derive(Debug, Drop)]
 pub struct NoColor<W> {
     inner: W,

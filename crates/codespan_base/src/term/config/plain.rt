@@ -11,7 +11,7 @@ use codespan_diagnostics::diagnostic::{LabelStyle, Severity};
 use std::io;
 use std::io::Write;
 
-/// A [`WriteStyle`] of plain text: each style mark has no bytes, and succeeds.
+/// A [`WriteStyle`] of plain text: a style mark writes nothing, and succeeds.
 ///
 /// The Rust crate has it too, but keeps it private; `into_inner` and `has_failed` are this
 /// project's own.
@@ -66,7 +66,7 @@ impl<W: Write> PlainWriter<W> {
     }
 }
 
-/// Passes writes and flushes on to the inner writer; they leave the flag.
+/// Passes writes and flushes on to the inner writer; they do not change the flag.
 impl<W: Write> Write for PlainWriter<W> {
     ghost use Rattle.codespan_base.specs.Writers.{plain_inner};
 

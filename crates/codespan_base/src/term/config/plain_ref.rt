@@ -8,12 +8,12 @@ use codespan_diagnostics::diagnostic::{LabelStyle, Severity};
 use std::io;
 use std::io::Write;
 
-/// A [`WriteStyle`] of plain text over a borrowed writer: each style mark has no bytes, and
+/// A [`WriteStyle`] of plain text over a borrowed writer: a style mark writes nothing, and
 /// succeeds. It is this project's own.
 ///
-/// [`PlainWriter`](codespan_reporting::term::PlainWriter) is the same over an owned writer. This
-/// one has the name of the reference in its sink besides, so that contracts state what the borrowed
-/// writer has afterwards.
+/// [`PlainWriter`](codespan_reporting::term::PlainWriter) is the same over an owned writer. The
+/// sink of this one also has the name of the reference, so that contracts can state what the
+/// borrowed writer has afterwards.
 #[derive(Drop)]
 pub struct PlainWriterRef<'writer, W> {
     writer: &'writer mut W,
@@ -36,7 +36,7 @@ impl<'writer, W: Write> PlainWriterRef<'writer, W> {
     }
 }
 
-/// Passes writes and flushes on to the inner writer; they leave the flag.
+/// Passes writes and flushes on to the inner writer; they do not change the flag.
 impl<W: Write> Write for PlainWriterRef<'_, W> {
     ghost use Rattle.codespan_base.specs.Writers.{borrowed_writer};
 

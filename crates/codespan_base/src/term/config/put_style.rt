@@ -14,9 +14,9 @@ use std::io::ErrorKind;
 /// A [`WriteStyle`], or a writer that keeps the law of one and fails with a custom error.
 ///
 /// Each [`WriteStyle`] is one, by the `impl` below, and fails with its [`io::Error`]. The calls
-/// that write whole texts and rows are generic over this trait: an `io::Error` takes 88 bytes,
-/// which each call that may fail with it fills and copies, so rows are written by a writer that
-/// saves it and fails with a zero-sized error.
+/// that write whole texts and rows are generic over this trait, for speed: a result that may be an
+/// `io::Error` takes 96 bytes, which each call fills and its caller copies. So rows are written to
+/// a writer that keeps the error and fails with a zero-sized one.
 pub trait PutStyle {
     ghost use Rattle.codespan_base.specs.WriterLaw.{Sink};
 

@@ -12,8 +12,8 @@ use codespan_diagnostics::diagnostic::{LabelStyle, Severity};
 use std::io;
 use std::io::Write;
 
-/// A [`WriteStyle`] over a [`WriteColor`]: each style mark has the bytes of its style in
-/// [`Styles`], and the reset those of the reset.
+/// A [`WriteStyle`] over a [`WriteColor`]: each style mark is spelled as the bytes of its style in
+/// [`Styles`], and the reset as those of the reset.
 ///
 /// # Examples
 ///
@@ -91,7 +91,7 @@ impl<'a, W: WriteColor> StylesWriter<'a, W> {
     }
 }
 
-/// Passes writes and flushes on to the inner writer; they leave the flag.
+/// Passes writes and flushes on to the inner writer; they do not change the flag.
 impl<W: WriteColor> Write for StylesWriter<'_, W> {
     ghost use Rattle.codespan_base.specs.Writers.{styles_inner};
 

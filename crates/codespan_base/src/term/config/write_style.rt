@@ -8,14 +8,14 @@ use codespan_diagnostics::diagnostic::{LabelStyle, Severity};
 use std::io;
 use std::io::Write;
 
-/// The result of a style mark: the Rust crate's name for `io::Result<()>`.
+/// The result of a call that writes a style mark: the Rust crate's name for `io::Result<()>`.
 pub type GeneralWriteResult = io::Result<()>;
 
 /// A writer of bytes and style marks. It has a spelling: fixed bytes for each style mark, which no
 /// call changes.
 ///
 /// A style mark that succeeds appends its spelling, and one that fails a prefix of it. The writer
-/// keeps a flag of whether it has failed: a style mark or a `put` that fails, and a `put` of some
+/// has a flag of whether it has failed: a style mark or a `put` that fails, and a `put` of some
 /// bytes that takes none, set it, and nothing else does. The rules are this project's own.
 ///
 /// Rendering writes bytes by `put` and never by the calls of `Write`, and it never flushes.
@@ -143,7 +143,7 @@ pub trait WriteStyle: Write {
     fn reset(&mut self) -> io::Result<()>
         ensures { Writes (sink self.old) (style_mark Reset) result (sink self.new) };
 
-    /// Writes once, and returns how many of the first bytes it took.
+    /// Writes once, and returns how many bytes it took; these are the first ones.
     ///
     /// # Errors
     ///

@@ -15,10 +15,11 @@ use crate::term::config::put_style::PutStyle;
 use std::io;
 use std::io::Write;
 
-/// The number of bytes that are written at once of many spaces, or of many copies of a character.
+/// The greatest number of bytes that one `put` is passed of many spaces or of many copies of a
+/// character.
 const CHUNK_LEN: usize = 64;
 
-/// The spaces that are written at once.
+/// The spaces that one `put` is passed.
 static SPACES: [u8; CHUNK_LEN] = [b' '; CHUNK_LEN];
 
 /// The number of digits of `usize::MAX`.
@@ -58,8 +59,8 @@ pub fn put_char<W: PutStyle>(w: &mut W, c: char) -> Result<(), W::Error>
     put_glyph(w, text.as_bytes())
 }
 
-/// Writes the bytes of a character. Those of box drawing have three, which are written as an array:
-/// a `put` of a known number of bytes needs no call to copy them.
+/// Writes the bytes of a character. The characters of box drawing have three bytes each, which are
+/// written as an array: a `put` of a known number of bytes needs no call to copy them.
 #[inline(always)]
 fn put_glyph<W: PutStyle>(w: &mut W, text: &[u8]) -> Result<(), W::Error>
     ensures { Writes (W.sink w.old) (bytes text.now) result (W.sink w.new) }
@@ -86,7 +87,7 @@ pub fn put_spaces<W: PutStyle>(w: &mut W, count: usize) -> Result<(), W::Error>
     put_all(w, &SPACES[..left])
 }
 
-/// Writes `count` copies of a character in UTF-8.
+/// Writes `count` copies of a character in UTF-8. One and two copies are written without a chunk.
 ///
 /// # Errors
 ///
@@ -102,8 +103,8 @@ pub fn put_repeated<W: PutStyle>(w: &mut W, c: char, count: usize) -> Result<(),
     }
 }
 
-/// Writes two copies of a character. Two of three bytes each, as those of box drawing are, are one
-/// array, as one is in `put_glyph`.
+/// Writes two copies of a character. Where it has three bytes, as those of box drawing have, the
+/// copies are written as one array, as in `put_glyph`.
 #[inline(always)]
 fn put_pair<W: PutStyle>(w: &mut W, c: char) -> Result<(), W::Error>
     ensures { Writes (W.sink w.old) (repeated 2 c) result (W.sink w.new) }
@@ -118,7 +119,7 @@ fn put_pair<W: PutStyle>(w: &mut W, c: char) -> Result<(), W::Error>
     }
 }
 
-/// Writes `count` copies of a character, as many at once as fit into a chunk.
+/// Writes `count` copies of a character, by chunks of as many copies as fit.
 fn put_runs<W: PutStyle>(w: &mut W, c: char, count: usize) -> Result<(), W::Error>
     ensures { Writes (W.sink w.old) (repeated count c) result (W.sink w.new) }
 {
@@ -135,7 +136,11 @@ fn put_runs<W: PutStyle>(w: &mut W, c: char, count: usize) -> Result<(), W::Erro
     put_all(w, &run[..left * glyph.len()])
 }
 
-/// Fills the front of `run` with copies of the bytes. Requires that they fit.
+/// Fills the front of `run` with copies of the bytes.
+///
+/// # Requires
+///
+/// The copies fit into `run`.
 fn fill(run: &mut [u8], bytes: &[u8], copies: usize)
     requires { copies * length bytes.now ≤ length run.old }
     ensures { take (copies * length bytes.now) run.new ≡ repeat copies bytes.now }
@@ -160,7 +165,7 @@ pub fn put_number<W: PutStyle>(w: &mut W, number: usize) -> Result<(), W::Error>
     put_all(w, &digits[start..])
 }
 
-/// Writes the digits of a number to the end of the array, and returns the index of the first.
+/// Writes the digits of a number to the end of the array, and returns the index of the first one.
 fn write_digits(digits: &mut [u8; DIGITS], number: usize) -> usize
     ensures start { result ≤ DIGITS }
     ensures value { drop result digits.new ≡ decimal number }
@@ -183,7 +188,7 @@ fn write_digits(digits: &mut [u8; DIGITS], number: usize) -> usize
 ///
 /// That of a write that fails, and `ErrorKind::WriteZero` where a write takes none of some bytes.
 /// A prefix has then been written. An interrupted write is an error too; Rust's `Write::write_all`
-/// tries it again.
+/// retries it.
 pub fn write_all<W: Write>(w: &mut W, bytes: &[u8]) -> io::Result<()>
     ensures appends { AppendsBytes (W.contents w.old) bytes.now result (W.contents w.new) }
     ensures nothing { bytes.now ≡ [] → WritesNothing w.old result w.new }

@@ -3,7 +3,7 @@ use Rattle.codespan_diagnostics.specs.declared.diagnostic.Severity.{Severity}
 use Rattle.codespan_diagnostics.specs.declared.diagnostic.Severity.TheVariants.{Help, Note, Warning, Error, Bug}
 use Rattle.codespan_diagnostics.proofs.laws.severities_agree.Goals as goal
 
--- what is so of each severity is so of all
+-- what holds of the five severities holds of each severity
 each : (P : Severity → Type 0) → P Help → P Note → P Warning → P Error → P Bug → (x : Severity) → P x
 each P help note warning error bug Help = help
 each P help note warning error bug Note = note

@@ -17,9 +17,9 @@ returns-in-None-clause-missing g c =
     let past : length c.args.self.now.files.items ≤ c.args.id = grind (arith, nat_tests, c.deref.ensures.len, c.in-None.ensures.lookup.0) in
     (slice_get-map _ c.args.self.now.files.items c.args.id ∙ ap (option_map _) (slice_get_past _ _ past), refl)
 
--- the bounds of the list are those of the entries
-pub returns-in-Some-clause-there : goal.returns-in-Some-clause-there
-returns-in-Some-clause-there g c = (λ _. simp length-map (grind (arith, nat_tests, c.deref.ensures.len, c.in-Some.ensures.lookup.0)), λ _. refl)
+-- there are as many entries as files
+pub returns-in-Some-clause-succeeds : goal.returns-in-Some-clause-succeeds
+returns-in-Some-clause-succeeds g c = (λ _. simp length-map (grind (arith, nat_tests, c.deref.ensures.len, c.in-Some.ensures.lookup.0)), λ _. refl)
 
-pub returns-in-None-clause-there : goal.returns-in-None-clause-there
-returns-in-None-clause-there g c = (λ some. absurd (false≢true some), λ within. absurd (grind (arith, nat_tests, length-map, c.deref.ensures.len, c.in-None.ensures.lookup.0)))
+pub returns-in-None-clause-succeeds : goal.returns-in-None-clause-succeeds
+returns-in-None-clause-succeeds g c = (λ some. absurd (false≢true some), λ within. absurd (grind (arith, nat_tests, length-map, c.deref.ensures.len, c.in-None.ensures.lookup.0)))

@@ -1,6 +1,6 @@
 use Rattle.std.specs.Prelude.{slice_get}
 use Rattle.codespan_files.specs.DatabaseViews.{entries}
-use Rattle.codespan_files.proofs.Numbers.{numbered, number_fails}
+use Rattle.codespan_files.proofs.SimpleFilesNumbers.{numbered, number_fails}
 use Rattle.codespan_files.proofs.files.database.SimpleFilesFiles.line_number.Goals as goal
 
 -- number and failure are those of the default, whether or not there is such a file

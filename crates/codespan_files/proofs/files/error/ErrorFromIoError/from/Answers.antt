@@ -1,6 +1,6 @@
 use Rattle.std.proofs.Common.{refl}
 use Rattle.codespan_files.proofs.files.error.ErrorFromIoError.from.Goals as goal
 
--- the error is kept
+-- the variant is `Io`, with this error
 pub returns : goal.returns
 returns c = refl

@@ -1,7 +1,7 @@
 use Rattle.std.proofs.lemmas.Result.{err_from_is_err_and}
 use Rattle.codespan_files.specs.DatabaseViews.{mapped_file_of, mapped_text_of}
 use Rattle.codespan_files.proofs.ColumnLemmas.{location_in_file}
-use Rattle.codespan_files.proofs.PastEndFailures.{byte_line_there, never}
+use Rattle.codespan_files.proofs.PastEndFailures.{byte_line_exists, never}
 use Rattle.codespan_files.proofs.files.mapped.MappedFileFiles.location.Goals as goal
 
 -- the line number is that of the byte's line, and the column number that of the byte on it
@@ -15,7 +15,7 @@ returns-in_err-line_number-clause-failed g c =
     rw (p.1, p.2, ← c.in_ok-line_index.ensures.value) c.in_err-line_number.ensures.failed
 
 pub returns-in_err-column_number-clause-failed : goal.returns-in_err-column_number-clause-failed
-returns-in_err-column_number-clause-failed g c = never _ _ (byte_line_there (mapped_text_of c.args.self.now) c.args.byte_index _ c.in_ok-line_index.ensures.value) c.in_err-column_number.ensures.failed c.in_err-column_number.ensures.memory
+returns-in_err-column_number-clause-failed g c = never _ _ (byte_line_exists (mapped_text_of c.args.self.now) c.args.byte_index _ c.in_ok-line_index.ensures.value) c.in_err-column_number.ensures.failed c.in_err-column_number.ensures.memory
 
 pub returns-clause-failed : goal.returns-clause-failed
 returns-clause-failed g c = rw (← c.in_ok-line_index.ensures.value) c.in_ok-line_number.ensures.failed

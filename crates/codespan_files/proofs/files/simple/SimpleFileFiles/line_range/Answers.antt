@@ -7,7 +7,7 @@ use Rattle.codespan_files.specs.SimpleModel.{simple_file}
 use Rattle.codespan_files.proofs.PastEndFailures.{past_end_failure_late, past_end_failure_early}
 use Rattle.codespan_files.proofs.files.simple.SimpleFileFiles.line_range.Goals as goal
 
--- a line past the last fails so
+-- a line past the last fails with the index of the last
 pub returns-then-line_index-count-clause-failed : goal.returns-then-line_index-count-clause-failed
 returns-then-line_index-count-clause-failed g c = λ _.
     past_end_failure_late (g.Source.AsStr.text c.args.self.now.source) c.args.self.now.line_starts.items _ _ c.args.self.now.starts (omega (arith, c.args.self.now.line_starts.ok.0)) c.if-line_index-count.true
@@ -28,11 +28,11 @@ returns-then-line_index-count-2-clause-value g c =
     let file = c.args.self.now in
     range_between (g.Name.Display.output file.name) (g.Source.AsStr.text file.source) file.line_starts.items _ _ _ file.starts (omega (arith, file.line_starts.ok.0)) c.index-start.ensures c.index.ensures
 
--- the call that fails returns no range
+-- a call that fails returns no range
 pub returns-then-line_index-count-clause-value : goal.returns-then-line_index-count-clause-value
 returns-then-line_index-count-clause-value g c = tt
 
--- and no other one
+-- a line that exists does not fail
 pub returns-then-line_index-count-2-clause-failed : goal.returns-then-line_index-count-2-clause-failed
 returns-then-line_index-count-2-clause-failed g c = past_end_failure_early (g.Source.AsStr.text c.args.self.now.source) c.args.self.now.line_starts.items c.args.line_index c.args.self.now.starts (omega (arith, c.args.self.now.line_starts.ok.0))
 

@@ -1,7 +1,7 @@
 use Rattle.std.proofs.Common.{arith}
 use Rattle.codespan_files.specs.DatabaseViews.{file_of}
 use Rattle.codespan_files.proofs.ColumnLemmas.{location_in_file}
-use Rattle.codespan_files.proofs.PastEndFailures.{byte_line_there, byte_line_numbered, never}
+use Rattle.codespan_files.proofs.PastEndFailures.{byte_line_exists, byte_line_numbered, never}
 use Rattle.codespan_files.proofs.files.simple.SimpleFileFiles.location.Goals as goal
 
 -- the line number is that of the byte's line, and the column number that of the byte on it
@@ -17,7 +17,7 @@ returns-in_err-line_number-clause-succeeds g c = never _ _ (byte_line_numbered (
 
 -- the column of a byte's line does not fail
 pub returns-in_err-column_number-clause-failed : goal.returns-in_err-column_number-clause-failed
-returns-in_err-column_number-clause-failed g c = never _ _ (byte_line_there (g.Source.AsStr.text c.args.self.now.source) c.args.byte_index _ c.in_ok-line_index.ensures.value) c.in_err-column_number.ensures.failed c.in_err-column_number.ensures.memory
+returns-in_err-column_number-clause-failed g c = never _ _ (byte_line_exists (g.Source.AsStr.text c.args.self.now.source) c.args.byte_index _ c.in_ok-line_index.ensures.value) c.in_err-column_number.ensures.failed c.in_err-column_number.ensures.memory
 
 pub returns-in_err-column_number-clause-succeeds : goal.returns-in_err-column_number-clause-succeeds
-returns-in_err-column_number-clause-succeeds g c = never _ _ (byte_line_there (g.Source.AsStr.text c.args.self.now.source) c.args.byte_index _ c.in_ok-line_index.ensures.value) c.in_err-column_number.ensures.failed c.in_err-column_number.ensures.memory
+returns-in_err-column_number-clause-succeeds g c = never _ _ (byte_line_exists (g.Source.AsStr.text c.args.self.now.source) c.args.byte_index _ c.in_ok-line_index.ensures.value) c.in_err-column_number.ensures.failed c.in_err-column_number.ensures.memory
