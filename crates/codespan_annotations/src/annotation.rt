@@ -123,8 +123,8 @@ pub fn push_annotation<'d, FileId>(
     Ok(())
 }
 
-/// Returns the label's mark of this kind for the renderer. `line_start` is the byte index in the
-/// file at which the line starts.
+/// Returns the label's multi-line label mark of this kind for the renderer. `line_start` is the
+/// byte index in the file at which the line starts.
 pub fn multi_label<FileId>(
     label: &Label<FileId>,
     kind: MultiLabelKind,
@@ -143,8 +143,9 @@ pub fn multi_label<FileId>(
     }
 }
 
-/// Returns the range of a single-line label in its line, in bytes from `line_start`, the end
-/// exclusive: at least one byte long, unless it starts at the greatest `usize`.
+/// Returns the range of a single-line label in its line, in bytes from `line_start`, the byte index
+/// in the file at which the line starts; the end is exclusive. It is at least one byte long, unless
+/// it starts at `usize::MAX`.
 #[inline(always)]
 pub fn range_in_line<FileId>(label: &Label<FileId>, line_start: usize) -> Range<usize>
     ensures start { result.start ≡ (from_line_start line_start (label_of label.now).label).start }

@@ -39,8 +39,8 @@ impl LabelSpan {
         self.first < index && index < self.last
     }
 
-    /// Returns the kind of the label's mark on the line at this 0-based index, if it is a
-    /// multi-line label that has one.
+    /// Returns the kind of the multi-line label mark on the line at this 0-based index, if the
+    /// label is a multi-line label that has one.
     pub fn multi_label_kind(self, index: usize) -> Option<MultiLabelKind>
         ensures { result ≡ multi_label_kind self.first self.last index }
     {

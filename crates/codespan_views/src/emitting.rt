@@ -135,7 +135,7 @@ pub fn emit_to_string<'files, F: Files<'files>>(
 ///
 /// A prefix of the text has then been written. In rich style nothing has been written where a
 /// lookup before the header fails. In short and medium style, unless the error is `Io`, exactly the
-/// headers of the primary labels before one at which the call fails have been written. This is
+/// headers of the primary labels before the one at which the call fails have been written. This is
 /// known of a writer whose bytes are known.
 ///
 /// Nothing is looked up without labels, and in short and medium style without primary labels.

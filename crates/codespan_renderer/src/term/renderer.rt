@@ -156,7 +156,7 @@ impl<'writer, 'config, W: WriteStyle> Renderer<'writer, 'config, W> {
     /// next tab stop; any other character has the cells of `unicode_width`.
     ///
     /// Ranges are in bytes of `source`, from 0, the end exclusive. They may be in any order,
-    /// reversed, past the end, or off character boundaries; one without a byte has no caret.
+    /// reversed, past the end, or off character boundaries; an empty or reversed one has no caret.
     /// `num_multi_labels` is the number of the file's lanes. `multi_labels` has the lane marks of
     /// the line: of each label its lane, counted from 0, its style, and what it does on the line.
     ///
