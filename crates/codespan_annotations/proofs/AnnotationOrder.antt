@@ -13,7 +13,7 @@ use Rattle.std.specs.List.Sorted.{IsSortedWithin}
 use Rattle.codespan_base.specs.Labels.{LaneMark, LabelModel, range_precedes}
 use Rattle.codespan_annotations.specs.Annotations.{Annotation, Single, Multi, rank_of, first_of, second_of, index_in_list, IsLaneMarkOn, is_before}
 
--- it is an order
+-- the order of annotations is a strict weak order
 pub below_order : IsStrictWeakOrder is_before
 below_order = ranks_by
     (then_total (on_total (λ (e : Annotation). e.file) nat_cmp_total)
@@ -44,19 +44,19 @@ then_same a b o e = ap (λ q. is_lt (ordering_then q o)) (cmp_same a b e)
 
 -- ---- annotations in order
 
--- files do not fall
+-- along annotations in order the files do not decrease
 pub file_rises : (x y : Annotation) → is_before y x ≡ false → x.file ≤ y.file
 file_rises x y h = not_less y.file x.file _ h
 
--- the lines of a file do not fall
+-- nor do the lines of a file
 pub line_rises : (x y : Annotation) → x.file ≡ y.file → is_before y x ≡ false → x.line ≤ y.line
 line_rises x y e h = not_less y.line x.line _ (sym (then_same y.file x.file _ (sym e)) ∙ h)
 
--- the kinds of a line's annotations do not fall
+-- nor do the ranks of a line's annotations
 pub kind_rises : (x y : Annotation) → x.file ≡ y.file → x.line ≡ y.line → is_before y x ≡ false → rank_of x.kind ≤ rank_of y.kind
 kind_rises x y e f h = not_less (rank_of y.kind) (rank_of x.kind) _ (sym (then_same y.line x.line _ (sym f)) ∙ sym (then_same y.file x.file _ (sym e)) ∙ h)
 
--- the ranges of a line's labels do not fall
+-- nor do the ranges of a line's single-line labels
 pub range_rises : (x y : Annotation) {p q : ℕ} {a b : LabelModel} → x.kind ≡ Single p a → y.kind ≡ Single q b → x.file ≡ y.file → x.line ≡ y.line
     → is_before y x ≡ false → range_precedes b a ≡ false
 range_rises x y {a = a} {b = b} xs ys e f h =
@@ -80,21 +80,21 @@ range_rises x y {a = a} {b = b} xs ys e f h =
 
 -- ---- annotations of one line
 
--- of labels with equal ranges the one at the greater index is below
+-- of labels with equal ranges the one at the greater index comes first
 pub index_below : (f l : ℕ) {p q : ℕ} (x y : LabelModel) → x.start ≡ y.start → x.end ≡ y.end → p < q
     → is_before (record { file = f; line = l; kind = Single q y }) (record { file = f; line = l; kind = Single p x }) ≡ true
 index_below f l {p} {q} x y s e h =
     then_same f f _ refl ∙ then_same l l _ refl ∙ then_same y.start x.start _ (sym s) ∙ then_same y.end x.end _ (sym e) ∙ ap is_lt (cmp_less p q h)
 
--- an annotation of a multi-line label mark
+-- the annotation of a lane mark
 abbrev pub lane_mark_annotation : ℕ → ℕ → LaneMark → Annotation
 lane_mark_annotation f l m = record { file = f; line = l; kind = Multi m }
 
--- of two multi-line label marks the one in the lesser lane is below
+-- of two lane marks of one line the one in the lesser lane comes first
 pub lane_below : (f l : ℕ) (x y : LaneMark) → x.lane < y.lane → is_before (lane_mark_annotation f l x) (lane_mark_annotation f l y) ≡ true
 lane_below f l x y h = then_same f f _ refl ∙ then_same l l _ refl ∙ ap (λ q. is_lt (ordering_then q (ordering_then (nat_cmp 0 0) (nat_cmp 0 0)))) (cmp_less x.lane y.lane h)
 
--- equal lanes, and greater ones, are not below
+-- a lane mark in an equal or a greater lane does not come first
 lane_rises : (m n : ℕ) → n ≤ m → is_lt (ordering_then (nat_cmp m n) (ordering_then (nat_cmp 0 0) (nat_cmp 0 0))) ≡ false
 lane_rises m n h = rw (le-ltb m n h) (by_test (m == n))
   where
@@ -102,14 +102,14 @@ lane_rises m n h = rw (le-ltb m n h) (by_test (m == n))
     by_test true = refl
     by_test false = refl
 
--- of two multi-line label marks of one line the one in the greater lane is not below, nor is one of
+-- of two lane marks of one line the one in the greater lane does not come first, nor does either of
 -- two in the same lane
 pub mark_rises : (f l n m : ℕ) (x y : Annotation) → IsLaneMarkOn f l n x → IsLaneMarkOn f l m y → n ≤ m → is_before y x ≡ false
 mark_rises f l n m x y a b h =
     then_same y.file x.file _ (b.0 ∙ sym a.0) ∙ then_same y.line x.line _ (b.1 ∙ sym a.1) ∙ then_same (rank_of y.kind) (rank_of x.kind) _ (b.2 ∙ sym a.2)
     ∙ (λ i. is_lt (ordering_then (nat_cmp (b.3 i) (a.3 i)) (ordering_then (nat_cmp (b.4 i) (a.4 i)) (nat_cmp (a.5 i) (b.5 i))))) ∙ lane_rises m n h
 
--- a list is in order so far, and from there on
+-- a list that is in order up to an index, from there on, and at that index, is in order
 pub sorted-join : {X : Type 0} (lt : X → X → Bool) (xs : List X) (low middle high : ℕ) (x y : X) → x ≡ get_or xs (middle - 1) x → y ≡ get_or xs middle y → middle < length xs
     → lt y x ≡ false → IsSortedWithin lt xs low middle → IsSortedWithin lt xs middle high → IsSortedWithin lt xs low high
 sorted-join lt xs low middle high x y is_x is_y inside here before after k d from below =

@@ -62,7 +62,7 @@ module _ {Id : Type 0} (same : Id → Id → Bool) (o : IsEquivalence same) wher
   pub file_ids-more : (xs : List (InFile Id)) (x : InFile Id) → file_ids same (xs ++ x ∷ []) ≡ with_file same (file_ids same xs) x.file_id (file_ids same xs) x.file_id
   file_ids-more xs x = ap (first_seen same) (map-append (λ (y : InFile Id). y.file_id) xs (x ∷ [])) ∙ first_seen-more (map (λ (y : InFile Id). y.file_id) xs) x.file_id
 
-  -- an id that is there is among those that are seen first
+  -- an id of the list is among the first appearances
   first_seen-has : (js : List Id) (i : Id) → has (first_seen same js) i ≡ has js i
   first_seen-has [] i = refl
   first_seen-has (j ∷ js) i =
@@ -73,7 +73,7 @@ module _ {Id : Type 0} (same : Id → Id → Bool) (o : IsEquivalence same) wher
       by true unchanged rest = refl
       by false unchanged rest = unchanged refl ∙ rest
 
-  -- each id is among itself and others
+  -- each id of a list is in it
   has-one : (js : List Id) (k : ℕ) (d : Id) → k < length js → has js (get_or js k d) ≡ true
   has-one [] k d h = absurd (omega arith)
   has-one (j ∷ js) zero d h = ap (λ b. b || has js j) (o.refl j)

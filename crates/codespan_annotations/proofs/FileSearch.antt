@@ -20,7 +20,7 @@ module _ {Id : Type 0} {same : Id → Id → Bool} (o : IsEquivalence same) (fil
   ids-length : length (ids_view files) ≡ length files
   ids-length = length-map files (λ (f : RustFile Id). f.file_id)
 
-  -- where the index is that after the files, one more is known
+  -- where the index is that after the files, the list has one more element
   pub file-added : index ≡ length files → {A : Type 0} (known : List A) (one : A) → known ++ one ∷ [] ≡ with_file same (ids_view files) id known one
   file-added past known one =
       by (has same o (ids_view files) id) (λ there. omega (arith, is, past, ids-length, has-index same o (ids_view files) id there))
@@ -29,7 +29,7 @@ module _ {Id : Type 0} {same : Id → Id → Bool} (o : IsEquivalence same) (fil
       by true none = absurd (none refl)
       by false none = refl
 
-  -- where it is one of the files', they are unchanged
+  -- where it is one of the files', the list is unchanged
   pub file-unchanged : index ≢ length files → {A : Type 0} (known : List A) (one : A) → known ≡ with_file same (ids_view files) id known one
   file-unchanged inside known one =
       by (has same o (ids_view files) id) (λ none. inside (is ∙ no-index same o (ids_view files) id none ∙ ids-length))
@@ -45,7 +45,7 @@ module _ {Id : Type 0} where
   abbrev name : RustFile Id → Id
   name f = f.file_id
 
-  -- the id is none of all files
+  -- no file has the id
   pub index-nowhere : {same : Id → Id → Bool} (o : IsEquivalence same) (files : List (RustFile Id))
       (k : ℕ) (id : Id) → AllByRecursion (λ j. same j id ≡ false) (ids_view (take k files))
       → length files ≤ k

@@ -1,4 +1,4 @@
--- The elements of a list that a test of another list keeps, for the clause `permutation` of
+-- The elements of a list that are kept: their numbers pass a test. For the clause `permutation` of
 -- `follow_chains`.
 use Rattle.std.proofs.Common.{◌≡◌, ℕ, zero, suc, ◌+◌, ◌<◌, ◌≤◌, Bool, true, false, cond, List, [], ◌∷◌, ◌++◌, length, set, get_or, refl, sym, ap, subst, arith}
 use Rattle.std.specs.List.Sorted.{IsPermutation}
@@ -50,7 +50,7 @@ module _ {X : Type 0} (p : ℕ → Bool) where
       by_test true rest k = ap (λ ys. x ∷ ys) (rest (omega arith))
       by_test false rest k = absurd (omega (arith, length-kept-le ns xs))
 
-  -- from numbers ms on, those of xs in ys were kept
+  -- the elements ys of xs are those that numbers ns keep and numbers ms do not
   abbrev pub AreKept : List ℕ → List ℕ → List X → List X → Type 0
   AreKept ms ns xs ys = IsPermutation (kept ms xs ++ ys) (kept ns xs)
 
@@ -65,14 +65,14 @@ module _ {X : Type 0} (p : ℕ → Bool) where
       subst (λ zs. IsPermutation zs (kept (set ns i m) xs)) (append_assoc (kept ms xs) ys (y ∷ []))
       (IsPermutation-push_more (kept ms xs ++ ys) (kept ns xs) (kept (set ns i m) xs) y h (kept-set ns xs i m y (omega arith) inside out passes is))
 
-  -- there is room for one more
+  -- where one more can be kept, they are fewer than xs
   pub AreKept-room : (ms ns : List ℕ) (xs ys : List X) (i m : ℕ) (y : X) → AreKept ms ns xs ys → length ns ≡ length xs → i < length xs → p (get_or ns i 0) ≡ false → p m ≡ true
       → y ≡ get_or xs i y → length ys < length xs
   AreKept-room ms ns xs ys i m y h long inside out passes is =
       let more = AreKept-more ms ns xs ys i m y h long inside out passes is in
       omega (arith, length_permutation _ _ more, length-kept-le (set ns i m) xs, length-append (kept ms xs) (ys ++ y ∷ []), length-append ys (y ∷ []))
 
-  -- where as many were as there are, all were
+  -- where they are as many as xs, they are all of xs
   pub AreKept-all : (ms ns : List ℕ) (xs ys : List X) → AreKept ms ns xs ys → length ys ≡ length xs → IsPermutation xs ys
   AreKept-all ms ns xs ys h long =
       let sizes : length (kept ns xs) ≡ length (kept ms xs) + length ys = omega (arith, length_permutation _ _ h, length-append (kept ms xs) ys) in

@@ -9,8 +9,8 @@ abbrev pub failure_in : {Id : Type 0} → Failures Id → Id → List Lookup →
 failure_in failure id lookups = first_error failure (lookups_of_file id lookups)
 
 -- the result of lookups, where this is the error of the first of them that fails: on `Ok` none of
--- them failed; an error is that one, `OutOfMemory`, or `FormatError`, which stands for a name whose
--- `Display` fails
+-- them failed; an error is that one, `OutOfMemory`, or `FormatError`, as where the `Display` of a
+-- name fails
 abbrev pub FailsByOrFormat : {T : Type 0} → Option Error → Result T Error → Type 0
 FailsByOrFormat o r =
     MatchResult r (λ _. o ≡ None) (λ e. e ≢ OutOfMemory → e ≢ FormatError → o ≡ Some e)

@@ -31,6 +31,6 @@ is_near_end config s e l =
     nat_lt s l && nat_lt l e
     && (nat_le l (s + config.start_context_lines) || nat_le e (l + config.end_context_lines))
 
--- line `l` is between lines `s` and `e`, and near none of them
+-- line `l` is between lines `s` and `e`, and near neither of them
 abbrev pub IsFarInside : Config → ℕ → ℕ → ℕ → Type 0
 IsFarInside config s e l = (s + config.start_context_lines < l) × (l + config.end_context_lines < e)

@@ -16,9 +16,9 @@ number_lookup (Some number) l = []
 abbrev pub lookups_of_filled : Option ℕ → ℕ → List Lookup
 lookups_of_filled number l = LineRange l ∷ number_lookup number l
 
--- what the lookups of a line fail with: of its range, and, where the file has the line, of its
--- number; none where the line is after the last one of a label and its range fails with
--- `LineTooLarge`
+-- what the lookups of a line fail with: that of its range, and, where the file has the line, that
+-- of its number; nothing, where the line is after the last one of a label and the lookup of its
+-- range fails with `LineTooLarge`
 abbrev pub line_failure : FileModel → (Lookup → Option Error) → ℕ → ℕ → Option Error
 line_failure f failure last l =
     if nat_lt last l && ends_context_lines (failure (LineRange l)) then None

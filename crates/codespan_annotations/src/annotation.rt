@@ -53,8 +53,8 @@ pub enum AnnotationKind<'d, FileId> {
         /// The label.
         label: &'d Label<FileId>,
     },
-    /// The label is a multi-line label, and the line is between its start and its end, or one of
-    /// them. It may be hidden.
+    /// The label is a multi-line label, and the line is its first or its last, or between them. The
+    /// line may be hidden.
     Multi {
         /// What the label does on the line. It is the first field, which makes the enum one machine
         /// word smaller.
@@ -101,7 +101,7 @@ impl<FileId> Clone for Annotation<'_, FileId> {
 
 impl<FileId> Copy for Annotation<'_, FileId> {}
 
-/// Appends an annotation of a line, if there is one.
+/// Appends an annotation of a line of the file at this 0-based index, if there is a kind.
 ///
 /// # Errors
 ///
@@ -123,8 +123,8 @@ pub fn push_annotation<'d, FileId>(
     Ok(())
 }
 
-/// Returns a multi-line label mark of this kind for the renderer. `line_start` is the byte index at
-/// which the line starts.
+/// Returns the label's multi-line label mark of this kind for the renderer. `line_start` is the
+/// byte index in the file at which the line starts.
 pub fn multi_label<FileId>(
     label: &Label<FileId>,
     kind: MultiLabelKind,
@@ -143,8 +143,9 @@ pub fn multi_label<FileId>(
     }
 }
 
-/// Returns the range of a single-line label in its line, in bytes from `line_start`, the end
-/// exclusive: at least one byte long, unless it starts at the greatest `usize`.
+/// Returns the range of a single-line label in its line, in bytes from `line_start`, the byte index
+/// in the file at which the line starts; the end is exclusive. It is at least one byte long, unless
+/// it starts at `usize::MAX`.
 #[inline(always)]
 pub fn range_in_line<FileId>(label: &Label<FileId>, line_start: usize) -> Range<usize>
     ensures start { result.start ≡ (from_line_start line_start (label_of label.now).label).start }

@@ -31,15 +31,16 @@ impl LabelSpan {
         self.first == self.last
     }
 
-    /// Returns whether the line is after the first line and before the last one.
+    /// Returns whether the line at this 0-based index is after the first line and before the last
+    /// one.
     fn is_inside(self, index: usize) -> bool
         ensures { result ≡ nat_lt self.first index && nat_lt index self.last }
     {
         self.first < index && index < self.last
     }
 
-    /// Returns the kind of the label's multi-line label mark on a line, if it is a multi-line label
-    /// that has one. `index` is 0-based.
+    /// Returns the kind of the multi-line label mark on the line at this 0-based index, if the
+    /// label is a multi-line label that has one.
     pub fn multi_label_kind(self, index: usize) -> Option<MultiLabelKind>
         ensures { result ≡ multi_label_kind self.first self.last index }
     {
@@ -56,15 +57,16 @@ impl LabelSpan {
         }
     }
 
-    /// Returns whether the line is the first or the last line, or between them.
+    /// Returns whether the line at this 0-based index is the first or the last line, or between
+    /// them.
     pub fn spans(self, index: usize) -> bool
         ensures { result ≡ spans_line self.first self.last index }
     {
         index == self.first || index == self.last || self.is_inside(index)
     }
 
-    /// Returns how many annotations memory is reserved for: as many as the spanned lines make at
-    /// most, if the label starts on the line on which it ends or before it; 1 otherwise.
+    /// Returns the number of annotations to reserve memory for: as many as the spanned lines have
+    /// at most, or 1 where the label starts after the line on which it ends.
     pub fn annotation_capacity(self, config: &Config<'_>) -> usize {
         let others = self.last.saturating_sub(self.first);
         if others == 0 {
@@ -103,16 +105,16 @@ impl LabelSpan {
         }
     }
 
-    /// Returns the lines, and the context lines around them, as 0-based indices, the end exclusive.
-    /// The line of index `usize::MAX` is left out.
+    /// Returns the lines of the span and the context lines around them, as 0-based indices, the end
+    /// exclusive. The line at index `usize::MAX` is left out.
     pub fn with_context_lines(self, config: &Config<'_>) -> Range<usize> {
         let start = self.first.saturating_sub(config.before_label_lines);
         let end = self.last.saturating_add(config.after_label_lines);
         start..end.saturating_add(1)
     }
 
-    /// Returns whether the line is before the first line or after the last one, within the context
-    /// lines around labels.
+    /// Returns whether the line at this 0-based index is one of the context lines around the label:
+    /// before its first line or after its last one.
     pub fn is_around(self, config: &Config<'_>, index: usize) -> bool
         ensures { result ≡ is_around config.now self.first self.last index }
     {
@@ -120,8 +122,8 @@ impl LabelSpan {
             || (self.last < index && index - self.last <= config.after_label_lines)
     }
 
-    /// Returns whether the label makes the line shown: one of its ends, a line around it, or one
-    /// inside it that is near an end.
+    /// Returns whether the label makes the line at this 0-based index shown: an end of the label, a
+    /// context line around it, or one inside it, near an end.
     pub fn shows(self, config: &Config<'_>, index: usize) -> bool
         ensures { result ≡ shows config.now self.first self.last index }
     {
@@ -133,8 +135,8 @@ impl LabelSpan {
         }
     }
 
-    /// Returns whether the line is between the first line and the last one, within the context
-    /// lines of one of them.
+    /// Returns whether the line at this 0-based index is one of the context lines inside the label:
+    /// after its first line or before its last one.
     fn is_near_end(self, config: &Config<'_>, index: usize) -> bool
         ensures { result ≡ is_near_end config.now self.first self.last index }
     {

@@ -120,8 +120,8 @@ fn push_file<FileId: Copy>(files: &mut Vec<LabeledFile<FileId>>, id: FileId) -> 
     Ok(())
 }
 
-/// Returns the index of the file with this id, or the number of files if there is none. The file at
-/// index `previous` is compared first.
+/// Returns the 0-based index of the file with this id, or the number of files if there is none. The
+/// file at index `previous` is compared first.
 ///
 /// # Requires
 ///
@@ -137,7 +137,7 @@ fn find_file<FileId: Copy + Eq>(files: &[LabeledFile<FileId>], previous: usize, 
 }
 
 /// Returns the 0-based index of the first file with this id, or the number of files if there is
-/// none. Each turn of the loop compares two files, which takes fewer instructions than one turn for
+/// none. Each iteration compares two files, which takes fewer instructions than one iteration for
 /// each.
 fn first_file<FileId: Copy + Eq>(files: &[LabeledFile<FileId>], id: FileId) -> usize
     ensures { result ≡ index_of_file FileId.eq (ids_view files.now) id }

@@ -34,7 +34,7 @@ pub struct LocusStart {
 }
 
 impl LocusStart {
-    /// Returns the byte of a file without labels.
+    /// Returns that of a file without labels.
     pub fn unknown() -> LocusStart
         ensures { result ≡ no_start }
     {
@@ -44,7 +44,7 @@ impl LocusStart {
         }
     }
 
-    /// Returns the byte with one label more.
+    /// Returns that with one more label of the file.
     pub fn with<FileId>(self, label: &Label<FileId>) -> LocusStart
         ensures { result ≡ start_with self (label_of label.now).label }
     {

@@ -67,7 +67,7 @@ collected-each P collected annotations es adds perm =
     recursion_from_All P annotations (All-permutation P collected annotations perm (All-from_recursion P collected (subst (AllByRecursion P) (sym adds.whole) adds.each)))
 
 module _ {Id : Type 0} (x : CollectedLabel Id) where
-  -- the carets that a label has on its line are those of the line's start
+  -- the drawn range of a label is its range from the start of its line
   by_kind : (b c : Bool) (rendered here : LabelModel) (shown : Option AnnotationKind) → (c ≡ true → rendered ≡ here)
       → (if b && c then Some (Single x.indices.index rendered) else shown) ≡ (if b && c then Some (Single x.indices.index here) else shown)
   by_kind true true rendered here shown same = ap (λ (d : LabelModel). Some (Single x.indices.index d)) (same refl)

@@ -49,7 +49,7 @@ module _ {Id : Type 0} (x : CollectedLabel Id) where
   no_annotations : (l : ℕ) → is_looked_up x.config x.file x.label l ≡ false → annotations_on x.config x.file x.label x.indices l ≡ []
   no_annotations l skipped = ap (λ (b : Bool). if b then line_annotations x.config x.file x.indices x.label l else []) skipped
 
-  -- nor has it lookups
+  -- nor are there lookups of it
   no_lookups : (l : ℕ) → is_looked_up x.config x.file x.label l ≡ false → lookups_on x.config x.file x.label l ≡ []
   no_lookups l skipped = ap (λ (b : Bool). if b then line_lookups l else []) skipped
 
@@ -81,8 +81,7 @@ module _ {Id : Type 0} (x : CollectedLabel Id) where
     pub last : last_line x.file x.label < line_count x.file
 
   -- the lines below this one are done with: the file has them, their annotations are there, the
-  -- padding fits those that it spans, and
-  -- no lookup failed
+  -- padding fits those that the label spans, and no lookup failed
   pub record CollectsLines (old new : FoundAnnotations Id) (n : ℕ) : Type 0 where
     pub within : n ≤ line_count x.file
     pub added : AddsOf x.file old.annotations.items new.annotations.items (annotations_below n)
@@ -96,7 +95,7 @@ module _ {Id : Type 0} (x : CollectedLabel Id) where
     pub succeeded : lines_failure x ≡ None
 
 module _ {Id : Type 0} {x : CollectedLabel Id} where
-  -- no line below the first one that is near enough
+  -- no line below the first context line is looked up
   pub collected-start : {xs : FoundAnnotations Id} {n : ℕ} → HasEnds x → n ≤ last_line x.file x.label → n ≤ first_line x.file x.label - x.config.before_label_lines
       → CollectsLines x xs xs n
   collected-start {xs} {n} there low far = record {
@@ -156,7 +155,7 @@ module _ {Id : Type 0} {x : CollectedLabel Id} where
       succeeded = ap (failed x) (ap (λ (ls : List Lookup). flat_map line_lookups (looked_up_lines x.config x.file x.label) ++ ls) no_lookup_past_end ∙ append-nil _ ∙ looked_up) ∙ g.succeeded;
     }
 
-    -- the end of the lines that are near enough
+    -- the end of the context lines
     collected-end : first_line x.file x.label < n → last_line x.file x.label + x.config.after_label_lines < n
         → CollectsLabel x xs ys
     collected-end first far =

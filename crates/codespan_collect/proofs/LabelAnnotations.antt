@@ -110,7 +110,7 @@ module _ (config : Config) where
   not_shown : (s e l : ℕ) → looks_up s e l ≡ false → shows config s e l ≡ false
   not_shown s e l h = grind (arith, nat_tests)
 
-  -- it does not begin on another one
+  -- it does not start on another one
   not_first : (s e l : ℕ) → looks_up s e l ≡ false → (s == l) ≡ false
   not_first s e l h = grind (arith, nat_tests)
 
@@ -122,7 +122,7 @@ module _ (config : Config) where
       let c : (nat_lt s l && nat_lt l e) ≡ false = grind (arith, nat_tests) in
       rw (a, b, c) refl
 
-  -- it shows the line that it begins on
+  -- it shows the line that it starts on
   own_shown : (s e l : ℕ) → (s == l) ≡ true → shows config s e l ≡ true
   own_shown s e l h = grind (arith, nat_tests)
 

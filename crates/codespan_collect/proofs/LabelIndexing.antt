@@ -24,8 +24,7 @@ use Rattle.codespan_annotations.proofs.FileOrder.{has}
 use Rattle.codespan_annotations.proofs.FileIndices.{Differ, index-here, index-later}
 
 -- the file database is lawful: sameness of ids is an equivalence, the same ids name one file, and
--- each file
--- has a line
+-- each file has a line
 pub record AreFiles {Id : Type 0} (database : FileDatabase Id) : Type 0 where
   pub equivalence : IsEquivalence database.same
   pub one_file : (i j : Id) → database.same i j ≡ true → database.file i ≡ database.file j

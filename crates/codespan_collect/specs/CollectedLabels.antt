@@ -85,7 +85,7 @@ module _ {Id : Type 0} (x : CollectedLabel Id) where
       AddsOf x.file old.annotations.items new.annotations.items
       (annotations_on x.config x.file x.label x.indices l)
 
-  -- the padding has grown as far as the number of a line needs, where it spans the line
+  -- the padding has been widened to the number of a line, where the label spans the line
   abbrev pub ExtendsPaddingForLine : FoundAnnotations Id → FoundAnnotations Id → ℕ → Type 0
   ExtendsPaddingForLine old new l =
       new.padding.digits ≡ fold max old.padding.digits (digits_on x.file x.label l)
@@ -102,7 +102,7 @@ module _ {Id : Type 0} (x : CollectedLabel Id) where
       AddsOf x.file old.annotations.items new.annotations.items
       (annotations_of x.config x.file x.indices x.label)
 
-  -- the padding has grown as far as the numbers of the lines that it spans need
+  -- the padding has been widened to the numbers of the lines that the label spans
   abbrev pub ExtendsPadding : FoundAnnotations Id → FoundAnnotations Id → Type 0
   ExtendsPadding old new =
       new.padding.digits ≡ fold max old.padding.digits (label_digits x.file x.label)
@@ -120,11 +120,11 @@ module _ {Id : Type 0} (x : CollectedLabel Id) where
       failure_in x.failure x.file_id
       (label_line_lookups x.config x.file (x.failure x.file_id) x.label)
 
--- where the call returns that the context goes on
+-- where the call returns `true`: the context lines go on
 abbrev pub IfContinues : Result Bool Error → Type 0 → Type 0
 IfContinues r P = IfOk r (λ goes_on. goes_on ≡ true → P)
 
--- where it returns that the context ended with the file
+-- where it returns `false`: the context lines ended with the file
 abbrev pub IfEnded : Result Bool Error → Type 0 → Type 0
 IfEnded r P = IfOk r (λ goes_on. goes_on ≡ false → P)
 

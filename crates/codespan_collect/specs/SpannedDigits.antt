@@ -1,5 +1,5 @@
--- The digits of the numbers of the lines that labels span, for the padding width in
--- the classic layout.
+-- The digits of the numbers of the lines that labels span, for the padding width in the classic
+-- layout.
 use Rattle.std.specs.Prelude.{ℕ, List, [], ◌∷◌, flat_map, if◌then◌else◌}
 use Rattle.std.specs.List.{range_with_len}
 use Rattle.codespan_base.specs.FileModel.{FileModel, line_count}

@@ -31,7 +31,7 @@ pub struct Collected<'d, FileId> {
     pub padding: usize,
     /// Of the labels of the first file, the least line on which one starts and the greatest on
     /// which one ends, 0-based; `usize::MAX` and 0 without labels.
-    pub lines: LabelSpan,
+    pub first_file_span: LabelSpan,
 }
 
 /// Looks up the lines of all labels, and returns their annotations in order.
@@ -53,7 +53,7 @@ pub fn collect<'files, 'd, F: Files<'files>>(
         (map label_of labels.now)) result }
 {
     let mut collected = collect_in_turn(alloc, files, config, labels)?;
-    let lines = collected.lines.with_context_lines(config);
+    let lines = collected.first_file_span.with_context_lines(config);
     let has_one_file = collected.files.len() == 1;
     put_in_order(&mut collected.annotations, has_one_file.then_some(lines))?;
     Ok(collected)
@@ -102,6 +102,6 @@ fn collect_in_turn<'files, 'd, F: Files<'files>>(
         files: labeled,
         annotations: found.annotations,
         padding: found.padding.digits,
-        lines: spanned,
+        first_file_span: spanned,
     })
 }

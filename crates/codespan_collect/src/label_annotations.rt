@@ -54,8 +54,8 @@ struct LabelCollector<'a, 'c, 'files, F: Files<'files>> {
 }
 
 impl<'a, 'c, 'files, F: Files<'files>> LabelCollector<'a, 'c, 'files, F> {
-    /// Returns what the label does on a line, its lane mark aside: it is a single-line label there,
-    /// or makes the line shown, or neither.
+    /// Returns what the label does on a line, its lane mark aside: it is a single-line label on it,
+    /// or makes it shown, or neither.
     fn kind_on_line<'d>(
         &self,
         label: &'d Label<F::FileId>,
@@ -177,9 +177,10 @@ impl<'a, 'c, 'files, F: Files<'files>> LabelCollector<'a, 'c, 'files, F> {
         Ok(())
     }
 
-    /// Looks up the line of this 0-based index and appends the label's annotations of it, where the
-    /// label spans the line or its context lines reach it. Returns whether the context goes on: it
-    /// ends with the file. `is_far` is whether the line is known to be far from the label's ends.
+    /// Looks up the line at this 0-based index and appends the label's annotations of it, where the
+    /// label spans the line or it is one of the context lines around the label. Returns `false`
+    /// where the file has ended, and so the context lines do. `is_far` is whether the line is known
+    /// to be far from the label's ends.
     ///
     /// # Errors
     ///

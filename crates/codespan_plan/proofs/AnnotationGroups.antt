@@ -39,9 +39,9 @@ groups-cons x (y ∷ ys) =
     subst (λ n. groups (x ∷ y ∷ ys) ≡ group_of x (take n (y ∷ ys)) ∷ groups (drop n (y ∷ ys))) (sym none) (groups-apart x y ys (groups-cons y ys) f))
     (cases_Bool (y.line == x.line))
 
--- ---- numbers that do not fall along a list
+-- ---- numbers that do not decrease along a list
 
--- the number does not fall from an element to a later one
+-- the number does not decrease from an element to a later one
 abbrev pub IsRising : {X : Type 0} → (X → ℕ) → List X → Type 0
 IsRising n [] = Unit {0}
 IsRising n (x ∷ xs) = AllByRecursion (λ y. n x ≤ n y) xs × IsRising n xs
@@ -135,7 +135,7 @@ all-above_line a [] = tt
 all-above_line a (x ∷ xs) =
     ⊎_elim (λ t. rw t (ltb-true a x.line t, all-above_line a xs)) (λ f. rw f (all-above_line a xs)) (cases_Bool (nat_lt a x.line))
 
--- the groups of annotations whose lines do not fall are those of the lines
+-- the groups of annotations whose lines do not decrease are those of the lines
 groups-by_line : (n a : ℕ) (xs : List Annotation) → IsRising (λ e. e.line) xs → AllByRecursion (λ e. a ≤ e.line) xs → AllByRecursion (λ e. e.line < a + n) xs
     → groups xs ≡ groups_on (λ l. filter (is_on_line l) xs) (range_with_len a n)
 groups-by_line zero a [] h low high = refl
@@ -215,8 +215,8 @@ module _ (m : ℕ → List Annotation) where
               ∙ (λ i. (before-shown m previous a hidden h i ++ Labeled a (m a) ∷ []) ++ rest (Some a) [] (hidden-none m a) i)
           by_test false = rest previous (x ∷ xs) (hidden-next m previous a hidden (x ∷ xs) h (λ none. sym e))
 
--- the snippet lines of annotations whose lines do not fall, and are all below n, are those of the
--- lines that are shown
+-- the snippet lines of annotations whose lines do not decrease, and are all below n, are those of
+-- the lines that are shown
 pub snippet_lines-by_line : (n : ℕ) (xs : List Annotation) → IsRising (λ e. e.line) xs → AllByRecursion (λ e. e.line < n) xs
     → lines_of xs ≡ lines_after (λ l. filter (is_on_line l) xs) None (filter (λ l. are_shown (filter (is_on_line l) xs)) (range_with_len 0 n))
 snippet_lines-by_line n xs h high =

@@ -176,7 +176,7 @@ module _ {Id : Type 0} {same : Id → Id → Bool} {file : Id → FileModel} {id
             by_test true = ap (λ (r : List LabelModel). drawn_label own_file x.label ∷ r) rest
             by_test false = rest
 
-    -- later labels of a range are below
+    -- of the labels of one range the later ones come first
     single_labels-below : (start end k j : ℕ) (a : LabelModel) → k < j → has_range start end (drawn_label own_file a) ≡ true → (xs : List (InFile Id))
         → AllByRecursion (λ e. is_before e (single_label_at k a) ≡ true) (filter (is_of_range start end) (single_labels_from j xs))
     single_labels-below start end k j a h t [] = tt
@@ -200,7 +200,7 @@ module _ {Id : Type 0} {same : Id → Id → Bool} {file : Id → FileModel} {id
         by_test true rest = by_range (has_range start end (drawn_label own_file x.label)) refl rest
         by_test false rest = rest
 
-    -- the annotations of the labels of a range fall
+    -- the annotations of the labels of one range are in descending order
     pub single_labels-fall : (start end k : ℕ) (xs : List (InFile Id)) → Falls is_before (filter (is_of_range start end) (single_labels_from k xs))
     single_labels-fall start end k [] = tt
     single_labels-fall start end k (x ∷ xs) = by_test (same id x.file_id && on x.label) (single_labels-fall start end (k + 1) xs)
@@ -229,7 +229,7 @@ module _ {Id : Type 0} {same : Id → Id → Bool} {file : Id → FileModel} {id
         let c : (nat_lt (first_line own_file x) l && nat_lt l (last_line own_file x)) ≡ false = grind (arith, nat_tests) in
         rw (a, b, c) refl
 
-    -- the mark of a multi-line label in a lane, where it has one
+    -- the lane mark of a label in a lane, where it has one
     abbrev multi_annotations_if : Bool → Option LaneMark → List Annotation
     multi_annotations_if a o = annotation_if_any f l (cond a None (option_map Multi o))
 

@@ -50,7 +50,7 @@ module _ {Id : Type 0} {database : FileDatabase Id} (lawful : AreFiles database)
   abbrev file : Id → FileModel
   file = database.file
 
-  -- the annotations as they were given
+  -- the annotations in the order of the labels
   abbrev all : List Annotation
   all = all_annotations same file config xs
 
@@ -123,7 +123,7 @@ module _ {Id : Type 0} {database : FileDatabase Id} (lawful : AreFiles database)
   abbrev line_annotations : ℕ → List Annotation
   line_annotations l = annotation_lines.line_annotations_after here config l [] xs
 
-  -- the annotations of a line as they were given
+  -- those of a line, in the order of the labels
   line_annotations-are : (l : ℕ) → filter (is_on_line l) (filter (is_of_file f) all) ≡ line_annotations l
   line_annotations-are l = annotation_lines.all-line_annotations here config l xs []
 
@@ -132,14 +132,14 @@ module _ {Id : Type 0} {database : FileDatabase Id} (lawful : AreFiles database)
   -- the labels inside the line
   single_labels-are : (l : ℕ) → single_labels_in (bucket l) ≡ single_labels (file id) s.labels l
   single_labels-are l =
-      ascending-same (single_labels_in (bucket l)) (sorted turned) (single_labels-ascend f l (bucket l) (bucket-on l) (bucket-rises l)) (sorted-ascends turned)
-      (λ start end. ranges start end ∙ sym (sorted-keeps start end turned))
+      ascending-same (single_labels_in (bucket l)) (sorted reversed) (single_labels-ascend f l (bucket l) (bucket-on l) (bucket-rises l)) (sorted-ascends reversed)
+      (λ start end. ranges start end ∙ sym (sorted-keeps start end reversed))
     where
       of_line_labels : List LabelModel
       of_line_labels = map (drawn_label (file id)) (filter (λ x. is_single (file id) x && (first_line (file id) x == l)) s.labels)
 
-      turned : List LabelModel
-      turned = reverse of_line_labels
+      reversed : List LabelModel
+      reversed = reverse of_line_labels
 
       from : List Annotation
       from = annotation_lines.single_labels_from here config l 0 xs
@@ -154,7 +154,7 @@ module _ {Id : Type 0} {database : FileDatabase Id} (lawful : AreFiles database)
       falls start end =
           subst (Falls is_before) (sym (all_in_range start end)) (annotation_lines.single_labels-fall here config l start end 0 xs)
 
-      ranges : (start end : ℕ) → filter (has_range start end) (single_labels_in (bucket l)) ≡ filter (has_range start end) turned
+      ranges : (start end : ℕ) → filter (has_range start end) (single_labels_in (bucket l)) ≡ filter (has_range start end) reversed
       ranges start end =
           single_labels-of_range start end (bucket l)
           ∙ ap single_labels_in (of_picked l (is_of_range start end) annotations
@@ -171,7 +171,7 @@ module _ {Id : Type 0} {database : FileDatabase Id} (lawful : AreFiles database)
   abbrev lane_marks : ℕ → List LaneMark
   lane_marks l = lane_marks_on (file id) s.labels l
 
-  -- their annotations as they were given
+  -- their annotations, in the order of the labels
   lane_marks-of_all : (l : ℕ) → filter (picks l (is_kind 2)) all ≡ map (lane_mark_annotation f l) (lane_marks l)
   lane_marks-of_all l = sym (of_picked l (is_kind 2) all) ∙ ap (filter (is_kind 2)) (line_annotations-are l) ∙ annotation_lines.all-lane_marks here config l xs [] 0 refl
 

@@ -23,7 +23,7 @@ use Rattle.codespan_laws.proofs.SortedLists.{Rises, rises-from_sorted}
 abbrev pub from_file : ℕ → List Annotation → List Annotation
 from_file f xs = filter (λ (e : Annotation). nat_le f e.file) xs
 
--- files do not fall along annotations in order
+-- along annotations in order the files do not decrease
 files-rise : (xs : List Annotation) → Rises is_before xs → IsRising (λ e. e.file) xs
 files-rise [] a = tt
 files-rise (x ∷ xs) a = (all-weaker (λ y. is_before y x ≡ false) (λ y. x.file ≤ y.file) (λ y h. file_rises x y h) xs a.0, files-rise xs a.1)

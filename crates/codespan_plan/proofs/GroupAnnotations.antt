@@ -93,7 +93,7 @@ first-shows f l (x ∷ xs) on up = by_test (shows_line x) refl
 
 -- ---- annotations in order
 
--- the lines of a file's annotations do not fall
+-- the lines of a file's annotations do not decrease
 pub lines-rise : (f : ℕ) (es : List Annotation) → AllByRecursion (λ e. e.file ≡ f) es → Rises is_before es → IsRising (λ e. e.line) es
 lines-rise f [] h a = tt
 lines-rise f (x ∷ xs) h a = (

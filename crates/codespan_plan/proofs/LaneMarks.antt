@@ -51,7 +51,7 @@ ascend-above count least (m ∷ ms) up =
     let low : least ≤ m.lane = leb-true least m.lane (both-true (nat_le least m.lane) (nat_lt m.lane count) parts.0).0 in
     (low, all-weaker (λ (k : LaneMark). m.lane + 1 ≤ k.lane) (λ k. least ≤ k.lane) (λ k h. omega arith) ms (ascend-above count (m.lane + 1) ms parts.1))
 
--- their annotations climb
+-- their annotations ascend
 pub ascend-climbs : (f l count least : ℕ) (ms : List LaneMark) → ascend_from count least ms ≡ true → Climbs is_before (map (lane_mark_annotation f l) ms)
 ascend-climbs f l count least [] up = tt
 ascend-climbs f l count least (m ∷ ms) up =

@@ -35,7 +35,7 @@ use Rattle.codespan_annotations.specs.LocusStarts.{locus_byte}
 use Rattle.codespan_annotations.specs.FileIndices.{IsIdAt}
 use Rattle.codespan_plan.specs.SnippetPlans.{ArePlans, ArePlansOf, IsPlan, number_lookups, plans_failure, line_digits, lines_at, padding_width}
 use Rattle.codespan_plan.specs.SnippetLines.{SnippetLine, filled_line_of, filled_lines_of, rows_of_lines, AreInOrder}
-use Rattle.codespan_plan.proofs.PlansFound.{by_index-same}
+use Rattle.codespan_plan.proofs.PlansFound.{flat_map_indexed-same}
 use Rattle.codespan_plan.proofs.SpannedPadding.{spanned-padding_width}
 use Rattle.codespan_plan.proofs.AnnotationOutput.{snippet-fills, snippet-fits, snippet-lines, snippet-rows}
 use Rattle.codespan_collect.proofs.LabelIndexing.{AreFiles}
@@ -137,7 +137,7 @@ module _ {Id : Type 0} {database : FileDatabase Id} (lawful : AreFiles database)
   numbers-are : number_lookups config.layout es (ids_view collected.files.items) ≡ padding_lookups config database xs
   numbers-are =
       ap (number_lookups config.layout es) all.files.ids_are
-      ∙ by_index-same (λ k id. lookups_of_file id
+      ∙ flat_map_indexed-same (λ k id. lookups_of_file id
       (numbers_looked_up config.layout (filled_lines_of (lines_at es k))))
       (λ id. lookups_of_file id (numbers_for_padding database xs config config.layout id)) 0
       (file_ids same xs)

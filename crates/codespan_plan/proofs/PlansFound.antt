@@ -28,7 +28,7 @@ use Rattle.codespan_annotations.specs.LabeledFiles.{ids_view}
 use Rattle.codespan_plan.specs.Loci.{locus_lookups_of, loci_lookups, locus_start_of}
 use Rattle.codespan_annotations.specs.TextLoci.{IsTextLocus}
 use Rattle.codespan_annotations.specs.FileIndices.{IsIdAt}
-use Rattle.codespan_plan.specs.SnippetPlans.{ArePlans, IsPlan, by_index, number_lookups, lines_at}
+use Rattle.codespan_plan.specs.SnippetPlans.{ArePlans, IsPlan, flat_map_indexed, number_lookups, lines_at}
 use Rattle.codespan_plan.specs.SnippetLines.{SnippetLine, filled_lines_of, lines_of}
 use Rattle.codespan_collect.proofs.FirstErrors.{first_error-append, or_failure-succeeded, or_failure-none, or_failure-some, first_error-none, first_error-some}
 use Rattle.codespan_plan.proofs.FileSlices.{IsFileSlice, from_file, next-file, next_slice}
@@ -39,30 +39,30 @@ use Rattle.codespan_laws.proofs.ListElements.{all-both, all-mapped, all-slice, a
 -- ---- ids at their indices
 
 -- what ids have, one after the other
-by_index-append : {Id A : Type 0} (image : ℕ → Id → List A) (k : ℕ) (xs ys : List Id) → by_index image k (xs ++ ys) ≡ by_index image k xs ++ by_index image (k + length xs) ys
-by_index-append image k [] ys = let e : k ≡ k + 0 = omega arith in ap (λ n. by_index image n ys) e
-by_index-append {Id} {A} image k (x ∷ xs) ys =
+flat_map_indexed-append : {Id A : Type 0} (image : ℕ → Id → List A) (k : ℕ) (xs ys : List Id) → flat_map_indexed image k (xs ++ ys) ≡ flat_map_indexed image k xs ++ flat_map_indexed image (k + length xs) ys
+flat_map_indexed-append image k [] ys = let e : k ≡ k + 0 = omega arith in ap (λ n. flat_map_indexed image n ys) e
+flat_map_indexed-append {Id} {A} image k (x ∷ xs) ys =
     let e : k + 1 + length xs ≡ k + suc (length xs) = omega arith in
-    ap (λ (r : List A). image k x ++ r) (by_index-append image (k + 1) xs ys ∙ ap (λ n. by_index image (k + 1) xs ++ by_index image n ys) e)
-    ∙ sym (append_assoc (image k x) (by_index image (k + 1) xs) (by_index image (k + suc (length xs)) ys))
+    ap (λ (r : List A). image k x ++ r) (flat_map_indexed-append image (k + 1) xs ys ∙ ap (λ n. flat_map_indexed image (k + 1) xs ++ flat_map_indexed image n ys) e)
+    ∙ sym (append_assoc (image k x) (flat_map_indexed image (k + 1) xs) (flat_map_indexed image (k + suc (length xs)) ys))
 
 -- one more id
-by_index-more : {Id A : Type 0} (image : ℕ → Id → List A) (f : ℕ) (ids more : List Id) (id : Id) → length ids ≡ f → more ≡ ids ++ id ∷ []
-    → by_index image 0 more ≡ by_index image 0 ids ++ image f id
-by_index-more {Id} {A} image f ids more id len is =
+flat_map_indexed-more : {Id A : Type 0} (image : ℕ → Id → List A) (f : ℕ) (ids more : List Id) (id : Id) → length ids ≡ f → more ≡ ids ++ id ∷ []
+    → flat_map_indexed image 0 more ≡ flat_map_indexed image 0 ids ++ image f id
+flat_map_indexed-more {Id} {A} image f ids more id len is =
     let e : 0 + length ids ≡ f = omega (arith, len) in
-    ap (by_index image 0) is ∙ by_index-append image 0 ids (id ∷ [])
-    ∙ ap (λ (r : List A). by_index image 0 ids ++ r) (append-nil (image (0 + length ids) id) ∙ ap (λ n. image n id) e)
+    ap (flat_map_indexed image 0) is ∙ flat_map_indexed-append image 0 ids (id ∷ [])
+    ∙ ap (λ (r : List A). flat_map_indexed image 0 ids ++ r) (append-nil (image (0 + length ids) id) ∙ ap (λ n. image n id) e)
 
 -- ids that have the same at their indices
-pub by_index-same : {Id A : Type 0} (image : ℕ → Id → List A) (each : Id → List A) (k : ℕ) (js : List Id) → ((i : ℕ) (id : Id) → IsIdAt js i id → image (k + i) id ≡ each id)
-    → by_index image k js ≡ flat_map each js
-by_index-same image each k [] same = refl
-by_index-same {Id} {A} image each k (j ∷ js) same =
+pub flat_map_indexed-same : {Id A : Type 0} (image : ℕ → Id → List A) (each : Id → List A) (k : ℕ) (js : List Id) → ((i : ℕ) (id : Id) → IsIdAt js i id → image (k + i) id ≡ each id)
+    → flat_map_indexed image k js ≡ flat_map each js
+flat_map_indexed-same image each k [] same = refl
+flat_map_indexed-same {Id} {A} image each k (j ∷ js) same =
     let none : k + 0 ≡ k = omega arith in
-    ap (λ (r : List A). r ++ by_index image (k + 1) js) (ap (λ n. image n j) (sym none) ∙ same 0 j refl)
+    ap (λ (r : List A). r ++ flat_map_indexed image (k + 1) js) (ap (λ n. image n j) (sym none) ∙ same 0 j refl)
     ∙ ap (λ (r : List A). each j ++ r)
-    (by_index-same image each (k + 1) js (λ i id at. let e : k + 1 + i ≡ k + suc i = omega arith in ap (λ n. image n id) e ∙ same (suc i) id at))
+    (flat_map_indexed-same image each (k + 1) js (λ i id at. let e : k + 1 + i ≡ k + suc i = omega arith in ap (λ n. image n id) e ∙ same (suc i) id at))
 
 module _ {Id : Type 0} (file : Id → FileModel) where
   -- the annotations of a file are of lines that it has
@@ -223,7 +223,7 @@ module _ {Id : Type 0} {files : List (RustFile Id)} {k : ℕ} {f : RustFile Id} 
       ap (λ (fs : List (RustFile Id)). loci_lookups fs) (take-at here) ∙ flat_map-append locus_lookups_of (take k files) (f ∷ [])
       ∙ ap (λ (ls : List (Id × Lookup)). loci_lookups (take k files) ++ ls) (append-nil (locus_lookups_of f))
 
-  -- they fail with what those of these are, or its own
+  -- the error of these lookups, or else that of its own
   locus-fails : (failure : Failures Id)
       → first_error failure (loci_lookups (take (k + 1) files)) ≡ or_failure (first_error failure (loci_lookups (take k files))) (first_error failure (locus_lookups_of f))
   locus-fails failure = ap (first_error failure) loci-more ∙ first_error-append failure (loci_lookups (take k files)) (locus_lookups_of f)
@@ -237,7 +237,7 @@ module _ {Id : Type 0} {files : List (RustFile Id)} {k : ℕ} {f : RustFile Id} 
     -- the lookups with this one's
     lookups-more : first_error failure (number_lookups layout es (ids_view (take (k + 1) files))) ≡ first_error failure (lookups_at k f.file_id)
     lookups-more =
-        ap (first_error failure) (by_index-more lookups_at k (ids_view (take k files)) (ids_view (take (k + 1) files)) f.file_id (length-map (take k files) _ ∙ files_before) ids-more)
+        ap (first_error failure) (flat_map_indexed-more lookups_at k (ids_view (take k files)) (ids_view (take (k + 1) files)) f.file_id (length-map (take k files) _ ∙ files_before) ids-more)
         ∙ first_error-none failure (number_lookups layout es (ids_view (take k files))) (lookups_at k f.file_id) before.succeeded
 
     -- the plans with this one
@@ -273,7 +273,7 @@ module _ {Id : Type 0} {files : List (RustFile Id)} {k : ℕ} {f : RustFile Id} 
       plans = some-located_fails located e (λ _. ArePlans layout file es 0 (take (k + 1) files) now all);
     }
 
-    -- what its numbers fail with fails all
+    -- an error of the lookups of its numbers is that of all
     pub planned-fails : {e : Error} → first_error failure (lookups_at k f.file_id) ≡ Some e
         → first_error failure (number_lookups layout es (ids_view files) ++ loci_lookups files) ≡ Some e
     planned-fails {e} known =
@@ -281,5 +281,5 @@ module _ {Id : Type 0} {files : List (RustFile Id)} {k : ℕ} {f : RustFile Id} 
         let whole = ap ids_view (sym (take-append-drop (k + 1) files)) ∙ map-append (λ (g : RustFile Id). g.file_id) (take (k + 1) files) rest in
         first_error-some failure (number_lookups layout es (ids_view files)) (loci_lookups files) e
         (ap (λ ids. first_error failure (number_lookups layout es ids)) whole
-        ∙ ap (first_error failure) (by_index-append lookups_at 0 (ids_view (take (k + 1) files)) (ids_view rest))
+        ∙ ap (first_error failure) (flat_map_indexed-append lookups_at 0 (ids_view (take (k + 1) files)) (ids_view rest))
         ∙ first_error-some failure (number_lookups layout es (ids_view (take (k + 1) files))) _ e (lookups-more ∙ known))

@@ -35,8 +35,7 @@ snippet_lines-image {A} image m previous ds =
     ∙ (λ i. in_sequence (λ l. l) (gap_between (λ l. append-nil (image (Filled l (m l))) i) (λ d. append-nil (image (Break (m d))) i)) (λ l. image (Labeled l (m l))) previous ds)
 
 -- so they are those of the drawn lines with the breaks between them, where a line that is not shown
--- has the elements of one that is
--- filled in
+-- has the elements of one that is filled in
 snippet_lines-rendered : {A : Type 0} (image : SnippetLine → List A) (m : ℕ → List Annotation) (shown : ℕ → Bool) (own : ℕ → List A)
     → ((l : ℕ) → own l ≡ given (λ l. image (Labeled l (m l))) (λ l. image (Filled l (m l))) (λ d. image (Break (m d))) shown l)
     → (n : ℕ) → ((l : ℕ) → n ≤ l → shown l ≡ false)

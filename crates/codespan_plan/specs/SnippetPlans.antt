@@ -24,15 +24,15 @@ use Rattle.codespan_annotations.specs.TextLoci.{IsTextLocus}
 abbrev pub lines_at : List Annotation → ℕ → List SnippetLine
 lines_at es k = lines_of (filter (is_of_file k) es)
 
--- the images of the ids, each with its index, which is counted from k on
-abbrev pub by_index : {Id A : Type 0} → (ℕ → Id → List A) → ℕ → List Id → List A
-by_index image k [] = []
-by_index image k (id ∷ ids) = image k id ++ by_index image (k + 1) ids
+-- what `image` makes of each id and its index, one after another; indices are counted from k on
+abbrev pub flat_map_indexed : {Id A : Type 0} → (ℕ → Id → List A) → ℕ → List Id → List A
+flat_map_indexed image k [] = []
+flat_map_indexed image k (id ∷ ids) = image k id ++ flat_map_indexed image (k + 1) ids
 
 -- the lookups of the numbers of lines that are filled in
 abbrev pub number_lookups : {Id : Type 0} → Layout → List Annotation → List Id → List (Id × Lookup)
 number_lookups layout es ids =
-    by_index
+    flat_map_indexed
     (λ k id. lookups_of_file id (numbers_looked_up layout (filled_lines_of (lines_at es k)))) 0 ids
 
 module _ {Id : Type 0} (layout : Layout) (file : Id → FileModel) (es : List Annotation) where

@@ -20,7 +20,7 @@ pub mod snippet_plans;
 
 /// The number of lines that a label makes shown, at most, with the default context lines: its ends,
 /// three lines after its start and one before its end.
-const LINES_OF_LABEL: usize = 6;
+const SHOWN_LINES_PER_LABEL: usize = 6;
 
 /// The plan of an output.
 #[derive(Drop)]
@@ -36,7 +36,7 @@ pub struct OutputPlan<'e, 'd, FileId> {
 /// Returns how many snippet lines memory is reserved for: one for each annotation, or fewer where
 /// labels have many.
 fn line_capacity<FileId>(collected: &Collected<'_, FileId>) -> usize {
-    let of_labels = collected.labels.len().saturating_mul(LINES_OF_LABEL);
+    let of_labels = collected.labels.len().saturating_mul(SHOWN_LINES_PER_LABEL);
     of_labels.min(collected.annotations.len())
 }
 

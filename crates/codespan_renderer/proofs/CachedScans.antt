@@ -22,7 +22,7 @@ cached-after tab text cached rest fork to_end are same end =
     ∙ ap (λ (cs : List Metrics). cached ++ cs) (same (after_last to_end))
     ∙ are (after_last to_end)
 
--- as it would where the first ones are left out
+-- the same, where the first ones of the cache are left out
 pub cached-from : (tab : ℕ) (text : List ℕ) (cached : List Metrics) (rest fork : CharMetrics) (to_end : Bool) (n : ℕ) → AreCached tab text cached rest
     → ((after : MetricsAfterEnd) → metrics_from after fork ≡ metrics_from after rest) → fork.to_end ≡ to_end
     → take n cached ++ (take (length cached - n) (drop n cached) ++ metrics_left fork) ≡ metrics_then (after_last to_end) tab 0 0 (chars text)

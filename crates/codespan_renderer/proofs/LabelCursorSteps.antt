@@ -1,5 +1,5 @@
--- For `LabelCursor::advance` and `StartCursor::start_style`: a cursor over the characters of a line
--- that passes its labels as they begin.
+-- For `LabelCursor::advance`, `StartCursor::start_style` and the calls of `CachedCursor`: a cursor
+-- over the labels of a line, which passes them as they start.
 use Rattle.std.proofs.Props.{props}
 use Rattle.std.proofs.Math.Logic.{∥∥₁_elim}
 use Rattle.std.proofs.Common.{◌≡◌, ℕ, ◌+◌, ◌<◌, ◌≤◌, max, Bool, true, false, ◌&&◌, ◌||◌, nat_lt, nat_le, List, [], ◌∷◌, ◌++◌, length, drop, get_or, drop-cons, add-one, refl, sym, ap, subst, ◌∙◌, arith, Option, Some, None}
@@ -23,8 +23,8 @@ use Rattle.codespan_row_parts.specs.CharCursors.{AreContiguous, is_covered}
 use Rattle.codespan_renderer.specs.Private.CursorStates.{IsBefore, HasReturned}
 use Rattle.codespan_renderer.specs.Private.LabelCursors.{end_with, IsReached, HasPassedLabels}
 
--- a label that starts before the character's end has a byte of it where it has one at all and ends
--- past the byte index of the character
+-- a label that starts before the character's end covers it where the label has a byte and ends past
+-- the byte index of the character
 covers-prefix : (x : LabelModel) (c : Metrics) → x.start < c.byte_index + c.bytes → 1 ≤ c.bytes → covers x c ≡ (nat_lt x.start x.end && nat_lt c.byte_index x.end)
 covers-prefix x c h some = grind (arith, nat_tests)
 
@@ -43,7 +43,7 @@ or-assoc : (a b c : Bool) → (a || (b || c)) ≡ ((a || b) || c)
 or-assoc true b c = refl
 or-assoc false b c = refl
 
--- the next label has begun
+-- the next label starts before this byte index, and is passed
 pub reached-more : (passes : LabelModel → Bool) (labels left rest : List LabelModel) (x : LabelModel) (byte_index end : ℕ) → left ≡ x ∷ rest → x.start < byte_index
     → IsReached passes labels left byte_index end → IsReached passes labels rest byte_index (end_with (passes x) end x)
 reached-more passes labels left rest x byte_index end step prefix r = record {
@@ -53,7 +53,7 @@ reached-more passes labels left rest x byte_index end step prefix r = record {
       ∙ ap (λ (b : Bool). b || is_covered passes rest c) (sym (end-raised (passes x) end x c (omega arith) some));
 }
 
--- labels that begin from the character's end on have no byte of it
+-- labels that start at the character's end or later do not cover it
 uncovered : (passes : LabelModel → Bool) (xs : List LabelModel) (byte_index : ℕ) (c : Metrics) → starts_from byte_index xs ≡ true → c.byte_index + c.bytes ≤ byte_index
     → is_covered passes xs c ≡ false
 uncovered passes [] byte_index c ordered past = refl
@@ -71,7 +71,7 @@ or-false : (b : Bool) → (b || false) ≡ b
 or-false true = refl
 or-false false = refl
 
--- all labels that begin before the character's end have been passed
+-- all labels that start before the character's end have been passed
 pub reached-here : (passes : LabelModel → Bool) (labels left : List LabelModel) (byte_index end : ℕ) (c : Metrics) → c.byte_index + c.bytes ≡ byte_index → 1 ≤ c.bytes
     → starts_from byte_index left ≡ true → IsReached passes labels left byte_index end → is_covered passes labels c ≡ nat_lt c.byte_index end
 reached-here passes labels left byte_index end c ends some ordered r =
@@ -101,7 +101,7 @@ starts-next low left rest x step ordered =
     let far : low ≤ x.start = (let test = parts.0 in grind (arith, nat_tests)) in
     starts-lower rest low x.start far parts.1
 
--- the first one of those that are left begins no earlier than they do
+-- the first one of those that are left starts no earlier than they do
 pub starts-first : (low : ℕ) (ys xs : List SingleLabelTuple) (i : ℕ) (d : SingleLabelTuple) → ys ≡ xs → i < length xs → starts_from low (single_label_views (drop i ys)) ≡ true
     → low ≤ (get_or xs i d).1.start
 starts-first low ys xs i d same h ordered =
@@ -143,7 +143,7 @@ follow-after false tab text = follow-then no_more tab 0 0 (chars text) (λ p q. 
 pub char_metrics-step : (cs : List Metrics) (i : ℕ) (d : Metrics) → i < length cs → drop i cs ≡ get_or cs i d ∷ drop (i + 1) cs
 char_metrics-step cs i d h = rw (drop-cons cs i d h, add-one) refl
 
--- ---- a cursor over them
+-- ---- a cursor over labels and characters
 
 passed-prop : (byte_index : ℕ) (s : LabelCursor) → IsProp (HasPassedLabels byte_index s)
 passed-prop byte_index s = Prim.hlevel props
@@ -174,30 +174,30 @@ module _ (s : LabelCursor) (left rest : List Metrics) (c : Metrics) (step : left
 
   -- it returns the next character
   pub cursor-returns : ∥ IsBefore s left ∥₁ → ∥ HasReturned c s rest ∥₁
-  cursor-returns cached = ∥∥₁_elim cached (Prim.hlevel props) (λ w. ∣ record { some = (here w).1; passed = rw (here w).0 w.passed; follow = rw (here w).0 (here w).2 } ∣₁)
+  cursor-returns before_it = ∥∥₁_elim before_it (Prim.hlevel props) (λ w. ∣ record { some = (here w).1; passed = rw (here w).0 w.passed; follow = rw (here w).0 (here w).2 } ∣₁)
 
 -- and goes on after it, whether or not the style under it was requested
 pub cursor-goes_on : (s : LabelCursor) (rest : List Metrics) (c : Metrics) → ∥ HasReturned c s rest ∥₁ → ∥ IsBefore s rest ∥₁
-cursor-goes_on s rest c cached =
-    ∥∥₁_elim cached (Prim.hlevel props) (λ g. ∣ record { byte_index = c.byte_index + c.bytes; passed = passed-later s c.byte_index (c.byte_index + c.bytes) (omega arith) g.passed; follow = g.follow } ∣₁)
+cursor-goes_on s rest c returned =
+    ∥∥₁_elim returned (Prim.hlevel props) (λ g. ∣ record { byte_index = c.byte_index + c.bytes; passed = passed-later s c.byte_index (c.byte_index + c.bytes) (omega arith) g.passed; follow = g.follow } ∣₁)
 
 -- as it does where none is left
-pub cursor-turn : (s : LabelCursor) (old new : CachedMetrics) (r : Option Metrics) → YieldsFirst cached_left old r new → ∥ IsBefore s (cached_left old) ∥₁ → ∥ IsBefore s (cached_left new) ∥₁
-cursor-turn s old new (Some c) step cached = cursor-goes_on s (cached_left new) c (cursor-returns s (cached_left old) (cached_left new) c step cached)
-cursor-turn s old new None ends cached = subst (λ (cs : List Metrics). ∥ IsBefore s cs ∥₁) (ends.0 ∙ sym ends.1) cached
+pub cursor-next : (s : LabelCursor) (old new : CachedMetrics) (r : Option Metrics) → YieldsFirst cached_left old r new → ∥ IsBefore s (cached_left old) ∥₁ → ∥ IsBefore s (cached_left new) ∥₁
+cursor-next s old new (Some c) step before_it = cursor-goes_on s (cached_left new) c (cursor-returns s (cached_left old) (cached_left new) c step before_it)
+cursor-next s old new None ends before_it = subst (λ (cs : List Metrics). ∥ IsBefore s cs ∥₁) (ends.0 ∙ sym ends.1) before_it
 
 -- what it has returned
-pub cursor-turned : (s : LabelCursor) (old new : CachedMetrics) (r : Option Metrics) → YieldsFirst cached_left old r new → ∥ IsBefore s (cached_left old) ∥₁
+pub cursor-next_returned : (s : LabelCursor) (old new : CachedMetrics) (r : Option Metrics) → YieldsFirst cached_left old r new → ∥ IsBefore s (cached_left old) ∥₁
     → IfSome r (λ c. ∥ HasReturned c s (cached_left new) ∥₁)
-cursor-turned s old new (Some c) step cached = cursor-returns s (cached_left old) (cached_left new) c step cached
-cursor-turned s old new None ends cached = tt
+cursor-next_returned s old new (Some c) step before_it = cursor-returns s (cached_left old) (cached_left new) c step before_it
+cursor-next_returned s old new None ends before_it = tt
 
-pub cursor-looked_up : (s t : LabelCursor) (rest : List Metrics) (c : Metrics) → ∥ HasReturned c s rest ∥₁ → HasPassedLabels (c.byte_index + c.bytes) t → ∥ IsBefore t rest ∥₁
-cursor-looked_up s t rest c cached passed = ∥∥₁_elim cached (Prim.hlevel props) (λ g. ∣ record { byte_index = c.byte_index + c.bytes; passed = passed; follow = g.follow } ∣₁)
+pub cursor-passed : (s t : LabelCursor) (rest : List Metrics) (c : Metrics) → ∥ HasReturned c s rest ∥₁ → HasPassedLabels (c.byte_index + c.bytes) t → ∥ IsBefore t rest ∥₁
+cursor-passed s t rest c returned passed = ∥∥₁_elim returned (Prim.hlevel props) (λ g. ∣ record { byte_index = c.byte_index + c.bytes; passed = passed; follow = g.follow } ∣₁)
 
 -- the labels that it has passed, and the character that it has returned
 pub returned-passed : (s : LabelCursor) (rest : List Metrics) (c : Metrics) → ∥ HasReturned c s rest ∥₁ → HasPassedLabels c.byte_index s
-returned-passed s rest c cached = ∥∥₁_elim cached (passed-prop c.byte_index s) (λ g. g.passed)
+returned-passed s rest c returned = ∥∥₁_elim returned (passed-prop c.byte_index s) (λ g. g.passed)
 
 pub returned-some : (s : LabelCursor) (rest : List Metrics) (c : Metrics) → ∥ HasReturned c s rest ∥₁ → 1 ≤ c.bytes
-returned-some s rest c cached = ∥∥₁_elim cached (Prim.hlevel props) (λ g. g.some)
+returned-some s rest c returned = ∥∥₁_elim returned (Prim.hlevel props) (λ g. g.some)

@@ -1,7 +1,7 @@
 pub mod MetricsSteps
 pub mod ThroughReference
 pub mod RowWriters
-pub mod Best
+pub mod PreferredStyles
 pub mod ScannedPointers
 pub mod LabelCursorSteps
 pub mod StartsPassed

@@ -9,10 +9,10 @@ use Rattle.unicode_width.specs.Width.{char_width}
 use Rattle.codespan_picture.specs.declared.char_metrics.Metrics.{Metrics}
 use Rattle.codespan_picture.specs.CharMetrics.{metrics_then, width_at}
 
--- the characters of ASCII that are seen take one cell each
-pub width_at-seen : (tab column c : ℕ) → 32 ≤ c → c ≤ 126 → 1 ≡ width_at tab column c
+-- a printable character of ASCII occupies one cell
+pub width_at-printable : (tab column c : ℕ) → 32 ≤ c → c ≤ 126 → 1 ≡ width_at tab column c
 unfolding char_width
-width_at-seen tab column c low high =
+width_at-printable tab column c low high =
     let no_tab : (c == 9) ≡ false = ne_eqb c 9 (λ e. omega (arith, e)) in
     let ascii : nat_lt c 0x7F ≡ true = lt-ltb c 0x7F (omega arith) in
     let seen : nat_le 0x20 c ≡ true = grind (arith, nat_tests) in

@@ -16,7 +16,7 @@ use Rattle.codespan_row_parts.specs.Runs.{AreHanging}
 use Rattle.codespan_renderer.proofs.ScannedPointers.{pointer_is}
 use Rattle.codespan_picture.proofs.Consecutive.{AreConsecutive}
 
--- two cursors have passed the labels of two lists that begin before these characters
+-- two cursors have passed the labels of two lists that start before these characters
 pub record IsPassing (before after : List SingleLabelTuple) (s t : StartCursor) (left : List Metrics) : Type 0 where
   pub byte_index : ℕ
   pub column : ℕ
@@ -26,7 +26,7 @@ pub record IsPassing (before after : List SingleLabelTuple) (s t : StartCursor) 
   pub same_late : t.labels.now ≡ after
   pub consecutive : AreConsecutive byte_index column left
 
--- at the next cell
+-- at the next character
 pub record IsPassingAt (before after : List SingleLabelTuple) (s t : StartCursor) (c : Metrics) (left : List Metrics) : Type 0 where
   pub some : 1 ≤ c.bytes
   pub early : HasPassedStarts c.byte_index s
@@ -120,7 +120,7 @@ pointers-past labels byte_index column (c ∷ cs) consecutive past =
     let there : max_label_start labels < c.byte_index = omega (arith, consecutive.0) in
     rw (none-past labels c there) (pointers-past labels (byte_index + c.bytes) (column + c.unicode_width) cs consecutive.3 (omega arith))
 
--- the next cell begins past the starts, and so do all that follow
+-- the next character begins past the starts, and so do all that follow
 pub pointers-past-at : (labels before after : List SingleLabelTuple) (s t : StartCursor) (last : ℕ) (cs left : List Metrics) (c : Metrics) → cs ≡ c ∷ left
     → IsPassing before after s t cs → last < c.byte_index → last ≡ max_label_start (single_label_views labels)
     → pointers_in (hanging_labels (single_label_views labels)) cs ≡ []

@@ -14,7 +14,7 @@ use Rattle.codespan_renderer.specs.Renderers.{Renders, SameRenderer, sink_throug
 use Rattle.codespan_renderer.specs.declared.term.renderer.Renderer.{Renderer}
 use Rattle.codespan_renderer.specs.declared.term.renderer.row_writer.RowWriter.{RowWriter}
 
--- the same of another result with the same outcome
+-- what was written, by another result with the same outcome
 pub writes_as : {E F : Type 0} (s : Sink) (items : Stream) (r : Result (Unit {0}) E) (q : Result (Unit {0}) F) (t : Sink) → SameOutcome r q → Writes s items r t → Writes s items q t
 writes_as s items (Ok x) (Ok y) t a p = p
 writes_as s items (Ok x) (Err y) t a p = let clash = a in cc
@@ -56,14 +56,14 @@ pub renders : {W E : Type 0} (sink : W → Sink) (items others : Stream) (old ne
     → items ≡ others → inner_reference before ≡ name → inner_writer before ≡ writer_of old
     → Writes (row_writer_sink sink before) items r (row_writer_sink sink after) → SameOutcome r q → IfErr q IsIo
     → (name ≡ inner_reference after → writer_of new ≡ inner_writer after) → SameRenderer old new → Renders sink others old q new
-renders {W} {E} sink items others old new before after name r q equal called previous p same io back cached =
+renders {W} {E} sink items others old new before after name r q equal called previous p same io back same_renderer =
     let through : inner_reference after ≡ inner_reference before =
     same_reference (inner_reference before) (inner_reference after) (sink (inner_writer before)) items r (sink (inner_writer after)) p in
     let now : writer_of new ≡ inner_writer after = back (sym (through ∙ called)) in
-    let sent : Writes (sink (inner_writer before)) items r (sink (inner_writer after)) =
+    let written : Writes (sink (inner_writer before)) items r (sink (inner_writer after)) =
     writes_before (inner_reference before) (inner_reference after) (sink (inner_writer before)) items r (sink (inner_writer after)) p in
     record {
-      same = cached;
-      writes = rw (now, sym previous, sym equal) (writes_as (sink (inner_writer before)) items r q (sink (inner_writer after)) same sent);
+      same = same_renderer;
+      writes = rw (now, sym previous, sym equal) (writes_as (sink (inner_writer before)) items r q (sink (inner_writer after)) same written);
       io = io;
     }

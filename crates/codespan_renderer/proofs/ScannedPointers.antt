@@ -17,41 +17,41 @@ use Rattle.codespan_picture.specs.Rows.{RowContext, hanging_labels}
 use Rattle.codespan_picture.specs.RowParts.{starts_in, pointer_style, max_label_start, spaces_up_to, pointer_at, pointers, metrics_before}
 use Rattle.codespan_renderer.specs.Private.PreferredStyles.{prefer_primary, preferred_style, pointer_style_if_any}
 use Rattle.codespan_row_parts.specs.Runs.{AreHanging}
-use Rattle.codespan_renderer.proofs.Best.{best-cons, best-primary}
+use Rattle.codespan_renderer.proofs.PreferredStyles.{preferred-cons, preferred-primary}
 use Rattle.codespan_row_parts.proofs.RowEquations.{spaces-add}
 use Rattle.codespan_row_parts.proofs.Hanging.{hanging_parts, spaces_is}
 
 -- ---- the style of a pointer
 
--- the best of two lists
-best_append : (p : LabelModel → Bool) (found : Option LabelStyle) (xs ys : List LabelModel) → preferred_style p found (xs ++ ys) ≡ preferred_style p (preferred_style p found xs) ys
-best_append p found xs ys =
+-- the preferred style of two lists
+preferred-append : (p : LabelModel → Bool) (found : Option LabelStyle) (xs ys : List LabelModel) → preferred_style p found (xs ++ ys) ≡ preferred_style p (preferred_style p found xs) ys
+preferred-append p found xs ys =
     let step = λ (best : Option LabelStyle) (x : LabelModel). prefer_primary best x.style in
     ap (fold step found) (filter-append p xs ys) ∙ fold-append step found (filter p xs) (filter p ys)
 
 -- after a secondary style only a primary one counts
-best_later : (c : Metrics) (xs : List LabelModel) → preferred_style (starts_in c) (Some Secondary) xs ≡ Some (pointer_style xs c)
-best_later c [] = refl
-best_later c (x ∷ xs) = best-cons (starts_in c) (Some Secondary) x xs ∙ by_style (best_later c xs) (starts_in c x) x.style
+preferred-after_secondary : (c : Metrics) (xs : List LabelModel) → preferred_style (starts_in c) (Some Secondary) xs ≡ Some (pointer_style xs c)
+preferred-after_secondary c [] = refl
+preferred-after_secondary c (x ∷ xs) = preferred-cons (starts_in c) (Some Secondary) x xs ∙ by_style (preferred-after_secondary c xs) (starts_in c x) x.style
   where
     by_style : preferred_style (starts_in c) (Some Secondary) xs ≡ Some (pointer_style xs c) → (b : Bool) (s : LabelStyle)
         → preferred_style (starts_in c) (if b then prefer_primary (Some Secondary) s else Some Secondary) xs
         ≡ Some (if (is_primary_style s && b) || list_any (λ y. is_primary y && starts_in c y) xs then Primary else Secondary)
-    by_style more true Primary = best-primary (starts_in c) xs
+    by_style more true Primary = preferred-primary (starts_in c) xs
     by_style more true Secondary = more
     by_style more false Primary = more
     by_style more false Secondary = more
 
--- the best style of the labels that start in the character is that of its pointer
-best_is : (c : Metrics) (xs : List LabelModel) → preferred_style (starts_in c) None xs ≡ pointer_style_if_any xs c
-best_is c [] = refl
-best_is c (x ∷ xs) = best-cons (starts_in c) None x xs ∙ by_style (best_is c xs) (starts_in c x) x.style
+-- the preferred style of the labels that start in the character is that of its pointer
+preferred-pointer_style : (c : Metrics) (xs : List LabelModel) → preferred_style (starts_in c) None xs ≡ pointer_style_if_any xs c
+preferred-pointer_style c [] = refl
+preferred-pointer_style c (x ∷ xs) = preferred-cons (starts_in c) None x xs ∙ by_style (preferred-pointer_style c xs) (starts_in c x) x.style
   where
     by_style : preferred_style (starts_in c) None xs ≡ pointer_style_if_any xs c → (b : Bool) (s : LabelStyle)
         → preferred_style (starts_in c) (if b then prefer_primary None s else None) xs
         ≡ (if b || list_any (starts_in c) xs then Some (if (is_primary_style s && b) || list_any (λ y. is_primary y && starts_in c y) xs then Primary else Secondary) else None)
-    by_style more true Primary = best-primary (starts_in c) xs
-    by_style more true Secondary = best_later c xs
+    by_style more true Primary = preferred-primary (starts_in c) xs
+    by_style more true Secondary = preferred-after_secondary c xs
     by_style more false Primary = more
     by_style more false Secondary = more
 
@@ -60,21 +60,21 @@ pub pointer_is : (labels before after : List SingleLabelTuple) (c : Metrics) →
     → preferred_style (starts_in c) (preferred_style (starts_in c) None (filter has_message (single_label_views before))) (filter has_message (single_label_views after))
     ≡ pointer_style_if_any (hanging_labels (single_label_views labels)) c
 pointer_is labels before after c h =
-    sym (best_append (starts_in c) None (filter has_message (single_label_views before)) (filter has_message (single_label_views after)))
+    sym (preferred-append (starts_in c) None (filter has_message (single_label_views before)) (filter has_message (single_label_views after)))
     ∙ ap (preferred_style (starts_in c) None) (hanging_parts labels before after h)
-    ∙ best_is c (hanging_labels (single_label_views labels))
+    ∙ preferred-pointer_style c (hanging_labels (single_label_views labels))
 
 -- a step over the label at an index
-pub best_step : (c : Metrics) (found best : Option LabelStyle) (xs : List SingleLabelTuple) (i : ℕ) (d : SingleLabelTuple) (empty : Bool) → i < length xs
+pub preferred-step : (c : Metrics) (found best : Option LabelStyle) (xs : List SingleLabelTuple) (i : ℕ) (d : SingleLabelTuple) (empty : Bool) → i < length xs
     → empty ≡ (length (get_or xs i d).2.now == 0)
     → best ≡ (if not empty then (if starts_in c (single_label_view (get_or xs i d)) then prefer_primary found (get_or xs i d).0 else found) else found)
     → preferred_style (starts_in c) best (filter has_message (single_label_views (drop (i + 1) xs))) ≡ preferred_style (starts_in c) found (filter has_message (single_label_views (drop i xs)))
-best_step c found best xs i d empty h is e = rw (drop-cons xs i d h, add-one, e, spaces_is, ← is) (by_message (get_or xs i d) (not empty))
+preferred-step c found best xs i d empty h is e = rw (drop-cons xs i d h, add-one, e, spaces_is, ← is) (by_message (get_or xs i d) (not empty))
   where
     by_message : (x : SingleLabelTuple) (b : Bool)
         → preferred_style (starts_in c) (if b then (if starts_in c (single_label_view x) then prefer_primary found x.0 else found) else found) (filter has_message (single_label_views (drop (suc i) xs)))
         ≡ preferred_style (starts_in c) found (cond b (single_label_view x ∷ filter has_message (single_label_views (drop (suc i) xs))) (filter has_message (single_label_views (drop (suc i) xs))))
-    by_message x true = sym (best-cons (starts_in c) found (single_label_view x) (filter has_message (single_label_views (drop (suc i) xs))))
+    by_message x true = sym (preferred-cons (starts_in c) found (single_label_view x) (filter has_message (single_label_views (drop (suc i) xs))))
     by_message x false = refl
 
 -- ---- the pointers of a line
@@ -84,13 +84,13 @@ pub spaces_none : (s : Stream) → spaces 0 ++ s ≡ s
 unfolding spaces bytes
 spaces_none s = refl
 
--- a character before the byte index shows its own
+-- the first character, before the byte index, and then the others
 pointers_next : (context : RowContext) (labels : List LabelModel) (before : ℕ) (c : Metrics) (cs : List Metrics) → c.byte_index < before
     → pointers context labels (metrics_before before (c ∷ cs)) ≡ pointer_at context labels (hanging_labels labels) c ++ pointers context labels (metrics_before before cs)
 unfolding pointers
 pointers_next context labels before c cs h =
-    let cached : nat_lt c.byte_index before ≡ true = lt-ltb c.byte_index before h in
-    rw cached refl
+    let near : nat_lt c.byte_index before ≡ true = lt-ltb c.byte_index before h in
+    rw near refl
 
 -- no label hangs from the character
 pub pointer_none : (context : RowContext) (labels : List LabelModel) (c : Metrics) → pointer_style_if_any (hanging_labels labels) c ≡ None
@@ -124,7 +124,7 @@ spaces_due reach c pending width s h =
     let within : nat_le c.byte_index reach ≡ true = le-leb c.byte_index reach h in
     rw (within, spaces-add) (sym (append_assoc (spaces pending) (spaces width) s))
 
--- it has none past the greatest start
+-- there are none past the greatest start
 pub spaces_past : (reach : ℕ) (c : Metrics) (width : ℕ) (s : Stream) → reach < c.byte_index → spaces_up_to reach c width ++ s ≡ s
 unfolding spaces_up_to
 spaces_past reach c width s h =

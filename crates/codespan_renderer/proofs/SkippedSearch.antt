@@ -1,4 +1,5 @@
--- For `skipped_before`: the cached characters before the first one that is needed of a line.
+-- For `skipped_before` and `least_start`: the cached characters of a line before the first one that
+-- its carets need.
 use Rattle.std.proofs.Common.{◌≡◌, Some, ℕ, zero, suc, ◌+◌, ◌<◌, ◌≤◌, true, List, [], ◌∷◌, take, length, get_or, refl, sym, ap, subst, ◌∙◌, arith, min, fold, add-zero}
 use Rattle.std.specs.Str.{chars}
 use Rattle.std.specs.Prelude.{nat_le, slice_get}
@@ -17,7 +18,7 @@ use Rattle.codespan_row_parts.specs.LineCharacters.{EndBy}
 use Rattle.codespan_row_parts.specs.Runs.{least_start}
 use Rattle.codespan_renderer.proofs.WidthSearch.{consecutive-front, consecutive-low}
 
--- the characters before one that begins at a byte index or before it end there
+-- the characters before one that begins at a byte index or before it end by that index
 end-by : (byte_index from column : ℕ) (cs : List Metrics) (n : ℕ) (d : Metrics) → AreConsecutive from column cs → n < length cs → (get_or cs n d).byte_index ≤ byte_index → EndBy byte_index (take n cs)
 end-by byte_index from column [] n d adjacent h low = absurd (omega arith)
 end-by byte_index from column (c ∷ cs) zero d adjacent h low = tt
@@ -61,9 +62,9 @@ least-first end x xs ordered =
     let parts = and_parts (nat_le 0 x.start) (starts_from x.start xs) ordered in
     sym (least-past x.start (min x.start end) xs parts.1 (omega arith))
 
-pub least-given : (end : ℕ) (label : SingleLabelTuple) (labels : List SingleLabelTuple) → Some label ≡ slice_get labels 0 → starts_in_order (single_label_views labels) ≡ true
+pub least-of_first : (end : ℕ) (label : SingleLabelTuple) (labels : List SingleLabelTuple) → Some label ≡ slice_get labels 0 → starts_in_order (single_label_views labels) ≡ true
     → min label.1.start end ≡ least_start end (single_label_views labels)
-least-given end label [] first ordered = cc
-least-given end label (x ∷ xs) first ordered =
+least-of_first end label [] first ordered = cc
+least-of_first end label (x ∷ xs) first ordered =
     let same : label ≡ x = cc in
     ap (λ (l : SingleLabelTuple). min l.1.start end) same ∙ least-first end (single_label_view x) (single_label_views xs) ordered

@@ -30,8 +30,8 @@ pub spaced-next : (context : RowContext) (edge column before : ℕ) (ps : List P
     ≡ (spaces ((get_or ps i d).column - column) ++ label_glyph context.severity (get_or ps i d).style context.chars.pointer_left)
     ++ spaced context edge (get_or ps i d).after (pointers_before before (drop (i + 1) ps))
 spaced-next context edge column before ps i d h near =
-    let cached : nat_lt (get_or ps i d).byte_index before ≡ true = lt-ltb (get_or ps i d).byte_index before near in
-    rw (drop-cons ps i d h, cached, add-one) refl
+    let early : nat_lt (get_or ps i d).byte_index before ≡ true = lt-ltb (get_or ps i d).byte_index before near in
+    rw (drop-cons ps i d h, early, add-one) refl
 
 -- a later one is not written
 pub spaced-skip : (context : RowContext) (edge column before : ℕ) (ps : List Pointer) (i : ℕ) (d : Pointer) → i < length ps → before ≤ (get_or ps i d).byte_index
@@ -45,9 +45,9 @@ pub spaced-end : (context : RowContext) (edge column before : ℕ) (ps : List Po
     → spaced context edge column (pointers_before before (drop i ps)) ≡ spaces (edge - column)
 spaced-end context edge column before ps i h = let none : drop i ps ≡ [] = grind (arith, common_steps) in rw none refl
 
--- ---- the pointers of cells
+-- ---- the pointers of characters
 
--- what is found by a test holds only of characters that begin at the greatest start or before it
+-- a character with a pointer begins at the greatest start or before it
 found-near : (labels : List LabelModel) (c : Metrics) (style : LabelStyle) → pointer_style_if_any (hanging_labels labels) c ≡ Some style → c.byte_index ≤ max_label_start labels
 found-near labels c style found = by_test (list_any (starts_in c) (hanging_labels labels)) refl found
   where
@@ -56,7 +56,7 @@ found-near labels c style found = by_test (list_any (starts_in c) (hanging_label
     by_test true is h = any-below 0 c.byte_index (starts_in c) labels (starts_in-low c) (any-hanging_labels (starts_in c) labels is)
     by_test false is h = cc
 
--- past the greatest start nothing is shown
+-- past the greatest start no pointer is written
 record ShowsNothing (context : RowContext) (labels : List LabelModel) (cs : List Metrics) : Type 0 where
   pub drawn : pointers context labels cs ≡ []
   pub found : pointers_in (hanging_labels labels) cs ≡ []
@@ -79,10 +79,10 @@ far-char_metrics context labels byte_index column (c ∷ cs) adjacent far =
     }
     by_found past rest (Some style) is = absurd (let near = found-near labels c style is in omega arith)
 
-regroup_pointer : (pending lane_mark after rest : Stream) → pending ++ ((lane_mark ++ after) ++ rest) ≡ (pending ++ lane_mark) ++ (after ++ rest)
-regroup_pointer pending lane_mark after rest = simp append_assoc
+regroup_pointer : (pending glyph after rest : Stream) → pending ++ ((glyph ++ after) ++ rest) ≡ (pending ++ glyph) ++ (after ++ rest)
+regroup_pointer pending glyph after rest = simp append_assoc
 
--- the pending spaces, and then what the cells show
+-- the pending spaces, and then the pointers of the characters
 pub spaced-char_metrics : (context : RowContext) (labels : List LabelModel) (byte_index column at : ℕ) (cs : List Metrics) → AreConsecutive byte_index column cs → at ≤ column
     → spaces (column - at) ++ pointers context labels cs
     ≡ spaced context (column + width_of (metrics_up_to (max_label_start labels) cs)) at (pointers_in (hanging_labels labels) cs)
@@ -113,27 +113,27 @@ spaced-char_metrics context labels byte_index column at (c ∷ cs) adjacent low 
             rw (pointer_none context labels c is, spaces_due (max_label_start labels) c (column - at) c.unicode_width (pointers context labels cs) low_byte_index, is, edges, more)
             (again at (omega arith))
         by_found (Some style) is =
-            let lane_mark = label_glyph context.severity style context.chars.pointer_left in
+            let glyph = label_glyph context.severity style context.chars.pointer_left in
             let rest = pointers context labels cs in
             let far_edge = column + c.unicode_width + width_of (metrics_up_to (max_label_start labels) cs) in
             let more : 0 + (c.unicode_width - 1) ≡ column + c.unicode_width - (column + min c.unicode_width 1) = omega arith in
             let drawn : spaces (column - at) ++ pointers context labels (c ∷ cs)
             ≡ spaced context (column + c.unicode_width + width_of (metrics_up_to (max_label_start labels) cs)) at (pointers_in (hanging_labels labels) (c ∷ cs)) =
             rw (pointer_some context labels c style is, is)
-            (regroup_pointer (spaces (column - at)) lane_mark (spaces_up_to (max_label_start labels) c (c.unicode_width - 1)) rest
-            ∙ ap (λ s. spaces (column - at) ++ lane_mark ++ s)
+            (regroup_pointer (spaces (column - at)) glyph (spaces_up_to (max_label_start labels) c (c.unicode_width - 1)) rest
+            ∙ ap (λ s. spaces (column - at) ++ glyph ++ s)
             (sym (spaces_none (spaces_up_to (max_label_start labels) c (c.unicode_width - 1) ++ rest))
             ∙ spaces_due (max_label_start labels) c 0 (c.unicode_width - 1) rest low_byte_index
             ∙ ap (λ n. spaces n ++ rest) more
             ∙ again (column + min c.unicode_width 1) (omega arith))
-            ∙ ap (λ k. spaces (k - at) ++ lane_mark ++ spaced context far_edge (k + min c.unicode_width 1) (pointers_in (hanging_labels labels) cs)) (sym adjacent.1)) in
+            ∙ ap (λ k. spaces (k - at) ++ glyph ++ spaced context far_edge (k + min c.unicode_width 1) (pointers_in (hanging_labels labels) cs)) (sym adjacent.1)) in
             drawn ∙ ap (λ n. spaced context n at (pointers_in (hanging_labels labels) (c ∷ cs))) (sym edges)
     by_reach again false far =
         let none = far-char_metrics context labels byte_index column (c ∷ cs) adjacent (let here = adjacent.0 in grind (arith, nat_tests)) in
         let e : column + 0 ≡ column = omega arith in
         rw (none.drawn, none.found, none.width, e) (append-nil (spaces (column - at)))
 
--- all cells from the line's start
+-- all characters of a line
 pub spaced-line : (context : RowContext) (labels : List LabelModel) (cs : List Metrics) → AreConsecutive 0 0 cs
     → spaced context (width_of (metrics_up_to (max_label_start labels) cs)) 0 (pointers_in (hanging_labels labels) cs) ≡ pointers context labels cs
 spaced-line context labels cs adjacent =
@@ -141,9 +141,9 @@ spaced-line context labels cs adjacent =
     ap (λ n. spaced context n 0 (pointers_in (hanging_labels labels) cs)) e
     ∙ sym (spaced-char_metrics context labels 0 0 0 cs adjacent (omega arith)) ∙ spaces_none (pointers context labels cs)
 
--- ---- the cells before a byte index
+-- ---- the characters before a byte index
 
--- they lie as all do
+-- they are consecutive, as all are
 before-consecutive : (before byte_index column : ℕ) (cs : List Metrics) → AreConsecutive byte_index column cs → AreConsecutive byte_index column (metrics_before before cs)
 before-consecutive before byte_index column [] adjacent = tt
 before-consecutive before byte_index column (c ∷ cs) adjacent = by_test (before-consecutive before (byte_index + c.bytes) (column + c.unicode_width) cs adjacent.3) (nat_lt c.byte_index before) refl
@@ -169,7 +169,7 @@ before-found labels before (c ∷ cs) = by_both (before-found labels before cs) 
     by_both rest false None is found = rw (is, found) rest
     by_both rest false (Some style) is found = rw (is, found, is) rest
 
--- they all begin before the greatest start
+-- they all begin at the greatest start or before it
 before-reach : (before reach : ℕ) (cs : List Metrics) → before ≤ reach → metrics_up_to reach (metrics_before before cs) ≡ metrics_before before cs
 before-reach before reach [] low = refl
 before-reach before reach (c ∷ cs) low = by_test (before-reach before reach cs low) (nat_lt c.byte_index before) refl
@@ -179,7 +179,7 @@ before-reach before reach (c ∷ cs) low = by_test (before-reach before reach cs
     by_test rest true is = let near : nat_le c.byte_index reach ≡ true = grind (arith, nat_tests) in rw near (ap (λ ds. c ∷ ds) rest)
     by_test rest false is = rest
 
--- the cells before a byte index from the line's start
+-- the characters of a line before a byte index
 pub spaced-before : (context : RowContext) (labels : List LabelModel) (before : ℕ) (cs : List Metrics) → AreConsecutive 0 0 cs → before ≤ max_label_start labels
     → spaced context (width_of (metrics_before before cs)) 0 (pointers_before before (pointers_in (hanging_labels labels) cs)) ≡ pointers context labels (metrics_before before cs)
 spaced-before context labels before cs adjacent near =
@@ -194,8 +194,8 @@ pub spaced-all : (context : RowContext) (labels : List LabelModel) (cs : List Me
     → ps ≡ pointers_in (hanging_labels labels) cs → reach ≡ max_label_start labels → edge ≡ width_of (metrics_up_to reach cs)
     → spaced context edge 0 (pointers_before top ps) ≡ pointers context labels cs
 spaced-all context labels cs ps top reach edge adjacent all found far wide =
-    let cached = sym (before-found (hanging_labels labels) top cs) ∙ ap (pointers_in (hanging_labels labels)) all in
-    rw (wide, far, found, cached) (spaced-line context labels cs adjacent)
+    let whole = sym (before-found (hanging_labels labels) top cs) ∙ ap (pointers_in (hanging_labels labels)) all in
+    rw (wide, far, found, whole) (spaced-line context labels cs adjacent)
 
 -- those before a byte index
 pub spaced-near : (context : RowContext) (labels : List LabelModel) (cs : List Metrics) (ps : List Pointer) (before edge : ℕ) → AreConsecutive 0 0 cs → before ≤ max_label_start labels
@@ -206,7 +206,7 @@ spaced-near context labels cs ps before edge adjacent near found wide =
 
 -- ---- the end of a scan
 
--- what a scan has left lies as all characters of a line do
+-- the characters that a scan has left are consecutive, as all of a line are
 left-consecutive : (top byte_index column : ℕ) (cs : List Metrics) → ConsecutiveWithin top byte_index column cs → AreConsecutive byte_index column cs
 left-consecutive top byte_index column [] within = tt
 left-consecutive top byte_index column (c ∷ cs) within =

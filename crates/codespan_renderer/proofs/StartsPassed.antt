@@ -1,5 +1,5 @@
--- For `StartCursor::start_style`: the starts of labels with messages, as a cursor over the
--- characters of a line passes them.
+-- For `StartCursor::start_style`: the starts of labels with messages, as a cursor over labels
+-- passes them.
 use Rattle.std.proofs.Common.{◌≡◌, ℕ, ◌+◌, ◌<◌, ◌≤◌, Bool, true, false, cond, ◌==◌, nat_lt, nat_le, List, [], ◌∷◌, length, drop, get_or, filter, Option, refl, sym, ◌∙◌, arith}
 use Rattle.std.specs.Prelude.{not, if◌then◌else◌}
 use Rattle.std.proofs.lemmas.Bool.{and_parts}
@@ -10,8 +10,8 @@ use Rattle.codespan_picture.specs.declared.char_metrics.Metrics.{Metrics}
 use Rattle.codespan_picture.specs.Arguments.{SingleLabelTuple, single_label_view, single_label_views, starts_from}
 use Rattle.codespan_picture.specs.RowParts.{starts_in}
 use Rattle.codespan_renderer.specs.Private.PreferredStyles.{prefer_primary, preferred_style}
-use Rattle.codespan_renderer.proofs.Best.{best-cons}
-use Rattle.codespan_renderer.proofs.ScannedPointers.{best_step}
+use Rattle.codespan_renderer.proofs.PreferredStyles.{preferred-cons}
+use Rattle.codespan_renderer.proofs.ScannedPointers.{preferred-step}
 
 -- a label that starts in the character
 pub start-here : (c : Metrics) (found best : Option LabelStyle) (ys xs : List SingleLabelTuple) (i : ℕ) (d : SingleLabelTuple) (empty : Bool) → ys ≡ xs → i < length xs
@@ -20,7 +20,7 @@ pub start-here : (c : Metrics) (found best : Option LabelStyle) (ys xs : List Si
     → preferred_style (starts_in c) best (filter has_message (single_label_views (drop (i + 1) ys))) ≡ preferred_style (starts_in c) found (filter has_message (single_label_views (drop i ys)))
 start-here c found best ys xs i d empty same h is low high e =
     let inside : starts_in c (single_label_view (get_or xs i d)) ≡ true = grind (arith, nat_tests) in
-    rw same (best_step c found best xs i d empty h is (rw inside e))
+    rw same (preferred-step c found best xs i d empty h is (rw inside e))
 
 same-found : (b : Bool) (found : Option LabelStyle) → found ≡ (if b then found else found)
 same-found true found = refl
@@ -33,7 +33,7 @@ pub start-before : (c : Metrics) (found : Option LabelStyle) (ys xs : List Singl
 start-before c found ys xs i d byte_index same h low past =
     let outside : starts_in c (single_label_view (get_or xs i d)) ≡ false = grind (arith, nat_tests) in
     let empty = length (get_or xs i d).2.now == 0 in
-    rw same (sym (best_step c found found xs i d empty h refl (rw outside (same-found (not empty) found))))
+    rw same (sym (preferred-step c found found xs i d empty h refl (rw outside (same-found (not empty) found))))
 
 -- labels that start after the character
 pub none-start : (c : Metrics) (found : Option LabelStyle) (byte_index : ℕ) (xs : List LabelModel) → starts_from byte_index xs ≡ true → c.byte_index + c.bytes ≤ byte_index
@@ -46,10 +46,10 @@ none-start c found byte_index (x ∷ xs) ordered past =
   where
     by_message : preferred_style (starts_in c) found (filter has_message xs) ≡ found → starts_in c x ≡ false → (b : Bool)
         → preferred_style (starts_in c) found (cond b (x ∷ filter has_message xs) (filter has_message xs)) ≡ found
-    by_message rest outside true = best-cons (starts_in c) found x (filter has_message xs) ∙ rw outside rest
+    by_message rest outside true = preferred-cons (starts_in c) found x (filter has_message xs) ∙ rw outside rest
     by_message rest outside false = rest
 
--- a label that begins at a byte index or before it
+-- a label that starts before a byte index
 pub prefix-start : (xs : List SingleLabelTuple) (i : ℕ) (d : SingleLabelTuple) (byte_index : ℕ) → nat_lt (single_label_view (get_or xs i d)).start byte_index ≡ true
     → (get_or xs i d).1.start < byte_index
 prefix-start xs i d byte_index h = grind (arith, nat_tests)

@@ -23,7 +23,7 @@ flag_through : (name : GName) (f : Frame) (b : Bool) → frame_through name (con
 flag_through name f true = refl
 flag_through name f false = refl
 
--- so is a `put`
+-- so has a `put`
 pub puts_through : {E : Type 0} (name : GName) (s : Sink) (bs : List ℕ) (r : Result ℕ E) (t : Sink) → Puts s bs r t → Puts (sink_through name s) bs r (sink_through name t)
 unfolding is_known
 puts_through name s bs (Ok n) t p = (ap (frame_through name) p.0 ∙ flag_through name s.frame (n == 0 && nat_lt 0 (length bs)), p.1)

@@ -18,11 +18,11 @@ use Rattle.codespan_renderer.specs.Private.MetricsLeft.{metrics_from, no_more}
 use Rattle.codespan_renderer.specs.Private.CachedMetrics.{AreCached}
 use Rattle.codespan_row_parts.proofs.Widths.{width-in}
 
--- any cell, for an index past the end of the list
-abbrev pub space_column : Metrics
-space_column = record { ch = 0; byte_index = 0; bytes = 0; column = 0; unicode_width = 0 }
+-- the default of `get_or`, for an index past the end of the list
+abbrev pub default_metrics : Metrics
+default_metrics = record { ch = 0; byte_index = 0; bytes = 0; column = 0; unicode_width = 0 }
 
--- ---- how characters lie
+-- ---- consecutive characters
 
 -- no character begins before the first byte index
 pub consecutive-low : (byte_index column : ℕ) (cs : List Metrics) (j : ℕ) (d : Metrics) → AreConsecutive byte_index column cs → j < length cs → byte_index ≤ (get_or cs j d).byte_index
@@ -112,7 +112,7 @@ cached-past tab text cached rest byte_index count d are point h =
 
 -- cached characters begin one after another
 pub cached-ascends : (tab : ℕ) (text : List ℕ) (cached : List Metrics) (rest : CharMetrics) → AreCached tab text cached rest
-    → (i j : ℕ) → i ≤ j → j < length cached → (get_or cached i space_column).byte_index ≤ (get_or cached j space_column).byte_index
+    → (i j : ℕ) → i ≤ j → j < length cached → (get_or cached i default_metrics).byte_index ≤ (get_or cached j default_metrics).byte_index
 cached-ascends tab text cached rest are =
     let adjacent : AreConsecutive 0 0 (cached ++ metrics_from no_more rest) = subst (λ (cs : List Metrics). AreConsecutive 0 0 cs) (sym (are no_more)) (char_metrics-consecutive tab 0 0 (chars text)) in
-    consecutive-ascends 0 0 cached space_column (consecutive-front 0 0 cached (metrics_from no_more rest) adjacent)
+    consecutive-ascends 0 0 cached default_metrics (consecutive-front 0 0 cached (metrics_from no_more rest) adjacent)

@@ -1,8 +1,8 @@
 //! Renders a diagnostic to a string, to a writer of bytes, or to a writer of styles.
 //!
 //! The five calls that emit take a [`Config`], a file database and a diagnostic. [`RichDiagnostic`]
-//! and [`ShortDiagnostic`] render to a [`Renderer`] of the caller's, and its calls render row by
-//! row. Their names are the Rust crate's.
+//! and [`ShortDiagnostic`] render to the caller's [`Renderer`], whose calls render row by row.
+//! Their names are the Rust crate's.
 
 pub mod renderer;
 pub mod views;

@@ -79,8 +79,8 @@ pub fn emit_into_string<'files, F: Files<'files>>(
     }
 }
 
-/// Returns the error of a call whose output goes into a string: where the writer has failed, an
-/// allocation did.
+/// Returns the error of a call whose output goes into a string: `OutOfMemory` if the writer has
+/// failed, since it fails only where an allocation does, else `error`.
 #[inline(always)]
 fn string_error(has_failed: bool, error: Error) -> Error
     ensures { result ≡ if has_failed then OutOfMemory else error }
@@ -135,7 +135,7 @@ pub fn emit_to_string<'files, F: Files<'files>>(
 ///
 /// A prefix of the text has then been written. In rich style nothing has been written where a
 /// lookup before the header fails. In short and medium style, unless the error is `Io`, exactly the
-/// headers of the primary labels before one at which the call fails have been written. This is
+/// headers of the primary labels before the one at which the call fails have been written. This is
 /// known of a writer whose bytes are known.
 ///
 /// Nothing is looked up without labels, and in short and medium style without primary labels.
@@ -204,7 +204,8 @@ pub fn emit_to_write_style<'files, F: Files<'files>, W: WriteStyle>(
     }
 }
 
-/// Calls [`emit_to_io_write`]: its former name, which the Rust crate has deprecated since 0.13.0.
+/// Writes the output of a diagnostic as [`emit_to_io_write`] does: the older name of that call,
+/// which the Rust crate has deprecated since 0.13.0.
 ///
 /// # Errors
 ///

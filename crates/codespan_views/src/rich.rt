@@ -78,9 +78,9 @@ impl<'diagnostic, 'config, FileId: Copy + Eq> RichDiagnostic<'diagnostic, 'confi
     /// - Any other error: that of the first lookup that fails.
     ///
     /// A prefix of the output has then been written. Nothing has been written where a lookup before
-    /// the header fails, nor where the error is `FormatError`, unless the first lookup after the
-    /// header that fails does so with it. What has been written is known of a writer whose bytes
-    /// are known.
+    /// the header fails, nor where the error is `FormatError`, unless that is the error of the
+    /// first lookup after the header that fails. What has been written is known of a writer whose
+    /// bytes are known.
     ///
     /// The lookups after the header are those of a file's source, and of the range and, in the
     /// classic layout, the number of a line between two shown ones. Without labels nothing is
@@ -190,7 +190,8 @@ impl<'diagnostic, 'config, FileId: Copy + Eq> RichDiagnostic<'diagnostic, 'confi
     }
 }
 
-/// Returns the lines of a file's snippet, which start at this 0-based index.
+/// Returns the lines of a file's snippet, which start at this 0-based index among those of the
+/// plan.
 ///
 /// # Requires
 ///

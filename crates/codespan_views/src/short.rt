@@ -43,7 +43,8 @@ pub struct ShortDiagnostic<'diagnostic, FileId> {
 impl<'diagnostic, FileId: Copy + Eq> ShortDiagnostic<'diagnostic, FileId> {
     ghost use Rattle.codespan_views.specs.Views.{short_diagnostic_of, short_style_of, style_with_notes};
 
-    /// Returns a view of the diagnostic: with `show_notes` in medium style, without in short style.
+    /// Returns a view of the diagnostic: in medium style if `show_notes` is set, else in short
+    /// style.
     pub fn new(
         diagnostic: &'diagnostic Diagnostic<FileId>,
         show_notes: bool,
@@ -71,9 +72,9 @@ impl<'diagnostic, FileId: Copy + Eq> ShortDiagnostic<'diagnostic, FileId> {
     ///   The contract leaves open when, but it is not returned without primary labels.
     /// - Any other error: that of the first lookup that fails.
     ///
-    /// Unless the writer fails, exactly the headers of the primary labels before one at which the
-    /// call fails have been written; where it fails, a prefix of the output has. This is known of a
-    /// writer whose bytes are known.
+    /// If the writer fails, a prefix of the output has been written; otherwise exactly the headers
+    /// of the primary labels before the one at which the call fails. This is known of a writer
+    /// whose bytes are known.
     pub fn render<'files, F, W>(
         &self,
         files: &'files F,

@@ -17,7 +17,7 @@ use std::convert::AsStr;
 pub mod line_buffers;
 pub mod lines;
 
-/// Renders the first rows of a snippet: its locus, and an empty row.
+/// Renders the first rows of a snippet: its start, with the locus, and an empty row.
 ///
 /// # Errors
 ///
@@ -52,7 +52,7 @@ fn render_start<F, FileId, W: WriteStyle>(
 /// # Requires
 ///
 /// The lines are of the file, the single-line labels of each are in the order of their starts, and
-/// its lane marks ascend in the file's lanes.
+/// its lane marks ascend strictly by lane, within the file's lanes.
 pub fn render_snippet<'files, 'd, F: Files<'files>, W: WriteStyle>(
     context: &SnippetContext<'files, F>,
     renderer: &mut Renderer<'_, '_, W>,
@@ -81,7 +81,7 @@ pub fn render_snippet<'files, 'd, F: Files<'files>, W: WriteStyle>(
     snippet.render_lines(renderer, buffers, snippet_lines)
 }
 
-/// Renders the row after a snippet, where something follows.
+/// Renders an empty row after a snippet, where something follows.
 ///
 /// # Errors
 ///

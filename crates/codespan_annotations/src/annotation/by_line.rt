@@ -2,7 +2,7 @@
 //!
 //! Labels that overlap, or that return to the same lines in turn, leave many short runs of
 //! annotations. Once each annotation is moved to its line, the sort meets one run, or nearly so,
-//! and takes time in proportion to it.
+//! and takes linear time.
 
 ghost use Rattle.std.specs.Prelude.{◌≡◌, IfOk, OnErr, IsErrOf, length};
 ghost use Rattle.std.specs.List.Sorted.{IsPermutation};
@@ -16,16 +16,17 @@ use std::ops::Range;
 /// The least number of annotations that are worth moving: fewer are sorted by insertion.
 const MIN_LEN: usize = 32;
 
-/// In `next`: the annotation has been moved. It is the index of no annotation.
+/// The entry in `next` of an annotation that has been moved. No annotation has this index.
 const MOVED: usize = usize::MAX;
 
 /// Moves annotations to the order of their lines, and on a line to that of the ranks of their
-/// kinds. Those of one line and one rank keep their order.
+/// kinds. Those of one line and one rank keep their order. Returns whether they were moved, in time
+/// linear in their number.
 ///
 /// `lines` has the indices of the lines of the one file that has all annotations, 0-based, the end
 /// exclusive; it is `None` where there are more files. The annotations are unchanged where it is
 /// `None`, where they are fewer than [`MIN_LEN`] or than the lines, or where one is found to be on
-/// another line. Returns whether they were moved. The time is in proportion to their number.
+/// another line.
 ///
 /// # Errors
 ///
@@ -53,8 +54,8 @@ pub fn group_by_line<FileId>(
     Ok(true)
 }
 
-/// Returns whether so many annotations of these lines are worth moving: they are no fewer than
-/// [`MIN_LEN`], and no fewer than the lines.
+/// Returns whether so many annotations of these lines are worth moving: at least [`MIN_LEN`], and
+/// at least as many as there are lines.
 fn are_worth_moving(len: usize, lines: &Range<usize>) -> bool {
     len >= MIN_LEN && lines.end.saturating_sub(lines.start) <= len
 }
@@ -133,9 +134,9 @@ fn follow_chains<'d, FileId>(
     Ok(moved)
 }
 
-/// Returns the index of the annotation's group: each line from `first_line` on has one for each
-/// rank. That of another line is past the last group, unless the line is so far away that the
-/// product wraps; `put_in_order` tests the order afterwards.
+/// Returns the index of the annotation's group: each line from the 0-based `first_line` on has one
+/// for each rank. For another line the index is past the last group, unless the line is so far away
+/// that the product wraps; `put_in_order` tests the order afterwards.
 fn group_of<FileId>(annotation: &Annotation<'_, FileId>, first_line: usize) -> usize {
     let line = annotation.line.index.wrapping_sub(first_line);
     line.wrapping_mul(RANK_COUNT).wrapping_add(rank(annotation))

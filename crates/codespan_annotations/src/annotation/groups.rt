@@ -8,15 +8,15 @@ ghost use Rattle.codespan_annotations.specs.AnnotationViews.{annotation_view};
 
 use crate::annotation::{Annotation, AnnotationKind};
 
-/// Returns whether an annotation makes its line shown. Where the first annotation of a line does
-/// not, the line is hidden.
+/// Returns whether an annotation makes its line shown. If the first annotation of a line does not,
+/// the line is hidden.
 pub fn shows_line<FileId>(annotation: &Annotation<'_, FileId>) -> bool
     ensures { result ≡ shows_line (annotation_view annotation.now) }
 {
     !matches!(annotation.kind, AnnotationKind::Multi { .. })
 }
 
-/// Returns how many annotations at the start are of the line.
+/// Returns how many annotations at the start are of the line at this 0-based index.
 pub fn count_on_line<FileId>(annotations: &[Annotation<'_, FileId>], line: usize) -> usize
     ensures value { result ≡ prefix_len (λ e. is_on_line line (annotation_view e)) annotations.now }
     ensures within { result ≤ length annotations.now }
@@ -27,8 +27,8 @@ pub fn count_on_line<FileId>(annotations: &[Annotation<'_, FileId>], line: usize
         .count()
 }
 
-/// Returns how many annotations at the start are of the file. Where all are, as with one file, the
-/// first and the last one show it.
+/// Returns how many annotations at the start are of the file at this 0-based index. If the first
+/// and the last annotation are, so are all: with one file none is counted.
 ///
 /// # Requires
 ///

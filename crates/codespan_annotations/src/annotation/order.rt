@@ -72,8 +72,8 @@ pub fn rank<FileId>(annotation: &Annotation<'_, FileId>) -> usize
     }
 }
 
-/// Returns whether one annotation is before another in the order of [`compare`]. It compares files
-/// and lines first: most annotations that are compared are of different lines.
+/// Returns whether `left` is before `right` in the order of [`compare`]. It compares files and
+/// lines first: most annotations that are compared are of different lines.
 #[inline(always)]
 fn is_before<FileId>(left: &Annotation<'_, FileId>, right: &Annotation<'_, FileId>) -> bool
     ensures { result ≡ is_before (annotation_view left.now) (annotation_view right.now) }
@@ -87,7 +87,7 @@ fn is_before<FileId>(left: &Annotation<'_, FileId>, right: &Annotation<'_, FileI
     compare_kinds(left, right).is_lt()
 }
 
-/// Returns whether annotations are found to be in order.
+/// Returns whether annotations are found to be in order: `true` only if they are.
 fn are_in_order<FileId>(annotations: &[Annotation<'_, FileId>]) -> bool
     ensures { result ≡ true → IsSortedBy is_before (map annotation_view annotations.now) }
 {
@@ -102,8 +102,8 @@ fn are_in_order<FileId>(annotations: &[Annotation<'_, FileId>]) -> bool
 }
 
 /// Returns the end of the longest run of lane marks of one line that starts at this index and whose
-/// lanes do not fall; the next index where the annotation is no lane mark. Most annotations that
-/// are found to be in order are in such runs.
+/// lanes do not decrease; the next index where the annotation is no lane mark. Most annotations
+/// that are found to be in order are in such runs.
 ///
 /// # Requires
 ///
@@ -130,8 +130,8 @@ fn lane_marks_end<FileId>(annotations: &[Annotation<'_, FileId>], start: usize) 
     end
 }
 
-/// Returns the lane of an annotation, if it is a lane mark of this line of this file. All are
-/// 0-based indices.
+/// Returns the lane of an annotation, if it is a lane mark on this line of this file. All three are
+/// 0-based.
 #[inline(always)]
 fn lane_on<FileId>(annotation: &Annotation<'_, FileId>, file: usize, line: usize) -> Option<usize>
     ensures { IfSome result (λ lane. IsLaneMarkOn file line lane (annotation_view annotation.now)) }

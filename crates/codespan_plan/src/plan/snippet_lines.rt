@@ -45,13 +45,13 @@ pub enum SnippetLine<'e, 'd, FileId> {
 pub enum Gap {
     /// Nothing, or the line is the first shown one.
     Nothing,
-    /// The one line of this 0-based index, which is filled in.
+    /// The one line between, at this 0-based index, which is filled in.
     Line(usize),
     /// Two lines or more, which are left out.
     Lines,
 }
 
-/// Returns what is before the shown line of this index, where `previous` is the index of the shown
+/// Returns what is before the shown line at this index, where `previous` is the index of the shown
 /// line before it, if there is one. Both are 0-based.
 pub fn gap_before(previous: Option<usize>, index: usize) -> Gap
     ensures { IsGapBefore previous index result }
@@ -79,8 +79,8 @@ pub struct LinePlanner<'files, F: Files<'files>> {
 }
 
 impl<'files, F: Files<'files>> LinePlanner<'files, F> {
-    /// Looks up the number of a filled line in the unbroken layout; returns `None` in the classic
-    /// one.
+    /// Looks up the number of the filled line at this 0-based index in the unbroken layout; returns
+    /// `None` in the classic one.
     ///
     /// # Errors
     ///
@@ -135,9 +135,9 @@ impl<'files, F: Files<'files>> LinePlanner<'files, F> {
         Ok(())
     }
 
-    /// Appends a shown line with its annotations, after what is before it. `previous` is the index
-    /// of the shown line before it, if there is one, and `hidden` are the annotations of the line
-    /// just before it, where that is hidden.
+    /// Appends a shown line with its annotations, after what is before it. `previous` is the
+    /// 0-based index of the shown line before it, if there is one, and `hidden` are the annotations
+    /// of the line just before it, where that is hidden.
     ///
     /// # Errors
     ///

@@ -107,7 +107,7 @@ fn locate_snippet<'files, 'e, F: Files<'files>>(
     })
 }
 
-/// Returns the first error: that of `located` if it has one, or this one.
+/// Returns the first error: that of `located` if it is `Err`, else `failed`.
 fn first_failed(located: Result<(), Error>, failed: Error) -> Result<(), Error>
     ensures { result ≡ result_and located (Err failed) }
 {

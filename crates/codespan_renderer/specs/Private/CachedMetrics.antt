@@ -13,7 +13,7 @@ use Rattle.codespan_renderer.specs.Private.MetricsLeft.{MetricsAfterEnd, metrics
 abbrev pub cached_left : CachedMetrics → List Metrics
 cached_left s = s.cached.now ++ metrics_left s.rest
 
--- the cached characters of a text and those of the iterator are all of them, whatever is after
+-- the cached characters and those of the iterator are all characters of the text, whatever is after
 -- the last one
 abbrev pub AreCached : ℕ → List ℕ → List Metrics → CharMetrics → Type 0
 AreCached tab text cached rest =

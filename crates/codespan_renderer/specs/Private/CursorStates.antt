@@ -5,7 +5,7 @@ use Rattle.codespan_renderer.specs.declared.term.renderer.cached.label_cursor.La
 use Rattle.codespan_renderer.specs.Private.LabelCursors.{HasPassedLabels}
 use Rattle.codespan_row_parts.specs.CharCursors.{AreContiguous}
 
--- the cursor is before these characters, and has passed the labels that begin before the first of
+-- the cursor is before these characters, and has passed the labels that start before the first of
 -- them
 pub record IsBefore (s : LabelCursor) (left : List Metrics) : Type 0 where
   pub byte_index : ℕ
@@ -13,7 +13,7 @@ pub record IsBefore (s : LabelCursor) (left : List Metrics) : Type 0 where
   pub follow : AreContiguous byte_index left
 
 -- the cursor has just returned this character and is before these; it has passed the labels that
--- begin before the character
+-- start before the character
 pub record HasReturned (c : Metrics) (s : LabelCursor) (left : List Metrics) : Type 0 where
   pub some : 1 ≤ c.bytes
   pub passed : HasPassedLabels c.byte_index s

@@ -1,4 +1,4 @@
--- A cursor over the characters of a line that passes its labels as they begin.
+-- A cursor over the labels of a line, which passes them as they start.
 use Rattle.std.specs.Prelude.{◌≡◌, ℕ, ◌+◌, ◌≤◌, Bool, true, ◌||◌, ◌&&◌, nat_lt, max, if◌then◌else◌, List, drop}
 use Rattle.codespan_base.specs.Labels.{LabelModel, is_primary}
 use Rattle.codespan_picture.specs.declared.char_metrics.Metrics.{Metrics}
@@ -6,12 +6,12 @@ use Rattle.codespan_renderer.specs.declared.term.renderer.cached.label_cursor.La
 use Rattle.codespan_picture.specs.Arguments.{single_label_views, starts_in_order}
 use Rattle.codespan_row_parts.specs.CharCursors.{is_covered}
 
--- the greatest end with that of a label that counts; one with no byte has none
+-- the greatest end with that of a label that counts; one that covers no byte has none
 abbrev pub end_with : Bool → ℕ → LabelModel → ℕ
 end_with counts end x = if counts && nat_lt x.start x.end then max end x.end else end
 
--- of a character that ends at this byte index or later: one of the labels that pass the test has a
--- byte of it exactly where it begins before `end`, or where one of the remaining ones that pass has
+-- a character that ends at this byte index or later is covered by a label that passes the test,
+-- exactly where it begins before `end` or is covered by a remaining label that passes
 pub record IsReached (passes : LabelModel → Bool) (labels left : List LabelModel)
     (byte_index end : ℕ) : Type 0 where
   pub is : (c : Metrics) → byte_index ≤ c.byte_index + c.bytes → 1 ≤ c.bytes
@@ -21,7 +21,7 @@ pub record IsReached (passes : LabelModel → Bool) (labels left : List LabelMod
 abbrev pub labels_left : LabelCursor → List LabelModel
 labels_left s = single_label_views (drop s.next s.labels.now)
 
--- a cursor has passed the labels that begin before this byte index
+-- a cursor has passed the labels that start before this byte index
 pub record HasPassedLabels (byte_index : ℕ) (s : LabelCursor) : Type 0 where
   pub primary :
       IsReached is_primary (single_label_views s.labels.now) (labels_left s) byte_index

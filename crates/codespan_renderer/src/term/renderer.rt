@@ -25,8 +25,8 @@ use scanned_line::ScannedLine;
 use std::cell::Cell;
 use std::io;
 
-/// Returns whether the lanes, which count from 0, ascend strictly and are below their number: what
-/// the calls with lanes require.
+/// Returns whether the lanes ascend strictly and each is less than `num_multi_labels`: lanes are
+/// counted from 0. The calls with lanes require it.
 ///
 /// `lanes_in_order(2, &[(1, Primary, Left), (0, Primary, Left)])` is false.
 pub fn lanes_in_order(
@@ -86,7 +86,8 @@ impl<'writer, 'config, W: WriteStyle> Renderer<'writer, 'config, W> {
         }
     }
 
-    /// Returns what all rows of a line are rendered by.
+    /// Returns the context of rows, by the renderer's configuration. `padding` is the padding
+    /// width, in characters.
     fn context(&self, severity: Severity, padding: usize) -> RowContext<'config>
         ensures { context_view result ≡ context_of (config_of self.now) severity padding }
     {
@@ -155,9 +156,9 @@ impl<'writer, 'config, W: WriteStyle> Renderer<'writer, 'config, W> {
     /// next tab stop; any other character has the cells of `unicode_width`.
     ///
     /// Ranges are in bytes of `source`, from 0, the end exclusive. They may be in any order,
-    /// reversed, past the end, or off character boundaries; one without a byte has no caret.
-    /// `num_multi_labels` is the number of the file's lanes. `multi_labels` has for each label in
-    /// them its lane, counted from 0, its style, and what it does on the line.
+    /// reversed, past the end, or off character boundaries; an empty or reversed one has no caret.
+    /// `num_multi_labels` is the number of the file's lanes. `multi_labels` has the lane marks of
+    /// the line: of each label its lane, counted from 0, its style, and what it does on the line.
     ///
     /// # Errors
     ///
@@ -198,7 +199,7 @@ impl<'writer, 'config, W: WriteStyle> Renderer<'writer, 'config, W> {
         with_error(written, &self.saved)
     }
 
-    /// Writes a row with the border and the lanes alone.
+    /// Writes an empty row: the border and the lanes alone.
     ///
     /// # Errors
     ///
@@ -259,7 +260,8 @@ impl<'writer, 'config, W: WriteStyle> Renderer<'writer, 'config, W> {
         with_error(written, &self.saved)
     }
 
-    /// Writes a note: a row for each line, the first after the note bullet; none if it is empty.
+    /// Writes a note: a row for each of its lines, the first after the note bullet. An empty note
+    /// has no row.
     ///
     /// # Errors
     ///

@@ -26,7 +26,7 @@ module _ {Id : Type 0} (d : Diagnostic Id) where
   abbrev pub header_line : Option Locus → Stream
   header_line locus = header_row d.severity locus (header_text_of d) ++ newline
 
-  -- the last rows of a rich output: the notes, and an empty one
+  -- the last rows of a rich output: the notes, and the final row
   abbrev pub closing_rows : List Row
   closing_rows = note_rows (notes_of d) ++ FinalRow ∷ []
 

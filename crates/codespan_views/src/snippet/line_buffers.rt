@@ -28,7 +28,7 @@ pub struct LineBuffers<'d> {
 }
 
 impl<'d> LineBuffers<'d> {
-    /// Returns buffers without labels and characters. It allocates nothing.
+    /// Returns empty buffers. It allocates nothing.
     pub fn new(alloc: Global) -> LineBuffers<'d>
         ensures single_labels { result.single_labels.items ≡ [] }
         ensures multi_labels { result.multi_labels.items ≡ [] }
@@ -40,7 +40,7 @@ impl<'d> LineBuffers<'d> {
         }
     }
 
-    /// Replaces the labels by those of these annotations, in their order.
+    /// Replaces the labels with those of these annotations, in their order.
     ///
     /// # Errors
     ///
@@ -58,7 +58,7 @@ impl<'d> LineBuffers<'d> {
     }
 }
 
-/// Replaces multi-line labels by those of these annotations, in their order.
+/// Replaces the lane marks in `multi_labels` with those of these annotations, in their order.
 ///
 /// # Errors
 ///
@@ -85,7 +85,7 @@ pub fn fill_multi_labels<'d, FileId>(
     Ok(())
 }
 
-/// Replaces single-line labels by those of these annotations, in their order.
+/// Replaces the single-line labels with those of these annotations, in their order.
 ///
 /// # Errors
 ///

@@ -55,7 +55,8 @@ impl<'context, 'files, F: Files<'files>> Snippet<'context, 'files, F> {
     /// # Requires
     ///
     /// The text is that of the file. The lines are of the file, the single-line labels of each are
-    /// in the order of their starts, and its lane marks ascend in the file's lanes.
+    /// in the order of their starts, and its lane marks ascend strictly by lane, within the file's
+    /// lanes.
     pub fn render_lines<'d, W: WriteStyle>(
         &self,
         renderer: &mut Renderer<'_, '_, W>,
@@ -122,7 +123,8 @@ impl<'context, 'files, F: Files<'files>> Snippet<'context, 'files, F> {
     /// # Requires
     ///
     /// The text is that of the file, and the line is one of the file's. Its single-line labels are
-    /// in the order of their starts, and its lane marks ascend in the file's lanes.
+    /// in the order of their starts, and its lane marks ascend strictly by lane, within the file's
+    /// lanes.
     #[inline(always)]
     fn render_line<'d, W: WriteStyle>(
         &self,
@@ -161,7 +163,7 @@ impl<'context, 'files, F: Files<'files>> Snippet<'context, 'files, F> {
     ///
     /// # Requires
     ///
-    /// The lane marks of the line ascend in the file's lanes.
+    /// The lane marks of the line ascend strictly by lane, within the file's lanes.
     fn render_break<'d, W: WriteStyle>(
         &self,
         renderer: &mut Renderer<'_, '_, W>,

@@ -1,4 +1,4 @@
-//! The characters of a drawn line and the cells that they own.
+//! The characters of a line and the cells that they occupy.
 
 ghost use Rattle.std.specs.Prelude.{◌≡◌, ◌+◌, ◌*◌, ◌^◌, ◌<◌, ◌≤◌, length, drop, unwrap_or, false};
 ghost use Rattle.std.specs.Str.{IsUtf8};
@@ -9,9 +9,9 @@ pub use codespan_picture::char_metrics::Metrics;
 use std::str::Chars;
 use unicode_width::UnicodeWidthChar;
 
-/// An iterator over the characters of a line, from left to right; by
-/// [`CharMetrics::with_placeholder`] also over the placeholder after the last one, which counts as
-/// one more character of one byte and one cell.
+/// An iterator over the characters of a line, from left to right. One that
+/// [`CharMetrics::with_placeholder`] returns also yields the placeholder after the last one, which
+/// counts as one more character of one byte and one cell.
 #[derive(Drop)]
 pub struct CharMetrics<'text> {
     text: &'text str,
@@ -87,7 +87,7 @@ impl<'text> CharMetrics<'text> {
         }
     }
 
-    /// Returns the next character, or `None` after the last one.
+    /// Returns the next character, or `None` after the last one. It never returns the placeholder.
     #[inline(always)]
     pub fn next_metrics(&mut self) -> Option<Metrics>
         ensures yields { YieldsCharacter self.old result self.new }
@@ -128,10 +128,10 @@ impl<'text> CharMetrics<'text> {
     }
 }
 
-/// Returns how many cells a character takes at a column, counted from 0: a tab as many as there are
-/// up to the next tab stop, none where the tab width is 0; any other character its width by
-/// `unicode_width`, or 0 where that is `None`. Printable ASCII takes one cell each, and is tested
-/// first, since most text is of it.
+/// Returns how many cells a character occupies at a column, counted from 0: a tab as many as there
+/// are up to the next tab stop, none where the tab width is 0; any other character its width by
+/// `unicode_width`, or 0 where that is `None`. Printable ASCII, one cell each, is tested first,
+/// since most text consists of it.
 #[inline(always)]
 fn width_at(tab_width: usize, column: u128, c: char) -> usize
     ensures { result ≡ width_at tab_width column c }

@@ -15,7 +15,7 @@ use crate::term::renderer::char_metrics::Metrics;
 use codespan_base::diagnostic::LabelStyle;
 use codespan_row_parts::messages::Messages;
 
-/// Returns whether the label has a byte of the character.
+/// Returns whether the label covers a byte of the character.
 fn covers(label: &SingleLabel<'_>, metrics: Metrics) -> bool
     ensures { result ≡ covers (single_label_view label.now) metrics }
 {
@@ -23,7 +23,7 @@ fn covers(label: &SingleLabel<'_>, metrics: Metrics) -> bool
     first < label.1.end && first - metrics.byte_index < metrics.bytes
 }
 
-/// Returns which of two styles takes precedence: a primary one, or the second.
+/// Returns which of two styles takes precedence: `found` if it is primary, else `style`.
 pub fn prefer_primary(found: Option<LabelStyle>, style: LabelStyle) -> Option<LabelStyle>
     ensures { result ≡ prefer_primary found style }
 {
@@ -46,7 +46,7 @@ pub fn style_under(labels: &[SingleLabel<'_>], metrics: Metrics) -> Option<Label
     found
 }
 
-/// Returns whether a primary label has a byte of the character.
+/// Returns whether a primary label covers a byte of the character.
 pub fn has_primary_label(labels: &[SingleLabel<'_>], metrics: Metrics) -> bool
     ensures { result ≡ is_covered is_primary (single_label_views labels.now) metrics }
 {

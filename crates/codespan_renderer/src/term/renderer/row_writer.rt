@@ -16,8 +16,8 @@ use std::io::ErrorKind;
 #[derive(Clone, Copy)]
 pub struct Failed;
 
-/// A borrowed writer that saves the error of a call that fails, so that rows pass on an error of no
-/// size.
+/// A borrowed writer that saves the error of a call that fails, so that rows fail with a zero-sized
+/// error.
 #[derive(Drop)]
 pub struct RowWriter<'row, W> {
     inner: &'row mut W,
@@ -37,13 +37,13 @@ impl<'row, W: WriteStyle> RowWriter<'row, W> {
     }
 }
 
-/// Returns the error of a text of which a `put` has taken nothing: what is saved before a call
-/// fails.
+/// Returns the error of a `put` that takes no bytes: `WriteZero`. It is what is saved until a call
+/// fails with another.
 pub fn write_zero_error() -> io::Error {
     io::Error::from(ErrorKind::WriteZero)
 }
 
-/// Returns what a call that writes rows returned, with the saved error where it failed.
+/// Returns the result of a call that writes rows, with the saved error where it failed.
 ///
 /// # Errors
 ///
@@ -59,7 +59,7 @@ pub fn with_error(written: Result<(), Failed>, saved: &Cell<io::Error>) -> Resul
     }
 }
 
-/// Takes the saved error.
+/// Takes the saved error, and saves `WriteZero` in its place.
 #[cold]
 fn take_error(saved: &Cell<io::Error>) -> Error
     ensures { IsIo result }

@@ -116,7 +116,7 @@ impl<'row, 'd> LineCharacters for ScannedLine<'row, 'd> {
 }
 
 /// Writes the pointers of the characters of a line that begin before a byte index. It tests each
-/// label at each of them, up to the greatest start of a label, and reads no character after these.
+/// label at each of them, and stops at the first character past the greatest start of a label.
 fn scanned_caret_pointers<W: PutStyle>(
     w: &mut W,
     context: RowContext<'_>,

@@ -3,13 +3,13 @@ use Rattle.std.specs.Prelude.{string_bytes}
 use Rattle.std.proofs.lemmas.Result.{err_from_is_err_and}
 use Rattle.codespan_views.proofs.emitting.emit_to_string.Goals as goal
 
--- no text was made, and the string is as it was
+-- no text was returned, and the string is unchanged
 pub returns-in_err-text : goal.returns-in_err-text
 returns-in_err-text g c =
     let p = err_from_is_err_and c.from_residual.result c.from_residual.ensures.1 in
     rw (p.1 ∙ ap Err p.2) (c.in_err-text.ensures, refl)
 
--- the text could not be appended, and the string is as it was
+-- the text could not be appended, and the string is unchanged
 pub returns-in_err-push_str : goal.returns-in_err-push_str
 returns-in_err-push_str g c = search rules
 

@@ -56,7 +56,7 @@ returns-in_default-starts g c =
     (by_starts singles.index singles.other_index x y c.cmp-starts.result
     c.range_in_line-range.ensures.start c.range_in_line-other.ensures.start c.cmp-starts.ensures c.in_default-starts.not-Equal)
 
--- multi-line label marks are compared by their lanes alone
+-- lane marks are compared by their lanes alone
 pub returns-in-Multi-Multi : goal.returns-in-Multi-Multi
 returns-in-Multi-Multi g c =
     rw (c.in-Multi-Multi.is-0, c.in-Multi-Multi.is-1)

@@ -4,7 +4,7 @@ use Rattle.codespan_annotations.specs.Annotations.{IsLaneMarkOn, is_before}
 use Rattle.codespan_annotations.specs.AnnotationViews.{annotation_view}
 use Rattle.codespan_annotations.proofs.annotation.order.lane_marks_end.Given as goal
 
--- the annotations so far are in order, and the last one is a mark in this lane
+-- the annotations so far are in order, and the last one is a lane mark in this lane
 abbrev pub invariant-loop-end : goal.invariant-loop-end
 invariant-loop-end g l = record {
   after : l.start < l.end;

@@ -88,7 +88,7 @@ impl<'cache, 'row, 'd> CachedLine<'cache, 'row, 'd> {
     ghost use Rattle.codespan_renderer.specs.Renderers.{config_of, Renders};
     ghost use Rattle.codespan_row_parts.specs.RenderedRows.{rendered_source};
 
-    /// Renders the line with its carets, its messages and its underlines. `outer_padding` is the
+    /// Writes the line with its carets, its messages and its underlines. `outer_padding` is the
     /// padding width, in characters.
     ///
     /// # Errors
@@ -125,8 +125,9 @@ impl<'cache, 'row, 'd> CachedLine<'cache, 'row, 'd> {
         }
     }
 
-    /// Returns how many cells the characters before a byte index take, and how many they are, where
-    /// each has one byte, so that the one there is found without a search; else two zeros.
+    /// Returns the width in cells and the number of the characters before a byte index, where each
+    /// of them has one byte, so that the character there is found without a search. Otherwise
+    /// returns two zeros.
     #[inline(always)]
     fn skipped_before(&self, byte_index: usize) -> (u128, usize)
         ensures within { result.1 ≤ length self.now.cached.now }
@@ -139,8 +140,12 @@ impl<'cache, 'row, 'd> CachedLine<'cache, 'row, 'd> {
         }
     }
 
-    /// Returns a cursor over its characters without the first `skipped` ones of the cache, and over
-    /// the placeholder after the last one where `to_end` is set.
+    /// Returns a cursor over its characters without the first `skipped` ones, and over the
+    /// placeholder after the last one where `to_end` is set.
+    ///
+    /// # Requires
+    ///
+    /// At least `skipped` characters are cached.
     #[inline(always)]
     fn cursor(&self, skipped: usize, to_end: bool) -> CachedCursor<'cache, 'row, 'd>
         requires { skipped ≤ length self.now.cached.now }

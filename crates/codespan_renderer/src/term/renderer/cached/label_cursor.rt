@@ -64,7 +64,7 @@ impl<'row, 'd> LabelCursor<'row, 'd> {
             ≡ nat_lt metrics.byte_index self.new.end }
     {
         let labels = self.labels;
-        while self.next < labels.len() && begins_by(&labels[self.next], metrics) {
+        while self.next < labels.len() && starts_before_end(&labels[self.next], metrics) {
             self.pass(&labels[self.next]);
             self.next += 1;
         }
@@ -111,7 +111,7 @@ impl<'row, 'd> LabelCursor<'row, 'd> {
         metrics.byte_index < self.primary_end
     }
 
-    /// Passes a label: one without a byte is over no character.
+    /// Passes a label. One that covers no byte is over no character.
     fn pass(&mut self, label: &SingleLabel<'_>)
         ensures primary { self.new.primary_end
             ≡ end_with (is_primary (single_label_view label.now)) self.old.primary_end
@@ -129,8 +129,8 @@ impl<'row, 'd> LabelCursor<'row, 'd> {
     }
 }
 
-/// A cursor over labels of a line, with or without messages, which passes a label at the character
-/// in which it starts, or at the first one after.
+/// A cursor over labels of a line that finds those with a message at the character in which they
+/// start. It passes a label there, or at the first character after.
 #[derive(Clone, Copy)]
 pub struct StartCursor<'row, 'd> {
     /// The labels, in the order of their starts.
@@ -164,12 +164,12 @@ impl<'row, 'd> StartCursor<'row, 'd> {
         requires passed { HasPassedStarts metrics.byte_index self.old }
         ensures passed { HasPassedStarts (metrics.byte_index + metrics.bytes) self.new }
         ensures labels { self.new.labels.now ≡ self.old.labels.now }
-        ensures best { result ≡ preferred_style (starts_in metrics) found
+        ensures style { result ≡ preferred_style (starts_in metrics) found
             (filter has_message (single_label_views self.old.labels.now)) }
     {
         let labels = self.labels;
         let mut best = found;
-        while self.next < labels.len() && begins_by(&labels[self.next], metrics) {
+        while self.next < labels.len() && starts_before_end(&labels[self.next], metrics) {
             let label = &labels[self.next];
             if !label.2.is_empty() {
                 best = prefer_primary(best, label.0);
@@ -181,7 +181,7 @@ impl<'row, 'd> StartCursor<'row, 'd> {
 }
 
 /// Returns whether the label starts before the character's end.
-fn begins_by(label: &SingleLabel<'_>, metrics: Metrics) -> bool
+fn starts_before_end(label: &SingleLabel<'_>, metrics: Metrics) -> bool
     requires { 1 ≤ metrics.bytes }
     ensures { result ≡ nat_lt (single_label_view label.now).start
         (metrics.byte_index + metrics.bytes) }

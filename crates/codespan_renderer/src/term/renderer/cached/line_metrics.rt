@@ -24,7 +24,7 @@ use std::alloc::Global;
 pub struct LineMetrics {
     /// The first characters, from left to right, as far as the rows reach.
     cached: Vec<Metrics>,
-    /// The pointers under those from which labels hang.
+    /// The pointers under the characters from which labels hang.
     pointers: Vec<Pointer>,
 }
 
@@ -37,9 +37,9 @@ impl LineMetrics {
         }
     }
 
-    /// Replaces the cached characters and pointers by those of a line, as far as its rows need
-    /// them. Nothing is allocated for a line without labels on which no multi-line label starts or
-    /// ends.
+    /// Replaces the cached characters and pointers with those of a line, as far as its rows need
+    /// them, and returns the line with them. Nothing is allocated for a line without labels on
+    /// which no multi-line label starts or ends.
     ///
     /// # Errors
     ///
@@ -78,8 +78,9 @@ impl LineMetrics {
     }
 }
 
-/// Replaces the cached characters by those of a text, up to the first one that begins past the
-/// reach, and returns an iterator over those after it. Without a reach none is cached.
+/// Replaces the cached characters with those of a text, up to the first one that begins past the
+/// byte index `reach`, and returns an iterator over those after it. Where `reach` is `None`, none
+/// is cached.
 ///
 /// # Errors
 ///
@@ -98,7 +99,7 @@ fn cache_metrics<'row>(
     cached.clear();
     let mut rest = CharMetrics::new(text, tab_width);
     if let Some(reach) = reach {
-        // the characters that begin at 0 to `reach`, and one past it: each has a byte
+        // those that begin at 0 to `reach`, and one past it: each character has a byte
         cached.reserve(reach.saturating_add(2).min(text.len()))?;
         while let Some(metrics) = rest.next_metrics() {
             cached.push(metrics)?;

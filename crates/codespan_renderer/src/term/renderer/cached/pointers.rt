@@ -26,9 +26,9 @@ use codespan_rows::pointers::{caret_pointer, max_label_start};
 pub struct Pointer {
     /// The byte index in the line at which the character begins.
     pub byte_index: usize,
-    /// The cell of the pointer: the first one of the character.
+    /// The column of the pointer: that of the character's first cell.
     pub column: u128,
-    /// The cell after the pointer: the next one, or the same where the character owns none.
+    /// The column after the pointer: the next one, or the same where the character has no cell.
     pub after: u128,
     /// The style that takes precedence among those of the labels that hang from it.
     pub style: LabelStyle,
@@ -63,8 +63,8 @@ pub fn write_pointers<W: PutStyle>(
     write_spaces(w, edge.saturating_sub(column))
 }
 
-/// Replaces the pointers by those of the labels of a line that hang. If none hangs, no character is
-/// read.
+/// Replaces the pointers with those of the hanging labels of a line. If no label hangs, no
+/// character is read.
 ///
 /// # Errors
 ///

@@ -8,7 +8,7 @@ use crate::term::renderer::MultiLabel;
 use codespan_row_parts::line::Line;
 
 /// Returns the greatest byte index that a row under the line may need: the greatest start or end of
-/// its labels, start of a `Top` and end of a `Bottom`; `None` where it has none of them.
+/// its labels, start of a `Top` or end of a `Bottom`; `None` where the line has none of them.
 pub fn reach_of(line: Line<'_, '_>) -> Option<usize>
     ensures { result ≡ reach_of (single_label_views line.entry.labels.now)
         (map lane_mark_view line.entry.lanes.lane_marks.now) }

@@ -4,7 +4,7 @@ use Rattle.codespan_base.specs.declared.diagnostic.LabelStyle.TheVariants.{Prima
 use Rattle.codespan_renderer.specs.Private.PreferredStyles.{prefer_primary}
 use Rattle.codespan_renderer.proofs.term.renderer.label_styles.prefer_primary.Goals as goal
 
--- no style is prefer_primary than a primary one
+-- no style takes precedence over a primary one
 primary_stays : (found : Option LabelStyle) (style : LabelStyle) → found ≡ Some Primary → found ≡ prefer_primary found style
 primary_stays found style e = rw e refl
 

@@ -5,7 +5,7 @@ use Rattle.codespan_picture.specs.RowParts.{starts_in}
 use Rattle.codespan_renderer.specs.Private.PreferredStyles.{preferred_style}
 use Rattle.codespan_renderer.proofs.term.renderer.label_styles.start_style.Given as goal
 
--- the remaining labels improve on what was found
+-- the remaining labels decide, with what was found
 abbrev pub invariant-loop-label : goal.invariant-loop-label
 invariant-loop-label l =
     preferred_style (starts_in l.metrics) l.best (filter has_message (single_label_views (drop l.label-index l.labels)))

@@ -2,10 +2,10 @@ use Rattle.std.proofs.Common.{◌≡◌, [], drop, ◌∙◌, arith}
 use Rattle.std.proofs.lemmas.Grind.{common_steps}
 use Rattle.codespan_picture.specs.Carets.{covers}
 use Rattle.codespan_picture.specs.Arguments.{single_label_views}
-use Rattle.codespan_renderer.proofs.Best.{best-none}
+use Rattle.codespan_renderer.proofs.PreferredStyles.{preferred-none}
 use Rattle.codespan_renderer.proofs.term.renderer.label_styles.style_under.Goals as goal
 
 pub returns : goal.returns
 returns c =
     let none : drop c.loop-label.label-index c.args.labels.now ≡ [] = grind (arith, common_steps) in
-    rw none at c.loop-label.invariant.best ∙ best-none (λ x. covers x c.args.metrics) (single_label_views c.args.labels.now)
+    rw none at c.loop-label.invariant.best ∙ preferred-none (λ x. covers x c.args.metrics) (single_label_views c.args.labels.now)

@@ -38,7 +38,7 @@ loop-metrics-preserved-in-Continue-1 c =
     let step = c.in-Some.ensures.steps in
     let early = c.start_style-early.ensures in
     let late = c.start_style.ensures in
-    let style = found-style c.args.line.labels.now _ _ _ _ c.in-Some.metrics _ _ c.requires.hanging_labels i.cursor.same_early i.cursor.same_late early.best late.best in
+    let style = found-style c.args.line.labels.now _ _ _ _ c.in-Some.metrics _ _ c.requires.hanging_labels i.cursor.same_early i.cursor.same_late early.style late.style in
     record {
       cursor = passing-more _ _ _ _ _ _ _ _ (passing-at _ _ _ _ _ _ c.in-Some.metrics step i.cursor) early.passed late.passed early.labels late.labels;
       scan_state = scan_state-more _ _ _ c.in-Some.metrics _ (omega arith) (omega arith) (rw step at i.scan_state);
@@ -52,7 +52,7 @@ loop-metrics-preserved c =
     let step = c.in-Some.ensures.steps in
     let early = c.start_style-early.ensures in
     let late = c.start_style.ensures in
-    let style = found-style c.args.line.labels.now _ _ _ _ c.in-Some.metrics _ _ c.requires.hanging_labels i.cursor.same_early i.cursor.same_late early.best late.best in
+    let style = found-style c.args.line.labels.now _ _ _ _ c.in-Some.metrics _ _ c.requires.hanging_labels i.cursor.same_early i.cursor.same_late early.style late.style in
     record {
       cursor = passing-more _ _ _ _ _ _ _ _ (passing-at _ _ _ _ _ _ c.in-Some.metrics step i.cursor) early.passed late.passed early.labels late.labels;
       scan_state = scan_state-more _ _ _ c.in-Some.metrics _ (omega arith) (omega arith) (rw step at i.scan_state);

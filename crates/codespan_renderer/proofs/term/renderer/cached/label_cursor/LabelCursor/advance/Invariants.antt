@@ -2,7 +2,7 @@ use Rattle.std.proofs.Common.{◌≡◌, ◌+◌, ◌-◌, length}
 use Rattle.codespan_renderer.specs.Private.LabelCursors.{HasPassedLabels}
 use Rattle.codespan_renderer.proofs.term.renderer.cached.label_cursor.LabelCursor.advance.Given as goal
 
--- of the labels that begin before the character's end some have come
+-- of the labels that start before the character's end some have been passed
 abbrev pub invariant-loop-self : goal.invariant-loop-self
 invariant-loop-self l = record {
   passed : HasPassedLabels (l.metrics.byte_index + l.metrics.bytes) l.self;

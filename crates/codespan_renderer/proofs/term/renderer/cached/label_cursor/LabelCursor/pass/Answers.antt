@@ -5,7 +5,7 @@ use Rattle.codespan_base.specs.contracts.diagnostic.LabelStyle.{the_type}
 use Rattle.codespan_base.specs.declared.diagnostic.LabelStyle.TheVariants.{Primary}
 use Rattle.codespan_renderer.proofs.term.renderer.cached.label_cursor.LabelCursor.pass.Goals as goal
 
--- the label is primary and has a byte, so that its end counts
+-- the label is primary and covers a byte, so that its end counts
 pub returns-then-eq-clause-primary : goal.returns-then-eq-clause-primary
 returns-then-eq-clause-primary c =
     let label = c.args.label.now in

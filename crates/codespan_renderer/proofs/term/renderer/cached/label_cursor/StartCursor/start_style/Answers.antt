@@ -7,7 +7,7 @@ use Rattle.codespan_renderer.proofs.term.renderer.cached.label_cursor.StartCurso
 pub loop-self-preserved : goal.loop-self-preserved
 loop-self-preserved c =
     let i = c.loop-self.invariant in
-    let prefix = prefix-start c.args.self.now.labels.now c.loop-self.self.next _ (c.args.metrics.byte_index + c.args.metrics.bytes) (sym c.begins_by.ensures ∙ c.if-begins_by.true) in
+    let prefix = prefix-start c.args.self.now.labels.now c.loop-self.self.next _ (c.args.metrics.byte_index + c.args.metrics.bytes) (sym c.starts_before_end.ensures ∙ c.if-starts_before_end.true) in
     let low = starts-first c.args.metrics.byte_index _ c.args.self.now.labels.now c.loop-self.self.next _ i.same c.loop-self-test.true i.ordered in
     record {
       here = elim c.if-not-is_empty.branch [
@@ -25,9 +25,9 @@ loop-self-preserved c =
       same = i.same;
     }
 
-pub returns-else-begins_by-clause-best : goal.returns-else-begins_by-clause-best
-returns-else-begins_by-clause-best c =
+pub returns-else-starts_before_end-clause-style : goal.returns-else-starts_before_end-clause-style
+returns-else-starts_before_end-clause-style c =
     let i = c.loop-self.invariant in
-    let late = sym c.begins_by.ensures ∙ c.if-begins_by.false in
+    let late = sym c.starts_before_end.ensures ∙ c.if-starts_before_end.false in
     let past = starts-past c.args.metrics.byte_index _ c.args.self.now.labels.now c.loop-self.self.next (c.args.metrics.byte_index + c.args.metrics.bytes) _ i.same c.loop-self-test.true late i.ordered in
     sym (none-start c.args.metrics c.loop-self.best (c.args.metrics.byte_index + c.args.metrics.bytes) _ past (omega arith)) ∙ i.here

@@ -8,7 +8,7 @@ use Rattle.codespan_picture.specs.RowParts.{starts_in}
 use Rattle.codespan_renderer.specs.Private.PreferredStyles.{preferred_style}
 use Rattle.codespan_renderer.proofs.term.renderer.cached.label_cursor.StartCursor.start_style.Given as goal
 
--- the remaining labels improve on what was found; those behind start in no later character
+-- the remaining labels decide, with what was found; those passed start in no later character
 abbrev pub invariant-loop-self : goal.invariant-loop-self
 invariant-loop-self l = record {
   here : preferred_style (starts_in l.metrics) l.best (filter has_message (label_starts_left l.self)) ≡ preferred_style (starts_in l.metrics) l.fn.found (filter has_message (single_label_views l.fn.self.labels.now));
