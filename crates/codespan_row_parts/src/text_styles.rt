@@ -1,4 +1,5 @@
-//! Which characters of a line have a style in its source row, and which are written unchanged.
+//! Which characters of a line have a style in its source row, and which are written unchanged: not
+//! colored, and no tab.
 
 ghost use Rattle.std.specs.Prelude.{◌≡◌, ◌<◌, ◌≤◌, ◌==◌, None, drop, false, length, map, true};
 ghost use Rattle.std.specs.List.{list_any};
@@ -93,9 +94,9 @@ pub fn is_plain(line: Line<'_, '_>) -> bool
         && !has_tab(line.text)
 }
 
-/// Returns a byte index from which on the text of a line is written unchanged: no primary label
-/// covers it, neither a single-line nor a multi-line one, and it has no tab. It is the end of the
-/// text where no other is found.
+/// Returns a byte index from which on the text of a line is written unchanged: no primary label,
+/// single-line or multi-line, covers a character there, and there is no tab. It is the length of
+/// the text where no smaller one is found.
 ///
 /// # Requires
 ///
