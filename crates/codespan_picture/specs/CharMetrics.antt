@@ -1,4 +1,4 @@
--- The characters of a drawn line and the cells that they own.
+-- The characters of a drawn line and the cells that they occupy.
 use Rattle.std.specs.Prelude.{ℕ, ◌+◌, ◌-◌, ◌%◌, Bool, false, ◌||◌, ◌==◌, if◌then◌else◌, unwrap_or, List, ◌∷◌, length, sum_by, take, take_while, []}
 use Rattle.std.specs.List.{suffix_len}
 use Rattle.std.specs.Str.{chars}

@@ -63,7 +63,7 @@ fn write_caret_run<W: PutStyle>(
     Ok(())
 }
 
-/// Writes the end of a run of carets of one style, and the style mark of the next.
+/// Writes a run of `count` carets of one style, or of spaces, and the style mark of the next run.
 #[inline(always)]
 fn end_caret_run<W: PutStyle>(
     w: &mut W,

@@ -193,7 +193,7 @@ fn take_lane_mark<'d>(
 /// Returns the lane of the lane mark at the index `next`, or the number of lanes where none is
 /// left.
 fn next_lane(lanes: Lanes<'_, '_>, next: usize) -> usize
-    ensures bare { (lane : ℕ) → lane < result
+    ensures no_lane_mark { (lane : ℕ) → lane < result
         → lane_mark_here (drop next lanes.entry.lane_marks.now) lane ≡ None }
     ensures within { result ≤ lanes.entry.count }
 {
@@ -210,10 +210,10 @@ const MAX_EMPTY_LANES: usize = 32;
 /// Returns how many lanes from `lane` on and before `until`, the lane of the next lane mark, are
 /// empty: no line from a corner crosses them. At most [`MAX_EMPTY_LANES`] are counted.
 fn num_empty_lanes(row: LaneRow<'_>, lane: usize, until: usize) -> usize
-    ensures bare { (other : ℕ) → lane ≤ other → other < lane + result
+    ensures no_crossing { (other : ℕ) → lane ≤ other → other < lane + result
         → row_crossing (lane_row_view row.entry) other ≡ None }
     ensures within { lane + result ≤ max lane until }
-    ensures few { result ≤ MAX_EMPTY_LANES }
+    ensures limit { result ≤ MAX_EMPTY_LANES }
 {
     let end = match row {
         LaneRow::Underline(corner_lane, _, _) => until.min(corner_lane.saturating_add(1)),

@@ -11,7 +11,7 @@ ghost use Rattle.codespan_picture.specs.Rows.{trailing_label, last_with_end, ove
 use crate::carets::{is_overlapping, max_label_end};
 use codespan_picture::arguments::SingleLabel;
 
-/// Which label of a line trails, and which may hang: of these the ones with a message hang.
+/// Which label of a line trails, and which may hang: those of them that have a message do.
 #[derive(Clone, Copy)]
 pub struct Messages<'row, 'd> {
     /// The label whose message trails.

@@ -119,7 +119,7 @@ pub fn write_label_glyph<W: PutStyle>(
     w.reset()
 }
 
-/// Writes the style mark of `style` where it is not `previous`, or a reset where it is `None`.
+/// Writes nothing where `style` is `previous`, else its style mark, or a reset where it is `None`.
 ///
 /// # Errors
 ///

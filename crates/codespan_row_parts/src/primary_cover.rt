@@ -15,7 +15,7 @@ use codespan_picture::char_metrics::Metrics;
 #[derive(Clone, Copy)]
 pub struct PrimaryCover {
     /// The byte index from which on all is covered: the least start of those that start on the
-    /// line, or 0 where one goes through it; `None` where none does either.
+    /// line, or 0 where one goes through it; `None` where there is no such label.
     from: Option<usize>,
     /// The byte index before which all is covered: the greatest end of those that end on the line,
     /// or 0 where none does.

@@ -1,5 +1,5 @@
-//! Which characters of a line have a style in its source row, and which are written unchanged: not
-//! colored, and no tab.
+//! Which characters of a line have a style in its source row, and which of its text is written
+//! unchanged.
 
 ghost use Rattle.std.specs.Prelude.{◌≡◌, ◌<◌, ◌≤◌, ◌==◌, None, drop, false, length, map, true};
 ghost use Rattle.std.specs.List.{list_any};
@@ -34,7 +34,7 @@ pub fn text_style<C: CharCursor>(
     line: Line<'_, '_>,
     metrics: Metrics,
 ) -> Option<LabelStyle>
-    requires some { 1 ≤ metrics.bytes }
+    requires has_byte { 1 ≤ metrics.bytes }
     requires returned { C.has_returned metrics characters.old }
     requires labels { C.labels characters.old ≡ line.labels.now }
     requires primary { CoversAsLaneMarks (map lane_mark_view line.lanes.lane_marks.now) primary }

@@ -85,7 +85,7 @@ fn write_text<W: PutStyle, S: LineCharacters>(
     Ok(())
 }
 
-/// Writes the end of a run of text of one style, and the style mark of the next.
+/// Writes a run of text of one style, and the style mark of the next run.
 fn end_text_run<W: PutStyle>(
     w: &mut W,
     context: RowContext<'_>,
