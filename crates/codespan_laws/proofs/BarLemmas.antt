@@ -23,13 +23,13 @@ lane_mark_for f l lane (Some x) = lane_mark_of lane x (multi_label_on f l x)
 abbrev pub marks_from : FileModel → ℕ → ℕ → List LabelModel → List LaneMark
 marks_from f l n xs = filter_map (λ (entry : ℕ × LabelModel). lane_mark_of entry.0 entry.1 (multi_label_on f l entry.1)) (enumerate_from n xs)
 
--- a multi-line label mark of another lane is passed over
+-- a lookup in a lane skips the lane mark of another lane
 pass_by : (lane n : ℕ) (x : LabelModel) (multi_label : Option MultiLabel) (lane_marks : List LaneMark) → (n == lane) ≡ false
     → lane_mark_in (cons_option (lane_mark_of n x multi_label) lane_marks) lane ≡ lane_mark_in lane_marks lane
 pass_by lane n x None lane_marks h = refl
 pass_by lane n x (Some multi_label) lane_marks h = simp h
 
--- later lanes have other numbers
+-- no lane mark of the labels from lane `n` on is in an earlier lane
 none_before : (f : FileModel) (l n lane : ℕ) (xs : List LabelModel) → lane < n → lane_mark_in (marks_from f l n xs) lane ≡ None
 none_before f l n lane [] low = refl
 none_before f l n lane (x ∷ xs) low =
@@ -51,7 +51,7 @@ lane_mark_in-from f l n (suc k) (x ∷ xs) =
 
 -- ---- bars
 
--- a kind of row that shows no bar at a label's first line and one at its other lines
+-- a kind of row in which a label shows no bar on its first line, and a bar on its other lines
 module _ (shape : MultiLabel → Shape) (at_top : (start : ℕ) → shape (Top start) ≡ Bar → ⊥) (at_left : shape Left ≡ Bar)
     (at_bottom : (end : ℕ) (message : Stream) → shape (Bottom end message) ≡ Bar) where
   bar_of : (f : FileModel) (l lane : ℕ) (x : LabelModel) → first_line f x < last_line f x

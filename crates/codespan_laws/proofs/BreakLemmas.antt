@@ -10,7 +10,7 @@ use Rattle.codespan_picture.specs.Sequences.{gap_between}
 use Rattle.codespan_picture.specs.Snippets.{LabeledFileModel, line_at, line_rows, break_rows, rows_of_shown}
 use Rattle.codespan_laws.specs.LineLaws.{break_lanes, broken_before, shown_lines, BreaksAreGaps, RowsOfShown}
 
--- ---- rows that break nothing
+-- ---- rows that are not breaks
 
 breaks-append : (xs ys : List Row) → filter_map break_lanes (xs ++ ys) ≡ filter_map break_lanes xs ++ filter_map break_lanes ys
 breaks-append xs ys = filter_map-append break_lanes xs ys

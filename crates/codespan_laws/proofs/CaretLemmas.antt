@@ -29,14 +29,14 @@ text_of-change severity (Some Primary) (Some Secondary) = text_of-style_mark _
 text_of-change severity (Some Secondary) (Some Primary) = text_of-style_mark _
 text_of-change severity (Some Secondary) (Some Secondary) = refl
 
--- the styles leave the text alone
+-- styles do not change the text
 pub text_of-styled : (severity : Severity) (style : Metrics → Option LabelStyle) (shown : Metrics → Stream) (previous : Option LabelStyle) (cs : List Metrics)
     → text_of (styled severity style shown previous cs) ≡ flat_map (λ c. text_of (shown c)) cs
 text_of-styled severity style shown previous [] = text_of-change severity previous None
 text_of-styled severity style shown previous (c ∷ cs) =
     simp (text_of-append, text_of-change) (ap (λ s. text_of (shown c) ++ s) (text_of-styled severity style shown (style c) cs))
 
--- ---- numbers in a row
+-- ---- consecutive numbers
 
 pub range_with_len-append : (a m n : ℕ) → range_with_len a (m + n) ≡ range_with_len a m ++ range_with_len (a + m) n
 range_with_len-append a zero n = simp (zero-add, add-zero)
@@ -54,9 +54,9 @@ pub map-constant : {X : Type 0} (x : X) (a n : ℕ) → map (λ _. x) (range_wit
 map-constant x a zero = refl
 map-constant x a (suc n) = ap (λ xs. x ∷ xs) (map-constant x (a + 1) n)
 
--- ---- cells in a row
+-- ---- consecutive characters
 
--- the cells begin at this byte index and this column, and each follows the one before
+-- the characters begin at this byte index and this column, and each follows the one before
 abbrev pub AreAdjacent : ℕ → ℕ → List Metrics → Type 0
 AreAdjacent byte_index column [] = Unit {0}
 AreAdjacent byte_index column (c ∷ cs) =
@@ -159,7 +159,7 @@ text_of-carets context labels cs adjacent =
         ap₂ (λ s t. s ++ t)
         (text_of-caret_glyphs context.chars (max_label_end labels) (style_under labels d) d (style_under-below labels d)) (same_text ds)
 
--- of a line, to the cell of the placeholder
+-- the same for the characters of a line and the placeholder
 pub text_of-line_carets : (context : RowContext) (line : Line)
     → text_of (carets context line.labels (line_metrics_to_end context line))
     ≡ encode_utf8_all (caret_cells context.chars line.labels (line_metrics_to_end context line))

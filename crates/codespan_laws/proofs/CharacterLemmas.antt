@@ -18,7 +18,7 @@ use Rattle.codespan_picture.specs.RowStreams.{stream_of, snippet_start_row, empt
 use Rattle.codespan_laws.proofs.Texts.{row_length-append, row_length-glyph, row_length-repeated, text_of-bytes}
 use Rattle.codespan_laws.proofs.LaneWidths.{row_length-lanes_in, row_length-label_glyph}
 
--- two streams have as many characters
+-- two streams have equally many characters
 record AreAsLong (s t : Stream) : Type 0 where
   same : row_length s ≡ row_length t
 
@@ -155,6 +155,6 @@ module _ (context : RowContext) (chars : Chars) where
   rows_as_long e (LaterNoteRow note_line) = as_long _
   rows_as_long e FinalRow = as_long []
 
--- the rows of other characters are as long
+-- with other characters each row is as long
 pub characters_are_free : CharactersAreFree
 characters_are_free context chars row e = (rows_as_long context chars e row).same

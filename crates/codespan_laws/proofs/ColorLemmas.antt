@@ -41,7 +41,7 @@ text_written spelling (Slot k ∷ s) = text_written spelling s
 pub colors_change_no_text : (spelling : Spelling) (s : Stream) → ColorsChangeNoText spelling s
 colors_change_no_text spelling s = record { all = all_written spelling s; text = text_written spelling s }
 
--- without colors each style mark is spelled as nothing
+-- a writer without colors spells each style mark as nothing
 nothing : (styles : Styles) (m : StyleMark) → spelling_by styles (λ spec. []) [] m ≡ []
 nothing styles (Header severity) = refl
 nothing styles HeaderMessage = refl

@@ -21,9 +21,9 @@ use Rattle.codespan_laws.proofs.LaneLineLemmas.{each_map}
 use Rattle.codespan_laws.proofs.RowTexts.{IsTextRow}
 use Rattle.codespan_laws.proofs.ListElements.{all-append}
 
--- ---- drawn texts
+-- ---- the texts of drawn lines
 
--- a front of a text that may be cut there, less the line ends at its end
+-- a prefix of a text, cut at a character boundary, without the line ends at its end
 trimmed : (text : List ℕ) → IsUtf8 text → (n : ℕ) → n ≤ length text → IsCharBoundary text n → IsUtf8 (take (n - suffix_len is_line_end (take n text)) text)
 trimmed text u zero h cut = subst (λ k. IsUtf8 (take k text)) (let e : 0 ≡ 0 - suffix_len is_line_end (take 0 text) = omega arith in e) IsUtf8-nil
 trimmed text u (suc n) h cut = by (is_line_end (get_or text n 0)) refl (trimmed text u n (omega arith))
@@ -42,13 +42,13 @@ trimmed text u (suc n) h cut = by (is_line_end (get_or text n 0)) refl (trimmed 
         let none : suffix_len is_line_end (take (suc n) text) ≡ 0 = suffix_len-take_no is_line_end text (suc n) 0 (omega arith) h (ap (λ k. is_line_end (get_or text k 0)) e ∙ is) in
         subst (λ k. IsUtf8 (take k text)) (let e : suc n ≡ suc n - suffix_len is_line_end (take (suc n) text) = omega arith in e) (IsUtf8-take text (suc n) u cut)
 
--- the text of a line as it is rendered
+-- the text of a line as it is rendered is UTF-8
 pub drawn-utf8 : (text : List ℕ) → IsUtf8 text → IsUtf8 (text_without_line_end text)
 drawn-utf8 text u =
     subst (λ xs. IsUtf8 (take (length text - suffix_len is_line_end xs) text)) (take_all (length text) text (omega arith))
     (trimmed text u (length text) (omega arith) (IsCharBoundary-end text))
 
--- the text of a line
+-- the text of a line is UTF-8
 pub line-utf8 : (f : FileModel) → IsLawful f → (l : ℕ) → IsUtf8 (line_text f l)
 line-utf8 f law l =
     ⊎_elim
@@ -59,41 +59,41 @@ line-utf8 f law l =
 
 -- ---- the lines of a note
 
--- the byte ends a line
-abbrev is_feed : ℕ → Bool
-is_feed b = b == 10
+-- the byte is a line feed
+abbrev is_line_feed : ℕ → Bool
+is_line_feed b = b == 10
 
 -- the parts are texts, the first one after these bytes
-abbrev AreTextsAfter : List ℕ → List (List ℕ) → Type 0
-AreTextsAfter pre [] = IsUtf8 pre
-AreTextsAfter pre (x ∷ parts) = IsUtf8 (pre ++ x) × AllByRecursion IsUtf8 parts
+abbrev PartsAreTextsAfter : List ℕ → List (List ℕ) → Type 0
+PartsAreTextsAfter pre [] = IsUtf8 pre
+PartsAreTextsAfter pre (x ∷ parts) = IsUtf8 (pre ++ x) × AllByRecursion IsUtf8 parts
 
--- a byte goes from the first part to those before it
-after-onto : (pre : List ℕ) (b : ℕ) (parts : List (List ℕ)) → AreTextsAfter (pre ++ b ∷ []) parts → AreTextsAfter pre (onto_first b parts)
+-- a byte before the first part counts among the bytes before it
+after-onto : (pre : List ℕ) (b : ℕ) (parts : List (List ℕ)) → PartsAreTextsAfter (pre ++ b ∷ []) parts → PartsAreTextsAfter pre (onto_first b parts)
 after-onto pre b [] h = (h, tt)
 after-onto pre b (x ∷ parts) h = (subst IsUtf8 (append_assoc pre (b ∷ []) x) h.0, h.1)
 
--- bytes that end no line
-after-bytes : (pre xs rest : List ℕ) → AllByRecursion (λ b. is_feed b ≡ false) xs → AreTextsAfter (pre ++ xs) (slice_split is_feed rest) → AreTextsAfter pre (slice_split is_feed (xs ++ rest))
-after-bytes pre [] rest none h = subst (λ p. AreTextsAfter p (slice_split is_feed rest)) (append-nil pre) h
+-- bytes that are not line feeds
+after-bytes : (pre xs rest : List ℕ) → AllByRecursion (λ b. is_line_feed b ≡ false) xs → PartsAreTextsAfter (pre ++ xs) (slice_split is_line_feed rest) → PartsAreTextsAfter pre (slice_split is_line_feed (xs ++ rest))
+after-bytes pre [] rest none h = subst (λ p. PartsAreTextsAfter p (slice_split is_line_feed rest)) (append-nil pre) h
 after-bytes pre (b ∷ xs) rest none h =
-    let later : AreTextsAfter (pre ++ b ∷ []) (slice_split is_feed (xs ++ rest)) =
-    after-bytes (pre ++ b ∷ []) xs rest none.1 (subst (λ p. AreTextsAfter p (slice_split is_feed rest)) (sym (append_assoc pre (b ∷ []) xs)) h) in
-    subst (λ t. AreTextsAfter pre (cond t ([] ∷ slice_split is_feed (xs ++ rest)) (onto_first b (slice_split is_feed (xs ++ rest))))) (sym none.0)
-    (after-onto pre b (slice_split is_feed (xs ++ rest)) later)
+    let later : PartsAreTextsAfter (pre ++ b ∷ []) (slice_split is_line_feed (xs ++ rest)) =
+    after-bytes (pre ++ b ∷ []) xs rest none.1 (subst (λ p. PartsAreTextsAfter p (slice_split is_line_feed rest)) (sym (append_assoc pre (b ∷ []) xs)) h) in
+    subst (λ t. PartsAreTextsAfter pre (cond t ([] ∷ slice_split is_line_feed (xs ++ rest)) (onto_first b (slice_split is_line_feed (xs ++ rest))))) (sym none.0)
+    (after-onto pre b (slice_split is_line_feed (xs ++ rest)) later)
 
--- no byte of another character ends a line
-no-feed : (c : ℕ) → (c == 10) ≡ false → AllByRecursion (λ b. is_feed b ≡ false) (encode_utf8 c)
-no-feed c other =
-    recursion_from_All (λ b. is_feed b ≡ false) (encode_utf8 c) (λ k d h.
+-- no byte of another character is a line feed
+no-line_feed : (c : ℕ) → (c == 10) ≡ false → AllByRecursion (λ b. is_line_feed b ≡ false) (encode_utf8 c)
+no-line_feed c other =
+    recursion_from_All (λ b. is_line_feed b ≡ false) (encode_utf8 c) (λ k d h.
     let same : get_or (encode_utf8 c) k 0 ≡ get_or (encode_utf8 c) k d = get_or_same (encode_utf8 c) k 0 d h in
     ⊎_elim
-    (λ (t : is_feed (get_or (encode_utf8 c) k d) ≡ true).
+    (λ (t : is_line_feed (get_or (encode_utf8 c) k d) ≡ true).
     let ten : get_or (encode_utf8 c) k d ≡ 10 = grind (arith, nat_tests, t) in
     let is : c ≡ get_or (encode_utf8 c) k 0 = inside_one c [] (encode_utf8 c) k (sym (append-nil (encode_utf8 c))) h (omega (arith, same, ten)) in
     absurd (grind (arith, nat_tests, other, is, same, ten)))
-    (λ (t : is_feed (get_or (encode_utf8 c) k d) ≡ false). t)
-    (cases_Bool (is_feed (get_or (encode_utf8 c) k d))))
+    (λ (t : is_line_feed (get_or (encode_utf8 c) k d) ≡ false). t)
+    (cases_Bool (is_line_feed (get_or (encode_utf8 c) k d))))
   where
     get_or_same : (xs : List ℕ) (k d e : ℕ) → k < length xs → get_or xs k d ≡ get_or xs k e
     get_or_same [] k d e h = absurd (omega arith)
@@ -104,12 +104,12 @@ and_true : (a b : Bool) → (a && b) ≡ true → (a ≡ true) × (b ≡ true)
 and_true true b e = (refl, e)
 and_true false b e = absurd (cc)
 
--- the parts of a text between its line ends
-all-after : (parts : List (List ℕ)) → AreTextsAfter [] parts → AllByRecursion IsUtf8 parts
+-- the parts of a text between its line feeds are texts
+all-after : (parts : List (List ℕ)) → PartsAreTextsAfter [] parts → AllByRecursion IsUtf8 parts
 all-after [] h = tt
 all-after (x ∷ parts) h = h
 
-split-after : (cs : List ℕ) → all_scalars cs ≡ true → (pre : List ℕ) → IsUtf8 pre → AreTextsAfter pre (slice_split is_feed (encode_utf8_all cs))
+split-after : (cs : List ℕ) → all_scalars cs ≡ true → (pre : List ℕ) → IsUtf8 pre → PartsAreTextsAfter pre (slice_split is_line_feed (encode_utf8_all cs))
 split-after [] e pre u = (subst IsUtf8 (sym (append-nil pre)) u, tt)
 split-after (c ∷ cs) e pre u =
     let both = and_true (scalar c) (all_scalars cs) e in
@@ -117,16 +117,16 @@ split-after (c ∷ cs) e pre u =
     (λ (t : (c == 10) ≡ true).
     let ten : c ≡ 10 = grind (arith, nat_tests, t) in
     let one : encode_utf8 c ≡ 10 ∷ [] = ap encode_utf8 ten ∙ encode_ascii 10 (omega arith) in
-    subst (λ bs. AreTextsAfter pre (slice_split is_feed (bs ++ encode_utf8_all cs))) (sym one)
-    (subst IsUtf8 (sym (append-nil pre)) u, all-after (slice_split is_feed (encode_utf8_all cs)) (split-after cs both.1 [] IsUtf8-nil)))
+    subst (λ bs. PartsAreTextsAfter pre (slice_split is_line_feed (bs ++ encode_utf8_all cs))) (sym one)
+    (subst IsUtf8 (sym (append-nil pre)) u, all-after (slice_split is_line_feed (encode_utf8_all cs)) (split-after cs both.1 [] IsUtf8-nil)))
     (λ (t : (c == 10) ≡ false).
-    after-bytes pre (encode_utf8 c) (encode_utf8_all cs) (no-feed c t) (split-after cs both.1 (pre ++ encode_utf8 c) (IsUtf8-append pre (encode_utf8 c) u (IsUtf8-encode c both.0))))
+    after-bytes pre (encode_utf8 c) (encode_utf8_all cs) (no-line_feed c t) (split-after cs both.1 (pre ++ encode_utf8 c) (IsUtf8-append pre (encode_utf8 c) u (IsUtf8-encode c both.0))))
     (cases_Bool (c == 10))
 
-split-utf8 : (bs : List ℕ) → IsUtf8 bs → AllByRecursion IsUtf8 (slice_split is_feed bs)
-split-utf8 bs u = subst (λ xs. AllByRecursion IsUtf8 (slice_split is_feed xs)) u.1.1 (all-after (slice_split is_feed (encode_utf8_all u.0)) (split-after u.0 u.1.0 [] IsUtf8-nil))
+split-utf8 : (bs : List ℕ) → IsUtf8 bs → AllByRecursion IsUtf8 (slice_split is_line_feed bs)
+split-utf8 bs u = subst (λ xs. AllByRecursion IsUtf8 (slice_split is_line_feed xs)) u.1.1 (all-after (slice_split is_line_feed (encode_utf8_all u.0)) (split-after u.0 u.1.0 [] IsUtf8-nil))
 
--- a line without its carriage return
+-- a line without its carriage return is a text
 strip-utf8 : (l : List ℕ) → IsUtf8 l → IsUtf8 (strip_carriage_return l)
 strip-utf8 [] u = IsUtf8-nil
 strip-utf8 (x ∷ xs) u =
@@ -141,7 +141,7 @@ parts-utf8 (x ∷ []) h = cond_both (length x == 0) [] (x ∷ []) (AllByRecursio
 parts-utf8 (x ∷ y ∷ more) h = (strip-utf8 x h.0, parts-utf8 (y ∷ more) h.1)
 
 lines-utf8 : (bs : List ℕ) → IsUtf8 bs → AllByRecursion IsUtf8 (lines bs)
-lines-utf8 bs u = parts-utf8 (slice_split is_feed bs) (split-utf8 bs u)
+lines-utf8 bs u = parts-utf8 (slice_split is_line_feed bs) (split-utf8 bs u)
 
 -- ---- notes
 

@@ -109,7 +109,7 @@ shown_drawn config f labels l low any = let inside : nat_lt l (line_count f) ≡
 abbrev pub file_slots : ℕ → Config → LabeledFileModel → ℕ
 file_slots k config s = sum_by (row_slots k) (rows_after s None (drawn_lines config s.file s.labels))
 
--- are those of its snippet, whatever the locus
+-- those of its snippet are as many, whatever the locus
 start_sum : (k : ℕ) (config : Config) (locus : Locus) (s : LabeledFileModel) → sum_by (row_slots k) (snippet config locus s) ≡ file_slots k config s
 start_sum k config locus s =
     omega (

@@ -1,5 +1,5 @@
--- For `rows_are_of_shown_lines`: lines of which some are shown. The elements of the drawn ones in
--- order are those of the shown ones, with what is between two of them.
+-- For `rows_are_of_shown_lines`: lines of which some are shown. The elements of the drawn lines, in
+-- order, are those of the shown lines and of what is between two of them.
 use Rattle.std.proofs.Common.{◌≡◌, ℕ, zero, suc, ◌+◌, ◌-◌, ◌≤◌, Bool, true, false, cond, ◌==◌, nat_lt, nat_le, ◌&&◌, ◌||◌, if◌then◌else◌, List, [], ◌∷◌, ◌++◌, filter, Option, Some, None, refl, sym, ap, ◌∙◌, arith, append_assoc}
 use Rattle.std.specs.List.{range_with_len}
 use Rattle.std.proofs.Math.Bool.{and-false}
@@ -46,7 +46,7 @@ not_filled-before shown a here after = simp (here, after) (and_last (nat_lt 0 a)
 after-hidden : (shown : ℕ → Bool) (a : ℕ) → shown a ≡ false → (nat_lt 0 (a + 1) && shown (a + 1 - 1)) ≡ false
 after-hidden shown a h = let back : a + 1 - 1 ≡ a = omega arith in rw back (simp h (and-false (nat_lt 0 (a + 1))))
 
--- ---- all of them
+-- ---- all lines
 
 -- the elements of a shown line, of a filled one and of a break before a line
 module _ {X : Type 0} (drawn filled broken : ℕ → List X) where
@@ -54,7 +54,7 @@ module _ {X : Type 0} (drawn filled broken : ℕ → List X) where
   gap-break : (c d : ℕ) → (d == c + 2) ≡ false → gap_between filled broken c d ≡ break_between broken c d
   gap-break c d h = ap (λ b. cond b (filled (c + 1)) (break_between broken c d)) h
 
-  -- there is no break between two consecutive lines
+  -- there is no break between a line and the next
   break-next : (c : ℕ) → break_between broken c (c + 1) ≡ []
   break-next c = let near : nat_le (c + 3) (c + 1) ≡ false = grind (arith, nat_tests) in ap (λ b. cond b (broken (c + 1)) []) near
 
@@ -71,11 +71,11 @@ module _ {X : Type 0} (drawn filled broken : ℕ → List X) where
     abbrev expanded_lines : Option ℕ → List ℕ → List X
     expanded_lines = in_sequence (λ l. l) (break_between broken) given
 
-    -- so many lines from one on, by those of them that are drawn
+    -- the elements of `n` lines from one on, by those of them that are drawn
     abbrev lines_from : Option ℕ → ℕ → ℕ → List X
     lines_from previous a n = expanded_lines previous (filter (is_filled shown) (range_with_len a n))
 
-    -- and by those that are shown
+    -- the same, by those of them that are shown
     abbrev shown_from : Option ℕ → ℕ → ℕ → List X
     shown_from previous a n = expanded_shown previous (filter shown (range_with_len a n))
 
@@ -83,23 +83,23 @@ module _ {X : Type 0} (drawn filled broken : ℕ → List X) where
     abbrev NoneFrom : ℕ → Type 0
     NoneFrom a = (l : ℕ) → a ≤ l → shown l ≡ false
 
-    -- a line that is not drawn has none
+    -- a line that is not drawn has no elements
     lines-skip : (previous : Option ℕ) (a n : ℕ) → is_filled shown a ≡ false → lines_from previous a (suc n) ≡ lines_from previous (a + 1) n
     lines-skip previous a n h =
         ap (λ b. expanded_lines previous (cond b (a ∷ filter (is_filled shown) (range_with_len (a + 1) n)) (filter (is_filled shown) (range_with_len (a + 1) n)))) h
 
-    -- those of a drawn line are its own
+    -- a drawn line has its own elements
     lines-keep : (previous : Option ℕ) (a n : ℕ) (b : Bool) → is_filled shown a ≡ true → shown a ≡ b
         → lines_from previous a (suc n) ≡ before_line (break_between broken) previous a ++ cond b (drawn a) (filled a) ++ lines_from (Some a) (a + 1) n
     lines-keep previous a n b h k =
         ap (λ t. expanded_lines previous (cond t (a ∷ filter (is_filled shown) (range_with_len (a + 1) n)) (filter (is_filled shown) (range_with_len (a + 1) n)))) h
         ∙ ap (λ t. before_line (break_between broken) previous a ++ cond t (drawn a) (filled a) ++ lines_from (Some a) (a + 1) n) k
 
-    -- a line that is not shown is passed over
+    -- a line that is not shown has no elements
     shown-skip : (previous : Option ℕ) (a n : ℕ) → shown a ≡ false → shown_from previous a (suc n) ≡ shown_from previous (a + 1) n
     shown-skip previous a n h = ap (λ b. expanded_shown previous (cond b (a ∷ filter shown (range_with_len (a + 1) n)) (filter shown (range_with_len (a + 1) n)))) h
 
-    -- a shown line is taken
+    -- a shown line has its own elements
     shown-keep : (previous : Option ℕ) (a n : ℕ) → shown a ≡ true → shown_from previous a (suc n) ≡ before_line (gap_between filled broken) previous a ++ drawn a ++ shown_from (Some a) (a + 1) n
     shown-keep previous a n h = ap (λ b. expanded_shown previous (cond b (a ∷ filter shown (range_with_len (a + 1) n)) (filter shown (range_with_len (a + 1) n)))) h
 

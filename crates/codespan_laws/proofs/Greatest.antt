@@ -3,9 +3,9 @@ use Rattle.std.proofs.Common.{◌≡◌, ℕ, ◌≤◌, max, List, [], ◌∷�
 use Rattle.std.specs.Prelude.{fold}
 use Rattle.std.specs.List.{AllByRecursion}
 
--- ---- one after the other
+-- ---- the greatest of several lists
 
--- over one list after another
+-- of one list after another
 pub greatest-append : (a : ℕ) (xs ys : List ℕ) → fold max a (xs ++ ys) ≡ fold max (fold max a xs) ys
 greatest-append a [] ys = refl
 greatest-append a (x ∷ xs) ys = greatest-append (max a x) xs ys

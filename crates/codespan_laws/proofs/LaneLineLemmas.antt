@@ -15,17 +15,17 @@ use Rattle.codespan_laws.proofs.ListElements.{all-append, all-weaker}
 
 -- ---- lists
 
--- what holds of everything holds of each
+-- what holds of everything holds of each element
 pub each_all : {X : Type 0} (P : X → Type 0) (xs : List X) → ((x : X) → P x) → AllByRecursion P xs
 each_all P [] h = tt
 each_all P (x ∷ xs) h = (h x, each_all P xs h)
 
--- what holds of each holds of its image
+-- what holds of the image of each element holds of each element of the images
 pub each_map : {X Y : Type 0} (P : Y → Type 0) (f : X → Y) (xs : List X) → AllByRecursion (λ x. P (f x)) xs → AllByRecursion P (map f xs)
 each_map P f [] a = tt
 each_map P f (x ∷ xs) a = (a.0, each_map P f xs a.1)
 
--- an element and its fact
+-- the element at an index, and what holds of it
 pub each_at : {X : Type 0} (P : X → Type 0) (xs : List X) (k : ℕ) → AllByRecursion P xs → k < length xs → (x : X) × ((slice_get xs k ≡ Some x) × P x)
 each_at P [] k a h = absurd (omega arith)
 each_at P (x ∷ xs) zero a h = (x, (refl, a.0))
@@ -41,7 +41,7 @@ get_right [] ys j k e = let same : j ≡ k = omega arith in ap (slice_get ys) sa
 get_right (x ∷ xs) ys zero k e = absurd (omega arith)
 get_right (x ∷ xs) ys (suc j) k e = get_right xs ys j k (omega arith)
 
--- one element of a filtered and mapped list
+-- a filtered and mapped list, where the filter keeps an element
 pub split_at : {X Y : Type 0} (f : X → Y) (p : X → Bool) (low : List X) (m : X) (high : List X) → p m ≡ true
     → map f (filter p (low ++ (m ∷ high))) ≡ map f (filter p low) ++ (f m ∷ map f (filter p high))
 split_at f p [] m high h = ap (λ b. map f (cond b (m ∷ filter p high) (filter p high))) h
@@ -53,7 +53,7 @@ split_at {X} {Y} f p (y ∷ low) m high h = by_test (split_at f p low m high h) 
     by_test rest true = ap (λ r. f y ∷ r) rest
     by_test rest false = rest
 
--- one that the filter drops
+-- the same where the filter drops it
 pub split_off : {X Y : Type 0} (f : X → Y) (p : X → Bool) (low : List X) (m : X) (high : List X) → p m ≡ false
     → map f (filter p (low ++ (m ∷ high))) ≡ map f (filter p low) ++ map f (filter p high)
 split_off f p [] m high h = ap (λ b. map f (cond b (m ∷ filter p high) (filter p high))) h
@@ -78,7 +78,7 @@ pub record LeftOut (layout : Layout) (lane : ℕ) (line : Line) (top row : Row) 
   pub begins_in_source_row : top ≡ SourceRow line
   pub is_of_line : line_of_row row ≡ Some line
 
--- a bar, or nothing that counts
+-- a bar, or a gap that the classic layout may leave
 abbrev pub GoesOn : Layout → ℕ → Line → Row → Row → Type 0
 GoesOn layout lane line top row = Shows layout lane Bar row ⊎ LeftOut layout lane line top row
 

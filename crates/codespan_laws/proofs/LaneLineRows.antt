@@ -149,7 +149,7 @@ bottom_lane_mark layout lane line style end message is r = record {
             let later : nat_lt lane corner_lane ≡ true = grind (arith, nat_tests) in
             e ∙ simp (other, later)
 
--- an underline row left or right of the lane's own
+-- a top, in the underline row of a lane to its left or to its right
 top_low : (lane corner_lane : ℕ) {v : Shape} → corner_lane < lane → v ≡ cond (lane == corner_lane) TopCorner (cond (nat_lt lane corner_lane) Bar Space) → v ≡ Space
 top_low lane corner_lane h e =
     let other : (lane == corner_lane) ≡ false = grind (arith, nat_tests) in
@@ -219,7 +219,7 @@ top_early layout lane line style start is r early = record {
         (λ m. inl (ap (shape_of (underline_shape Unbroken (leading_of line) m.lane lane)) is
         ∙ ap (λ b. cond b Bar (cond (lane == m.lane) TopCorner (cond (nat_lt lane m.lane) Bar Space))) early))
 
--- nothing goes on from a corner that is not in the source row
+-- a lane whose corner is not in the source row does not continue below that row
 late : (layout : Layout) (leading start : ℕ) → begins_in_source_row leading start ≡ false → (is_unbroken layout && begins_in_source_row leading start) ≡ false
 late layout leading start h = ap (λ b. is_unbroken layout && b) h ∙ and-false (is_unbroken layout)
 

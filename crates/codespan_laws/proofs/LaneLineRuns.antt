@@ -35,7 +35,7 @@ each_from f l n (x ∷ xs) =
     each_lane_mark (λ (o : LaneMark). n ≤ o.lane) n x (multi_label_on f l x) (marks_from f l (n + 1) xs) (λ p. omega arith)
     (all-weaker (λ (o : LaneMark). n + 1 ≤ o.lane) (λ (o : LaneMark). n ≤ o.lane) (λ o h. omega arith) (marks_from f l (n + 1) xs) (each_from f l (n + 1) xs))
 
--- one multi-line label mark more before the others
+-- a split of lane marks, with the lane mark of one more label before them
 split_later : (lane n : ℕ) (m : LaneMark) (x : LabelModel) (multi_label : Option MultiLabel) (lane_marks : List LaneMark) → n < lane → Split lane m lane_marks
     → Split lane m (cons_option (lane_mark_of n x multi_label) lane_marks)
 split_later lane n m x None lane_marks h r = r
@@ -184,7 +184,7 @@ module _ (layout : Layout) (s : LabeledFileModel) (lane : ℕ) (x : LabelModel) 
       → rows_from previous a (suc n) ≡ breaks_before s previous a ++ rows_of (line_at s a) ++ rows_from (Some a) (a + 1) n
   keep previous a n h = ap (λ b. rows_after s previous (cond b (a ∷ lines_from (a + 1) n) (lines_from (a + 1) n))) h
 
-  -- below the label
+  -- the rows of the lines after the label
   gaps_after : (previous : Option ℕ) (a n : ℕ) → last_line s.file x < a → AllByRecursion (Shows layout lane Space) (rows_from previous a n)
   gaps_after previous a zero past = tt
   gaps_after previous a (suc n) past = by_test (λ w. gaps_after w (a + 1) n (omega arith)) (drawn a)
@@ -196,7 +196,7 @@ module _ (layout : Layout) (s : LabeledFileModel) (lane : ℕ) (x : LabelModel) 
           (gaps_with previous a (no_lane_mark_after a past)) (rest (Some a))
       by_test rest false = rest previous
 
-  -- from below the first line on
+  -- the rows of the lines from one after the label's first on
   finishes_from : (previous : Option ℕ) (a n : ℕ) → first_line s.file x < a → a ≤ last_line s.file x → last_line s.file x < a + n → drawn (last_line s.file x) ≡ true
       → Finishes layout lane (rows_from previous a n)
   finishes_from previous a zero low high inside end = absurd (omega arith)
@@ -224,7 +224,7 @@ module _ (layout : Layout) (s : LabeledFileModel) (lane : ℕ) (x : LabelModel) 
           (λ h. let here : last_line s.file x ≡ a = omega arith in let off : drawn (last_line s.file x) ≡ false = ap drawn here ∙ is in absurd cc)
           (cases_lt a (last_line s.file x))))
 
-  -- from above the first line on
+  -- the rows of the lines from the label's first or an earlier one on
   pub whole_from : (previous : Option ℕ) (a n : ℕ) → a ≤ first_line s.file x → last_line s.file x < a + n
       → drawn (first_line s.file x) ≡ true → drawn (last_line s.file x) ≡ true
       → Whole layout lane (line_at s (first_line s.file x)) (rows_from previous a n)
@@ -260,7 +260,7 @@ module _ (layout : Layout) (s : LabeledFileModel) (lane : ℕ) (x : LabelModel) 
 
 -- ---- the file
 
--- two lines are apart only where there are lines
+-- two bytes are on different lines only where there are lines
 some_line : (starts : List ℕ) (a b : ℕ) → line_of starts a < line_of starts b → 0 < length starts
 unfolding line_of
 some_line starts a b h = omega (arith, count_by-le-length (λ s. nat_le s b) starts)

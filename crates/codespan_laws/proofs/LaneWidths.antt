@@ -32,7 +32,7 @@ pub row_length-label_glyph : (severity : Severity) (style : LabelStyle) (c : ℕ
 unfolding label_glyph
 row_length-label_glyph severity style c = between_marks (LabelStyleMark severity style) (glyph c) ∙ row_length-glyph c
 
--- a filled cell and the lane's own character
+-- a character of the crossing, or a space, and the lane's own character
 filled_and_own : (severity : Severity) (chars : Chars) (crossing : Option LaneMark) (style : LabelStyle) (own : ℕ)
     → row_length (crossing_cells severity chars crossing 1 ++ label_glyph severity style own) ≡ 2
 filled_and_own severity chars crossing style own =

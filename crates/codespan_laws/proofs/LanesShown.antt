@@ -35,7 +35,7 @@ alone before old new e = record {
   is = ap (λ (s : Stream). before ++ s) e ∙ sym (append-nil (before ++ new));
 }
 
--- and more behind them
+-- the two parts, and more after them
 more : (before lanes whole : Stream) → Starts before lanes whole → (rest : Stream) → Starts before lanes (whole ++ rest)
 more before lanes whole starts rest = record {
   after = starts.after ++ rest;

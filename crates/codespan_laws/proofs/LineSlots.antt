@@ -45,7 +45,7 @@ sum-filter g p (x ∷ xs) = by_test (sum-filter g p xs) (p x) refl
         let e = ap {B = ℕ} (λ b. cond b (g x) 0) is in
         omega (arith, rest, e, sum_by-cons (λ x. cond (p x) (g x) 0) x xs)
 
--- what a filter leaves out weighs nothing
+-- a filter does not change the sum where all that it drops counts 0
 pub sum-filter_free : {X : Type 0} (g : X → ℕ) (p : X → Bool) → ((x : X) → p x ≡ false → g x ≡ 0) → (xs : List X) → sum_by g (filter p xs) ≡ sum_by g xs
 sum-filter_free g p h xs = sum-filter g p xs ∙ sum-ext (λ x. cond (p x) (g x) 0) g (λ x. one (p x) (g x) (h x)) xs
   where
@@ -168,7 +168,7 @@ lane_mark_sum k f l n (x ∷ xs) =
       sum_by-cons (λ x. any_multi_label_slots k (multi_label_on f l x)) x xs,
     )
 
--- a label weighs its message on its last line
+-- a label counts the slots of its message on its last line
 abbrev pub on_line : ℕ → FileModel → ℕ → LabelModel → ℕ
 on_line k f l x = cond (last_line f x == l) (label_slots k x) 0
 

@@ -19,12 +19,12 @@ use Rattle.codespan_laws.proofs.ListElements.{all-filter}
 
 -- ---- one locus
 
--- what is stated is what is shown
+-- a stated name is the one that is shown
 shown_is_stated : (o : Option (List ℕ)) → IfSome o (λ stated. unwrap_or o [] ≡ stated)
 shown_is_stated None = tt
 shown_is_stated (Some stated) = refl
 
--- what is shown is a text where what is stated is
+-- the name that is shown is a text where a stated one is
 shown_is_text : (o : Option (List ℕ)) → IfSome o IsUtf8 → IsUtf8 (unwrap_or o [])
 shown_is_text None h = IsUtf8-nil
 shown_is_text (Some stated) h = h
@@ -34,7 +34,7 @@ stated_name : (o : Option (List ℕ)) (name : List ℕ) → IfSome o (λ stated.
 stated_name None name is some = absurd (true≢false (sym some))
 stated_name (Some stated) name is some = is
 
--- the locus with the name that a file states is one
+-- the locus with the name that a file states is a locus of the file
 pub locus_there : (at : FileModel × ℕ) → IsLocus at (stated_locus at)
 locus_there at = record { location = refl; name = shown_is_stated at.0.name }
 
@@ -48,12 +48,12 @@ module _ {X : Type 0} where
   zip_weaker R S by (x ∷ xs) [] h = absurd h
   zip_weaker R S by (x ∷ xs) (p ∷ ps) h = (by x p h.0, zip_weaker R S by xs ps h.1)
 
-  -- one for each
+  -- the locus that a function has for each element
   pub zip_each : (R : X → Locus → Type 0) (to_locus : X → Locus) → ((x : X) → R x (to_locus x)) → (xs : List X) → AllZip R xs (map to_locus xs)
   zip_each R to_locus by [] = tt
   zip_each R to_locus by (x ∷ xs) = (by x, zip_each R to_locus by xs)
 
-  -- they are as many
+  -- there are as many loci as elements
   pub zip_length : (R : X → Locus → Type 0) (xs : List X) (ps : List Locus) → AllZip R xs ps → length xs ≡ length ps
   zip_length R [] [] h = refl
   zip_length R [] (p ∷ ps) h = absurd h
@@ -67,21 +67,21 @@ module _ {X : Type 0} where
   zip_append R (x ∷ xs) ys [] qs h k = absurd h
   zip_append R (x ∷ xs) ys (p ∷ ps) qs h k = (h.0, zip_append R xs ys ps qs h.1 k)
 
-  -- those of what a list is made into
+  -- loci of the images of a list
   pub zip_map : {Y : Type 0} (R : Y → Locus → Type 0) (f : X → Y) (xs : List X) (ps : List Locus) → AllZip (λ x p. R (f x) p) xs ps → AllZip R (map f xs) ps
   zip_map R f [] [] h = tt
   zip_map R f [] (p ∷ ps) h = absurd h
   zip_map R f (x ∷ xs) [] h = absurd h
   zip_map R f (x ∷ xs) (p ∷ ps) h = (h.0, zip_map R f xs ps h.1)
 
-  -- their names are texts
+  -- the names of the loci are texts
   pub zip_texts : (R : X → Locus → Type 0) → ((x : X) (p : Locus) → R x p → IsUtf8 p.name) → (xs : List X) (ps : List Locus) → AllZip R xs ps → NamesAreTexts ps
   zip_texts R text [] [] h = tt
   zip_texts R text [] (p ∷ ps) h = absurd h
   zip_texts R text (x ∷ xs) [] h = absurd h
   zip_texts R text (x ∷ xs) (p ∷ ps) h = (text x p h.0, zip_texts R text xs ps h.1)
 
--- loci of files that state their names are those
+-- the loci of files that state their names are those with these names
 pub zip_stated : (ats : List (FileModel × ℕ)) (ps : List Locus) → AllZip IsLocus ats ps → AllByRecursion (λ (at : FileModel × ℕ). IsSome at.0.name) ats → ps ≡ map stated_locus ats
 zip_stated [] [] h k = refl
 zip_stated [] (p ∷ ps) h k = absurd h
@@ -92,7 +92,7 @@ zip_stated (at ∷ ats) (p ∷ ps) h k =
     let rest = zip_stated ats ps h.1 k.1 in
     λ i. record { name = name i; location = location i } ∷ rest i
 
--- and their names are texts where what is stated is
+-- the names of these are texts where the stated names are
 pub stated_texts : (ats : List (FileModel × ℕ)) → AllByRecursion (λ (at : FileModel × ℕ). IfSome at.0.name IsUtf8) ats → NamesAreTexts (map stated_locus ats)
 stated_texts [] h = tt
 stated_texts (at ∷ ats) h = (shown_is_text at.0.name h.0, stated_texts ats h.1)
@@ -103,7 +103,7 @@ stated_texts (at ∷ ats) h = (shown_is_text at.0.name h.0, stated_texts ats h.1
 pub each_of : {X : Type 0} (P : X → Type 0) (xs : List X) → ((x : X) → Contains xs x → P x) → AllByRecursion P xs
 each_of P xs h = recursion_from_All P xs (All-weaker (Contains xs) P h xs (All-contains_itself xs))
 
--- what holds of ids holds of those of them that are seen first
+-- what holds of each of some ids holds of those that are seen first
 seen-each : {Id : Type 0} (P : Id → Type 0) (same : Id → Id → Bool) (js : List Id) → AllByRecursion P js → AllByRecursion P (first_seen same js)
 seen-each P same [] h = tt
 seen-each P same (j ∷ js) h = (h.0, all-filter P (λ other. not (same j other)) (first_seen same js) (seen-each P same js h.1))
@@ -124,8 +124,8 @@ module _ {Id : Type 0} (same : Id → Id → Bool) (file : Id → FileModel) (xs
   each_start Medium = each_map (λ (at : FileModel × ℕ). P at.0) (label_locus_start file) (primary_of xs) each_primary
   each_start Short = each_map (λ (at : FileModel × ℕ). P at.0) (label_locus_start file) (primary_of xs) each_primary
 
--- ---- those of an output
+-- ---- the loci of an output
 
--- those with the names that the files state are some
+-- those with the names that the files state are loci of the output
 pub stated_are_loci : {Id : Type 0} (files : FileDatabase Id) (d : Diagnostic Id) (style : DisplayStyle) → AreLoci files d style (stated_loci files d style)
 stated_are_loci files d style = zip_each IsLocus stated_locus locus_there (locus_starts files.same files.file (labels_of d) style)

@@ -48,7 +48,7 @@ trails_or_hangs (x ∷ xs) = by_rightmost (around_rightmost (x ∷ xs)) refl
 
 -- ---- sums over labels
 
--- the weight of a label, if there is one
+-- the weight of an optional label, 0 where there is none
 abbrev pub weight_of : (LabelModel → ℕ) → Option LabelModel → ℕ
 weight_of weight None = 0
 weight_of weight (Some x) = weight x
@@ -63,7 +63,8 @@ module _ (weight : LabelModel → ℕ) (only_messages : (x : LabelModel) → has
       by_test rest true is = omega (arith, rest, sum_by-cons weight x (filter has_message xs), sum_by-cons weight x xs)
       by_test rest false is = omega (arith, rest, only_messages x is, sum_by-cons weight x xs)
 
-  -- what each label weighs by its message, trailing and hanging labels weigh together
+  -- where a label without a message has the weight 0, the trailing label and the hanging ones have
+  -- the weight of all labels
   pub trailing_and_hanging : (labels : List LabelModel) → weight_of weight (trailing_label labels) + sum_by weight (hanging_labels labels) ≡ sum_by weight labels
   trailing_and_hanging [] = refl
   trailing_and_hanging (x ∷ xs) =

@@ -33,7 +33,7 @@ use Rattle.codespan_laws.proofs.SlotSums.{slotted_slots, slotted_from, slotted_s
 use Rattle.codespan_laws.proofs.RefillRows.{fill, fill-is, fill_same, keeps, fill-rows}
 use Rattle.codespan_laws.proofs.RefillPicture.{re_file, re_in, rich-re, padding-re, files-re}
 
--- ---- what no label of the list names, no row names
+-- ---- a slot that no label has is in no row
 
 at_most : (b : Bool) (n : ℕ) → cond b n 0 ≤ n
 at_most true n = omega arith
@@ -141,12 +141,12 @@ refilled {Id = Id} φ k n (x ∷ xs) h =
     ap₂ {C = List (InFile Id)} (λ (s : Stream) ys. record { file_id = x.file_id; label = record x.label { message = s } } ∷ ys) (h 0 n x (omega arith) refl)
     (refilled φ k (n + 1) xs (λ j i y e at. h (suc j) i y (omega arith) at))
 
--- the labels' files are as many whatever the messages
+-- the labels' files do not depend on the messages
 ids_kept : {Id : Type 0} (k n : ℕ) (xs : List (InFile Id)) → map (λ (x : InFile Id). x.file_id) (slotted_from k n xs) ≡ map (λ (x : InFile Id). x.file_id) xs
 ids_kept k n [] = refl
 ids_kept k n (x ∷ xs) = ap (λ ids. x.file_id ∷ ids) (ids_kept k (n + 1) xs)
 
--- a locus for each file is one for each file with slots
+-- there are as many loci as files of labels with slots
 as_many : {Id : Type 0} (same : Id → Id → Bool) (file : Id → FileModel) (xs : List (InFile Id)) (loci : List Locus)
     → AllZip IsLocus (map snippet_locus_start (labeled_file_models same file xs)) loci → length loci ≡ length (labeled_file_models same file (all_slotted xs))
 as_many {Id} same file xs loci are =

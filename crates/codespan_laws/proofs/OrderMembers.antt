@@ -1,5 +1,5 @@
--- For `order_is_free`: in two orders of a file's labels that its snippet shows alike, the same
--- labels are there.
+-- For `order_is_free`: two orders of a file's labels that its snippet shows alike have the same
+-- labels.
 use Rattle.std.proofs.Common.{◌≡◌, ℕ, min, Bool, true, false, not, ◌==◌, ◌&&◌, ◌||◌, nat_le, cond, List, [], ◌∷◌, map, filter, fold, reverse, ⊎_elim, refl, sym, ap, ◌∙◌, arith}
 use Rattle.std.specs.List.{list_any}
 use Rattle.std.proofs.Math.Bool.{or-false, or_assoc}
@@ -28,13 +28,13 @@ pub record AreEqual (f : FileModel) (xs ys : List LabelModel) : Type 0 where
 
 -- ---- the same labels
 
--- a label that passes a test, and that every filter keeps whose test it passes
+-- a label of the list that passes a test, and that is kept by each filter whose test it passes
 record Witness (p : LabelModel → Bool) (xs : List LabelModel) : Type 0 where
   label : LabelModel
   passes : p label ≡ true
   stays : (q : LabelModel → Bool) → q label ≡ true → list_any p (filter q xs) ≡ true
 
--- there is one where some label passes
+-- there is such a label where some label passes
 some_passes : (p : LabelModel → Bool) (xs : List LabelModel) → list_any p xs ≡ true → Witness p xs
 some_passes p [] h = cc
 some_passes p (x ∷ xs) h = by_test (some_passes p xs) (p x) refl h
@@ -124,7 +124,7 @@ least-same (x ∷ xs) (y ∷ ys) same = same-number (least (starts (x ∷ xs))) 
     at_most : (k : ℕ) (z : LabelModel) (zs : List LabelModel) → nat_le (least (starts (z ∷ zs))) k ≡ list_any (λ (w : LabelModel). nat_le w.start k) (z ∷ zs)
     at_most k z zs = least-test k z.start (starts zs) ∙ ap (λ b. nat_le z.start k || b) (any-map (λ n. nat_le n k) (λ (w : LabelModel). w.start) zs)
 
--- where a snippet starts depends only on which labels there are
+-- the byte of a file's locus depends only on which labels there are
 pub locus-same : (xs ys : List LabelModel) → SameTests xs ys → locus_start xs ≡ locus_start ys
 locus-same xs ys same = least-same (if_any (filter is_primary xs) xs) (if_any (filter is_primary ys) ys)
     (if_any-tests (filter is_primary xs) (filter is_primary ys) xs ys (filter-tests xs ys is_primary same) same)

@@ -55,7 +55,7 @@ module _ (f : FileModel) (xs ys : List LabelModel) (equal : AreEqual f xs ys) wh
   line-same l = ap₂ {C = Line} (λ zs lanes. record { number = f.line_number l; text = text_without_line_end (line_text f l); labels = zs; lanes = lanes })
       (singles-same f xs ys equal l) (lanes-same l)
 
-  -- which lines are shown goes by tests of the labels
+  -- which lines are shown depends on tests of the labels
   shown-same : (view_config : Config) (l : ℕ) → is_shown view_config f xs l ≡ is_shown view_config f ys l
   shown-same view_config l = ap (λ b. nat_lt l (line_count f) && b) (tests (λ x. shows view_config (first_line f x) (last_line f x) l))
 

@@ -1,5 +1,5 @@
--- For `labels_are_sorted` and `order_is_free`: the order of a line's labels. The labels of each
--- range keep their order, and nothing else of the order given counts.
+-- For `labels_are_sorted` and `order_is_free`: the order of a line's labels. Only the order of the
+-- labels of each range counts, and is kept.
 use mathlib.Core.Path.{fun_ext}
 use Rattle.std.proofs.Common.{◌≡◌, ℕ, Bool, true, false, ◌==◌, ◌&&◌, cond, List, [], ◌∷◌, filter, ⊎_elim, refl, sym, ap, subst, ◌∙◌, arith}
 use Rattle.std.proofs.lemmas.Bool.{both_ways, cases_Bool, cond_both, eq-eqb, false_from_ne_true}
@@ -28,7 +28,7 @@ before_one_way x y h = grind (arith, nat_tests)
 not_before_itself : (x : LabelModel) → range_precedes x x ≡ false
 not_before_itself x = false_from_ne_true (range_precedes x x) (λ t. both_ways (range_precedes x x) (before_one_way x x t) t)
 
--- what is not before the second is not before a third that the second is not before
+-- where `x` is not before `y`, and `y` not before `z`, `x` is not before `z`
 before_chain : (x y z : LabelModel) → range_precedes x y ≡ false → range_precedes y z ≡ false → range_precedes x z ≡ false
 before_chain x y z h k = grind (arith, nat_tests)
 
@@ -75,13 +75,13 @@ sorted-keeps start end (x ∷ xs) =
 abbrev pub Ascends : List LabelModel → Type 0
 Ascends = Rises range_precedes
 
--- it holds of the label that is put in and of the others
+-- what holds of the inserted label and of the others holds of all
 each-insert_sorted : (P : LabelModel → Type 0) (x : LabelModel) (ys : List LabelModel) → P x → AllByRecursion P ys → AllByRecursion P (insert_sorted x ys)
 each-insert_sorted P x [] h k = (h, tt)
 each-insert_sorted P x (y ∷ ys) h k =
     cond_both (range_precedes y x) (y ∷ insert_sorted x ys) (x ∷ y ∷ ys) (AllByRecursion P) (λ _. (k.0, each-insert_sorted P x ys h k.1)) (λ _. (h, k))
 
--- labels in order stay so where one is put in
+-- labels in order stay in order where one is inserted
 insert_sorted-ascends : (x : LabelModel) (ys : List LabelModel) → Ascends ys → Ascends (insert_sorted x ys)
 insert_sorted-ascends x [] h = (tt, tt)
 insert_sorted-ascends x (y ∷ ys) h =
@@ -129,7 +129,7 @@ same-rest x xs ys same start end = by_test (has_range start end x) (same start e
     by_test true e = cc
     by_test false e = e
 
--- labels in order are one list where those of each range are
+-- two lists of labels in order are equal where their labels of each range are
 pub ascending-same : (xs ys : List LabelModel) → Ascends xs → Ascends ys → SameRanges xs ys → xs ≡ ys
 ascending-same [] [] a b same = refl
 ascending-same [] (y ∷ ys) a b same = let e = same y.start y.end ∙ own_first y ys in cc
@@ -144,18 +144,18 @@ ascending-same (x ∷ xs) (y ∷ ys) a b same =
     let tail : xs ≡ ys = ascending-same xs ys a.1 b.1 (same-rest x xs ys rest) in
     cc
 
--- the order of labels by their ranges rests on the order of those of each range alone
+-- the sorted labels depend on the order of the labels of each range alone
 pub sorted-same : (xs ys : List LabelModel) → SameRanges xs ys → sorted xs ≡ sorted ys
 sorted-same xs ys same = ascending-same (sorted xs) (sorted ys) (sorted-ascends xs) (sorted-ascends ys)
     (λ start end. sorted-keeps start end xs ∙ same start end ∙ sym (sorted-keeps start end ys))
 
 -- ---- the one list of labels in order
 
--- it is an order
+-- `range_precedes` is a strict weak order
 before_order : IsStrictWeakOrder range_precedes
 before_order = record { one_way = before_one_way; chain = before_chain }
 
--- the label that is put in and the others
+-- an insertion permutes the inserted label and the others
 insert_sorted-permutation : (x : LabelModel) (ys : List LabelModel) → IsPermutation (x ∷ ys) (insert_sorted x ys)
 insert_sorted-permutation x [] = IsPermutation-refl (x ∷ [])
 insert_sorted-permutation x (y ∷ ys) =
@@ -165,7 +165,7 @@ insert_sorted-permutation x (y ∷ ys) =
     (IsPermutation-cons y (x ∷ ys) (insert_sorted x ys) (insert_sorted-permutation x ys)))
     (λ _. IsPermutation-refl (x ∷ y ∷ ys))
 
--- sorted labels are the labels
+-- sorted labels are a permutation of the labels
 sorted-permutation : (xs : List LabelModel) → IsPermutation xs (sorted xs)
 sorted-permutation [] = IsPermutation-refl []
 sorted-permutation (x ∷ xs) =

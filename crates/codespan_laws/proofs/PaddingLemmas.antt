@@ -90,7 +90,7 @@ pub contains-range : (a n l : ℕ) → a ≤ l → l < a + n → Contains (range
 contains-range a zero l h k = absurd (omega arith)
 contains-range a (suc n) l h k = ⊎_elim (λ p. there l a _ (contains-range (a + 1) n l (omega arith) (omega arith))) (λ p. (zero, omega arith, omega arith)) (cases_lt a l)
 
--- what a filtered range has passes the test and is of the range
+-- an element of a filtered range passes the test and is in the range
 filtered : (p : ℕ → Bool) (a n l : ℕ) → Contains (filter p (range_with_len a n)) l → (p l ≡ true) × (l < a + n)
 filtered p a zero l (k, low, same) = absurd (omega arith)
 filtered p a (suc n) l c = by_test (λ d. filtered p (a + 1) n l d) (p a) refl c
@@ -108,7 +108,7 @@ contained-le a x [] (k, low, same) = absurd (omega arith)
 contained-le a x (y ∷ xs) (zero, low, same) = omega (arith, greatest-low (max a y) xs, same)
 contained-le a x (y ∷ xs) (suc k, low, same) = contained-le (max a y) x xs (k, omega arith, same)
 
--- a numbered line fits
+-- the number of a numbered line fits the padding
 pub numbered-fits : (config : Config) (ss : List LabeledFileModel) (s : LabeledFileModel) (l : ℕ) → Contains ss s → Contains (numbered_lines config s) l → count_digits (s.file.line_number l) ≤ padding_of config ss
 numbered-fits config ss s l here c =
     contained-le 0 (count_digits (s.file.line_number l)) _
@@ -128,11 +128,11 @@ ascends f up i j h low =
     let e : j ≡ i + (j - i) = omega arith in
     rw e (ascends-by f up i (j - i) (omega arith))
 
--- a line that is not below this one and fits the padding
+-- a line that labels span, and so fits the padding: this one or a later one
 abbrev Over : LabeledFileModel → ℕ → Type 0
 Over s l = (m : ℕ) × (l ≤ m) × (m < line_count s.file) × Contains (spanned_lines s) m
 
--- a label that shows a line, with no line after its last, spans a line not below it
+-- where no lines are shown after labels, a label that shows a line spans this line or a later one
 shown-over : (s e l before start end : ℕ) → ((l == s) || (l == e) || (nat_lt l s && nat_le s (l + before)) || (nat_lt e l && nat_le l (e + 0)) || (nat_lt s l && nat_lt l e && (nat_le l (s + start) || nat_le e (l + end)))) ≡ true
     → (l ≤ s) ⊎ ((l ≡ e) ⊎ ((s ≤ l) × (l ≤ e)))
 shown-over s e l before start end h = grind (arith, nat_tests)

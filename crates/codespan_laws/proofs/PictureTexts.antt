@@ -115,7 +115,7 @@ rows-line line t =
 
 -- ---- the rows of a file
 
--- a file that is lawful, with labels that say texts
+-- a lawful file with labels whose messages are texts
 pub record IsTextFile (s : LabeledFileModel) : Type 0 where
   pub lawful : IsLawful s.file
   pub labels : AllByRecursion HasTextMessage s.labels
@@ -133,19 +133,19 @@ module _ (s : LabeledFileModel) (ok : IsTextFile s) where
       all-sequence IsTextRow (λ l. l) (break_between (break_rows (line_at s))) (line_rows (line_at s))
       (all-break IsTextRow (break_rows (line_at s)) (λ d. (tt, tt))) (λ l. rows-line (line_at s l) (line-text l)) previous ls
 
-  rows-placed : (config : Config) (followed : Bool) (at : Locus) → IsUtf8 at.name → AllByRecursion IsTextRow (snippet config at s ++ row_after followed s)
-  rows-placed config followed at u =
+  rows-snippet_and_after : (config : Config) (followed : Bool) (at : Locus) → IsUtf8 at.name → AllByRecursion IsTextRow (snippet config at s ++ row_after followed s)
+  rows-snippet_and_after config followed at u =
       all-append IsTextRow (snippet config at s) (row_after followed s)
       (u, (tt, rows-lines None (drawn_lines config s.file s.labels)))
       (cond_both followed (EmptyRow (empty_lanes s) ∷ []) [] (AllByRecursion IsTextRow) (λ _. (tt, tt)) (λ _. tt))
 
-rows-snippets : (config : Config) (has_notes : Bool) (places : List Locus) (ss : List LabeledFileModel) → NamesAreTexts places → AllByRecursion IsTextFile ss
-    → AllByRecursion IsTextRow (snippets config has_notes places ss)
+rows-snippets : (config : Config) (has_notes : Bool) (loci : List Locus) (ss : List LabeledFileModel) → NamesAreTexts loci → AllByRecursion IsTextFile ss
+    → AllByRecursion IsTextRow (snippets config has_notes loci ss)
 rows-snippets config has_notes [] ss named ok = tt
 rows-snippets config has_notes (p ∷ ps) [] named ok = tt
 rows-snippets config has_notes (p ∷ ps) (s ∷ ss) named ok =
     all-append IsTextRow (snippet config p s ++ row_after (has_any ss || has_notes) s) (snippets config has_notes ps ss)
-    (rows-placed s ok.0 config (has_any ss || has_notes) p named.0) (rows-snippets config has_notes ps ss named.1 ok.1)
+    (rows-snippet_and_after s ok.0 config (has_any ss || has_notes) p named.0) (rows-snippets config has_notes ps ss named.1 ok.1)
 
 -- ---- a diagnostic
 
@@ -154,15 +154,15 @@ code-utf8 None = tt
 code-utf8 (Some s) = IsUtf8-string_bytes s
 
 module _ {Id : Type 0} (files : FileDatabase Id) (d : Diagnostic Id) (lawful : (id : Id) → IsLawful (files.file id)) where
-  text_message-given : (ls : List (Label Id)) → AllByRecursion (λ (x : InFile Id). HasTextMessage x.label) (map label_of ls)
-  text_message-given ls = each_map (λ (x : InFile Id). HasTextMessage x.label) label_of ls
+  text_message-labels : (ls : List (Label Id)) → AllByRecursion (λ (x : InFile Id). HasTextMessage x.label) (map label_of ls)
+  text_message-labels ls = each_map (λ (x : InFile Id). HasTextMessage x.label) label_of ls
       (each_all (λ (x : Label Id). HasTextMessage (label_of x).label) ls (λ x. text-bytes (string_bytes x.message) (IsUtf8-string_bytes x.message)))
 
   text-file : (id : Id) → IsTextFile (labeled_file_model files.same files.file (labels_of d) id)
   text-file id = record {
     lawful = lawful id;
     labels = each_map HasTextMessage (λ (x : InFile Id). x.label) (filter (λ (x : InFile Id). files.same id x.file_id) (labels_of d))
-        (all-filter (λ (x : InFile Id). HasTextMessage x.label) (λ (x : InFile Id). files.same id x.file_id) (labels_of d) (text_message-given d.labels.items));
+        (all-filter (λ (x : InFile Id). HasTextMessage x.label) (λ (x : InFile Id). files.same id x.file_id) (labels_of d) (text_message-labels d.labels.items));
   }
 
   text-files : AllByRecursion IsTextFile (files_of files d)

@@ -41,7 +41,7 @@ some_in p (x ∷ xs) h =
 any_in : {X : Type 0} (p : X → Bool) (xs : List X) (x : X) → Contains xs x → p x ≡ true → list_any p xs ≡ true
 any_in p xs x h holds = list_any_at p xs h.0 x h.1 (ap p h.2 ∙ holds)
 
--- ---- characters in a row
+-- ---- consecutive characters
 
 byte_index-low : (byte_index column : ℕ) (cs : List Metrics) (c : Metrics) → AreConsecutive byte_index column cs → Contains cs c → byte_index ≤ c.byte_index
 byte_index-low byte_index column [] c adjacent h = absurd (omega (arith, h.1))
@@ -135,7 +135,7 @@ module _ (chars : Chars) (labels : List LabelModel) where
           simp (none, later))
           ∙ map-constant 32 column c.unicode_width)
 
-  -- the cells of the characters that begin near enough
+  -- the codes of the characters that begin up to some byte index, at most the greatest start
   char_metrics-codes : (near : ℕ → Bool) → ((q : ℕ) → near q ≡ true → q ≤ reach) → ((p q : ℕ) → near p ≡ false → p ≤ q → near q ≡ false)
       → (byte_index column : ℕ) (cs : List Metrics) → AreConsecutive byte_index column cs → IsWide cs
       → map (code_of cs) (range_with_len column (width_of (filter (λ (c : Metrics). near c.byte_index) cs)))
@@ -175,7 +175,7 @@ module _ (chars : Chars) (labels : List LabelModel) where
           none-before near (byte_index + c.bytes) (column + c.unicode_width) cs adjacent.3 (λ q after. down c.byte_index q is (let at_byte_index = adjacent.0 in omega arith)) in
           rw none refl
 
-  -- what begins too far shows nothing
+  -- a character that begins after the greatest start shows nothing
   far-codes : (cs : List Metrics) → flat_map codes_at cs ≡ flat_map codes_at (filter (λ (c : Metrics). nat_le c.byte_index reach) cs)
   far-codes [] = refl
   far-codes (c ∷ cs) = by_test (far-codes cs) (nat_le c.byte_index reach) refl

@@ -18,7 +18,7 @@ use Rattle.codespan_picture.specs.Lines.{shows, is_shown}
 use Rattle.codespan_picture.specs.Snippets.{LabeledFileModel}
 use Rattle.codespan_laws.proofs.BarLemmas as bars
 
--- a later byte lies on no earlier line
+-- a later byte is not on an earlier line
 one-later : (s a b : ℕ) → a ≤ b → cond (nat_le s a) 1 0 ≤ cond (nat_le s b) 1 0
 one-later s a b h = by_test (nat_le s a) refl
   where
@@ -31,7 +31,7 @@ unfolding line_of
 line_of-rises starts a b h =
     omega (arith, sum_by-le-sum_by (λ s. cond (nat_le s a) 1 0) (λ s. cond (nat_le s b) 1 0) starts (λ s. one-later s a b h))
 
--- what a filter keeps is of the list and passes
+-- what a filter keeps is in the list and passes the test
 pub kept : (p : LabelModel → Bool) (xs : List LabelModel) (k : ℕ) (x : LabelModel) → slice_get (filter p xs) k ≡ Some x → Contains xs x × (p x ≡ true)
 kept p [] k x h = cc
 kept p (y ∷ ys) k x h = by_test (λ j g. kept p ys j x g) (p y) refl k h
@@ -54,7 +54,7 @@ has_lane-ordered s lane x ordered has =
 pub bars_are_labels : (layout : Layout) (s : LabeledFileModel) → StartsBeforeEnds s.labels → BarsAreLabels layout s
 bars_are_labels layout s ordered = λ l lane x has. bars.bars_are_labels layout s l lane x has (has_lane-ordered s lane x ordered has)
 
--- ---- the labels over a break
+-- ---- the labels that go through a break
 
 pub line_of-below : (starts : List ℕ) (b : ℕ) → 0 < length starts → line_of starts b < length starts
 unfolding line_of
@@ -75,7 +75,7 @@ shows-first config s e = grind (arith, nat_tests)
 pub shows-last : (config : Config) (s e : ℕ) → shows config s e e ≡ true
 shows-last config s e = grind (arith, nat_tests)
 
--- a shown line is not between two with none between
+-- a shown line is not between two lines that have no shown line between them
 not_between : (config : Config) (s : LabeledFileModel) (c d l : ℕ) → ((k : ℕ) → c < k → k < d → is_shown config s.file s.labels k ≡ false)
     → is_shown config s.file s.labels l ≡ true → (l ≤ c) ⊎ (d ≤ l)
 not_between config s c d l none here =

@@ -18,7 +18,7 @@ use Rattle.codespan_laws.proofs.SlotLemmas.{slots}
 use Rattle.codespan_laws.proofs.RefillLemmas.{re, re_multi_label, re_lane_mark, re_lanes, re_line, source_lanes-re, plain_lanes-re, below_lanes-re, underline_lanes-re, colored_text-re, carets-re, pointers-re, trailing_label-re}
 use Rattle.codespan_picture.specs.Lanes.{Underline}
 
--- the stream with each slot filled, shut
+-- the stream with each slot filled, folded unless a proof unfolds it
 unfoldable pub fill : (ℕ → List ℕ) → Stream → Stream
 fill m s = with_messages m s
 
@@ -43,7 +43,7 @@ slots-slot k s =
     let e = ap {B = ℕ} (λ b. cond b 1 0) same in
     omega (arith, e, slots-cons k (Slot k) s)
 
--- two fillings of the slots there
+-- two fillings are equal where they have one text for each slot of the stream
 pub fill_same : (m m' : ℕ → List ℕ) (s : Stream) → ((k : ℕ) → 0 < slots k s → m k ≡ m' k) → fill m s ≡ fill m' s
 unfolding fill
 fill_same m m' [] h = refl
@@ -53,7 +53,7 @@ fill_same m m' (Slot j ∷ s) h =
     ap₂ (λ (b : List ℕ) (r : Stream). map Byte b ++ r) (h j (omega (arith, slots-slot j s)))
     (fill_same m m' s (λ k some. h k (omega (arith, some, slots-cons k (Slot j) s))))
 
--- a stream with no slot stays
+-- a stream without a slot is unchanged
 fill_without_slots : (m : ℕ → List ℕ) (s : Stream) → ((k : ℕ) → slots k s ≡ 0) → fill m s ≡ s
 unfolding fill
 fill_without_slots m [] h = refl
@@ -75,9 +75,9 @@ re_row φ (FirstNoteRow note_line) = FirstNoteRow note_line
 re_row φ (LaterNoteRow note_line) = LaterNoteRow note_line
 re_row φ FinalRow = FinalRow
 
-blank-append : (s t : Stream) → is_empty_stream s ≡ false → is_empty_stream (s ++ t) ≡ false
-blank-append [] t h = cc
-blank-append (p ∷ s) t h = refl
+not_empty-append : (s t : Stream) → is_empty_stream s ≡ false → is_empty_stream (s ++ t) ≡ false
+not_empty-append [] t h = cc
+not_empty-append (p ∷ s) t h = refl
 
 module _ (m : ℕ → List ℕ) (full : (k : ℕ) → is_empty_stream (map Byte (m k)) ≡ false) where
   pub keeps : (s : Stream) → is_empty_stream (fill m s) ≡ is_empty_stream s
@@ -85,7 +85,7 @@ module _ (m : ℕ → List ℕ) (full : (k : ℕ) → is_empty_stream (map Byte 
   keeps [] = refl
   keeps (Byte b ∷ s) = refl
   keeps (Mark a ∷ s) = refl
-  keeps (Slot k ∷ s) = blank-append (map Byte (m k)) (with_messages m s) (full k)
+  keeps (Slot k ∷ s) = not_empty-append (map Byte (m k)) (with_messages m s) (full k)
 
   join : (s t : Stream) {s' t' : Stream} → fill m s ≡ s' → fill m t ≡ t' → fill m (s ++ t) ≡ s' ++ t'
   join s t p q = fill-append m s t ∙ ap₂ (λ a b. a ++ b) p q

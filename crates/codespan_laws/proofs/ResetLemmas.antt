@@ -1,4 +1,4 @@
--- For `rows_end_reset`: a row leaves no style.
+-- For `rows_end_reset`: the last style mark of a row is a reset.
 use Rattle.std.proofs.Common.{◌≡◌, ℕ, zero, suc, ◌+◌, ◌-◌, nat_le, nat_lt, Bool, true, false, List, [], ◌∷◌, ◌++◌, flat_map, Option, Some, None, refl, ap, ◌∙◌}
 use Rattle.std.specs.Prelude.{◌==◌, if◌then◌else◌}
 use Rattle.std.specs.List.{repeat, range_with_len, list_any}
@@ -18,21 +18,21 @@ use Rattle.codespan_picture.specs.RowParts.{change, styled, inner_gutter_column,
 use Rattle.codespan_picture.specs.RowStreams.{stream_of, header_row, snippet_start_row, empty_row, break_row, source_row, row_start, caret_row, pointer_row, hanging_row, underline_row, first_note_row, later_note_row}
 use Rattle.codespan_laws.specs.RowLaws.{is_reset, ends_reset, RowsEndReset}
 
--- of two streams the second goes on where the first ends
+-- one stream after another
 pub ends_reset-append : (closed : Bool) (s t : Stream) → ends_reset closed (s ++ t) ≡ ends_reset (ends_reset closed s) t
 ends_reset-append closed [] t = refl
 ends_reset-append closed (Byte b ∷ s) t = ends_reset-append closed s t
 ends_reset-append closed (Mark m ∷ s) t = ends_reset-append (is_reset m) s t
 ends_reset-append closed (Slot k ∷ s) t = ends_reset-append closed s t
 
--- no style is left
+-- the last style mark, if there is one, is a reset
 pub record Closes (s : Stream) : Type 0 where
   pub closed : ends_reset true s ≡ true
 
 pub closes-append : (s t : Stream) → Closes s → Closes t → Closes (s ++ t)
 closes-append s t h k = record { closed = ends_reset-append true s t ∙ ap (λ c. ends_reset c t) h.closed ∙ k.closed }
 
--- a stream that ends in a reset
+-- a stream that ends with a reset closes
 pub closes-reset : (s : Stream) → Closes (s ++ style_mark Reset)
 unfolding style_mark
 closes-reset s = record { closed = ends_reset-append true s (Mark Reset ∷ []) }
@@ -54,7 +54,7 @@ ends_reset-repeated closed (suc n) c =
     ends_reset-append closed (glyph c) (repeat n (glyph c))
     ∙ ap (λ o. ends_reset o (repeat n (glyph c))) (ends_reset-bytes closed _) ∙ ends_reset-repeated closed n c
 
--- what is after a style mark and before the reset
+-- a stream between a style mark and a reset closes
 pub closes-in_style : (m : StyleMark) (s : Stream) → Closes (style_mark m ++ s ++ style_mark Reset)
 closes-in_style m s = closes-reset (style_mark m ++ s)
 
@@ -81,7 +81,7 @@ unfolding inner_gutter_column
 closes-inner_gutter_column context crossing shape None = closes-lane_cells context.severity context.chars crossing Primary Space
 closes-inner_gutter_column context crossing shape (Some m) = closes-lane_cells context.severity context.chars crossing m.style (shape m.multi_label)
 
--- each part closes
+-- a stream closes where each part does
 pub closes-flat_map : {X : Type 0} (f : X → Stream) → ((x : X) → Closes (f x)) → (xs : List X) → Closes (flat_map f xs)
 closes-flat_map f each [] = record { closed = refl }
 closes-flat_map f each (x ∷ xs) = closes-append (f x) (flat_map f xs) (each x) (closes-flat_map f each xs)

@@ -76,7 +76,7 @@ and_true : (a b : Bool) → (a && b) ≡ true → (a ≡ true) × (b ≡ true)
 and_true true b e = (refl, e)
 and_true false b e = absurd (cc)
 
--- the codes of characters are characters where those of the text are
+-- the characters of a line are Unicode scalar values where those of its text are
 scalar-metrics_then : (after : ℕ → ℕ → List Metrics) (tab : ℕ) → ((p k : ℕ) → AllByRecursion (λ (c : Metrics). IsScalar c.ch) (after p k)) → (cs : List ℕ) → all_scalars cs ≡ true
     → (byte_index column : ℕ) → AllByRecursion (λ (c : Metrics). IsScalar c.ch) (metrics_then after tab byte_index column cs)
 scalar-metrics_then after tab h [] e byte_index column = h byte_index column
@@ -95,7 +95,7 @@ text-source_glyph c s = by (c.ch == 9)
     by true = text-spaces c.unicode_width
     by false = text-glyph c.ch s
 
--- ---- what a row is of
+-- ---- what a row is rendered from
 
 -- the message of a multi-line label mark
 abbrev pub IsTextMultiLabel : MultiLabel → Type 0
@@ -108,7 +108,7 @@ pub record IsTextLine (line : Line) : Type 0 where
   pub labels : AllByRecursion (λ (x : LabelModel). IsText x.message) line.labels
   pub lane_marks : AllByRecursion (λ (m : LaneMark). IsTextMultiLabel m.multi_label) line.lanes.lane_marks
 
--- what a row is of is a text
+-- what a row is rendered from are texts
 abbrev pub IsTextRow : Row → Type 0
 IsTextRow (HeaderRow at header_text) = IfSome at (λ p. IsUtf8 p.name) × IfSome header_text.code IsUtf8 × IsUtf8 header_text.message
 IsTextRow (SnippetStartRow at) = IsUtf8 at.name
@@ -133,7 +133,7 @@ text-bracketed None h = text-none
 text-bracketed (Some []) h = text-none
 text-bracketed (Some (c ∷ cs)) h = text-both (bytes (codes "[") ++ bytes (c ∷ cs)) (bytes (codes "]")) (text-both (bytes (codes "[")) (bytes (c ∷ cs)) text-open (text-bytes (c ∷ cs) h)) text-close
 
--- the last of some labels is one of them
+-- the trailing message is a text where the labels' messages are
 text-trailing_label : (severity : Severity) (labels : List LabelModel) → AllByRecursion (λ (x : LabelModel). IsText x.message) labels → IsText (trailing_message severity (trailing_label labels))
 unfolding trailing_message
 text-trailing_label severity [] h = text-none
@@ -226,7 +226,7 @@ module _ (context : RowContext) (ok : AreCharacters context.chars) where
   unfolding row_start
   text-row_start line = followed (followed (followed (text-outer_gutter context.padding) (text-border_left context.chars ok)) (text-inner_gutter (leading_of line) SingleLabels line.lanes)) text-space
 
-  -- the stream of a row is a text where what the row is of is
+  -- the stream of a row is a text where what it is rendered from are texts
   pub text-row : (row : Row) → IsTextRow row → IsText (stream_of context row)
   unfolding header_row snippet_start_row empty_row break_row source_row caret_row pointer_row hanging_row underline_row first_note_row later_note_row
   text-row (HeaderRow at header_text) h =

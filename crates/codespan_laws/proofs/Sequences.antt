@@ -1,5 +1,5 @@
--- For `outputs_are_texts`: items in sequence, and what holds of all their elements and of those
--- between them.
+-- For `outputs_are_texts`: the elements of items in sequence and of what is between them, and what
+-- holds of all of them.
 use Rattle.std.proofs.Common.{◌≡◌, ℕ, ◌+◌, Bool, true, false, cond, ◌==◌, List, [], ◌∷◌, ◌++◌, flat_map, Option, Some, None, refl, ap, ap₂, ◌∙◌}
 use Rattle.std.specs.List.{AllByRecursion}
 use Rattle.std.proofs.lemmas.Bool.{cond_both}
@@ -19,13 +19,13 @@ module _ {A : Type 0} (P : A → Type 0) where
   all-gap filled broken fills breaks c d =
       cond_both (d == c + 2) (filled (c + 1)) (break_between broken c d) (AllByRecursion P) (λ _. fills (c + 1)) (λ _. all-break broken breaks c d)
 
-  -- what holds of all between lines holds of what is before one
+  -- what holds of all elements between lines holds of those before one
   pub all-before : (between : ℕ → ℕ → List A) → ((c d : ℕ) → AllByRecursion P (between c d))
       → (previous : Option ℕ) (d : ℕ) → AllByRecursion P (before_line between previous d)
   all-before between gaps None d = tt
   all-before between gaps (Some c) d = gaps c d
 
-  -- with the elements of the items it holds of all
+  -- what holds of these and of the elements of the items holds of all
   pub all-sequence : {X : Type 0} (line_of : X → ℕ) (between : ℕ → ℕ → List A) (own : X → List A)
       → ((c d : ℕ) → AllByRecursion P (between c d)) → ((x : X) → AllByRecursion P (own x))
       → (previous : Option ℕ) (xs : List X) → AllByRecursion P (in_sequence line_of between own previous xs)
@@ -61,7 +61,7 @@ flat_map-gap expand filled broken c d = by_tests (d == c + 2) (has_break_between
     by_tests false true = refl
     by_tests false false = refl
 
--- where breaks have no elements, the items have theirs one after the other
+-- where breaks have no elements, a sequence has those of its items
 pub sequence-flat : {X A : Type 0} (line_of : X → ℕ) (own : X → List A) (previous : Option ℕ) (xs : List X)
     → in_sequence line_of (break_between (λ _. [])) own previous xs ≡ flat_map own xs
 sequence-flat line_of own previous [] = refl

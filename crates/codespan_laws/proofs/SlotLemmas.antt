@@ -20,7 +20,7 @@ use Rattle.codespan_picture.specs.RowStreams.{bracketed, leading_locus, header_r
 use Rattle.codespan_laws.specs.MessageLaws.{is_slot}
 use Rattle.codespan_laws.proofs.MessageLemmas.{weight_of}
 
--- how often a stream names a label, shut
+-- how many slots of a label a stream has, folded unless a proof unfolds it
 unfoldable pub slots : ℕ → Stream → ℕ
 slots k s = count_by (is_slot k) s
 
@@ -221,7 +221,7 @@ pub slots-row_start : (k : ℕ) (context : RowContext) (line : Line) → slots k
 unfolding row_start
 slots-row_start k context line = simp parts
 
--- what a row weighs
+-- how many slots of a label a row has
 abbrev pub row_slots : ℕ → Row → ℕ
 row_slots k (CaretRow line) = weight_of (λ x. slots k x.message) (trailing_label line.labels)
 row_slots k (HangingRow line x) = slots k x.message

@@ -61,7 +61,7 @@ module _ {Id : Type 0} (same : Id → Id → Bool) (law : IsEquivalence same) wh
             sum-filter_free (λ id. cond (same id z) v 0) (λ other. not (same i other)) (λ o out. apart is o out (same o z) refl) (first_seen same ids),
           )
 
-  -- what each label weighs, its file weighs
+  -- over all files each label counts once
   all_seen : (w : InFile Id → ℕ) (ids : List Id) (xs : List (InFile Id))
       → ((z : Id) → list_any (λ id. same id z) (map (λ (x : InFile Id). x.file_id) xs) ≡ true → list_any (λ id. same id z) ids ≡ true)
       → sum_by (λ (x : InFile Id). sum_by (λ id. cond (same id x.file_id) (w x) 0) (first_seen same ids)) xs ≡ sum_by w xs

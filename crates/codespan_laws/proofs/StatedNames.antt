@@ -39,7 +39,7 @@ one_failed None None e h = cc
 one_failed None (Some x) e h = refl
 one_failed (Some x) p e h = refl
 
--- where the two fail nothing, neither does
+-- where neither of two has an error, the first has none and the second has none
 none_first : (o p : Option Error) → or_failure o p ≡ None → (o ≡ None) × (p ≡ None)
 none_first None p h = (refl, h)
 none_first (Some x) p h = cc
@@ -53,7 +53,7 @@ none_of_first failure (l ∷ ls) ms h =
     let later = none_of_first failure ls ms parts.1 in
     (ap (λ (o : Option Error). or_failure o (first_error failure ls)) parts.0 ∙ later.0, later.1)
 
--- labels whose lookups succeed, and then one of which one fails
+-- labels whose lookups succeed, and then a label for which one fails
 run_before : {Id : Type 0} (failure : Failures Id) (before : List (InFile Id)) (here : InFile Id) (after : List (InFile Id)) → first_error failure (flat_map header_lookups_of before) ≡ None
     → lookup_succeeds failure here ≡ false → take_while (lookup_succeeds failure) (before ++ here ∷ after) ≡ before
 run_before failure [] here after succeeded failed =
@@ -83,8 +83,8 @@ module _ {Id : Type 0} (files : FileDatabase Id) (d : Diagnostic Id) (named : Na
       → output style renderer_config view_config files d loci ≡ output style renderer_config view_config files d (stated_loci files d style)
   output_stated style renderer_config view_config loci are = ap (output style renderer_config view_config files d) (loci_stated style loci are)
 
-  -- and the headers before a label that fails are those of the labels before the first one that
-  -- fails
+  -- the headers before a label for which a lookup fails are those of the labels before the first
+  -- such label
   headers_stated : (config : Config) (loci : List Locus) → AreLoci files d Short loci
       → (before : List (InFile Id)) (here : InFile Id) (after : List (InFile Id)) → before ++ here ∷ after ≡ primary_of (labels_of d)
       → AllSucceed files.failure (flat_map header_lookups_of before) → (e : Error) → first_error files.failure (header_lookups_of here) ≡ Some e

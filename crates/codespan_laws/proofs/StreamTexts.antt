@@ -23,17 +23,17 @@ use Rattle.codespan_laws.proofs.Texts.{text_of-append, text_of-bytes, text_of-st
 
 -- ---- streams
 
--- a text before the first one
-after-front : (front text : List ℕ) (s : Stream) → IsUtf8 front → AreTextsAfter text s → AreTextsAfter (front ++ text) s
-after-front front text [] u h = IsUtf8-append front text u h
-after-front front text (Byte b ∷ s) u h =
-    subst (λ xs. AreTextsAfter xs s) (sym (append_assoc front text (b ∷ []))) (after-front front (text ++ b ∷ []) s u h)
-after-front front text (Mark m ∷ s) u h = (IsUtf8-append front text u h.0, h.1)
-after-front front text (Slot k ∷ s) u h = after-front front text s u h
+-- a text before the first one of a stream
+after-prefix : (prefix text : List ℕ) (s : Stream) → IsUtf8 prefix → AreTextsAfter text s → AreTextsAfter (prefix ++ text) s
+after-prefix prefix text [] u h = IsUtf8-append prefix text u h
+after-prefix prefix text (Byte b ∷ s) u h =
+    subst (λ xs. AreTextsAfter xs s) (sym (append_assoc prefix text (b ∷ []))) (after-prefix prefix (text ++ b ∷ []) s u h)
+after-prefix prefix text (Mark m ∷ s) u h = (IsUtf8-append prefix text u h.0, h.1)
+after-prefix prefix text (Slot k ∷ s) u h = after-prefix prefix text s u h
 
 -- one stream after another
 after-both : (text : List ℕ) (s t : Stream) → AreTextsAfter text s → AreTextsAfter [] t → AreTextsAfter text (s ++ t)
-after-both text [] t h more = subst (λ xs. AreTextsAfter xs t) (append-nil text) (after-front text [] t h more)
+after-both text [] t h more = subst (λ xs. AreTextsAfter xs t) (append-nil text) (after-prefix text [] t h more)
 after-both text (Byte b ∷ s) t h more = after-both (text ++ b ∷ []) s t h more
 after-both text (Mark m ∷ s) t h more = (h.0, after-both [] s t h.1 more)
 after-both text (Slot k ∷ s) t h more = after-both text s t h more

@@ -1,4 +1,5 @@
--- The laws of carets and pointers: they are under the characters that their labels cover.
+-- The laws of carets and pointers: carets are under the characters that labels cover, and pointers
+-- under those in which labels start.
 use Rattle.std.specs.Prelude.{◌≡◌, ℕ, ◌<◌, Bool, ◌&&◌, ◌==◌, List, ◌++◌, map, if◌then◌else◌, Contains, IsTrue, encode_utf8_all}
 use Rattle.std.specs.List.{list_any, range_with_len}
 use Rattle.codespan_picture.specs.Types.{Chars}
@@ -26,12 +27,12 @@ abbrev pub points_at : List LabelModel → List Metrics → ℕ → Bool
 points_at labels cs k =
     list_any (λ (c : Metrics). (c.column == k) && list_any (starts_in c) (hanging_labels labels)) cs
 
--- the first cells of a pointer row
+-- the first `n` cells of a pointer row
 abbrev pub pointer_cells : Chars → List LabelModel → List Metrics → ℕ → List ℕ
 pointer_cells chars labels cs n =
     map (λ k. if points_at labels cs k then chars.pointer_left else 32) (range_with_len 0 n)
 
--- no hanging label starts in a character that owns no cell
+-- no hanging label starts in a character of width 0
 abbrev pub StartsHaveCells : List LabelModel → List Metrics → Type 0
 StartsHaveCells labels cs = (c : Metrics) (x : LabelModel)
     → Contains cs c → Contains (hanging_labels labels) x → IsTrue (starts_in c x)

@@ -1,4 +1,4 @@
--- Colors change no text.
+-- The laws of colors: they change no text.
 use Rattle.std.specs.Prelude.{◌≡◌, ℕ, Bool, true, false, List, [], ◌∷◌, ◌++◌, map, filter}
 use Rattle.codespan_base.specs.declared.term.config.styles.Styles.{Styles}
 use Rattle.codespan_base.specs.Streams.{Stream, Spelling, Byte, Mark, Slot, spelled, text_of}
@@ -24,6 +24,6 @@ pub record ColorsChangeNoText (spelling : Spelling) (s : Stream) : Type 0 where
       (filter (λ (x : WrittenByte). x.is_text) (written_bytes spelling s))
       ≡ text_of s
 
--- in any styles a writer without colors writes the plain text
+-- a writer without colors writes the plain text, whatever the styles
 abbrev pub NoColorIsPlain : Styles → Stream → Type 0
 NoColorIsPlain styles s = spelled (spelling_by styles (λ spec. []) []) s ≡ text_of s

@@ -45,15 +45,15 @@ shape_in layout row lane =
     shape_of (row_shape layout (option_map_or leading_of (line_of_row row) 0) (kind_of row) lane)
     (lane_mark_in (option_map_or (λ (lanes : Lanes). lanes.lane_marks) (lanes_of_row row) []) lane)
 
--- the label's lane
+-- the lane is that of this label of the file
 abbrev pub HasLane : LabeledFileModel → ℕ → LabelModel → Type 0
 HasLane s lane x = slice_get (multi_line_labels s.file s.labels) lane ≡ Some x
 
--- a label covers a line after its first one, up to its last
+-- a bar line of a label: one after its first line, up to its last
 abbrev pub IsBarLine : FileModel → LabelModel → ℕ → Type 0
 IsBarLine f x l = (first_line f x < l) × (l ≤ last_line f x)
 
--- on source rows and break rows a lane has a bar exactly where its label covers the line
+-- on the source row and the break row of a line a lane has a bar exactly where it is a bar line
 abbrev pub BarsAreLabels : Layout → LabeledFileModel → Type 0
 BarsAreLabels layout s = (l lane : ℕ) (x : LabelModel) → HasLane s lane x
     → ((shape_in layout (SourceRow (line_at s l)) lane ≡ Bar) ↔ IsBarLine s.file x l)
@@ -75,7 +75,8 @@ pub record MayLeaveOut (layout : Layout) (s : LabeledFileModel) (rows : List Row
   pub is_of_line : (row : Row) → slice_get rows k ≡ Some row
       → line_of_row row ≡ Some (line_at s (first_line s.file x))
 
--- a lane turns in one row, runs down, and turns back in one later row
+-- a lane has a top corner in one row, a bottom corner in a later one, and bars between; above and
+-- below these rows it shows nothing
 pub record IsCornerToCorner (layout : Layout) (s : LabeledFileModel) (rows : List Row) (lane : ℕ)
     (x : LabelModel) : Type 0 where
   pub top : ℕ
@@ -104,8 +105,8 @@ lanes_shown context row lanes =
     (style_of_lane_mark (lane_mark_in lanes.lane_marks lane)) (shape_in context.layout row lane))
     (range_with_len 0 lanes.count)
 
--- what is left of the lanes: in a source row the line's number, else spaces, and the bar left of
--- the source
+-- what is left of the lanes: the outer gutter, in a source row with the line's number, and the left
+-- border
 abbrev pub before_lanes : RowContext → Row → Stream
 before_lanes context (SourceRow line) =
     outer_gutter_number context.padding line.number ++ border_left context.chars
@@ -113,14 +114,13 @@ before_lanes context (BreakRow lanes) =
     outer_gutter context.padding ++ border_left_break context.chars
 before_lanes context _ = outer_gutter context.padding ++ border_left context.chars
 
--- after the bar left of the source the stream of a row has what the row shows in each of these
--- lanes
+-- after the left border the stream of a row has what the row shows in each of these lanes
 pub record ShowsLanes (context : RowContext) (row : Row) (lanes : Lanes) : Type 0 where
   pub after : Stream
   pub is : stream_of context row ≡ before_lanes context row ++ lanes_shown context row lanes
       ++ after
 
--- the stream of each row that has lanes has in them what the row shows there
+-- the stream of each row that has lanes has what the row shows in each of them
 abbrev pub LanesAreShown : RowContext → Type 0
 LanesAreShown context = (row : Row) (lanes : Lanes)
     → lanes_of_row row ≡ Some lanes → ShowsLanes context row lanes

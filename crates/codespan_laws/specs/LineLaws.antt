@@ -17,7 +17,7 @@ abbrev pub shown_lines : Config → LabeledFileModel → List ℕ
 shown_lines config s =
     filter (is_shown config s.file s.labels) (range_with_len 0 (line_count s.file))
 
--- drawn lines with their breaks follow from the shown lines
+-- the rows of drawn lines with their breaks follow from the shown lines
 abbrev pub RowsOfShown : Config → LabeledFileModel → Type 0
 RowsOfShown config s =
     rows_after s None (drawn_lines config s.file s.labels)
@@ -25,7 +25,7 @@ RowsOfShown config s =
 
 -- ---- breaks
 
--- the later one of each two consecutive lines with two or more lines between them
+-- of each two consecutive lines in this list with two or more lines between them the later one
 abbrev pub broken_before : List ℕ → List ℕ
 broken_before [] = []
 broken_before (c ∷ []) = []
@@ -43,7 +43,7 @@ BreaksAreGaps config s = (locus : Locus)
     → filter_map break_lanes (snippet config locus s)
     ≡ map (λ l. (line_at s l).lanes) (broken_before (shown_lines config s))
 
--- the bars of a break row are those of the labels that cover every line that is left out
+-- a lane has a bar in a break row exactly where its label covers every line that is left out there
 abbrev pub BreaksHaveBars : Config → Layout → LabeledFileModel → Type 0
 BreaksHaveBars config layout s = (c d lane : ℕ) (x : LabelModel)
     → IsTrue (is_shown config s.file s.labels c) → IsTrue (is_shown config s.file s.labels d)
@@ -65,13 +65,13 @@ max_shown_lines config =
     2 + config.before_label_lines + config.after_label_lines + config.start_context_lines
     + config.end_context_lines
 
--- the source rows of a file number at most twice the lines that its labels may show
+-- a file has at most twice as many source rows as its labels may show lines
 abbrev pub SourceRowsAreFew : Config → LabeledFileModel → Type 0
 SourceRowsAreFew config s = (locus : Locus)
     → count_by is_source_row (snippet config locus s)
     ≤ 2 * sum_by (λ _. max_shown_lines config) s.labels
 
--- the numbers of a file's lines never fall as the index rises
+-- no line of the file has a lower number than the line before it
 abbrev pub NumbersAscend : FileModel → Type 0
 NumbersAscend f = (i : ℕ) → i + 1 < line_count f → f.line_number i ≤ f.line_number (i + 1)
 

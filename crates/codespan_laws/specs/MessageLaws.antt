@@ -1,4 +1,4 @@
--- The law of messages: each is exactly once in a rich output.
+-- The law of messages: each appears exactly once in a rich output.
 use Rattle.std.specs.Prelude.{◌≡◌, ℕ, Bool, false, ◌==◌, List, ◌∷◌, map, count_by, slice_get, Some, if◌then◌else◌, []}
 use Rattle.std.specs.List.{enumerate_from}
 use Rattle.std.specs.Option.{option_map_or}
@@ -10,13 +10,13 @@ use Rattle.codespan_picture.specs.Rows.{Locus}
 use Rattle.codespan_picture.specs.Snippets.{InFile, labeled_file_models}
 use Rattle.codespan_picture.specs.OutputStreams.{header_text_of, labels_of, notes_of, output, rendered}
 
--- a label with a slot instead of its message, where it has one
+-- a label with a slot instead of its message, where it has a message
 abbrev pub slotted : {Id : Type 0} → ℕ → InFile Id → InFile Id
 slotted k x = record x {
   label = record x.label { message = if is_empty_stream x.label.message then [] else Slot k ∷ [] };
 }
 
--- the labels with slots, each named by its label's index, instead of their messages
+-- the labels with slots instead of their messages, each slot with its label's index
 abbrev pub all_slotted : {Id : Type 0} → List (InFile Id) → List (InFile Id)
 all_slotted {Id} xs = map (λ (e : ℕ × InFile Id). slotted e.0 e.1) (enumerate_from 0 xs)
 
@@ -36,7 +36,7 @@ slotted_output renderer_config view_config files d loci =
     rendered Rich renderer_config view_config d.severity (header_text_of d) loci
     (labeled_file_models files.same files.file (all_slotted (labels_of d))) (notes_of d)
 
--- each message has one slot in the rich output, and with the slots filled that is the output
+-- the output with slots has one slot for each message, and with its slots filled it is the output
 pub record MessagesAppearOnce {Id : Type 0} (renderer_config view_config : Config)
     (files : FileDatabase Id) (d : Diagnostic Id) (loci : List Locus) : Type 0 where
   pub once : (k : ℕ) (x : InFile Id) → slice_get (labels_of d) k ≡ Some x

@@ -38,7 +38,7 @@ pub record SameOrders {Id : Type 0} (same : Id → Id → Bool) (file : Id → F
   pub single_line : (id : Id) (l start end : ℕ)
       → one_range_of same file xs id l start end ≡ one_range_of same file ys id l start end
 
--- the starts of one order are those of the other, and with any loci both render the same
+-- both orders have the same bytes of loci, and with any loci they render the same
 pub record RenderSame {Id : Type 0} (same : Id → Id → Bool) (file : Id → FileModel)
     (xs ys : List (InFile Id)) : Type 0 where
   pub same_starts : locus_starts same file xs Rich ≡ locus_starts same file ys Rich

@@ -30,7 +30,7 @@ pub record SnippetMeansLabels (view_config : Config) (context : RowContext)
   pub break_bars : StartsBeforeEnds s.labels → BreaksHaveBars view_config context.layout s
   pub lanes : StartsBeforeEnds s.labels → LanesJoinCorners view_config context.layout s
 
--- what a rich output means that a view renders, whatever the loci in it
+-- what the rich output of a view means, whatever the loci in it
 pub record MeansLabels {Id : Type 0} (renderer_config view_config : Config)
     (files : FileDatabase Id) (d : Diagnostic Id) : Type 0 where
   pub each_file : (s : LabeledFileModel) → Contains (files_of files d) s

@@ -7,11 +7,11 @@ use Rattle.codespan_picture.specs.Rows.{RowContext, Row}
 use Rattle.codespan_picture.specs.RowStreams.{stream_of}
 use Rattle.std.specs.Int.{is_in_range}
 
--- the byte continues a character of UTF-8
+-- the byte is a continuation byte of UTF-8
 abbrev pub is_continuation : ℕ → Bool
 is_continuation b = is_in_range 128 191 b
 
--- how many characters a text has: each has one byte that continues none before it
+-- how many characters a text has: each has one byte that is not a continuation byte
 abbrev pub character_count : List ℕ → ℕ
 character_count bs = count_by (λ b. not (is_continuation b)) bs
 
@@ -19,8 +19,8 @@ character_count bs = count_by (λ b. not (is_continuation b)) bs
 abbrev pub row_length : Stream → ℕ
 row_length s = character_count (text_of s)
 
--- other characters, with a text before the locus of as many characters, change no row's number of
--- characters
+-- a configuration with other characters, whose text before a locus has as many characters, changes
+-- no row's number of characters
 abbrev pub CharactersAreFree : Type 0
 CharactersAreFree = (context : RowContext) (chars : Chars) (row : Row)
     → character_count (start_text chars.snippet_start)

@@ -3,7 +3,8 @@ use Rattle.std.specs.Prelude.{◌≡◌, List}
 use Rattle.std.specs.List.Sorted.{IsPermutation, IsSortedBy, IsStableBy}
 use Rattle.codespan_base.specs.Labels.{LabelModel, sorted, range_precedes}
 
--- these are the labels `xs` in the order of their ranges, equal ranges in the order of `xs`
+-- `ys` are the labels `xs` in the order of their ranges, and those of equal ranges in the order of
+-- `xs`
 pub record IsSortOf (xs ys : List LabelModel) : Type 0 where
   pub in_order : IsSortedBy range_precedes ys
   pub permutation : IsPermutation xs ys

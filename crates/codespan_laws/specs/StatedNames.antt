@@ -38,8 +38,8 @@ module _ {Id : Type 0} (files : FileDatabase Id) (d : Diagnostic Id) where
       headers_at config d (map (λ (x : InFile Id). stated_locus (label_locus_start files.file x))
       (labels_before_failure files.failure (labels_of d)))
 
-  -- the headers before a primary label for which a lookup fails are those of the primary labels
-  -- before the first one for which a lookup fails
+  -- where a lookup of a primary label fails, and none of those of the primary labels before it, the
+  -- headers of these labels are `headers_before_failure`
   abbrev pub HeadersAreBeforeFailure : Type 0
   HeadersAreBeforeFailure = NamesAreStated
       → (config : Config) (loci : List Locus) → AreLoci files d Short loci

@@ -1,4 +1,4 @@
--- The law of texts: an output is UTF-8, style marks aside, and none is inside a character.
+-- The law of texts: the bytes of an output are UTF-8, and no style mark is inside a character.
 use Rattle.std.specs.Prelude.{ℕ, List, [], ◌∷◌, ◌++◌, IfSome}
 use Rattle.std.specs.Char.{IsScalar}
 use Rattle.std.specs.Str.{IsUtf8}
@@ -11,16 +11,15 @@ use Rattle.codespan_picture.specs.OutputStreams.{NamesAreTexts, output}
 use Rattle.codespan_picture.specs.Picture.{picture}
 use Rattle.codespan_picture.specs.Rows.{Locus}
 
--- the stream after these bytes is UTF-8 up to its first style mark, between each two, and after
--- its last one
+-- the stream, with these bytes before it, is UTF-8 up to its first style mark, between each two,
+-- and after its last one
 abbrev pub AreTextsAfter : List ℕ → Stream → Type 0
 AreTextsAfter text [] = IsUtf8 text
 AreTextsAfter text (Byte b ∷ s) = AreTextsAfter (text ++ b ∷ []) s
 AreTextsAfter text (Mark m ∷ s) = IsUtf8 text × AreTextsAfter [] s
 AreTextsAfter text (Slot k ∷ s) = AreTextsAfter text s
 
--- what is written of the stream is UTF-8, style marks aside, and no style mark is inside a
--- character
+-- the bytes of the stream are UTF-8, and no style mark is inside a character
 pub record IsText (s : Stream) : Type 0 where
   pub utf8 : IsUtf8 (text_of s)
   pub between_marks : AreTextsAfter [] s

@@ -3,7 +3,7 @@ use Rattle.std.specs.Prelude.{◌≡◌, List, ◌∷◌, ◌++◌, filter, Opti
 use Rattle.codespan_base.specs.Labels.{LabelModel, has_message}
 use Rattle.codespan_picture.specs.Rows.{trailing_label, hanging_labels}
 
--- the list after a label, if there is one
+-- the list with a label before it, if there is one
 abbrev pub with_first : Option LabelModel → List LabelModel → List LabelModel
 with_first None xs = xs
 with_first (Some x) xs = x ∷ xs

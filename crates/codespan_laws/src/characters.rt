@@ -1,7 +1,7 @@
-//! Shows to the prover that the characters of a configuration are Unicode scalar values, and the
-//! text before a locus UTF-8.
+//! Shows to the prover that the characters of a configuration are Unicode scalar values, and that
+//! the text before a locus is UTF-8.
 //!
-//! These functions do nothing; their contracts follow from the types.
+//! These functions do nothing: their contracts follow from the types `char` and `str`.
 
 ghost use Rattle.std.specs.Char.{IsScalar};
 ghost use Rattle.std.specs.Str.{IsUtf8};

@@ -1,7 +1,7 @@
-//! Laws of the output of a diagnostic, one to a function that does nothing: its contract is the
-//! law, over the definitions alone.
+//! Laws of the output of a diagnostic. Each is the contract of a function that does nothing, and is
+//! stated of the definitions alone.
 //!
-//! The calls of `codespan_reporting::term` promise the outputs that these laws speak of.
+//! The calls of `codespan_reporting::term` promise the outputs that these laws are about.
 
 ghost use Rattle.std.specs.Prelude.{◌≡◌, ◌*◌, ◌<◌, ℕ, Bool, List};
 ghost use Rattle.std.specs.Cmp.{IsEquivalence};
@@ -33,9 +33,9 @@ ghost use Rattle.codespan_picture.specs.Picture.{stated_loci};
 ghost use Rattle.codespan_picture.specs.Rows.{Locus, RowContext, Lanes, Line};
 ghost use Rattle.codespan_picture.specs.Snippets.{LabeledFileModel};
 
-/// States that a rich output means its labels, whatever the loci in it: all the laws of its lines,
-/// breaks, carets, pointers, lanes, messages and padding together, where ids are compared by an
-/// equivalence and each file has a line.
+/// States that a rich output means its labels, whatever the loci in it: the laws of its lines,
+/// breaks, carets, pointers, lanes, messages and padding together, each with its own premises,
+/// where ids are compared by an equivalence and each file has a line.
 pub fn outputs_mean_labels<Id>()
     ensures { (renderer_config view_config : Config) (files : FileDatabase Id) (d : Diagnostic Id)
         → IsEquivalence files.same → ((id : Id) → 0 < line_count (files.file id))
@@ -44,8 +44,8 @@ pub fn outputs_mean_labels<Id>()
 
 // ---- drawn lines and breaks
 
-/// States that the drawn lines and the breaks follow from the shown lines: between two of them one
-/// line is filled in, and of two or more there is a break.
+/// States that the drawn lines and the breaks follow from the shown lines: between two consecutive
+/// shown lines a single line is filled in, and two or more are replaced by a break.
 pub fn rows_are_of_shown_lines()
     ensures { (config : Config) (s : LabeledFileModel) → RowsOfShown config s }
 {}
@@ -56,15 +56,15 @@ pub fn breaks_are_gaps()
     ensures { (config : Config) (s : LabeledFileModel) → BreaksAreGaps config s }
 {}
 
-/// States that the bars of a break row are those of the labels that go through every line that is
-/// left out, where no label of the file starts after its end.
+/// States that a lane has a bar in a break row exactly where its label covers every line that is
+/// left out there, where no label of the file starts after its end.
 pub fn breaks_have_bars()
     ensures { (config : Config) (layout : Layout) (s : LabeledFileModel)
         → StartsBeforeEnds s.labels → BreaksHaveBars config layout s }
 {}
 
-/// States that the source rows of a file number at most twice the lines that its labels may show by
-/// the configuration: of each label two, and all its context lines.
+/// States that a file has at most twice as many source rows as its labels may show lines by the
+/// configuration: for each label two lines, and all its context lines.
 pub fn source_rows_are_few()
     ensures { (config : Config) (s : LabeledFileModel) → SourceRowsAreFew config s }
 {}
@@ -102,8 +102,8 @@ pub fn lanes_are_lines()
         → StartsBeforeEnds s.labels → LanesJoinCorners config layout s }
 {}
 
-/// States that after the bar left of the source the stream of each row that has lanes has what the
-/// row shows in each of them.
+/// States that after the left border the stream of each row that has lanes has what the row shows
+/// in each of them, from left to right.
 pub fn lanes_are_shown()
     ensures { (context : RowContext) → LanesAreShown context }
 {}
@@ -135,14 +135,14 @@ pub fn each_message_trails_or_hangs()
 /// States that a reordering of the labels changes nothing in a rich output, its loci included, if
 /// it keeps the order of the files by their first labels, of each file's multi-line labels, and of
 /// the single-line labels of one line and one drawn range, where ids are compared by an equivalence
-/// and equal ids have one file. The ids of the files in the two orders need only be equal.
+/// and equal ids have one file. The two orders may have different ids of a file, if these are
+/// equal.
 pub fn order_is_free<Id>()
     ensures { (same : Id → Id → Bool) (file : Id → FileModel) → OrderIsFree same file }
 {}
 
-/// States that `sorted` is the one list in the order of ranges, and of equal ranges in the order of
-/// its argument. Of a line the argument is its labels in reverse, so of equal ranges the last label
-/// comes first.
+/// States that `sorted` returns the one stable sort of its argument by ranges. The labels of a line
+/// are sorted from their reverse, so of labels with equal ranges the last one comes first.
 pub fn labels_are_sorted()
     ensures { (labels : List LabelModel) → SortsLabels labels }
 {}
@@ -156,8 +156,8 @@ pub fn padding_fits()
     ensures { (config : Config) (ss : List LabeledFileModel) → PaddingFits config ss }
 {}
 
-/// States that other characters, with a text before the locus of as many characters, change no
-/// row's number of characters.
+/// States that a configuration with other characters, whose text before a locus has as many
+/// characters, changes no row's number of characters.
 pub fn characters_are_free()
     ensures { CharactersAreFree }
 {}
@@ -169,7 +169,8 @@ pub fn rows_end_reset()
 
 // ---- names, texts and colors
 
-/// States that an output has loci: those with the names that the files state are loci of it.
+/// States that every output has loci: those with the names that the files state, or an empty name
+/// where a file states none.
 pub fn stated_loci_are_loci<Id>()
     ensures { (files : FileDatabase Id) (d : Diagnostic Id) (style : DisplayStyle)
         → AreLoci files d style (stated_loci files d style) }
@@ -181,15 +182,16 @@ pub fn stated_names_make_the_picture<Id>()
     ensures { (files : FileDatabase Id) (d : Diagnostic Id) → OutputIsPicture files d }
 {}
 
-/// States that the headers before a failed lookup are those of the primary labels before the first
-/// one for which a lookup fails, where the names of the labels' files are stated.
+/// States that the headers that a failed lookup leaves written are those of the primary labels
+/// before the first one for which a lookup fails, where the names of the labels' files are stated.
 pub fn stated_names_make_the_headers<Id>()
     ensures { (files : FileDatabase Id) (d : Diagnostic Id) → HeadersAreBeforeFailure files d }
 {}
 
-/// States that an output is UTF-8, style marks aside, in each style: where the characters of the
-/// configuration are Unicode scalar values, its files are lawful, and the names of its loci are
-/// UTF-8; and so is the picture, where the stated names are UTF-8.
+/// States that in each style the bytes of an output are UTF-8, and that no style mark is inside a
+/// character, where the characters of the configuration are Unicode scalar values, the files are
+/// lawful, and the names of the loci are UTF-8. The same holds of the picture where the stated
+/// names are UTF-8.
 pub fn outputs_are_texts<Id>()
     ensures output { (style : DisplayStyle) (renderer_config view_config : Config)
         (files : FileDatabase Id) (d : Diagnostic Id)
@@ -200,8 +202,8 @@ pub fn outputs_are_texts<Id>()
 {}
 
 /// States that colors change no text: however a writer spells style marks, what it writes of an
-/// output is the plain text and, among it, the bytes of style marks. Over `NoColor` these are none,
-/// whatever the styles.
+/// output is the plain text with the bytes of style marks between. Over `NoColor` a style mark has
+/// no bytes, whatever the styles.
 pub fn colors_change_no_text<Id>()
     ensures spelled { (spelling : Spelling) (style : DisplayStyle)
         (renderer_config view_config : Config) (files : FileDatabase Id) (d : Diagnostic Id)

@@ -1,4 +1,4 @@
-//! Laws of outputs.
+//! The laws of outputs: what the output of a diagnostic means, as contracts.
 #![tactic(auto)]
 
 pub mod characters;

@@ -17,7 +17,7 @@ char_metrics-consecutive tab byte_index column [] = tt
 char_metrics-consecutive tab byte_index column (c ∷ cs) =
     (refl, refl, omega (arith, (len_utf8_bounds c).0), char_metrics-consecutive tab (byte_index + len_utf8 c) (column + width_at tab column c) cs)
 
--- from a byte index on no character begins before it
+-- no character passes a test of byte indices that fails from the first one's on
 pub none-before : (near : ℕ → Bool) (byte_index column : ℕ) (cs : List Metrics) → AreConsecutive byte_index column cs
     → ((q : ℕ) → byte_index ≤ q → near q ≡ false) → filter (λ (c : Metrics). near c.byte_index) cs ≡ []
 none-before near byte_index column [] adjacent far = refl

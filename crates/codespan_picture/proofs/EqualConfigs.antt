@@ -21,12 +21,12 @@ use Rattle.codespan_picture.specs.Snippets.{LabeledFileModel, header_rows, note_
 abbrev with_start : Config → SnippetStart → Config
 with_start config start = record config { chars = record config.chars { snippet_start = start } }
 
--- what is equal so differs in no more than where that text lies
+-- equal configurations differ at most in how that text is stored
 is_with_start : (table config : Config) → IsEqualConfig table config → config ≡ with_start table config.chars.snippet_start
 is_with_start table config equal = equal.others ∙ ap (λ chars. record table { chars = chars }) equal.chars.others
 
 module _ (config : Config) (severity : Severity) (padding : ℕ) (start other : SnippetStart) (same : start_text start ≡ start_text other) where
-  -- what rows share under each of two such texts
+  -- the context of rows with each of the two texts
   abbrev context : SnippetStart → RowContext
   context text = context_of (with_start config text) severity padding
 

@@ -1,5 +1,5 @@
--- For `pointers_are_cells` and the pointer rows: where labels that hang start: they are labels of
--- the line.
+-- For `pointers_are_cells` and the pointer rows: where hanging labels start. They are labels of the
+-- line.
 use Rattle.std.proofs.Common.{◌≡◌, ℕ, ◌≤◌, max, Bool, true, false, ◌||◌, cond, List, [], ◌∷◌, ◌++◌, filter, fold, Option, Some, None, refl, sym, ap, subst, ◌∙◌, arith, ⊎_elim}
 use Rattle.std.specs.Prelude.{if◌then◌else◌}
 use Rattle.std.specs.List.{list_any}
@@ -13,7 +13,7 @@ use Rattle.codespan_picture.specs.Rows.{hanging_labels}
 use Rattle.codespan_picture.specs.RowParts.{starts_in}
 use Rattle.codespan_picture.proofs.Rightmost.{Around, others, around_rightmost, around_trails, hanging_of, around_is, hanging_is}
 
--- what passes among the labels that a filter keeps passes among all
+-- where a label that a filter keeps passes a test, a label of the list does
 pub any-filter : (p q : LabelModel → Bool) (xs : List LabelModel) → list_any p (filter q xs) ≡ true → list_any p xs ≡ true
 any-filter p q [] h = cc
 any-filter p q (x ∷ xs) h = by_test (any-filter p q xs) (q x) h

@@ -8,7 +8,7 @@ use Rattle.codespan_base.specs.Labels.{LabelModel, has_message}
 use Rattle.codespan_picture.specs.Carets.{max_label_end}
 use Rattle.codespan_picture.specs.Rows.{last_with_end, overlaps_any, does_trail, trailing_label, hanging_labels}
 
--- ---- the same by a pass over the list
+-- ---- trailing and hanging labels, by a pass over the list
 
 -- a label among those around it
 pub record Around : Type 0 where
@@ -20,7 +20,7 @@ pub record Around : Type 0 where
 abbrev pub others : Around → List LabelModel
 others a = a.before ++ a.after
 
--- a label found later in the list goes first
+-- a label that is found later in the list is preferred
 abbrev pub behind : LabelModel → Option Around → Option Around → Option Around
 behind x (Some a) otherwise = Some (record a { before = x ∷ a.before })
 behind x None otherwise = otherwise
@@ -80,7 +80,7 @@ no_end end x xs h = by_rest (around_with_end end xs) (x.end == end) refl refl h
     by_rest None false is same h = (is, same)
     by_rest (Some a) b is same h = cc
 
--- the greatest of the ends and m is m, where no label has it
+-- where no label has the greatest of the ends and `m`, that is `m`
 greatest_none : (m : ℕ) (xs : List LabelModel) → around_with_end (fold (λ n (x : LabelModel). max n x.end) m xs) xs ≡ None
     → fold (λ n (x : LabelModel). max n x.end) m xs ≡ m
 greatest_none m [] h = refl
@@ -98,7 +98,7 @@ some_rightmost x xs h =
     let end_is : x.end ≡ fold (λ n (y : LabelModel). max n y.end) (max 0 x.end) xs = omega (arith, same) in
     grind (arith, nat_tests, parts.1)
 
--- ---- both are the same
+-- ---- the pass finds what the definitions say
 
 -- the label with its index
 abbrev pub entry_of : Around → ℕ × LabelModel

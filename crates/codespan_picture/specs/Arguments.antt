@@ -1,4 +1,4 @@
--- Labels, lane marks and loci as the calls of a renderer take them.
+-- Labels, lane marks and loci, as the calls of `Renderer` take them.
 use Rattle.std.specs.Prelude.{ℕ, Bool, List, map, string_bytes, ◌+◌, true, ◌&&◌, nat_lt, nat_le, [], ◌∷◌}
 use Rattle.std.specs.Borrow.{Bor}
 use Rattle.std.specs.declared.ops.Range.{Range}
@@ -18,7 +18,7 @@ SingleLabelTuple = LabelStyle × Range ℕ × Bor (List ℕ)
 abbrev pub LaneMarkTuple : Type 0
 LaneMarkTuple = ℕ × LabelStyle × rust_multi_label.MultiLabel
 
--- a label inside a line
+-- a label inside a line, from the argument
 abbrev pub single_label_view : SingleLabelTuple → LabelModel
 single_label_view x =
     record { style = x.0; start = x.1.start; end = x.1.end; message = bytes x.2.now }
@@ -36,13 +36,13 @@ starts_from least (x ∷ xs) = nat_le least x.start && starts_from x.start xs
 abbrev pub starts_in_order : List LabelModel → Bool
 starts_in_order xs = starts_from 0 xs
 
--- a multi-line label mark
+-- a multi-line label mark, from the argument
 abbrev pub multi_label_view : rust_multi_label.MultiLabel → MultiLabel
 multi_label_view (rust_variant.Top start) = Top start
 multi_label_view rust_variant.Left = Left
 multi_label_view (rust_variant.Bottom end message) = Bottom end (bytes message.now)
 
--- a lane mark
+-- a lane mark, from the argument
 abbrev pub lane_mark_view : LaneMarkTuple → LaneMark
 lane_mark_view m = record { lane = m.0; style = m.1; multi_label = multi_label_view m.2 }
 
@@ -61,7 +61,7 @@ ascend_from count least (m ∷ ms) =
 abbrev pub lanes_in_order : ℕ → List LaneMarkTuple → Bool
 lanes_in_order count ms = ascend_from count 0 (map lane_mark_view ms)
 
--- a locus, as an argument
+-- a locus, from the argument
 abbrev pub locus_view : rust_locus.Locus → Locus
 locus_view at = record { name = string_bytes at.name; location = at.location }
 

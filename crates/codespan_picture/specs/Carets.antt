@@ -1,4 +1,4 @@
--- The carets under a line: which cells they take, and of which style they are.
+-- The carets under a line: in which cells they are, and of which style.
 use Rattle.std.specs.Prelude.{ℕ, ◌+◌, max, min, Bool, ◌&&◌, nat_lt, nat_le, List, ◌∷◌, map, filter, fold, Option, Some, None, if◌then◌else◌, []}
 use Rattle.std.specs.List.{list_any, range_with_len}
 use Rattle.std.specs.Str.{chars}
@@ -15,7 +15,7 @@ is_overlapping x start end = nat_lt (max x.start start) (min x.end end)
 abbrev pub covers : LabelModel → Metrics → Bool
 covers x c = is_overlapping x c.byte_index (c.byte_index + c.bytes)
 
--- the style under a character: primary where one of the labels over it is
+-- the style under a character: primary where a label over it is, none where no label is over it
 abbrev pub style_under : List LabelModel → Metrics → Option LabelStyle
 style_under labels c =
     if list_any (λ x. is_primary x && covers x c) labels then Some Primary
@@ -28,11 +28,11 @@ max_label_end labels = fold (λ m (x : LabelModel). max m x.end) 0 labels
 
 -- ---- the carets of cells
 
--- the cell is one of the character
+-- the character owns the cell: it occupies this one
 abbrev pub owns : ℕ → Metrics → Bool
 owns k c = nat_le c.column k && nat_lt k (c.column + c.unicode_width)
 
--- the style of a cell is that of the labels over its owner
+-- the style of a cell: that of the labels over the character that owns it, none past the last one
 abbrev pub style_at : List LabelModel → List Metrics → ℕ → Option LabelStyle
 style_at labels [] k = None
 style_at labels (c ∷ cs) k = if owns k c then style_under labels c else style_at labels cs k
@@ -43,7 +43,7 @@ caret_for chars None = 32
 caret_for chars (Some Primary) = chars.single_primary_caret
 caret_for chars (Some Secondary) = chars.single_secondary_caret
 
--- the caret cells of a line, as far as the characters that begin before the greatest end
+-- the caret cells of a line, up to the last character that begins before the greatest end
 abbrev pub caret_cells : Chars → List LabelModel → List Metrics → List ℕ
 caret_cells chars labels cs =
     map (λ k. caret_for chars (style_at labels cs k))

@@ -6,7 +6,8 @@ use Rattle.codespan_picture.specs.declared.lanes.Shape.{Shape}
 use Rattle.codespan_picture.specs.declared.lanes.Shape.TheVariants.{Space, Bar, TopCorner, BottomCorner}
 use Rattle.codespan_base.specs.Labels.{LaneMark, MultiLabel, Top, Left, Bottom}
 
--- the lane begins in the source row, on a line whose text begins with so many bytes of white space
+-- a lane whose label starts at this byte index begins in the source row: the text of the line
+-- begins with `leading` bytes of white space, and nothing else is before the start
 abbrev pub begins_in_source_row : ℕ → ℕ → Bool
 begins_in_source_row leading start = nat_le start leading
 
@@ -20,7 +21,7 @@ abbrev pub empty_shape : MultiLabel → Shape
 empty_shape (Top start) = Space
 empty_shape _ = Bar
 
--- the layout in which a lane goes on in every row below its corner in a source row
+-- the layout in which a lane continues in every row below its corner in a source row
 abbrev pub is_unbroken : Layout → Bool
 is_unbroken Classic = false
 is_unbroken Unbroken = true
@@ -55,14 +56,14 @@ row_shape layout leading Empty lane = empty_shape
 row_shape layout leading SingleLabels lane = single_labels_shape layout leading
 row_shape layout leading (Underline m) lane = underline_shape layout leading m.lane lane
 
--- the lane mark, in its own underline row, whose corner is left of the lane
+-- the crossing of a lane: the lane mark of an underline row whose corner is left of the lane
 abbrev pub row_crossing : LaneRow → ℕ → Option LaneMark
 row_crossing (Underline m) lane = if nat_lt m.lane lane then Some m else None
 row_crossing _ lane = None
 
 -- ---- the lane marks of a row
 
--- the lane mark of the line in a lane
+-- the first of the lane marks that is in the lane
 abbrev pub lane_mark_in : List LaneMark → ℕ → Option LaneMark
 lane_mark_in lane_marks lane = find (λ (m : LaneMark). m.lane == lane) lane_marks
 
@@ -76,7 +77,7 @@ abbrev pub style_of_lane_mark : Option LaneMark → LabelStyle
 style_of_lane_mark None = Primary
 style_of_lane_mark (Some m) = m.style
 
--- ---- their characters
+-- ---- the characters of lanes
 
 -- the line that runs right from a corner
 abbrev pub underline_char : Chars → MultiLabel → ℕ
@@ -88,16 +89,15 @@ unfoldable pub label_glyph : Severity → LabelStyle → ℕ → Stream
 label_glyph severity style c =
     style_mark (LabelStyleMark severity style) ++ glyph c ++ style_mark Reset
 
--- so many characters of a lane, left of its own character, if it has one: the line of a corner to
--- the left, or spaces
+-- `n` characters of a lane: of the line that crosses it, or spaces
 unfoldable pub crossing_cells : Severity → Chars → Option LaneMark → ℕ → Stream
 crossing_cells severity chars None n = spaces n
 crossing_cells severity chars (Some m) n =
     style_mark (LabelStyleMark severity m.style) ++ repeated n (underline_char chars m.multi_label)
     ++ style_mark Reset
 
--- the two characters of a lane; `crossing` is the lane mark, in its own underline row, whose corner
--- is left of the lane
+-- the two characters of a lane: a space, or one character of the line that crosses it, and then its
+-- own; if it shows nothing, two such
 unfoldable pub lane_cells : Severity → Chars → Option LaneMark → LabelStyle → Shape → Stream
 lane_cells severity chars crossing style Space = crossing_cells severity chars crossing 2
 lane_cells severity chars crossing style Bar =

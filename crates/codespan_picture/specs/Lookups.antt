@@ -14,11 +14,11 @@ use Rattle.codespan_picture.specs.OutputStreams.{labels_of}
 abbrev pub Failures : Type 0 → Type 0
 Failures Id = Id → Lookup → Option Error
 
--- the range and the number of a line
+-- those of a line: its range and its number
 abbrev pub line_lookups : ℕ → List Lookup
 line_lookups l = LineRange l ∷ LineNumber l ∷ []
 
--- the line is around the label's lines, as far as the context reaches
+-- the line is one of the context lines around a label from line `s` to line `e`
 abbrev pub is_around : Config → ℕ → ℕ → ℕ → Bool
 is_around config s e l =
     (nat_lt l s && nat_le s (l + config.before_label_lines))
@@ -30,13 +30,13 @@ abbrev pub filled_line_lookups : Layout → ℕ → List Lookup
 filled_line_lookups Classic l = line_lookups l
 filled_line_lookups Unbroken l = LineRange l ∷ []
 
--- the error ends the context of a label, and is no error of the output
+-- the error only ends the context lines of a label: it is not an error of the output
 abbrev pub ends_context_lines : Option Error → Bool
 ends_context_lines (Some (LineTooLarge given max)) = true
 ends_context_lines _ = false
 
--- the range of the line past the file's last one, where the context reaches it; a lookup of it that
--- fails with `LineTooLarge` is made too, and is not listed, since it is no error of the output
+-- the range of the line past the file's last one, where the context lines reach it. It is not
+-- listed where it fails with `LineTooLarge`, which is not an error of the output
 abbrev pub lookup_past_end : Config → FileModel → (Lookup → Option Error) → LabelModel → List Lookup
 lookup_past_end config f failure x =
     if nat_le (line_count f) (last_line f x + config.after_label_lines)
@@ -59,17 +59,17 @@ label_line_lookups config f failure x =
     LineIndex x.start ∷ LineIndex x.end
     ∷ flat_map line_lookups (looked_up_lines config f x) ++ lookup_past_end config f failure x
 
--- lines that are drawn and not shown
+-- the filled lines: those that are drawn and not shown
 abbrev pub filled_lines : Config → LabeledFileModel → List ℕ
 filled_lines config s =
     filter (λ l. is_drawn config s.file s.labels l && not (is_shown config s.file s.labels l))
     (range_with_len 0 (line_count s.file))
 
--- lookups of one file
+-- these lookups, of one file
 abbrev pub lookups_of_file : {Id : Type 0} → Id → List Lookup → List (Id × Lookup)
 lookups_of_file {Id} id ls = map (λ l. (id, l)) ls
 
--- ---- those of a diagnostic
+-- ---- the lookups of a diagnostic
 
 -- those of all labels, in their order
 abbrev pub label_lookups : {Id : Type 0}
@@ -95,7 +95,7 @@ module _ {Id : Type 0} (files : FileDatabase Id) (xs : List (InFile Id)) where
     numbers_for_padding Classic id = []
     numbers_for_padding Unbroken id = map LineNumber (filled_lines config (file_at id))
 
-    -- those with a file's snippet: its source, and those of the lines that are filled in
+    -- those made with a file's snippet: its source, and those of its filled lines
     abbrev pub snippet_lookups : Id → List Lookup
     snippet_lookups id =
         Source ∷ flat_map (filled_line_lookups config.layout) (filled_lines config (file_at id))

@@ -46,8 +46,8 @@ notes_of d = map string_bytes d.notes.items
 
 -- ---- loci
 
--- the locus of a byte of a file: its location, and a name, which is the one that the file states,
--- if it states one
+-- the locus of a byte of a file: the location that the file has there, and a name: the one that the
+-- file states, or any where it states none
 pub record IsLocus (at : FileModel × ℕ) (locus : Locus) : Type 0 where
   pub location : locus.location ≡ at.0.location at.1
   pub name : IfSome at.0.name (λ name. locus.name ≡ name)
@@ -72,7 +72,7 @@ abbrev pub NamesAreTexts : List Locus → Type 0
 NamesAreTexts loci = AllByRecursion (λ (locus : Locus). IsUtf8 locus.name) loci
 
 module _ {Id : Type 0} (files : FileDatabase Id) (d : Diagnostic Id) (style : DisplayStyle) where
-  -- these are the loci of an output
+  -- these are the loci of an output, one for each byte of `locus_starts`
   abbrev pub AreLoci : List Locus → Type 0
   AreLoci loci = AllZip IsLocus (locus_starts files.same files.file (labels_of d) style) loci
 

@@ -18,7 +18,7 @@ spans f x l =
     (l == first_line f x) || (l == last_line f x)
     || (nat_le (first_line f x) l && nat_le l (last_line f x))
 
--- the lines of the labels
+-- the lines that labels of the file span
 abbrev pub spanned_lines : LabeledFileModel → List ℕ
 spanned_lines s =
     filter (λ l. list_any (λ x. spans s.file x l) s.labels)
@@ -30,7 +30,7 @@ abbrev pub numbered_lines : Config → LabeledFileModel → List ℕ
 numbered_lines config s =
     if is_unbroken config.layout then drawn_lines config s.file s.labels else spanned_lines s
 
--- the digits of these lines' numbers
+-- the digit counts of these lines' numbers
 abbrev pub digits_of : LabeledFileModel → List ℕ → List ℕ
 digits_of s ls = map (λ l. count_digits (s.file.line_number l)) ls
 

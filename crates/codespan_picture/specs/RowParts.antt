@@ -23,32 +23,32 @@ severity_name Warning = codes "warning"
 severity_name Note = codes "note"
 severity_name Help = codes "help"
 
--- name, line and column
+-- the locus: name, line number and column number
 unfoldable pub locus : Locus → Stream
 locus p =
     bytes p.name ++ bytes (codes ":") ++ bytes (decimal p.location.line_number) ++ bytes (codes ":")
     ++ bytes (decimal p.location.column_number)
 
--- spaces instead of a number
+-- the outer gutter without a line number: the padding, and one space more
 unfoldable pub outer_gutter : ℕ → Stream
 outer_gutter padding = spaces (padding + 1)
 
--- a number, right-aligned
+-- the outer gutter with a line number, right-aligned in the padding
 unfoldable pub outer_gutter_number : ℕ → ℕ → Stream
 outer_gutter_number padding n =
     style_mark LineNumber ++ spaces (padding - length (decimal n)) ++ bytes (decimal n)
     ++ style_mark Reset ++ space
 
--- the bar left of the source
+-- the left border
 unfoldable pub border_left : Chars → Stream
 border_left chars = style_mark SourceBorder ++ glyph chars.source_border_left ++ style_mark Reset
 
--- the bar where lines are left out
+-- the left border of a break row
 unfoldable pub border_left_break : Chars → Stream
 border_left_break chars =
     style_mark SourceBorder ++ glyph chars.source_border_left_break ++ style_mark Reset
 
--- a style mark where a style begins, and a reset where it ends
+-- between two styles: the style mark of the second, or a reset for none; nothing if they are equal
 unfoldable pub change : Severity → Option LabelStyle → Option LabelStyle → Stream
 change severity None None = []
 change severity None (Some style) = style_mark (LabelStyleMark severity style)
@@ -57,7 +57,7 @@ change severity (Some Primary) (Some Primary) = []
 change severity (Some Secondary) (Some Secondary) = []
 change severity (Some _) (Some style) = style_mark (LabelStyleMark severity style)
 
--- each character as it is shown, in its style; `previous` is the style before them
+-- these characters, each as `shown` shows it and in its style; `previous` is the style before them
 abbrev pub styled : Severity
     → (Metrics → Option LabelStyle) → (Metrics → Stream) → Option LabelStyle → List Metrics → Stream
 styled severity style shown previous [] = change severity previous None
@@ -86,7 +86,7 @@ lanes_in context crossing shape lanes =
     inner_gutter_column context (crossing lane) (shape lane) (lane_mark_in lanes.lane_marks lane))
     (range_with_len 0 lanes.count)
 
--- the lanes of a kind of row, of a line whose text begins with so many bytes of white space
+-- the lanes of a kind of row, of a line whose text begins with `leading` bytes of white space
 unfoldable pub inner_gutter : RowContext → ℕ → LaneRow → Lanes → Stream
 inner_gutter context leading row lanes =
     lanes_in context (row_crossing row) (row_shape context.layout leading row) lanes
@@ -97,11 +97,11 @@ inner_gutter context leading row lanes =
 abbrev pub line_metrics : RowContext → Line → List Metrics
 line_metrics context line = char_metrics context.tab_width line.text
 
--- the same, and the placeholder
+-- the characters of a line, and the placeholder after the last one
 abbrev pub line_metrics_to_end : RowContext → Line → List Metrics
 line_metrics_to_end context line = char_metrics_to_end context.tab_width line.text
 
--- the bytes of white space that a line begins with
+-- how many bytes of white space a line begins with
 abbrev pub leading_of : Line → ℕ
 leading_of line = leading_whitespace line.text
 
@@ -111,7 +111,7 @@ multi_label_covers c (Top start) = nat_le start c.byte_index
 multi_label_covers c Left = true
 multi_label_covers c (Bottom end message) = nat_le (c.byte_index + c.bytes) end
 
--- a character is primary where a primary label covers it
+-- the style of a character of the source: primary where a primary label covers it, else none
 abbrev pub source_style : Line → Metrics → Option LabelStyle
 source_style line c =
     if list_any (λ x. is_primary x && covers x c) line.labels
@@ -119,7 +119,7 @@ source_style line c =
     line.lanes.lane_marks
     then Some Primary else None
 
--- a tab is written as spaces
+-- a character of the source as it is written: a tab as spaces
 unfoldable pub source_glyph : Metrics → Stream
 source_glyph c = if c.ch == 9 then spaces c.unicode_width else glyph c.ch
 
@@ -128,7 +128,7 @@ unfoldable pub colored_text : RowContext → Line → Stream
 colored_text context line =
     styled context.severity (source_style line) source_glyph None (line_metrics context line)
 
--- one character's carets, or its spaces up to the greatest end
+-- the carets under a character, or where it has no style the spaces, up to the greatest end
 unfoldable pub caret_glyphs : Chars → ℕ → Option LabelStyle → Metrics → Stream
 caret_glyphs chars end None c = if nat_lt c.byte_index end then spaces c.unicode_width else []
 caret_glyphs chars end (Some style) c = repeated c.unicode_width (caret_for chars (Some style))
@@ -154,7 +154,7 @@ starts_in c x = nat_le c.byte_index x.start && nat_lt x.start (c.byte_index + c.
 abbrev pub max_label_start : List LabelModel → ℕ
 max_label_start labels = fold (λ m (x : LabelModel). max m x.start) 0 labels
 
--- the spaces of a pointer row reach as far as the greatest start of the line's labels
+-- `n` spaces under a character that begins at this byte index or before it, none under a later one
 unfoldable pub spaces_up_to : ℕ → Metrics → ℕ → Stream
 spaces_up_to byte_index c n = if nat_le c.byte_index byte_index then spaces n else []
 
@@ -163,7 +163,7 @@ abbrev pub pointer_style : List LabelModel → Metrics → LabelStyle
 pointer_style labels c =
     if list_any (λ x. is_primary x && starts_in c x) labels then Primary else Secondary
 
--- one character's pointer or spaces
+-- the pointer under a character with the spaces after it, or spaces where no hanging label starts
 unfoldable pub pointer_at : RowContext → List LabelModel → List LabelModel → Metrics → Stream
 pointer_at context labels hanging_labels c =
     if list_any (starts_in c) hanging_labels then
@@ -171,7 +171,7 @@ pointer_at context labels hanging_labels c =
     ++ spaces_up_to (max_label_start labels) c (c.unicode_width - 1)
     else spaces_up_to (max_label_start labels) c c.unicode_width
 
--- the pointers of these characters
+-- the pointers under these characters
 unfoldable pub pointers : RowContext → List LabelModel → List Metrics → Stream
 pointers context labels cs = flat_map (pointer_at context labels (hanging_labels labels)) cs
 
@@ -190,7 +190,7 @@ abbrev pub start_caret : Chars → LabelStyle → ℕ
 start_caret chars Primary = chars.multi_primary_caret_start
 start_caret chars Secondary = chars.multi_secondary_caret_start
 
--- the caret under its end
+-- the caret under a multi-line label's end
 abbrev pub end_caret : Chars → LabelStyle → ℕ
 end_caret chars Primary = chars.multi_primary_caret_end
 end_caret chars Secondary = chars.multi_secondary_caret_end
@@ -200,8 +200,8 @@ unfoldable pub underline_message : Stream → Stream
 underline_message [] = []
 underline_message (p ∷ ps) = space ++ (p ∷ ps)
 
--- the line runs from the corner to the last character that begins at or before the start, or before
--- the end
+-- an underline from its corner on: a line up to the last character that begins at or before the
+-- start, or before the end, and the caret; after an end the message
 unfoldable pub underline : Chars → LabelStyle → List Metrics → MultiLabel → Stream
 underline chars style cs (Top start) =
     repeated (width_of (metrics_up_to start cs)) chars.multi_top ++ glyph (start_caret chars style)

@@ -11,7 +11,7 @@ use Rattle.codespan_picture.specs.RowParts.{severity_name, locus, outer_gutter, 
 
 -- ---- rows, before their newlines
 
--- the code in brackets, where one is there and not empty
+-- the code in brackets, where there is one that is not empty
 unfoldable pub bracketed : Option (List ℕ) → Stream
 bracketed None = []
 bracketed (Some []) = []
@@ -66,12 +66,12 @@ caret_row context line =
     row_start context line ++ carets context line.labels (line_metrics_to_end context line)
     ++ trailing_message context.severity (trailing_label line.labels)
 
--- the pointers under them
+-- the pointers under the carets
 unfoldable pub pointer_row : RowContext → Line → Stream
 pointer_row context line =
     row_start context line ++ pointers context line.labels (line_metrics context line)
 
--- a message under its pointer
+-- a hanging message under its pointer
 unfoldable pub hanging_row : RowContext → Line → LabelModel → Stream
 hanging_row context line x =
     row_start context line ++ pointers context line.labels

@@ -1,4 +1,4 @@
--- The rows of an output: what each is of.
+-- The rows of an output, and what each is rendered from.
 use Rattle.std.specs.Prelude.{ℕ, Bool, true, false, not, ◌&&◌, ◌==◌, List, [], ◌∷◌, ◌++◌, map, filter, reverse, Option, Some, None, if◌then◌else◌}
 use Rattle.std.specs.List.{list_any, enumerate_from, last_or, remove}
 use Rattle.std.specs.Option.{option_and_then, option_map, option_map_or}
@@ -60,7 +60,7 @@ abbrev pub last_with_end : ℕ → List LabelModel → Option (ℕ × LabelModel
 last_with_end end labels =
     last_or None (filter (λ (e : ℕ × LabelModel). e.1.end == end) (enumerate_from 0 labels))
 
--- one of the others overlaps the label
+-- one of the other labels overlaps the label
 abbrev pub overlaps_any : LabelModel → List LabelModel → Bool
 overlaps_any x others = list_any (λ (y : LabelModel). is_overlapping x y.start y.end) others
 
@@ -78,15 +78,15 @@ trailing_entry labels =
 abbrev pub trailing_label : List LabelModel → Option LabelModel
 trailing_label labels = option_map (λ (e : ℕ × LabelModel). e.1) (trailing_entry labels)
 
--- all other labels with a message hang
+-- the labels that hang: all others with a message
 abbrev pub hanging_labels : List LabelModel → List LabelModel
 hanging_labels labels =
     filter has_message (option_map_or (λ e. remove labels e.0) (trailing_entry labels) labels)
 
 -- ---- underlines
 
--- a multi-line label mark has an underline row, on a line whose text begins with so many bytes of
--- white space; a top corner that the source row has needs none
+-- a multi-line label mark has an underline row: each top whose corner is not in the source row, and
+-- each bottom; the text of the line begins with `leading` bytes of white space
 abbrev pub has_underline : ℕ → MultiLabel → Bool
 has_underline leading (Top start) = not (begins_in_source_row leading start)
 has_underline leading Left = false
@@ -99,7 +99,7 @@ abbrev pub caret_rows : Line → List LabelModel → List Row
 caret_rows line [] = []
 caret_rows line (x ∷ xs) = CaretRow line ∷ []
 
--- where labels hang: the pointers, and a row for each message, in the reverse of the labels' order
+-- where labels hang: the pointers, and a row for each message, that of the last label first
 abbrev pub hanging_rows : Line → List LabelModel → List Row
 hanging_rows line [] = []
 hanging_rows line (x ∷ xs) = PointerRow line ∷ map (HangingRow line) (reverse (x ∷ xs))

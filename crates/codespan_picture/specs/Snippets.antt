@@ -14,7 +14,7 @@ pub record LabeledFileModel : Type 0 where
   pub file : FileModel
   pub labels : List LabelModel
 
--- a label of the diagnostic, in a file
+-- a label of the diagnostic, with the id of its file
 pub record InFile (Id : Type 0) : Type 0 where
   pub file_id : Id
   pub label : LabelModel
@@ -31,7 +31,7 @@ labeled_file_model {Id} same file labels id = record {
 abbrev pub file_ids : {Id : Type 0} → (Id → Id → Bool) → List (InFile Id) → List Id
 file_ids {Id} same labels = first_seen same (map (λ (x : InFile Id). x.file_id) labels)
 
--- the files in that order
+-- the labels' files in that order, each with its labels
 abbrev pub labeled_file_models : {Id : Type 0}
     → (Id → Id → Bool) → (Id → FileModel) → List (InFile Id) → List LabeledFileModel
 labeled_file_models same file labels =
@@ -43,7 +43,7 @@ labeled_file_models same file labels =
 abbrev pub num_multi_labels : LabeledFileModel → ℕ
 num_multi_labels s = length (multi_line_labels s.file s.labels)
 
--- lanes with nothing in them
+-- the lanes of the file, with no lane mark in them
 abbrev pub empty_lanes : LabeledFileModel → Lanes
 empty_lanes s = record { count = num_multi_labels s; lane_marks = [] }
 
@@ -69,19 +69,19 @@ abbrev pub rows_after : LabeledFileModel → Option ℕ → List ℕ → List Ro
 rows_after s =
     in_sequence (λ l. l) (break_between (break_rows (line_at s))) (line_rows (line_at s))
 
--- the same from an ascending list of shown lines alone
+-- the same rows, from the shown lines alone, in ascending order
 abbrev pub rows_of_shown : (ℕ → Line) → Option ℕ → List ℕ → List Row
 rows_of_shown line =
     in_sequence (λ l. l) (gap_between (line_rows line) (break_rows line)) (line_rows line)
 
 -- ---- the locus of a snippet
 
--- the least of some numbers
+-- the least of some numbers, 0 where there is none
 abbrev pub least : List ℕ → ℕ
 least [] = 0
 least (n ∷ ns) = fold min n ns
 
--- a list, or another instead of an empty one
+-- the first list, or the second where the first is empty
 abbrev pub if_any : {A : Type 0} → List A → List A → List A
 if_any [] others = others
 if_any (x ∷ xs) others = x ∷ xs
@@ -109,8 +109,8 @@ abbrev pub has_any : {A : Type 0} → List A → Bool
 has_any [] = false
 has_any (x ∷ xs) = true
 
--- the snippets of files with these loci; an empty row follows each, but the last only where notes
--- follow
+-- the snippets of files with these loci. An empty row follows each but the last, and the last too
+-- where notes follow
 abbrev pub snippets : Config → Bool → List Locus → List LabeledFileModel → List Row
 snippets config has_notes [] ss = []
 snippets config has_notes (p ∷ ps) [] = []

@@ -1,4 +1,4 @@
--- The Rust types that definitions speak of, and their variants.
+-- The Rust types that definitions name, and their variants.
 pub use Rattle.codespan_base.specs.declared.diagnostic.Diagnostic.{Diagnostic}
 pub use Rattle.codespan_base.specs.declared.diagnostic.Label.{Label}
 pub use Rattle.codespan_base.specs.declared.diagnostic.LabelStyle.{LabelStyle}

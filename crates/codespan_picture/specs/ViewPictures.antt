@@ -1,4 +1,4 @@
--- The picture of a diagnostic by its view, whose texts are bytes.
+-- The picture of a diagnostic, by its view, whose texts are lists of bytes.
 use Rattle.std.specs.Prelude.{Bool, List, map}
 use Rattle.codespan_picture.specs.Types.{Config}
 use Rattle.codespan_base.specs.Diagnostics.{DiagnosticView, LabelView}

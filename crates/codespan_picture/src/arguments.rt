@@ -13,7 +13,8 @@ use std::ops::Range;
 pub struct Locus {
     /// The name of the file, the text of its `Display`.
     pub name: String,
-    /// The line number and the column number, as users see them.
+    /// The line number and the column number, as users see them. Both count from 1 in `SimpleFile`
+    /// and `SimpleFiles`.
     pub location: Location,
 }
 

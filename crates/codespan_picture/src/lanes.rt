@@ -1,14 +1,14 @@
-//! The lanes of a row.
+//! What the lanes of a row show.
 
 /// What a lane shows in a row.
 #[derive(Clone, Copy)]
 pub enum Shape {
     /// Spaces, or the line that runs right from another lane's corner.
     Space,
-    /// The label goes on.
+    /// A vertical bar: the label continues.
     Bar,
-    /// The label begins.
+    /// A top corner: the label begins.
     TopCorner,
-    /// The label ends.
+    /// A bottom corner: the label ends.
     BottomCorner,
 }

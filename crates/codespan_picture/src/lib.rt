@@ -1,4 +1,5 @@
-//! The definitions of what is rendered, its rows and their streams, and the types in them.
+//! The definitions of the output of a diagnostic, its rows and their streams, and the types that
+//! these and the renderer share.
 #![tactic(auto)]
 
 pub mod arguments;

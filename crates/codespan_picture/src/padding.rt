@@ -1,4 +1,4 @@
-//! The padding of line numbers.
+//! The digits of line numbers, which the padding width counts.
 
 ghost use Rattle.std.specs.Prelude.{◌≡◌};
 ghost use Rattle.codespan_picture.specs.Padding.{count_digits};

@@ -42,13 +42,13 @@ unfolding caret_run caret_glyphs
 spaces-count chars end c run true e = rw e (spaces-add run c.unicode_width)
 spaces-count chars end c run false e = rw e (ap spaces (add-zero run) ∙ sym (append-nil (spaces run)))
 
--- a run that has no cell yet
+-- a run without a cell
 none-run : (chars : Chars) (style : Option LabelStyle) → caret_run chars style 0 ≡ []
 unfolding caret_run spaces repeated bytes
 none-run chars None = refl
 none-run chars (Some style) = refl
 
--- a run goes on under a character
+-- a run continues under a character
 pub run-counts : (chars : Chars) (end : ℕ) (style : Option LabelStyle) (c : Metrics) (run : ℕ)
     → caret_run chars style (run + caret_count end style c) ≡ caret_run chars style run ++ caret_glyphs chars end style c
 unfolding caret_run caret_glyphs
@@ -71,7 +71,7 @@ goes_on context labels run c cs =
 unchanged : (chars : Chars) (severity : Severity) (previous style : Option LabelStyle) (run : ℕ) → previous ≡ style → caret_run chars previous run ++ change severity previous style ≡ caret_run chars style run
 unchanged chars severity previous style run e = rw (e, change-same severity style) (append-nil (caret_run chars style run))
 
--- the next character is in the run
+-- the next character continues the run
 pub carets-same : (context : RowContext) (labels : List LabelModel) (previous style : Option LabelStyle) (run count : ℕ) (c : Metrics) (left cs : List Metrics)
     → left ≡ c ∷ cs → style ≡ style_under labels c → count ≡ caret_count (max_label_end labels) style c → previous ≡ style
     → carets_left context labels previous run left ≡ carets_left context labels style (run + count) cs
@@ -90,7 +90,7 @@ begins context labels c cs =
     (sym (none-run context.chars (style_under labels c)))
     ∙ goes_on context labels 0 c cs
 
--- it begins another one
+-- the next character begins another run
 pub carets-turn : (context : RowContext) (labels : List LabelModel) (previous style : Option LabelStyle) (run count : ℕ) (c : Metrics) (left cs : List Metrics)
     → left ≡ c ∷ cs → style ≡ style_under labels c → count ≡ caret_count (max_label_end labels) style c
     → carets_left context labels previous run left ≡ caret_run context.chars previous run ++ change context.severity previous style ++ carets_left context labels style (0 + count) cs
@@ -134,7 +134,7 @@ pub carets-past : (context : RowContext) (labels : List LabelModel) (previous : 
 carets-past context labels previous run byte_index left follow past =
     ap (λ (l : Stream). caret_run context.chars previous run ++ l) (sym (glyphs_left-past context labels previous byte_index left follow past))
 
--- a cell before that has all its cells counted
+-- a character before that has all its cells counted
 pub counts-all : (style : Option LabelStyle) (end : ℕ) (c : Metrics) → c.byte_index < end → c.unicode_width ≡ caret_count end style c
 counts-all None end c h = let low : nat_lt c.byte_index end ≡ true = lt-ltb c.byte_index end h in rw low refl
 counts-all (Some style) end c h = refl

@@ -14,14 +14,14 @@ bytes_left text rest byte_index c e =
 
 -- ---- white space at the start of a line
 
--- the white space goes on
+-- the white space continues
 pub leading-more : (bs rest : List ℕ) (c : ℕ) → IsUtf8 bs → bs ≡ encode_utf8 c ++ rest → is_whitespace c ≡ true → leading_whitespace bs ≡ len_utf8 c + leading_whitespace rest
 leading-more bs rest c u e h =
     ap (λ cs. sum_by len_utf8 (take_while is_whitespace cs)) (chars_past_char bs rest c u e)
     ∙ ap (sum_by len_utf8) (take_while-cons is_whitespace c (chars rest) ∙ ap (λ b. cond b (c ∷ take_while is_whitespace (chars rest)) []) h)
     ∙ sum_by-cons len_utf8 c (take_while is_whitespace (chars rest))
 
--- it stops
+-- the white space ends
 pub leading-stop : (bs rest : List ℕ) (c : ℕ) → IsUtf8 bs → bs ≡ encode_utf8 c ++ rest → is_whitespace c ≡ false → leading_whitespace bs ≡ 0
 leading-stop bs rest c u e h =
     ap (λ cs. sum_by len_utf8 (take_while is_whitespace cs)) (chars_past_char bs rest c u e)

@@ -35,7 +35,7 @@ any_from xs i d empty h e = rw (drop-cons xs i d h, e, spaces_is, add-one) refl
 abbrev pub NoneEnds : ℕ → List SingleLabelTuple → Type 0
 NoneEnds end xs = list_any (λ (x : LabelModel). x.end == end) (single_label_views xs) ≡ false
 
--- where none ends there, none is the last one
+-- where no label ends there, there is no last one
 last_none : (end : ℕ) (xs : List SingleLabelTuple) (n : ℕ) (o : Option (ℕ × LabelModel)) → NoneEnds end xs
     → last_or o (filter (λ (e : ℕ × LabelModel). e.1.end == end) (enumerate_from n (single_label_views xs))) ≡ o
 last_none end [] n o none = refl
@@ -50,7 +50,7 @@ last_none end (x ∷ xs) n o none = by_test (last_none end xs (n + 1) o) (x.1.en
     by_test again true is k = cc
     by_test again false is k = again k
 
--- none of the labels ends there, and none is the last one
+-- where no label ends there, `last_with_end` finds none
 pub none_ends : (end : ℕ) (xs : List SingleLabelTuple) (from : ℕ) → from ≡ 0 → NoneEnds end (drop from xs) → last_with_end end (single_label_views xs) ≡ None
 none_ends end xs from first none = last_none end xs 0 None (subst (λ n. NoneEnds end (drop n xs)) first none)
 
@@ -79,7 +79,7 @@ last_at end (x ∷ xs) (suc k) n o d h e none =
     by_test again true = again (Some (n, single_label_view x))
     by_test again false = again o
 
--- an entry of the list
+-- the label at an index, with the index
 entry_is : (xs : List SingleLabelTuple) (k : ℕ) (d : SingleLabelTuple) → k < length xs
     → label_entry_view xs (Some k) ≡ Some (k, single_label_view (get_or xs k d))
 entry_is xs k d h = ap (option_map (λ x. (k, single_label_view x))) (slice_get-get_or xs k d h)
@@ -138,7 +138,7 @@ trailing_here xs k end d h greatest last holds =
 all_after : (n : ℕ) (xs : List SingleLabelTuple) → take (length xs - n) (drop n xs) ≡ drop n xs
 all_after n xs = ap (λ k. take k (drop n xs)) (sym (length-drop n xs)) ∙ take-length (drop n xs)
 
--- all labels around it may hang
+-- all other labels may hang
 hanging_at : (xs : List SingleLabelTuple) (k end : ℕ) (d : SingleLabelTuple) → k < length xs → end ≡ max_label_end (single_label_views xs)
     → last_with_end end (single_label_views xs) ≡ label_entry_view xs (Some k)
     → option_map_or (does_trail (single_label_views xs)) (label_entry_view xs (Some k)) false ≡ true
@@ -210,7 +210,7 @@ pub hanging_first : (context : RowContext) (line : Line) (left rest : List Singl
 hanging_first context line left rest x empty step is some =
     rw (step, messages_push rest x true (ap not (sym is ∙ some))) (hanging_push context line (filter has_message (single_label_views rest)) (single_label_view x))
 
--- it has none
+-- the last of the remaining labels has no message
 pub hanging_skip : (context : RowContext) (line : Line) (left rest : List SingleLabelTuple) (x : SingleLabelTuple) (empty : Bool) → left ≡ push rest x
     → empty ≡ (length x.2.now == 0) → empty ≡ true
     → hanging_stream context line (filter has_message (single_label_views left)) ≡ hanging_stream context line (filter has_message (single_label_views rest))
@@ -246,7 +246,7 @@ pub none_hangs : (labels before after : List SingleLabelTuple) → AreHanging la
     → list_any has_message (single_label_views before) ≡ false → list_any has_message (single_label_views after) ≡ false → hanging_labels (single_label_views labels) ≡ []
 none_hangs labels before after h early late = rw (← hanging_parts labels before after h, no_message before early, no_message after late) refl
 
--- so nothing is written of any
+-- so no hanging row is written
 pub nothing_hangs : (context : RowContext) (line : Line) (labels before after : List SingleLabelTuple) → AreHanging labels before after
     → list_any has_message (single_label_views before) ≡ false → list_any has_message (single_label_views after) ≡ false
     → stream_of_rows context (hanging_rows line (hanging_labels (single_label_views labels))) ≡ []

@@ -1,4 +1,4 @@
--- For `inner_gutter`: a cursor over lane marks in order finds the mark of each lane.
+-- For `inner_gutter`: a cursor over lane marks in order finds the lane mark of each lane.
 use Rattle.std.proofs.Common.{◌≡◌, ℕ, suc, zero, ◌+◌, ◌-◌, ◌<◌, ◌≤◌, Bool, true, false, cond, eqb, leb, ltb, ◌&&◌, List, [], ◌∷◌, ◌++◌, map, length, get_or, drop, None, Some, refl, sym, ap, ◌∙◌, arith, add-one, drop-cons, max}
 use Rattle.std.specs.Prelude.{IsTrue, flat_map}
 use Rattle.std.specs.List.{range_with_len}
@@ -92,7 +92,7 @@ left : (count lane : ℕ) (lane_marks : List LaneMarkTuple) (k : ℕ) → lane <
 left count lane [] k h = refl
 left count lane (m ∷ ms) k h = left-cons count lane m ms k _ refl h
 
--- and is in order
+-- and they are in order
 order-cons : (count lane : ℕ) (m : LaneMarkTuple) (ms : List LaneMarkTuple) (b : Bool) → eqb m.0 lane ≡ b → IsTrue (ascend_from count lane (map lane_mark_view (m ∷ ms))) → IsTrue (ascend_from count (lane + 1) (map lane_mark_view (lane_marks_after (m ∷ ms) lane)))
 order-cons count lane m ms true e h =
     let f : IsFirst count lane m ms = first count lane m ms h in
@@ -136,7 +136,7 @@ left-all (m ∷ ms) lane none = by (eqb m.0 lane) none
     by false h = refl
     by true h = cc
 
--- no empty lanes in front
+-- no empty lanes at the start
 none-first : (s : Stream) → s ≡ spaces 0 ++ s
 unfolding spaces bytes
 none-first s = refl

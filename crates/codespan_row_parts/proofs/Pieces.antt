@@ -25,23 +25,23 @@ grows : (m n : ℕ) (xs : List LabelModel) → m ≤ n → fold (λ k (x : Label
 grows m n [] h = h
 grows m n (x ∷ xs) h = grows (max m x.start) (max n x.start) xs (omega arith)
 
-front-near : (xs ys : List LabelModel) → max_label_start xs ≤ max_label_start (xs ++ ys)
-front-near xs ys = let more = fold_start-le (max_label_start xs) ys in omega (arith, fold-append (λ k (x : LabelModel). max k x.start) 0 xs ys)
+prefix-near : (xs ys : List LabelModel) → max_label_start xs ≤ max_label_start (xs ++ ys)
+prefix-near xs ys = let more = fold_start-le (max_label_start xs) ys in omega (arith, fold-append (λ k (x : LabelModel). max k x.start) 0 xs ys)
 
-back-near : (xs ys : List LabelModel) → max_label_start ys ≤ max_label_start (xs ++ ys)
-back-near xs ys = let more = grows 0 (max_label_start xs) ys (omega arith) in omega (arith, fold-append (λ k (x : LabelModel). max k x.start) 0 xs ys)
+suffix-near : (xs ys : List LabelModel) → max_label_start ys ≤ max_label_start (xs ++ ys)
+suffix-near xs ys = let more = grows 0 (max_label_start xs) ys (omega arith) in omega (arith, fold-append (λ k (x : LabelModel). max k x.start) 0 xs ys)
 
 -- no label before the trailing one starts past all
 pub before-near : (labels before after : List SingleLabelTuple) → ArePrefixAndSuffix labels before after → max_label_start (single_label_views before) ≤ max_label_start (single_label_views labels)
 before-near labels before after p =
     let e = ap max_label_start (whole before p.rest labels p.begins) in
-    omega (arith, e, front-near (single_label_views before) (single_label_views p.rest))
+    omega (arith, e, prefix-near (single_label_views before) (single_label_views p.rest))
 
 -- nor does one after it
 pub after-near : (labels before after : List SingleLabelTuple) → ArePrefixAndSuffix labels before after → max_label_start (single_label_views after) ≤ max_label_start (single_label_views labels)
 after-near labels before after p =
     let e = ap max_label_start (whole p.skipped after labels p.ends) in
-    omega (arith, e, back-near (single_label_views p.skipped) (single_label_views after))
+    omega (arith, e, suffix-near (single_label_views p.skipped) (single_label_views after))
 
 -- ---- labels from the last one on
 

@@ -58,18 +58,18 @@ tab-there : (c : ℕ) → c ≡ 9 → list_any (λ b. b == 9) (encode_utf8 c) �
 unfolding encode_utf8
 tab-there c e = rw e refl
 
--- a character of a text without a tab is none, and the text after it has none
+-- a character of a text without a tab is not a tab, and the text after it has none
 no-tab : (c : ℕ) (cs : List ℕ) → list_any (λ b. b == 9) (encodes (c ∷ cs)) ≡ false → (c ≡ 9 → ⊥) × (list_any (λ b. b == 9) (encodes cs) ≡ false)
 no-tab c cs e =
     let parts = or_parts (list_any (λ b. b == 9) (encode_utf8 c)) (list_any (λ b. b == 9) (encodes cs)) (sym (list_any-append (λ b. b == 9) (encode_utf8 c) (encodes cs)) ∙ e) in
     (λ is. false≢true (sym parts.0 ∙ tab-there c is), parts.1)
 
--- such a character is shown as it is
+-- a character that is not a tab is written unchanged
 as_is : (c : Metrics) → (c.ch ≡ 9 → ⊥) → source_glyph c ≡ glyph c.ch
 unfolding source_glyph
 as_is c h = rw (ne_eqb c.ch 9 h) refl
 
--- so is each of these
+-- so are the characters of a text without a tab
 plain-left : (context : RowContext) (line : Line) (tab byte_index column : ℕ) (cs : List ℕ) → ((c : Metrics) → source_style line c ≡ None) → list_any (λ b. b == 9) (encodes cs) ≡ false
     → styled context.severity (source_style line) source_glyph None (metrics_then (λ _ _. []) tab byte_index column cs) ≡ bytes (encodes cs)
 unfolding change bytes
@@ -111,7 +111,7 @@ no-label-past labels c past = by_test (list_any (λ x. is_primary x && covers x 
     by_test true is = let low = style_under-below labels c Primary (rw is refl) in absurd (omega arith)
     by_test false is = is
 
--- past that and what marks cover no character is primary
+-- past that and past what lane marks cover no character is primary
 pub no-style-past : (line : Line) (given : PrimaryCover) (c : Metrics) → CoversAsLaneMarks line.lanes.lane_marks given → covers_char given c ≡ false
     → max_label_end line.labels ≤ c.byte_index → 1 ≤ c.bytes → source_style line c ≡ None
 no-style-past line given c are none past some = rw (no-label-past line.labels c past, ← are c some, none) refl
@@ -125,7 +125,7 @@ no-tab-later from byte_index text h none =
     (sym (list_any-append (λ b. b == 9) (take (byte_index - from) rest) (drop (byte_index - from) rest)) ∙ ap (list_any (λ b. b == 9)) (take-append-drop (byte_index - from) rest) ∙ none) in
     ap (list_any (λ b. b == 9)) (sym step) ∙ parts.1
 
--- such characters are shown as they are, after the style before them ends
+-- such characters are written unchanged, after the style before them ends
 plain-past : (context : RowContext) (line : Line) (tab byte_index column from top : ℕ) (previous : Option LabelStyle) (cs : List ℕ) → from ≤ byte_index → byte_index + length (encodes cs) ≤ top
     → ((c : Metrics) → from ≤ c.byte_index → c.byte_index < top → 1 ≤ c.bytes → source_style line c ≡ None) → list_any (λ b. b == 9) (encodes cs) ≡ false
     → styled context.severity (source_style line) source_glyph previous (metrics_then (λ _ _. []) tab byte_index column cs) ≡ change context.severity previous None ++ bytes (encodes cs)

@@ -1,5 +1,5 @@
--- For `write_line`, `write_snippet_empty` and `write_break`: equations of rows, as the calls that write
--- them put them together.
+-- For `write_line`, `write_snippet_empty` and `write_break`: equations of rows, as the calls that
+-- write them put them together.
 use Rattle.std.proofs.Common.{◌≡◌, ℕ, ◌+◌, ◌-◌, ◌^◌, ◌<◌, ◌≤◌, ◌==◌, List, [], ◌∷◌, ◌++◌, true, false, nat_lt, lt-ltb, Option, None, Some, append_assoc, append-nil, length, replicate, refl, ap, sym, ◌∙◌, arith}
 use Rattle.std.proofs.lemmas.List.{replicate-append-replicate}
 use Rattle.codespan_base.specs.declared.diagnostic.LabelStyle.{LabelStyle}
@@ -27,7 +27,7 @@ pub gutter_spaces : (n : ℕ) → outer_gutter n ≡ spaces (n + 1)
 unfolding outer_gutter spaces
 gutter_spaces n = refl
 
--- the lanes of each kind of row are those of that kind
+-- the lanes of each kind of row, by the definitions
 pub source_lanes_are : (context : RowContext) (leading : ℕ) (lanes : Lanes) → row_lanes_view context leading Source lanes ≡ inner_gutter context leading kind.Source lanes
 unfolding row_lanes_view inner_gutter
 source_lanes_are context leading lanes = refl
@@ -50,7 +50,7 @@ bracketed-some (b ∷ bs) h = refl
 
 -- ---- runs
 
--- a number of spaces is some and then the others
+-- `k + n` spaces are `k` spaces and then `n`
 pub spaces-add : (k n : ℕ) → spaces (k + n) ≡ spaces k ++ spaces n
 unfolding spaces
 spaces-add k n = ap bytes (sym (replicate-append-replicate k n 32)) ∙ bytes-append (replicate k 32) (replicate n 32)
@@ -58,7 +58,7 @@ spaces-add k n = ap bytes (sym (replicate-append-replicate k n 32)) ∙ bytes-ap
 pub spaces-past : (k n : ℕ) → k ≤ n → spaces n ≡ spaces k ++ spaces (n - k)
 spaces-past k n h = let e : n ≡ k + (n - k) = omega arith in ap spaces e ∙ spaces-add k (n - k)
 
--- a number of copies of one character is some and then the others
+-- `k + n` copies of a character are `k` copies and then `n`
 pub repeated-add : (k n c : ℕ) → repeated (k + n) c ≡ repeated k c ++ repeated n c
 unfolding repeated
 repeated-add k n c = repeat-add k n (glyph c)
@@ -84,7 +84,7 @@ regroup run ended shown rest = ap (λ (l : Stream). run ++ l) (append_assoc ende
 abbrev row_and_end : RowContext → Row → Stream
 row_and_end context row = stream_of context row ++ newline
 
--- one part after another
+-- the rows of a line are its source row, its caret row, its hanging rows and its underlines
 pub line_rows : (context : RowContext) (line : Line) → stream_of_rows context (rows_of line)
     ≡ source_row context line ++ newline ++ stream_of_rows context (caret_rows line line.labels) ++ stream_of_rows context (hanging_rows line (hanging_labels line.labels)) ++ stream_of_rows context (underline_rows line)
 line_rows context line =
@@ -92,19 +92,19 @@ line_rows context line =
     ∙ ap (λ (l : Stream). l ++ stream_of_rows context (underline_rows line))
     (flat_map-append (row_and_end context) (SourceRow line ∷ caret_rows line line.labels) (hanging_rows line (hanging_labels line.labels)))
 
--- the carets of a line that has none
+-- a line without labels has no caret row
 pub caret_rows_none : (context : RowContext) (line : Line) (labels : List SingleLabelTuple) → length labels ≤ 0 → stream_of_rows context (caret_rows line (single_label_views labels)) ≡ []
 caret_rows_none context line [] h = refl
 caret_rows_none context line (x ∷ xs) h = absurd (omega arith)
 
--- the carets of a line that has labels
+-- a line with labels has one
 pub caret_rows_some : (context : RowContext) (line : Line) (labels : List SingleLabelTuple) → 1 ≤ length labels → stream_of_rows context (caret_rows line (single_label_views labels)) ≡ caret_row context line ++ newline
 caret_rows_some context line [] h = absurd (omega arith)
 caret_rows_some context line (x ∷ xs) h = append-nil (caret_row context line ++ newline)
 
--- ---- cells before a byte index
+-- ---- characters before a byte index
 
--- all cells begin before the greatest byte index
+-- all characters begin before the greatest byte index
 all_below : (top limit byte_index column : ℕ) (cs : List Metrics) → top ≤ limit → ConsecutiveWithin top byte_index column cs → metrics_before limit cs ≡ cs
 all_below top limit byte_index column [] h l = refl
 all_below top limit byte_index column (x ∷ cs) h l =

@@ -21,7 +21,7 @@ abbrev pub ConsecutiveWithin : ℕ → ℕ → ℕ → List Metrics → Type 0
 ConsecutiveWithin top byte_index column [] = Unit {0}
 ConsecutiveWithin top byte_index column (x ∷ cs) = IsMetricsAt top byte_index column x × ConsecutiveWithin top (byte_index + x.bytes) (column + x.unicode_width) cs
 
--- a loop has not reached them, and has counted `run` of the cells behind it
+-- a loop has not reached these characters, and has counted `run` of the cells before them
 pub record ScanState (top run : ℕ) (cs : List Metrics) : Type 0 where
   pub byte_index : ℕ
   pub column : ℕ
@@ -29,7 +29,7 @@ pub record ScanState (top run : ℕ) (cs : List Metrics) : Type 0 where
   pub narrow : column ≤ byte_index * (2 ^ 64 - 1)
   pub small : run ≤ column
 
--- they follow one another
+-- such characters are contiguous
 pub consecutive_within-follow : (top byte_index column : ℕ) (cs : List Metrics) → ConsecutiveWithin top byte_index column cs → AreContiguous byte_index cs
 consecutive_within-follow top byte_index column [] l = tt
 consecutive_within-follow top byte_index column (x ∷ cs) l = (l.0.here, l.0.some, consecutive_within-follow top (byte_index + x.bytes) (column + x.unicode_width) cs l.1)
@@ -83,7 +83,7 @@ scan_state-fits top run x cs t w l =
     let here = l.consecutive_within.0 in
     omega (arith, here.room, here.some, l.narrow, l.small)
 
--- how many cells are counted after it, at the most with it
+-- how many cells are counted after it: at most those before it and its own
 pub scan_state-more : (top run counted : ℕ) (x : Metrics) (cs : List Metrics) → x.unicode_width < 2 ^ 64 → counted ≤ run + x.unicode_width → ScanState top run (x ∷ cs) → ScanState top counted cs
 scan_state-more top run counted x cs w h l =
     let here = l.consecutive_within.0 in

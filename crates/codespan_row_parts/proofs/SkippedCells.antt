@@ -1,5 +1,5 @@
--- For `write_carets`: the characters that a walk over a line leaves out, since no label has begun
--- there.
+-- For `write_carets`: the characters that a loop over a line leaves out, since they end before all
+-- labels start.
 use Rattle.std.proofs.Common.{◌≡◌, ℕ, ◌+◌, ◌-◌, ◌^◌, ◌<◌, ◌≤◌, Bool, true, false, ◌&&◌, ◌||◌, ◌==◌, ◌%◌, List, [], ◌∷◌, ◌++◌, None, refl, sym, ap, subst, ◌∙◌, arith, min, fold, add-zero}
 use Rattle.std.specs.List.{list_any}
 use Rattle.std.specs.Char.{len_utf8}
@@ -88,7 +88,7 @@ scan_state-past top run (c ∷ cs) left narrow l =
     subst (λ n. ScanState top n left) (omega (arith, sum_by-cons (λ (x : Metrics). x.unicode_width) c cs))
     (scan_state-past top (run + c.unicode_width) cs left narrow.1 (scan_state-more top run (run + c.unicode_width) c (cs ++ left) narrow.0 (omega arith) l))
 
--- a walk over those that are left of a line and the placeholder after the last one
+-- a loop over the remaining characters of a line and the placeholder after the last one
 pub scan_state-left : (tab : ℕ) (text : List ℕ) (byte_index column top : ℕ) (left : List Metrics) → tab < 2 ^ 64 → ScanState top 0 (char_metrics_to_end tab text)
     → LeavesOut byte_index (char_metrics_to_end tab text) column left → ScanState top column left
 scan_state-left tab text byte_index column top left h scan_state out =

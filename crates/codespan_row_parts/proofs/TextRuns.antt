@@ -30,7 +30,7 @@ pub record IsOver (tab : ℕ) (text : List ℕ) (byte_index : ℕ) (left : List 
 pub over-start : (tab : ℕ) (text : List ℕ) → IsUtf8 text → IsOver tab text 0 (char_metrics tab text)
 over-start tab text u = record { codes = chars text; column = 0; char_metrics = refl; text_left = sym (encodes-chars text u); within = omega arith }
 
--- a cell and what is after it
+-- a character and what is after it
 pub record IsNext (tab : ℕ) (text : List ℕ) (byte_index : ℕ) (x : Metrics) (left : List Metrics) : Type 0 where
   pub text_left : drop byte_index text ≡ encode_utf8 x.ch ++ drop (byte_index + x.bytes) text
   pub bytes : x.bytes ≡ len_utf8 x.ch

@@ -16,7 +16,7 @@ width-in byte_index x cs h = let e : nat_le x.byte_index byte_index ≡ true = l
 pub width-out : (byte_index : ℕ) (x : Metrics) (cs : List Metrics) → byte_index < x.byte_index → width_of (metrics_up_to byte_index (x ∷ cs)) ≡ width_of (metrics_up_to byte_index cs)
 width-out byte_index x cs h = let e : nat_le x.byte_index byte_index ≡ false = lt-leb x.byte_index byte_index h in rw e refl
 
--- no cell begins before the line
+-- no character begins before the line
 pub width-before-first : (byte_index : ℕ) (cs : List Metrics) → byte_index ≡ 0 → 0 ≡ width_of (metrics_before byte_index cs)
 width-before-first byte_index [] e = refl
 width-before-first byte_index (x ∷ cs) e =
@@ -27,13 +27,13 @@ width-before-first byte_index (x ∷ cs) e =
 same-test : (last byte_index k : ℕ) → byte_index ≡ last + 1 → nat_le k last ≡ nat_lt k byte_index
 same-test last byte_index k e = grind (arith, nat_tests)
 
--- the cells up to a byte index are those before the next one
+-- the characters that begin up to a byte index are those that begin before the next one
 pub before-next : (last byte_index : ℕ) (cs : List Metrics) → byte_index ≡ last + 1 → metrics_up_to last cs ≡ metrics_before byte_index cs
 before-next last byte_index [] e = refl
 before-next last byte_index (x ∷ cs) e = ap (λ (b : Bool). cond b (x ∷ metrics_up_to last cs) (metrics_up_to last cs)) (same-test last byte_index x.byte_index e)
     ∙ ap (λ (ys : List Metrics). cond (nat_lt x.byte_index byte_index) (x ∷ ys) ys) (before-next last byte_index cs e)
 
--- and are as wide
+-- and they are as wide
 pub width-before-next : (last byte_index : ℕ) (cs : List Metrics) → byte_index ≡ last + 1 → width_of (metrics_up_to last cs) ≡ width_of (metrics_before byte_index cs)
 width-before-next last byte_index cs e = ap width_of (before-next last byte_index cs e)
 

@@ -1,4 +1,4 @@
--- The lane marks that a cursor over the lanes has not reached.
+-- The lane marks that a loop over the lanes has not reached.
 use Rattle.std.specs.Prelude.{ℕ, ◌==◌, List, [], ◌∷◌, Option, Some, None, if◌then◌else◌}
 use Rattle.codespan_picture.specs.Arguments.{LaneMarkTuple}
 

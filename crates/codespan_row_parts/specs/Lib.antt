@@ -1,4 +1,4 @@
--- what each call of a renderer renders
+-- what each call of `Renderer` renders
 pub mod RenderedRows
 -- definitions that the calls of this crate and of those above it use
 pub mod LineViews

@@ -6,13 +6,13 @@ use Rattle.codespan_picture.specs.Arguments.{SingleLabelTuple}
 use Rattle.codespan_row_parts.specs.declared.line.RowContext as context
 use Rattle.codespan_row_parts.specs.declared.line.Line as rust_line
 
--- the tab width, the text and the labels
+-- what they are made from: the tab width, the text and the labels of the line
 pub record CharInput : Type 0 where
   pub tab_width : ℕ
   pub text : List ℕ
   pub labels : List SingleLabelTuple
 
--- those of a drawn line
+-- what those of a drawn line are made from
 abbrev pub char_input : context.RowContext → rust_line.Line → CharInput
 char_input x line = record {
   tab_width = x.tab_width;
@@ -28,13 +28,13 @@ characters_of x = char_metrics x.tab_width x.text
 abbrev pub characters_to_end_of : CharInput → List Metrics
 characters_to_end_of x = char_metrics_to_end x.tab_width x.text
 
--- characters that end at this byte index or before it
+-- the characters end at this byte index or before it
 abbrev pub EndBy : ℕ → List Metrics → Type 0
 EndBy byte_index [] = Unit {0}
 EndBy byte_index (c ∷ cs) = (c.byte_index + c.bytes ≤ byte_index) × EndBy byte_index cs
 
--- those that are left of all begin at this column: the ones before them end at this byte index or
--- before it
+-- `left` are the characters `all` but for some at the start, which end at this byte index or before
+-- it and occupy so many cells that the others begin at this column
 pub record LeavesOut (byte_index : ℕ) (all : List Metrics) (column : ℕ)
     (left : List Metrics) : Type 0 where
   pub before : List Metrics

@@ -1,4 +1,4 @@
--- What the rows of a line are rendered from, as the renderer has it.
+-- What the rows of a line are rendered from, by the structs of `line` and `lanes`.
 use Rattle.std.specs.Prelude.{ℕ, Option}
 use Rattle.std.specs.Option.{option_map}
 use Rattle.codespan_base.specs.Streams.{Stream}

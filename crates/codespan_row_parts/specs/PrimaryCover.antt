@@ -6,17 +6,16 @@ use Rattle.codespan_picture.specs.RowParts.{multi_label_covers}
 use Rattle.codespan_picture.specs.declared.char_metrics.Metrics.{Metrics}
 use Rattle.codespan_row_parts.specs.declared.primary_cover.PrimaryCover.{PrimaryCover}
 
--- the byte index is the least start, if there is one, or after it
+-- all is covered from `from` on, and the byte index is there or later
 abbrev pub is_from : Option ℕ → ℕ → Bool
 is_from None byte_index = false
 is_from (Some start) byte_index = nat_le start byte_index
 
--- the character is covered: it begins at the least start or later, or ends at the greatest end or
--- before it
+-- the character is covered: it begins at `from` or later, or ends at `to` or before it
 abbrev pub covers_char : PrimaryCover → Metrics → Bool
 covers_char m c = is_from m.from c.byte_index || nat_le (c.byte_index + c.bytes) m.to
 
--- covered are the characters that a primary one of these lane marks covers
+-- the covered characters are those that a label of these lane marks covers, if it is primary
 abbrev pub CoversAsLaneMarks : List LaneMark → PrimaryCover → Type 0
 CoversAsLaneMarks lane_marks covered =
     (c : Metrics) → 1 ≤ c.bytes → covers_char covered c

@@ -1,4 +1,4 @@
--- What each call of a renderer renders, by its arguments.
+-- What each call of `Renderer` renders, by its arguments.
 use Rattle.std.specs.Prelude.{ℕ, List, ◌∷◌, ◌++◌, Option, [], flat_map}
 use Rattle.std.specs.Option.{option_map}
 use Rattle.std.specs.Borrow.{Bor}

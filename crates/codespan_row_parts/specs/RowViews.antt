@@ -1,4 +1,4 @@
--- Parts of rows, by what the renderer has.
+-- Parts of rows, by the arguments of the functions that write them.
 use Rattle.std.specs.Prelude.{ℕ, List, ◌++◌, filter, Option}
 use Rattle.std.specs.Option.{option_map}
 use Rattle.std.specs.Borrow.{Bor}
@@ -94,13 +94,13 @@ hanging_stream_view x line labels =
     hanging_stream (context_view x) (line_view line)
     (filter has_message (single_label_views labels))
 
--- the pointer row, and the rows of the messages that hang
+-- the pointer row, and the rows of the messages of these labels that may hang
 abbrev pub messages_view : context.RowContext → rust_line.Line → messages.Messages → Stream
 messages_view x line found =
     pointer_row (context_view x) (line_view line) ++ newline
     ++ hanging_stream_view x line found.after.now ++ hanging_stream_view x line found.before.now
 
--- the same for all labels of the line that hang, and nothing where none hangs
+-- the pointer row and the rows of all messages of the line that hang, or nothing where none hangs
 abbrev pub hanging_rows_view : context.RowContext → rust_line.Line → Stream
 hanging_rows_view x line =
     stream_of_rows (context_view x)

@@ -1,5 +1,5 @@
--- Definitions for the loops that write rows: runs of one character, labels that may be there,
--- messages.
+-- Definitions for the functions that write rows: runs of carets, optional labels, messages that
+-- hang.
 use Rattle.std.specs.Prelude.{◌≡◌, ℕ, List, ◌++◌, map, filter, fold, min, reverse, slice_get, Option, Some, None}
 use Rattle.std.specs.Option.{option_map}
 use Rattle.std.specs.Borrow.{Bor}
@@ -16,11 +16,11 @@ unfoldable pub caret_run : Chars → Option LabelStyle → ℕ → Stream
 caret_run chars None count = spaces count
 caret_run chars (Some style) count = repeated count (caret_for chars (Some style))
 
--- the least start of the labels, or this byte index where all start past it or there is none
+-- the least start of the labels, but at most this byte index
 abbrev pub least_start : ℕ → List LabelModel → ℕ
 least_start end xs = fold (λ m (x : LabelModel). min x.start m) end xs
 
--- a label that may be there
+-- an optional label
 abbrev pub optional_label_view : Option (Bor SingleLabelTuple) → Option LabelModel
 optional_label_view x = option_map (λ (l : Bor SingleLabelTuple). single_label_view l.now) x
 

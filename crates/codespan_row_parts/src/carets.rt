@@ -25,14 +25,15 @@ use codespan_base::term::config::put_style::PutStyle;
 use codespan_base::term::config::writing::put_all;
 use codespan_picture::arguments::SingleLabel;
 
-/// Returns whether the label has a byte from `start` to before `end`.
+/// Returns whether the label has a byte from the index `start` to before the index `end`.
 pub fn is_overlapping(label: &SingleLabel<'_>, start: usize, end: usize) -> bool
     ensures { result ≡ is_overlapping (single_label_view label.now) start end }
 {
     label.1.start.max(start) < label.1.end.min(end)
 }
 
-/// Returns the greatest end of the labels, or 0 where there is none.
+/// Returns the greatest end of the labels, in bytes from the line's start, or 0 where there is
+/// none.
 pub fn max_label_end(labels: &[SingleLabel<'_>]) -> usize
     ensures { result ≡ max_label_end (single_label_views labels.now) }
 {
@@ -43,7 +44,7 @@ pub fn max_label_end(labels: &[SingleLabel<'_>]) -> usize
     greatest
 }
 
-/// Writes `count` carets of a style, or spaces.
+/// Writes `count` carets of a style, or spaces where there is no style.
 #[tactic(auto, unfolding(crate::specs::Runs::caret_run))]
 #[inline(always)]
 fn write_caret_run<W: PutStyle>(
@@ -62,7 +63,7 @@ fn write_caret_run<W: PutStyle>(
     Ok(())
 }
 
-/// Writes the end of a run of carets of one style, and the style mark of the next.
+/// Writes a run of `count` carets of one style, or of spaces, and the style mark of the next run.
 #[inline(always)]
 fn end_caret_run<W: PutStyle>(
     w: &mut W,
@@ -130,7 +131,7 @@ pub fn write_message<W: PutStyle>(
     w.reset()
 }
 
-/// Writes a space and the trailing message, where there is one.
+/// Writes a space and the trailing message, where a message trails.
 #[tactic(auto, using(codespan_base::proofs::Writes::write_chains), unfolding(codespan_picture::specs::RowParts::trailing_message))]
 #[inline(always)]
 fn write_trailing<W: PutStyle>(
@@ -151,7 +152,7 @@ fn write_trailing<W: PutStyle>(
     }
 }
 
-/// Writes the carets under a line, and the message that trails them.
+/// Writes the caret row of a line: its carets, and the message that trails them.
 ///
 /// # Errors
 ///

@@ -1,4 +1,4 @@
-//! A cursor over the characters of a line that also knows which labels are over each of them.
+//! A cursor over the characters of a line, which also returns what labels do at each of them.
 
 ghost use Rattle.std.specs.Prelude.{◌≡◌, List, IfSome};
 ghost use Rattle.std.specs.Iterator.{YieldsFirst};
@@ -13,8 +13,8 @@ use codespan_picture::char_metrics::Metrics;
 
 /// A cursor over the characters of a line, from left to right.
 ///
-/// It returns one character after another. For the character that it has just returned, it also
-/// returns the style of the caret below and whether a primary label is over it.
+/// It returns one character after another. Of the character that it has just returned it also
+/// returns the style of the caret below, and whether a primary label covers it.
 pub trait CharCursor: Drop {
     /// The characters that it has not returned yet.
     ghost left: { Self → List metrics.Metrics };
@@ -32,7 +32,8 @@ pub trait CharCursor: Drop {
         ensures labels { labels self.new ≡ labels self.old };
 
     /// Returns the style of the caret under the character that it has just returned: primary where
-    /// a primary label is over it, secondary where only others are, and `None` where no label is.
+    /// a primary label covers it, secondary where only secondary ones do, and `None` where none
+    /// does.
     ///
     /// # Requires
     ///
@@ -43,7 +44,7 @@ pub trait CharCursor: Drop {
         ensures labels { labels self.new ≡ labels self.old }
         ensures style { result ≡ style_under (single_label_views (labels self.old)) metrics };
 
-    /// Returns whether a primary label is over the character that it has just returned.
+    /// Returns whether a primary label covers the character that it has just returned.
     ///
     /// # Requires
     ///

@@ -30,20 +30,22 @@ pub enum LaneRow<'d> {
     Empty,
     /// A row of single-line labels: a caret, pointer or hanging row.
     SingleLabels,
-    /// The underline row of a lane mark: its lane, its style, and what its label does on the line.
+    /// The underline row of a lane mark: its lane, counted from 0, its style, and what its label
+    /// does on the line.
     Underline(usize, LabelStyle, MultiLabel<'d>),
 }
 
 /// A lane of a row.
 #[derive(Drop)]
 struct Lane<'d> {
-    /// Its index, from the left.
+    /// Its index, counted from 0 at the left.
     index: usize,
-    /// The lane mark in it, if any.
+    /// The lane mark in it, or `None` where no label of the lane is on the line.
     lane_mark: Option<(usize, LabelStyle, MultiLabel<'d>)>,
 }
 
-/// Returns the lane mark of an underline row whose corner is left of the lane.
+/// Returns the crossing of a lane: in an underline row whose corner is left of the lane its lane
+/// mark, else `None`.
 fn crossing<'d>(row: LaneRow<'d>, lane: usize) -> Option<(usize, LabelStyle, MultiLabel<'d>)>
     ensures { option_map lane_mark_view result ≡ row_crossing (lane_row_view row.entry) lane }
 {
@@ -68,7 +70,7 @@ fn underline_char(chars: &Chars<'_>, multi_label: MultiLabel<'_>) -> char
     }
 }
 
-/// Writes `count` characters of a lane: the line of a corner to the left, or spaces.
+/// Writes `count` characters of a lane: of the line that crosses it, or spaces.
 #[inline(always)]
 fn write_crossing_cells<W: PutStyle>(
     w: &mut W,
@@ -143,7 +145,7 @@ fn write_lane_cells<W: PutStyle>(
     }
 }
 
-/// Writes one lane, from the lane mark in it.
+/// Writes the two characters of a lane, by the kind of the row and the lane mark in the lane.
 #[tactic(auto, unfolding(codespan_picture::specs::RowParts::inner_gutter_column, crate::specs::LineViews::row_lane_view))]
 fn inner_gutter_column<W: PutStyle>(
     w: &mut W,
@@ -167,7 +169,8 @@ fn inner_gutter_column<W: PutStyle>(
     }
 }
 
-/// Returns the next lane mark, if it is in the lane, and the index of the one after it.
+/// Returns the lane mark at the index `next`, if it is in the lane, and the index of the first lane
+/// mark of a later lane.
 #[tactic(auto, using(crate::proofs::LaneCursor::taking))]
 fn take_lane_mark<'d>(
     lane_marks: &[(usize, LabelStyle, MultiLabel<'d>)],
@@ -187,9 +190,10 @@ fn take_lane_mark<'d>(
     (None, next)
 }
 
-/// Returns the lane of the next lane mark, or the number of lanes where none is left.
+/// Returns the lane of the lane mark at the index `next`, or the number of lanes where none is
+/// left.
 fn next_lane(lanes: Lanes<'_, '_>, next: usize) -> usize
-    ensures bare { (lane : ℕ) → lane < result
+    ensures no_lane_mark { (lane : ℕ) → lane < result
         → lane_mark_here (drop next lanes.entry.lane_marks.now) lane ≡ None }
     ensures within { result ≤ lanes.entry.count }
 {
@@ -204,12 +208,12 @@ fn next_lane(lanes: Lanes<'_, '_>, next: usize) -> usize
 const MAX_EMPTY_LANES: usize = 32;
 
 /// Returns how many lanes from `lane` on and before `until`, the lane of the next lane mark, are
-/// empty: no line runs through them from a corner. At most [`MAX_EMPTY_LANES`] are counted.
+/// empty: no line from a corner crosses them. At most [`MAX_EMPTY_LANES`] are counted.
 fn num_empty_lanes(row: LaneRow<'_>, lane: usize, until: usize) -> usize
-    ensures bare { (other : ℕ) → lane ≤ other → other < lane + result
+    ensures no_crossing { (other : ℕ) → lane ≤ other → other < lane + result
         → row_crossing (lane_row_view row.entry) other ≡ None }
     ensures within { lane + result ≤ max lane until }
-    ensures few { result ≤ MAX_EMPTY_LANES }
+    ensures limit { result ≤ MAX_EMPTY_LANES }
 {
     let end = match row {
         LaneRow::Underline(corner_lane, _, _) => until.min(corner_lane.saturating_add(1)),
@@ -219,8 +223,8 @@ fn num_empty_lanes(row: LaneRow<'_>, lane: usize, until: usize) -> usize
 }
 
 /// Writes the lanes of a row, from left to right. `leading` is the length in bytes of the white
-/// space that the line's text begins with. Most rows have no lanes, which is tested before any
-/// call.
+/// space that the line's text begins with. It is inlined, so that a row without lanes, as most are,
+/// costs no call.
 ///
 /// # Errors
 ///
@@ -244,7 +248,7 @@ pub fn inner_gutter<W: PutStyle>(
     }
 }
 
-/// Writes each lane of a row.
+/// Writes each lane of a row, empty ones many at once.
 fn inner_gutter_columns<W: PutStyle>(
     w: &mut W,
     context: RowContext<'_>,

@@ -1,5 +1,6 @@
-//! The parts of rows, written to any writer of styles and text, and what is known of a line: its
-//! characters by any source of them, its messages, and which of its characters have a style.
+//! The parts of rows, written to any writer of styles and text, and what they are written from: a
+//! line's characters, by any `LineCharacters`, which of its messages trails, and which of its
+//! characters have a style.
 #![tactic(auto)]
 
 pub mod carets;

@@ -12,7 +12,7 @@ use codespan_picture::arguments::{MultiLabel, SingleLabel};
 /// What all rows of a line are rendered by.
 #[derive(Clone, Copy)]
 pub struct RowContext<'config> {
-    /// The characters of borders, carets and lanes.
+    /// The characters of borders, carets, pointers and lanes.
     pub chars: &'config Chars<'config>,
     /// The number of cells from one tab stop to the next; where it is 0, a tab takes no cell.
     pub tab_width: usize,
@@ -20,7 +20,7 @@ pub struct RowContext<'config> {
     pub layout: Layout,
     /// The severity of the diagnostic, which decides the style of primary labels.
     pub severity: Severity,
-    /// The padding width, in characters.
+    /// The padding width of line numbers, in characters.
     pub padding: usize,
 }
 
@@ -30,7 +30,8 @@ pub struct RowContext<'config> {
 pub struct Lanes<'row, 'd> {
     /// The number of lanes.
     pub count: usize,
-    /// The lane of each label, counted from 0, its style, and what the label does on the line.
+    /// The lane marks: of each its lane, counted from 0, its style, and what its label does on the
+    /// line.
     pub lane_marks: &'row [(usize, LabelStyle, MultiLabel<'d>)],
     ghost in_order: { IsTrue (lanes_in_order count lane_marks.now) },
 }
@@ -40,7 +41,7 @@ pub struct Lanes<'row, 'd> {
 pub struct Line<'row, 'd> {
     /// The line number, as users see it.
     pub number: usize,
-    /// The text that is rendered: without the end of the line.
+    /// The text that is rendered: without the line feeds, carriage returns and NULs at its end.
     pub text: &'row str,
     /// The length in bytes of the white space that the text begins with.
     pub leading: usize,
@@ -93,7 +94,8 @@ pub fn text_without_line_end(source: &str) -> &str
     &source[..end]
 }
 
-/// Returns whether a byte is not rendered at a line's end.
+/// Returns whether a byte is a line feed, a carriage return or NUL, which are not rendered at a
+/// line's end.
 fn is_line_end(byte: u8) -> bool
     ensures { result ≡ is_line_end byte }
 {

@@ -14,7 +14,7 @@ use crate::line::{Line, RowContext};
 use crate::messages::Messages;
 use codespan_base::term::config::put_style::PutStyle;
 
-/// The characters of a line whose rows are to be rendered, their widths and its pointers.
+/// The characters of a line whose rows are rendered, their widths, and its pointers.
 ///
 /// `codespan_renderer` has two: one scans the text again for each row, the other keeps the
 /// characters in a cache.
@@ -38,11 +38,11 @@ pub trait LineCharacters {
             (characters_to_end_of (input self.now)) result.0 (Self.Cursor.left result.1) }
         ensures labels { Self.Cursor.labels result.1 ≡ (input self.now).labels };
 
-    /// Returns how many cells the characters take that begin at this byte index or before it.
+    /// Returns how many cells the characters that begin at this byte index or before it occupy.
     fn width_up_to(&self, byte_index: usize) -> u128
         ensures { result ≡ width_of (metrics_up_to byte_index (characters_of (input self.now))) };
 
-    /// Returns how many cells the characters take that begin before this byte index.
+    /// Returns how many cells the characters that begin before this byte index occupy.
     #[tactic(auto, using(crate::proofs::Widths::widths_before))]
     fn width_before(&self, byte_index: usize) -> u128
         ensures { result ≡ width_of (metrics_before byte_index (characters_of (input self.now))) }
@@ -53,7 +53,7 @@ pub trait LineCharacters {
         }
     }
 
-    /// Writes all pointers of the line.
+    /// Writes the pointers under all characters of the line.
     ///
     /// # Errors
     ///
@@ -78,7 +78,7 @@ pub trait LineCharacters {
             (pointers_view context.entry line.entry (line_metrics_view context.entry line.entry))
             result (W.sink w.new) };
 
-    /// Writes the pointers of the characters that begin before this byte index.
+    /// Writes the pointers under the characters that begin before the byte index `before`.
     ///
     /// # Errors
     ///

@@ -11,7 +11,7 @@ ghost use Rattle.codespan_picture.specs.Rows.{trailing_label, last_with_end, ove
 use crate::carets::{is_overlapping, max_label_end};
 use codespan_picture::arguments::SingleLabel;
 
-/// Which label of a line trails, and which may hang.
+/// Which label of a line trails, and which may hang: those of them that have a message do.
 #[derive(Clone, Copy)]
 pub struct Messages<'row, 'd> {
     /// The label whose message trails.
@@ -73,7 +73,7 @@ fn does_trail(labels: &[SingleLabel<'_>], index: usize) -> bool
         && !overlaps_any(label, &labels[index + 1..])
 }
 
-/// Returns whether one of the others overlaps the label.
+/// Returns whether one of the other labels overlaps the label.
 fn overlaps_any(label: &SingleLabel<'_>, others: &[SingleLabel<'_>]) -> bool
     ensures { result ≡ overlaps_any (single_label_view label.now) (single_label_views others.now) }
 {

@@ -18,7 +18,7 @@ use codespan_base::term::config::writing::{put_all, put_char, put_number, put_sp
 use codespan_picture::arguments::Locus;
 use codespan_picture::padding::count_digits;
 
-/// Writes the end of a row: a line feed.
+/// Writes a newline, the end of a row.
 ///
 /// # Errors
 ///
@@ -52,8 +52,8 @@ pub fn outer_gutter<W: PutStyle>(w: &mut W, padding: usize) -> Result<(), W::Err
     write_spaces(w, padding as u128 + 1)
 }
 
-/// Writes the outer gutter with a line number: aligned to the right in the padding, or in full
-/// where it is wider.
+/// Writes the outer gutter with a line number, which is aligned to the right in the padding and may
+/// be wider.
 ///
 /// # Errors
 ///
@@ -73,7 +73,7 @@ pub fn outer_gutter_number<W: PutStyle>(
     write_space(w)
 }
 
-/// Writes the left border.
+/// Writes the left border of a row that is not a break row.
 ///
 /// # Errors
 ///
@@ -119,7 +119,7 @@ pub fn write_label_glyph<W: PutStyle>(
     w.reset()
 }
 
-/// Writes the style mark where the style changes, and the reset where it ends.
+/// Writes nothing where `style` is `previous`, else its style mark, or a reset where it is `None`.
 ///
 /// # Errors
 ///

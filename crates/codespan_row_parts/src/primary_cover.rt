@@ -11,12 +11,14 @@ use codespan_picture::arguments::MultiLabel;
 use codespan_picture::char_metrics::Metrics;
 
 /// What the primary multi-line labels cover of a line: all from one byte index on, and all before
-/// another.
+/// another. Byte indices are from the line's start.
 #[derive(Clone, Copy)]
 pub struct PrimaryCover {
-    /// The least start of those that start on the line; 0 where one covers the whole line.
+    /// The byte index from which on all is covered: the least start of those that start on the
+    /// line, or 0 where one goes through it; `None` where there is no such label.
     from: Option<usize>,
-    /// The greatest end of those that end on it, exclusive; 0 where there is none.
+    /// The byte index before which all is covered: the greatest end of those that end on the line,
+    /// or 0 where none does.
     to: usize,
 }
 
@@ -88,7 +90,7 @@ impl PrimaryCover {
     }
 }
 
-/// Returns the lesser of two starts.
+/// Returns the lesser of two starts, or `start` where `from` is `None`.
 fn least(from: Option<usize>, start: usize) -> usize
     ensures { (byte_index : ℕ) → nat_le result byte_index
         ≡ (is_from from byte_index || nat_le start byte_index) }

@@ -1,4 +1,5 @@
-//! Which characters of a line have a style in its source row, and which are written unchanged.
+//! Which characters of a line have a style in its source row, and which of its text is written
+//! unchanged.
 
 ghost use Rattle.std.specs.Prelude.{◌≡◌, ◌<◌, ◌≤◌, ◌==◌, None, drop, false, length, map, true};
 ghost use Rattle.std.specs.List.{list_any};
@@ -33,7 +34,7 @@ pub fn text_style<C: CharCursor>(
     line: Line<'_, '_>,
     metrics: Metrics,
 ) -> Option<LabelStyle>
-    requires some { 1 ≤ metrics.bytes }
+    requires has_byte { 1 ≤ metrics.bytes }
     requires returned { C.has_returned metrics characters.old }
     requires labels { C.labels characters.old ≡ line.labels.now }
     requires primary { CoversAsLaneMarks (map lane_mark_view line.lanes.lane_marks.now) primary }
@@ -93,9 +94,9 @@ pub fn is_plain(line: Line<'_, '_>) -> bool
         && !has_tab(line.text)
 }
 
-/// Returns a byte index from which on the text of a line is written unchanged: no primary label
-/// covers it, neither a single-line nor a multi-line one, and it has no tab. It is the end of the
-/// text where no other is found.
+/// Returns a byte index from which on the text of a line is written unchanged: no primary label,
+/// single-line or multi-line, covers a character there, and there is no tab. It is the length of
+/// the text where no smaller one is found.
 ///
 /// # Requires
 ///

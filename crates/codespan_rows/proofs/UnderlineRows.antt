@@ -76,7 +76,7 @@ underlines-in context line leading lane_marks i d h e t =
     let k : has_underline (leading_whitespace line.text) (multi_label_view (get_or lane_marks i d).2) ≡ true = rw e at t in
     rw (drop-cons lane_marks i d h, k, add-one) refl
 
--- it has none
+-- the lane mark at an index has no row
 pub underlines-out : (context : RowContext) (line : Line) (leading : ℕ) (lane_marks : List LaneMarkTuple) (i : ℕ) (d : LaneMarkTuple) → i < length lane_marks
     → leading ≡ leading_whitespace line.text → has_underline leading (multi_label_view (get_or lane_marks i d).2) ≡ false
     → underlines_of context line (drop i lane_marks) ≡ underlines_of context line (drop (i + 1) lane_marks)

@@ -31,7 +31,7 @@ fn severity_name(severity: Severity) -> &'static str
     }
 }
 
-/// Writes the locus before a header, where there is one.
+/// Writes the locus of a header, a colon and a space, or nothing where there is no locus.
 #[tactic(auto, using(codespan_base::proofs::Writes::write_chains), unfolding(codespan_picture::specs::RowStreams::leading_locus))]
 fn write_leading_locus<W: PutStyle>(w: &mut W, locus: Option<&Locus>) -> Result<(), W::Error>
     ensures { Writes (W.sink w.old)
@@ -44,7 +44,7 @@ fn write_leading_locus<W: PutStyle>(w: &mut W, locus: Option<&Locus>) -> Result<
     Ok(())
 }
 
-/// Writes the code in brackets, where there is one that is not empty.
+/// Writes the code in brackets, or nothing where it is `None` or empty.
 #[tactic(auto, using(codespan_base::proofs::Writes::write_chains), unfolding(codespan_picture::specs::RowStreams::bracketed))]
 fn write_code<W: PutStyle>(w: &mut W, code: Option<&str>) -> Result<(), W::Error>
     ensures { Writes (W.sink w.old) (bracketed (option_map text_now code.entry))
@@ -60,7 +60,7 @@ fn write_code<W: PutStyle>(w: &mut W, code: Option<&str>) -> Result<(), W::Error
     }
 }
 
-/// Writes a header up to its message.
+/// Writes the start of a header: locus, severity and code.
 fn write_header_start<W: PutStyle>(
     w: &mut W,
     locus: Option<&Locus>,
@@ -76,7 +76,7 @@ fn write_header_start<W: PutStyle>(
     write_code(w, code)
 }
 
-/// Writes the header of a diagnostic.
+/// Writes the header of a diagnostic: locus, severity, code and message. An empty code is left out.
 ///
 /// # Errors
 ///
@@ -99,7 +99,7 @@ pub fn write_header<W: PutStyle>(
     write_newline(w)
 }
 
-/// Returns the text before a locus.
+/// Returns the text before a locus at the start of a snippet.
 fn start_text<'a>(chars: &'a Chars<'_>) -> &'a str
     ensures { result.now ≡ start_text chars.now.snippet_start }
 {
@@ -109,7 +109,7 @@ fn start_text<'a>(chars: &'a Chars<'_>) -> &'a str
     }
 }
 
-/// Writes the start of a file's snippet.
+/// Writes the start of a file's snippet: outer gutter, [`Chars::snippet_start`] and locus.
 ///
 /// # Errors
 ///

@@ -1,5 +1,5 @@
 //! The rows of a rendered diagnostic, written to any writer of styles and text: the header, the
-//! rows of a line over any `LineCharacters`, and those without text.
+//! start of a snippet, the rows of a line, over any `LineCharacters`, empty rows, breaks and notes.
 #![tactic(auto)]
 
 pub mod header;

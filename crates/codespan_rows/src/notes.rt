@@ -1,4 +1,4 @@
-//! Notes, breaks, and the empty rows of a snippet.
+//! The rows that have no line of the source: notes, breaks, and the empty rows of a snippet.
 
 ghost use Rattle.std.specs.Prelude.{◌++◌};
 ghost use Rattle.std.specs.Str.Lines.{lines};
@@ -17,7 +17,7 @@ use codespan_row_parts::parts::{
     border_left, border_left_break, outer_gutter, write_newline, write_space,
 };
 
-/// Writes an empty row of a snippet.
+/// Writes an empty row of a snippet: outer gutter, left border and inner gutter.
 ///
 /// # Errors
 ///
@@ -37,7 +37,7 @@ pub fn write_snippet_empty<W: PutStyle>(
     write_newline(w)
 }
 
-/// Writes the row of a break.
+/// Writes a break row: outer gutter, the left border of a break and inner gutter.
 ///
 /// # Errors
 ///
@@ -57,7 +57,7 @@ pub fn write_break<W: PutStyle>(
     write_newline(w)
 }
 
-/// Writes the first row of a note.
+/// Writes the first row of a note, which has the bullet.
 fn write_first_note_line<W: PutStyle>(
     w: &mut W,
     chars: &Chars<'_>,
@@ -76,7 +76,7 @@ fn write_first_note_line<W: PutStyle>(
     write_newline(w)
 }
 
-/// Writes a later row of a note.
+/// Writes a later row of a note, which has a space instead of the bullet.
 fn write_later_note_line<W: PutStyle>(
     w: &mut W,
     padding: usize,
@@ -92,7 +92,7 @@ fn write_later_note_line<W: PutStyle>(
     write_newline(w)
 }
 
-/// Writes the rows of a note: one for each of its lines.
+/// Writes the rows of a note: one for each of its lines, none for an empty note.
 ///
 /// # Errors
 ///

@@ -22,7 +22,8 @@ use codespan_row_parts::messages::{Messages, has_any_message};
 use codespan_row_parts::parts::{write_label_glyph, write_newline, write_row_start};
 use codespan_row_parts::runs::write_spaces;
 
-/// Returns the greatest start of the labels, or 0 where there is none.
+/// Returns the greatest start of the labels, in bytes from the line's start, or 0 where there is
+/// none.
 pub fn max_label_start(labels: &[SingleLabel<'_>]) -> usize
     ensures { result ≡ max_label_start (single_label_views labels.now) }
 {
@@ -54,10 +55,10 @@ pub fn caret_pointer<W: PutStyle>(
     write_label_glyph(w, context.severity, style, context.chars.pointer_left)
 }
 
-/// What the rows under the carets of a line are written from.
+/// What the pointer row and the hanging rows of a line are written from.
 #[derive(Drop)]
-struct RowsUnder<'row, 'd, S> {
-    /// What all rows of the line are rendered by.
+struct HangingRows<'row, 'd, S> {
+    /// What all rows of the output are rendered by.
     context: RowContext<'row>,
     /// The line.
     line: Line<'row, 'd>,
@@ -67,10 +68,10 @@ struct RowsUnder<'row, 'd, S> {
     messages: Messages<'row, 'd>,
 }
 
-/// Writes the row of the pointers under a line.
+/// Writes the pointer row of a line.
 fn write_pointer_row<W: PutStyle, S: LineCharacters>(
     w: &mut W,
-    rows: &RowsUnder<'_, '_, S>,
+    rows: &HangingRows<'_, '_, S>,
 ) -> Result<(), W::Error>
     requires input { S.input rows.now.characters.now ≡ char_input rows.now.context rows.now.line }
     requires hanging_labels { AreHanging rows.now.line.labels.now
@@ -88,7 +89,7 @@ fn write_pointer_row<W: PutStyle, S: LineCharacters>(
 /// Writes a hanging message under its pointer.
 fn write_hanging_row<W: PutStyle, S: LineCharacters>(
     w: &mut W,
-    rows: &RowsUnder<'_, '_, S>,
+    rows: &HangingRows<'_, '_, S>,
     label: &SingleLabel<'_>,
 ) -> Result<(), W::Error>
     requires input { S.input rows.now.characters.now ≡ char_input rows.now.context rows.now.line }
@@ -108,10 +109,10 @@ fn write_hanging_row<W: PutStyle, S: LineCharacters>(
     write_newline(w)
 }
 
-/// Writes the rows of the hanging messages of these labels, the last one first.
+/// Writes a row for each message of these labels, the last label's first.
 fn write_hanging_rows<W: PutStyle, S: LineCharacters>(
     w: &mut W,
-    rows: &RowsUnder<'_, '_, S>,
+    rows: &HangingRows<'_, '_, S>,
     labels: &[SingleLabel<'_>],
 ) -> Result<(), W::Error>
     requires input { S.input rows.now.characters.now ≡ char_input rows.now.context rows.now.line }
@@ -131,10 +132,10 @@ fn write_hanging_rows<W: PutStyle, S: LineCharacters>(
     Ok(())
 }
 
-/// Writes the pointers, and a row for each hanging message.
+/// Writes the pointer row, and a row for each hanging message, the last label's first.
 fn write_pointers_and_messages<W: PutStyle, S: LineCharacters>(
     w: &mut W,
-    rows: &RowsUnder<'_, '_, S>,
+    rows: &HangingRows<'_, '_, S>,
 ) -> Result<(), W::Error>
     requires input { S.input rows.now.characters.now ≡ char_input rows.now.context rows.now.line }
     requires hanging_labels { AreHanging rows.now.line.labels.now
@@ -149,7 +150,8 @@ fn write_pointers_and_messages<W: PutStyle, S: LineCharacters>(
     write_hanging_rows(w, rows, rows.messages.before)
 }
 
-/// Writes the pointers and a row for each hanging message, where there is one.
+/// Writes the pointer row and a row for each hanging message, the last label's first, or nothing
+/// where no message hangs.
 ///
 /// # Errors
 ///
@@ -176,7 +178,7 @@ pub fn write_hanging<W: PutStyle, S: LineCharacters>(
     if !has_any_message(messages.before) && !has_any_message(messages.after) {
         return Ok(());
     }
-    let rows = RowsUnder {
+    let rows = HangingRows {
         context,
         line,
         characters,

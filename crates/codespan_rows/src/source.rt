@@ -23,8 +23,8 @@ use codespan_row_parts::parts::{
 use codespan_row_parts::primary_cover::PrimaryCover;
 use codespan_row_parts::text_styles::{is_plain, plain_from, text_style};
 
-/// Writes the text of a line, which has these characters, with tabs as spaces, and with style marks
-/// where its style changes.
+/// Writes the text of a line, which has these characters, with spaces instead of tabs and with
+/// style marks where the style changes.
 fn write_colored_text<W: PutStyle, C: CharCursor>(
     w: &mut W,
     context: RowContext<'_>,
@@ -65,7 +65,7 @@ fn write_colored_text<W: PutStyle, C: CharCursor>(
     put_all(w, &text[end..])
 }
 
-/// Writes the text of a line: at once where it is plain.
+/// Writes the text of a line, by one call where it is known to be written unchanged.
 fn write_text<W: PutStyle, S: LineCharacters>(
     w: &mut W,
     context: RowContext<'_>,
@@ -85,7 +85,7 @@ fn write_text<W: PutStyle, S: LineCharacters>(
     Ok(())
 }
 
-/// Writes the end of a run of text of one style, and the style mark of the next.
+/// Writes a run of text of one style, and the style mark of the next run.
 fn end_text_run<W: PutStyle>(
     w: &mut W,
     context: RowContext<'_>,
@@ -100,7 +100,8 @@ fn end_text_run<W: PutStyle>(
     change_style(w, context.severity, previous, style)
 }
 
-/// Writes a line number, the left border, the lanes and a space.
+/// Writes the start of a source row: outer gutter with the line number, left border, inner gutter
+/// and a space.
 #[inline(always)]
 fn write_source_lanes<W: PutStyle>(
     w: &mut W,

@@ -44,7 +44,7 @@ fn end_caret(chars: &Chars<'_>, style: LabelStyle) -> char
     }
 }
 
-/// Writes a space and the message, where there is one.
+/// Writes a space and the message, or nothing where the message is empty.
 #[tactic(auto, using(codespan_base::proofs::Writes::write_chains, crate::proofs::UnderlineRows::underline_messages))]
 fn write_underline_message<W: PutStyle>(w: &mut W, message: &str) -> Result<(), W::Error>
     ensures { Writes (W.sink w.old) (underline_message (bytes message.now)) result (W.sink w.new) }
@@ -56,7 +56,7 @@ fn write_underline_message<W: PutStyle>(w: &mut W, message: &str) -> Result<(), 
     put_all(w, message.as_bytes())
 }
 
-/// Returns how many cells an underline has between its corner and its caret.
+/// Returns how many cells an underline has between its lanes and its caret.
 fn underline_width<S: LineCharacters>(characters: &S, multi_label: MultiLabel<'_>) -> u128
     ensures { result
         ≡ underline_width (characters_of (S.input characters.now))
@@ -69,7 +69,7 @@ fn underline_width<S: LineCharacters>(characters: &S, multi_label: MultiLabel<'_
     }
 }
 
-/// Writes an underline from its corner on: `width` cells, the caret, and the message.
+/// Writes an underline right of the lanes: a line of `width` cells, the caret, and the message.
 #[tactic(auto, using(codespan_base::proofs::Writes::write_chains), unfolding(crate::specs::Underlines::underline_by_width))]
 fn label_multi_caret<W: PutStyle>(
     w: &mut W,
@@ -96,7 +96,7 @@ fn label_multi_caret<W: PutStyle>(
     }
 }
 
-/// Writes the start of an underline row: up to the end of its lanes.
+/// Writes the start of an underline row: outer gutter, left border and inner gutter.
 fn write_underline_lanes<W: PutStyle>(
     w: &mut W,
     context: RowContext<'_>,
@@ -118,7 +118,7 @@ fn write_underline_lanes<W: PutStyle>(
     )
 }
 
-/// Writes the underline row of a lane mark, with `width` cells between its corner and its caret.
+/// Writes the underline row of a lane mark, with `width` cells between its lanes and its caret.
 fn write_underline_row<W: PutStyle>(
     w: &mut W,
     context: RowContext<'_>,
@@ -141,8 +141,8 @@ fn write_underline_row<W: PutStyle>(
     write_newline(w)
 }
 
-/// Returns whether a multi-line label mark has an underline row: one whose corner is in the source
-/// row has none.
+/// Returns whether a multi-line label mark has an underline row: a bottom has one, and a top whose
+/// corner is not in the source row.
 fn has_underline(leading: usize, multi_label: MultiLabel<'_>) -> bool
     ensures { result ≡ has_underline leading (multi_label_view multi_label.entry) }
 {

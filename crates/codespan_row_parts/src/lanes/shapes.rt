@@ -10,7 +10,8 @@ use codespan_base::term::Layout;
 use codespan_picture::arguments::MultiLabel;
 
 /// Returns what a multi-line label mark shows in a row of this kind. `leading` is the length in
-/// bytes of the white space that the line's text begins with, `lane` the mark's 0-based lane.
+/// bytes of the white space that the line's text begins with, `lane` the lane of the multi-line
+/// label mark, counted from 0.
 pub fn shape_in(
     layout: Layout,
     leading: usize,
@@ -38,7 +39,7 @@ pub fn shape_in(
     }
 }
 
-/// Returns whether a lane with its corner in the source row goes on below it.
+/// Returns whether a lane has its corner in the source row and continues in the rows below it.
 fn goes_on(layout: Layout, leading: usize, start: usize) -> bool
     ensures { result ≡ is_unbroken layout && begins_in_source_row leading start }
 {

@@ -24,7 +24,7 @@ pub returns-then-covers_char-clause-style : goal.returns-then-covers_char-clause
 returns-then-covers_char-clause-style g c =
     let line = line_view c.args.line in
     let inside = rw c.requires.labels at c.has_primary.ensures.primary in
-    let marked = c.requires.primary c.args.metrics c.requires.some in
+    let marked = c.requires.primary c.args.metrics c.requires.has_byte in
     elim c.if-has_primary.branch [
       | then-has_primary w ↦ styled line c.args.metrics true _ (sym w.if-has_primary.true ∙ inside) refl
       | else-has_primary w ↦
@@ -36,7 +36,7 @@ pub returns-else-covers_char-clause-style : goal.returns-else-covers_char-clause
 returns-else-covers_char-clause-style g c =
     let line = line_view c.args.line in
     let inside = rw c.requires.labels at c.has_primary.ensures.primary in
-    let marked = c.requires.primary c.args.metrics c.requires.some in
+    let marked = c.requires.primary c.args.metrics c.requires.has_byte in
     elim c.if-has_primary.branch [
       | then-has_primary w ↦ absurd (false≢true (sym c.if-covers_char.false ∙ w.value-is ∙ w.if-has_primary.true))
       | else-has_primary w ↦

@@ -21,8 +21,8 @@ loop-metrics-init g c = rw c.requires.left record {
   within = omega arith;
 }
 
-pub text_style-style-requires-clause-some : goal.text_style-style-requires-clause-some
-text_style-style-requires-clause-some g c =
+pub text_style-style-requires-clause-has_byte : goal.text_style-style-requires-clause-has_byte
+text_style-style-requires-clause-has_byte g c =
     let n = over-next c.args.context.tab_width c.args.line.text.now c.loop-metrics.end c.in-Some.metrics _ (g.C.CharCursor.left c.next_metrics.new.self) c.in-Some.ensures.next c.loop-metrics.invariant.over in
     omega (arith, n.bytes, (len_utf8_bounds c.in-Some.metrics.ch).0)
 
