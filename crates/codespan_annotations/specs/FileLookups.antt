@@ -11,6 +11,6 @@ failure_in failure id lookups = first_error failure (lookups_of_file id lookups)
 -- the result of lookups, where this is the error of the first of them that fails: on `Ok` none of
 -- them failed; an error is that one, `OutOfMemory`, or `FormatError`, as where the `Display` of a
 -- name fails
-abbrev pub FailsByOrFormat : {T : Type 0} → Option Error → Result T Error → Type 0
-FailsByOrFormat o r =
+abbrev pub FailsByOrFormatError : {T : Type 0} → Option Error → Result T Error → Type 0
+FailsByOrFormatError o r =
     MatchResult r (λ _. o ≡ None) (λ e. e ≢ OutOfMemory → e ≢ FormatError → o ≡ Some e)

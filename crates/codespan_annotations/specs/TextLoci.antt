@@ -9,7 +9,7 @@ use Rattle.codespan_picture.specs.Snippets.{InFile, LabeledFileModel}
 -- the locus of a byte index of a file, whose name is UTF-8
 pub record IsTextLocus (at : FileModel × ℕ) (locus : Locus) : Type 0 where
   pub is_locus : IsLocus at locus
-  pub is_text : IsUtf8 locus.name
+  pub is_utf8 : IsUtf8 locus.name
 
 -- that of a file's snippet
 abbrev pub IsLocusOfFile : LabeledFileModel → Locus → Type 0

@@ -6,7 +6,7 @@ ghost use Rattle.codespan_base.specs.LawfulFiles.{FailsBy};
 ghost use Rattle.codespan_picture.specs.Arguments.{locus_view};
 ghost use Rattle.codespan_picture.specs.Lookups.{line_lookups};
 ghost use Rattle.codespan_annotations.specs.AnnotationViews.{IsLineAt};
-ghost use Rattle.codespan_annotations.specs.FileLookups.{FailsByOrFormat};
+ghost use Rattle.codespan_annotations.specs.FileLookups.{FailsByOrFormatError};
 ghost use Rattle.codespan_annotations.specs.SourceFiles.{lookups_of_filled, EndsBefore, failure_of, failure_unless_past_end, model_of};
 ghost use Rattle.codespan_annotations.specs.TextLoci.{IsTextLocus};
 
@@ -111,7 +111,7 @@ impl<'files, F: Files<'files>> SourceFile<'files, F> {
     pub fn locus(&self, alloc: Global, byte_index: usize) -> Result<Locus, Error>
         ensures locus { IfOk result (λ locus. IsTextLocus
             (model_of F.database self.now, byte_index) (locus_view locus)) }
-        ensures failed { FailsByOrFormat (failure_of F.database self.now
+        ensures failed { FailsByOrFormatError (failure_of F.database self.now
             (NameLookup ∷ LocationAt byte_index ∷ [])) result }
     {
         let named = self.files.name(self.file_id)?;

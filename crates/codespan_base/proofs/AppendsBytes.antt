@@ -5,7 +5,7 @@ use Rattle.std.specs.Borrow.{GName}
 use Rattle.std.specs.Result.{IsErrAnd}
 use Rattle.std.proofs.lemmas.Result.{err_from_is_err_and}
 use Rattle.codespan_base.specs.declared.term.config.plain_ref.PlainWriterRef.{PlainWriterRef}
-use Rattle.codespan_base.specs.Streams.{bytes, no_style_marks}
+use Rattle.codespan_base.specs.Streams.{bytes, plain_spelling}
 use Rattle.codespan_base.specs.WriterLaw.{Frame, Sink, KeepsFrame, Writes, is_known, with_written, are_known, extended, PrefixAppended, AppendsBytes}
 use Rattle.codespan_base.specs.Writers.{fresh_plain_ref, borrow_name, plain_ref_sink, borrowed_writer}
 use Rattle.codespan_base.proofs.KnownBytes.{extended-append, extended-nil, are_known-extended, PrefixAppended-first, PrefixAppended-last, PrefixAppended_first_2, PrefixAppended_first_3}
@@ -72,7 +72,7 @@ written_to_plain_ref {W} {E} contents_of before after name contents x bs (Ok don
     let previous : contents_of (borrowed_writer before) ≡ contents = ap (λ (s : Sink). s.contents) begins in
     ap contents_of (keeps_reference {E = E} contents_of before after name contents x (Ok done) begins p.0 back)
     ∙ ap (λ (s : Sink). s.contents) (p.1 (ap are_known previous ∙ known))
-    ∙ ap (extended (contents_of (borrowed_writer before))) (spelled-bytes no_style_marks bs)
+    ∙ ap (extended (contents_of (borrowed_writer before))) (spelled-bytes plain_spelling bs)
     ∙ ap (λ (o : Option (List ℕ)). extended o bs) previous
 written_to_plain_ref {W} {E} contents_of before after name contents x bs (Err e) begins p back = λ known.
     let previous : contents_of (borrowed_writer before) ≡ contents = ap (λ (s : Sink). s.contents) begins in
@@ -80,6 +80,6 @@ written_to_plain_ref {W} {E} contents_of before after name contents x bs (Err e)
     record {
       prefix = written_prefix.prefix;
       rest = written_prefix.rest;
-      whole = written_prefix.whole ∙ spelled-bytes no_style_marks bs;
+      whole = written_prefix.whole ∙ spelled-bytes plain_spelling bs;
       contents = ap contents_of (keeps_reference {E = E} contents_of before after name contents x (Err e) begins p.0 back) ∙ written_prefix.contents ∙ ap (λ (o : Option (List ℕ)). extended o written_prefix.prefix) previous;
     }

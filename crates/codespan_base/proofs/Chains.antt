@@ -4,7 +4,7 @@ use Rattle.std.proofs.Common.{◌≡◌, true, ◌++◌, ap, sym, subst, ◌∙�
 use Rattle.std.specs.Result.{IsErrAnd}
 use Rattle.std.proofs.lemmas.Result.{err_from_is_err_and}
 use Rattle.codespan_base.specs.Streams.{Stream}
-use Rattle.codespan_base.specs.WriterLaw.{Sink, with_written, is_known, PrefixWritten, Writes, failing}
+use Rattle.codespan_base.specs.WriterLaw.{Sink, with_written, is_known, PrefixWritten, Writes, failed_frame}
 use Rattle.codespan_base.proofs.Writes.{is_known-with_written, with_written-append, PrefixWritten-first, PrefixWritten-last}
 
 -- the stream was written
@@ -13,7 +13,7 @@ WroteStream s items t = (t.frame ≡ s.frame) × (is_known s ≡ true → t ≡ 
 
 -- a prefix of the stream was written, and the writer failed
 abbrev pub WrotePrefix : Sink → Stream → Sink → Type 0
-WrotePrefix s items t = (t.frame ≡ failing s.frame) × (is_known s ≡ true → PrefixWritten s items t)
+WrotePrefix s items t = (t.frame ≡ failed_frame s.frame) × (is_known s ≡ true → PrefixWritten s items t)
 
 -- known bytes stay known
 pub known-after : (s t : Sink) (a : Stream) → is_known s ≡ true → t ≡ with_written s a → is_known t ≡ true
@@ -29,7 +29,7 @@ written-then s a b {t} {u} p q = (
 -- the call that writes the stream after it failed
 pub failed-then : (a : Stream) {s t u : Sink} {b : Stream} → WroteStream s a t → WrotePrefix t b u → WrotePrefix s (a ++ b) u
 failed-then a {s} {t} {u} {b} p q = (
-  q.0 ∙ ap failing p.0,
+  q.0 ∙ ap failed_frame p.0,
   λ known. let e = p.1 known in PrefixWritten-last s a b u (subst (λ (x : Sink). PrefixWritten x b u) e (q.1 (known-after s t a known e))),
 )
 

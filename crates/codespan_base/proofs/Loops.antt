@@ -2,7 +2,7 @@
 -- piece.
 use Rattle.std.proofs.Common.{◌≡◌, true, [], ◌++◌, refl, sym, ap, subst, ◌∙◌, append_assoc, append-nil, Result, Ok, Err}
 use Rattle.codespan_base.specs.Streams.{Stream}
-use Rattle.codespan_base.specs.WriterLaw.{Sink, with_written, is_known, PrefixWritten, Writes, failing}
+use Rattle.codespan_base.specs.WriterLaw.{Sink, with_written, is_known, PrefixWritten, Writes, failed_frame}
 use Rattle.codespan_base.proofs.Writes.{is_known-with_written, with_written-append, with_written-nil, PrefixWritten-first, PrefixWritten-last}
 
 -- of the whole stream, which began at s, the rest is still to be written
@@ -35,9 +35,9 @@ StillToWrite-more s whole rest t u piece next p e r = record {
 }
 
 -- the next piece failed
-pub StillToWrite-failed : (s : Sink) (whole rest : Stream) (t u : Sink) (piece next : Stream) → StillToWrite s whole rest t → (u.frame ≡ failing t.frame) × (is_known t ≡ true → PrefixWritten t piece u) → rest ≡ piece ++ next → (u.frame ≡ failing s.frame) × (is_known s ≡ true → PrefixWritten s whole u)
+pub StillToWrite-failed : (s : Sink) (whole rest : Stream) (t u : Sink) (piece next : Stream) → StillToWrite s whole rest t → (u.frame ≡ failed_frame t.frame) × (is_known t ≡ true → PrefixWritten t piece u) → rest ≡ piece ++ next → (u.frame ≡ failed_frame s.frame) × (is_known s ≡ true → PrefixWritten s whole u)
 StillToWrite-failed s whole rest t u piece next p e r = (
-  e.0 ∙ ap failing p.frame,
+  e.0 ∙ ap failed_frame p.frame,
   λ h. let q : WrittenSoFar s whole rest t = p.known h in
       subst (λ (l : Stream). PrefixWritten s l u) (ap (λ (l : Stream). q.done ++ l) (sym r) ∙ q.is_whole)
       (PrefixWritten-last s q.done (piece ++ next) u (PrefixWritten-first (with_written s q.done) piece u next (subst (λ (x : Sink). PrefixWritten x piece u) q.is (e.1 (known_then s whole rest t h p))))),

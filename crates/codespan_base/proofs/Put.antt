@@ -5,13 +5,13 @@ use Rattle.std.proofs.lemmas.Bool.{ne_eqb, false≢true}
 use Rattle.std.proofs.lemmas.Bool.Decides.{nat_tests}
 use Rattle.std.proofs.lemmas.List.{take-append-drop}
 use Rattle.codespan_base.specs.Streams.{bytes}
-use Rattle.codespan_base.specs.WriterLaw.{Frame, Sink, failing, after_put, with_written, is_known, are_known, extended, PrefixWritten}
+use Rattle.codespan_base.specs.WriterLaw.{Frame, Sink, failed_frame, after_put, with_written, is_known, are_known, extended, PrefixWritten}
 use Rattle.codespan_base.proofs.StyleMarks.{sink-by}
 use Rattle.codespan_base.proofs.KnownBytes.{append_known-nil}
 use Rattle.codespan_base.proofs.Writes.{spelled-bytes, bytes-append}
 
 -- a `put` that takes none of some bytes sets the flag
-pub after_put-none : (f : Frame) (bs : List ℕ) (n : ℕ) → n ≡ 0 → 0 < length bs → after_put f bs n ≡ failing f
+pub after_put-none : (f : Frame) (bs : List ℕ) (n : ℕ) → n ≡ 0 → 0 < length bs → after_put f bs n ≡ failed_frame f
 after_put-none f bs n e h = rw e (let t : ltb 0 (length bs) ≡ true = grind (arith, nat_tests) in rw t refl)
 
 -- one that takes some bytes, or that is passed none, does not
@@ -27,13 +27,13 @@ put-with_written s bs n t h p = let f : t.frame ≡ s.frame = p.0 ∙ after_put-
     (f, λ known. sink-by s t _ _ f (p.1 known ∙ ap (append_known s.contents) (sym (spelled-bytes s.frame.spelling (take n bs)))))
 
 -- a `put` that took none of some bytes, as a failed stream
-pub put-none : (s : Sink) (bs : List ℕ) (n : ℕ) (t : Sink) → n ≡ 0 → 0 < length bs → (t.frame ≡ after_put s.frame bs n) × (is_known s ≡ true → t.contents ≡ append_known s.contents (take n bs)) → (t.frame ≡ failing s.frame) × (is_known s ≡ true → PrefixWritten s (bytes bs) t)
+pub put-none : (s : Sink) (bs : List ℕ) (n : ℕ) (t : Sink) → n ≡ 0 → 0 < length bs → (t.frame ≡ after_put s.frame bs n) × (is_known s ≡ true → t.contents ≡ append_known s.contents (take n bs)) → (t.frame ≡ failed_frame s.frame) × (is_known s ≡ true → PrefixWritten s (bytes bs) t)
 unfolding extended
-put-none s bs n t e h p = let f : t.frame ≡ failing s.frame = p.0 ∙ after_put-none s.frame bs n e h in
+put-none s bs n t e h p = let f : t.frame ≡ failed_frame s.frame = p.0 ∙ after_put-none s.frame bs n e h in
     (f, λ known. record { prefix = []; rest = bs; whole = sym (spelled-bytes s.frame.spelling bs); contents = p.1 known ∙ ap (λ (k : ℕ). append_known s.contents (take k bs)) e })
 
 -- a `put` that failed, as a failed stream
-pub put-failed : (s : Sink) (bs : List ℕ) (t : Sink) → (t.frame ≡ failing s.frame) × (is_known s ≡ true → t.contents ≡ s.contents) → (t.frame ≡ failing s.frame) × (is_known s ≡ true → PrefixWritten s (bytes bs) t)
+pub put-failed : (s : Sink) (bs : List ℕ) (t : Sink) → (t.frame ≡ failed_frame s.frame) × (is_known s ≡ true → t.contents ≡ s.contents) → (t.frame ≡ failed_frame s.frame) × (is_known s ≡ true → PrefixWritten s (bytes bs) t)
 unfolding extended
 put-failed s bs t p =
     (p.0, λ known. record { prefix = []; rest = bs; whole = sym (spelled-bytes s.frame.spelling bs); contents = p.1 known ∙ sym (append_known-nil s.contents) })

@@ -66,12 +66,12 @@ spelled spelling (Mark m ∷ s) = spelling m ++ spelled spelling s
 spelled spelling (Slot k ∷ s) = spelled spelling s
 
 -- every style mark is spelled as nothing
-abbrev pub no_style_marks : Spelling
-no_style_marks _ = []
+abbrev pub plain_spelling : Spelling
+plain_spelling _ = []
 
 -- the text of a stream: its bytes
 abbrev pub text_of : Stream → List ℕ
-text_of s = spelled no_style_marks s
+text_of s = spelled plain_spelling s
 
 -- the stream with each slot filled by its label's message
 abbrev pub with_messages : (ℕ → List ℕ) → Stream → Stream

@@ -50,8 +50,8 @@ unfoldable pub is_known : Sink → Bool
 is_known s = are_known s.contents
 
 -- the frame once the writer has failed
-abbrev pub failing : Frame → Frame
-failing f = record f { failed = true }
+abbrev pub failed_frame : Frame → Frame
+failed_frame f = record f { failed = true }
 
 -- the writer with the stream appended, its style marks spelled
 unfoldable pub with_written : Sink → Stream → Sink
@@ -66,7 +66,7 @@ pub record PrefixWritten (s : Sink) (items : Stream) (t : Sink) : Type 0 where
 
 -- a call that fails sets the flag, and nothing else of the frame changes
 abbrev pub KeepsFrame : {T E : Type 0} → Frame → Result T E → Frame → Type 0
-KeepsFrame old r new = MatchResult r (λ _. new ≡ old) (λ _. new ≡ failing old)
+KeepsFrame old r new = MatchResult r (λ _. new ≡ old) (λ _. new ≡ failed_frame old)
 
 -- where the writer's bytes are known, the stream is appended, or, where the call fails, a prefix
 abbrev pub WritesOrPrefix : {E : Type 0} → Sink → Stream → Result (Unit {0}) E → Sink → Type 0
@@ -80,12 +80,12 @@ Writes old items r new = KeepsFrame old.frame r new.frame × WritesOrPrefix old 
 
 -- the frame after a `put` that took n of these bytes; one that takes none of some has failed
 abbrev pub after_put : Frame → List ℕ → ℕ → Frame
-after_put f bs n = if n == 0 && nat_lt 0 (length bs) then failing f else f
+after_put f bs n = if n == 0 && nat_lt 0 (length bs) then failed_frame f else f
 
 -- `put` takes as many of its first bytes as it returns, and none where it fails
 abbrev pub Puts : {E : Type 0} → Sink → List ℕ → Result ℕ E → Sink → Type 0
 Puts old bs r new =
-    MatchResult r (λ n. new.frame ≡ after_put old.frame bs n) (λ _. new.frame ≡ failing old.frame)
+    MatchResult r (λ n. new.frame ≡ after_put old.frame bs n) (λ _. new.frame ≡ failed_frame old.frame)
     × (is_known old ≡ true → MatchResult r
     (λ n. new.contents ≡ append_known old.contents (take n bs)) (λ _. new.contents ≡ old.contents))
 

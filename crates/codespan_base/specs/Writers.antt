@@ -7,7 +7,7 @@ use Rattle.codespan_base.specs.declared.term.config.plain_ref.PlainWriterRef.{Pl
 use Rattle.codespan_base.specs.declared.term.config.no_color.NoColor.{NoColor}
 use Rattle.codespan_base.specs.declared.term.config.plain.PlainWriter.{PlainWriter}
 use Rattle.codespan_base.specs.declared.term.config.styles_writer.StylesWriter.{StylesWriter}
-use Rattle.codespan_base.specs.Streams.{Spelling, no_style_marks}
+use Rattle.codespan_base.specs.Streams.{Spelling, plain_spelling}
 use Rattle.codespan_base.specs.WriterLaw.{Sink}
 use Rattle.codespan_base.specs.StyleTables.{spelling_by}
 
@@ -49,7 +49,7 @@ fresh_sink spelling bytes = record {
 -- a plain writer spells every style mark as nothing
 abbrev pub plain_sink : {W : Type 0} → (W → Option (List ℕ)) → PlainWriter W → Sink
 plain_sink contents p = record {
-  frame = record { spelling = no_style_marks; failed = p.failed; through = [] };
+  frame = record { spelling = plain_spelling; failed = p.failed; through = [] };
   contents = contents p.inner;
 }
 
@@ -78,13 +78,13 @@ borrow_name p = p.writer.ghost_name
 -- a plain writer that writes through the reference
 abbrev pub plain_ref_sink : {W : Type 0} → (W → Option (List ℕ)) → PlainWriterRef W → Sink
 plain_ref_sink contents p = record {
-  frame = record { spelling = no_style_marks; failed = p.failed; through = borrow_name p ∷ [] };
+  frame = record { spelling = plain_spelling; failed = p.failed; through = borrow_name p ∷ [] };
   contents = contents (borrowed_writer p);
 }
 
 -- a plain writer over the reference of this name that has not failed
 abbrev pub fresh_plain_ref : GName → Option (List ℕ) → Sink
 fresh_plain_ref name bytes = record {
-  frame = record { spelling = no_style_marks; failed = false; through = name ∷ [] };
+  frame = record { spelling = plain_spelling; failed = false; through = name ∷ [] };
   contents = bytes;
 }

@@ -14,7 +14,7 @@ use Rattle.codespan_annotations.specs.declared.annotation.Annotation.{Annotation
 use Rattle.codespan_annotations.specs.declared.annotation.LineInfo.{LineInfo}
 use Rattle.codespan_collect.specs.CollectedLabels.{CollectedLabel}
 use Rattle.codespan_annotations.specs.Annotations.{Annotation, AnnotationKind, Single, annotation_if_any}
-use Rattle.codespan_collect.specs.LabelAnnotations.{line_annotations, kind_on, multi_at, kind_at}
+use Rattle.codespan_collect.specs.LabelAnnotations.{line_annotations, kind_on, lane_mark_at, kind_at}
 use Rattle.codespan_annotations.specs.AnnotationViews.{Adds, IsLineOf, annotation_view, kind_view}
 use Rattle.codespan_annotations.specs.LabelSpans.{IsFarInside}
 use Rattle.codespan_annotations.specs.declared.annotation.AnnotationKind.TheVariants as rust
@@ -86,13 +86,13 @@ module _ {Id : Type 0} (x : CollectedLabel Id) where
 
   -- the annotations of a label on a line, and its multi-line label mark on it
   pub annotation_if_any-line : {line : LineInfo} {first last : ℕ} {kind lane_mark : Option AnnotationKind} → first_line x.file x.label ≡ first → last_line x.file x.label ≡ last → IsLineOf x.file line
-      → kind ≡ kind_at x.config x.indices first last line.index line.start x.label → lane_mark ≡ multi_at x.indices first last line.index line.start x.label
+      → kind ≡ kind_at x.config x.indices first last line.index line.start x.label → lane_mark ≡ lane_mark_at x.indices first last line.index line.start x.label
       → line_annotations x.config x.file x.indices x.label line.index ≡ annotation_if_any x.indices.file line.index kind ++ annotation_if_any x.indices.file line.index lane_mark
   annotation_if_any-line {line} is_first is_last is kind_is multi_is =
       let l = line.index in
       let f = x.indices.file in
       let by_kind = kind_on-is line is ∙ (λ i. kind_at x.config x.indices (is_first i) (is_last i) l line.start x.label) ∙ sym kind_is in
-      let by_lane_mark = (λ i. multi_at x.indices (is_first i) (is_last i) l (sym is.range_is.start_is i) x.label) ∙ sym multi_is in
+      let by_lane_mark = (λ i. lane_mark_at x.indices (is_first i) (is_last i) l (sym is.range_is.start_is i) x.label) ∙ sym multi_is in
       λ i. annotation_if_any f l (by_kind i) ++ annotation_if_any f l (by_lane_mark i)
 
 -- a label does not make a line shown that is far from its ends
@@ -101,5 +101,5 @@ far-kind config indices s e l start x far = grind (arith, nat_tests)
 
 -- its lane mark on such a line
 pub far-multi_label : {Id : Type 0} (config : Config) (indices : LabelIndices) (s e l start : ℕ) (label : Bor (Label Id)) → IsFarInside config s e l
-    → Some (kind_view start (rust.Multi label_kind.Left indices.lane label)) ≡ multi_at indices s e l start (label_of label.now).label
+    → Some (kind_view start (rust.Multi label_kind.Left indices.lane label)) ≡ lane_mark_at indices s e l start (label_of label.now).label
 far-multi_label config indices s e l start label far = grind (arith, nat_tests)

@@ -28,7 +28,7 @@ use Rattle.codespan_annotations.proofs.FileIndices.{Differ, index-here, index-la
 pub record AreFiles {Id : Type 0} (database : FileDatabase Id) : Type 0 where
   pub equivalence : IsEquivalence database.same
   pub one_file : (i j : Id) → database.same i j ≡ true → database.file i ≡ database.file j
-  pub some_line : (i : Id) → 0 < line_count (database.file i)
+  pub has_line : (i : Id) → 0 < line_count (database.file i)
 
 -- a lawful database, whose equality of ids is this one, has such files
 pub are-files : {Id : Type 0} {database : FileDatabase Id} {same : Id → Id → Bool} → database.same ≡ same → IsEquivalence same
@@ -37,7 +37,7 @@ pub are-files : {Id : Type 0} {database : FileDatabase Id} {same : Id → Id →
 are-files is equivalence same_file lawful = record {
   equivalence = subst IsEquivalence (sym is) equivalence;
   one_file = λ i j equal. (same_file i j equal).0;
-  some_line = λ id. (lawful id).some_line;
+  has_line = λ id. (lawful id).has_line;
 }
 
 -- where what is kept for each id changes, it is this for those that are the same as one, and stays

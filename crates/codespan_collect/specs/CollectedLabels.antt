@@ -12,7 +12,7 @@ use Rattle.codespan_collect.specs.declared.label_annotations.LabelCollector.{Lab
 use Rattle.codespan_collect.specs.declared.label_annotations.FoundAnnotations.{FoundAnnotations}
 use Rattle.codespan_collect.specs.declared.label_annotations.LabelIndices.{LabelIndices}
 use Rattle.codespan_annotations.specs.Annotations.{AnnotationKind}
-use Rattle.codespan_collect.specs.LabelAnnotations.{annotations_of, line_annotations, annotations_on, lookups_on, multi_at, kind_at}
+use Rattle.codespan_collect.specs.LabelAnnotations.{annotations_of, line_annotations, annotations_on, lookups_on, lane_mark_at, kind_at}
 use Rattle.codespan_annotations.specs.FileLookups.{failure_in}
 use Rattle.codespan_annotations.specs.SourceFiles.{failure_unless_past_end, model_of}
 use Rattle.codespan_annotations.specs.AnnotationViews.{AddsOf}
@@ -137,11 +137,11 @@ kind_by collector label line =
     line.index line.start (label_of label).label
 
 -- its lane mark on a line, by the lines of its ends
-abbrev pub multi_by : {F Id Name Source : Type 0} → LabelCollector F Id Name Source → Label Id
+abbrev pub lane_mark_by : {F Id Name Source : Type 0} → LabelCollector F Id Name Source → Label Id
     → LineInfo
     → Option AnnotationKind
-multi_by collector label line =
-    multi_at collector.indices collector.lines.first collector.lines.last line.index line.start
+lane_mark_by collector label line =
+    lane_mark_at collector.indices collector.lines.first collector.lines.last line.index line.start
     (label_of label).label
 
 -- a line is looked up for the label, and its lookups fail with this error

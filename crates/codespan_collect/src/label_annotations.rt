@@ -5,7 +5,7 @@ ghost use Rattle.std.specs.Option.{option_map};
 ghost use Rattle.codespan_base.specs.LawfulFiles.{FailsBy};
 ghost use Rattle.codespan_base.specs.Labels.{first_line, last_line};
 ghost use Rattle.codespan_picture.specs.OutputStreams.{label_of};
-ghost use Rattle.codespan_collect.specs.CollectedLabels.{AddsLine, FindsLine, FindsLines, HasLineLookedUp, IfEnded, IfContinues, ExtendsPadding, ExtendsPaddingForLine, FailsLine, label_of_collector, collected_label, label_failure, lines_failure, failure_on, multi_by, kind_by};
+ghost use Rattle.codespan_collect.specs.CollectedLabels.{AddsLine, FindsLine, FindsLines, HasLineLookedUp, IfEnded, IfContinues, ExtendsPadding, ExtendsPaddingForLine, FailsLine, label_of_collector, collected_label, label_failure, lines_failure, failure_on, lane_mark_by, kind_by};
 ghost use Rattle.codespan_annotations.specs.SourceFiles.{EndsBefore, model_of};
 ghost use Rattle.codespan_annotations.specs.AnnotationViews.{IsLineOf, kind_view};
 ghost use Rattle.codespan_annotations.specs.LabelSpans.{IsFarInside, line_of_end, line_of_start};
@@ -76,12 +76,12 @@ impl<'a, 'c, 'files, F: Files<'files>> LabelCollector<'a, 'c, 'files, F> {
     }
 
     /// Returns the label's lane mark on a line, if it is a multi-line label that has one.
-    fn multi_label_on_line<'d>(
+    fn lane_mark_on_line<'d>(
         &self,
         label: &'d Label<F::FileId>,
         line: LineInfo,
     ) -> Option<AnnotationKind<'d, F::FileId>>
-        ensures { option_map (kind_view line.start) result ≡ multi_by self.now label.now line }
+        ensures { option_map (kind_view line.start) result ≡ lane_mark_by self.now label.now line }
     {
         match self.lines.multi_label_kind(line.index) {
             None => None,
@@ -171,7 +171,7 @@ impl<'a, 'c, 'files, F: Files<'files>> LabelCollector<'a, 'c, 'files, F> {
         push_annotation(
             self.indices.file,
             line,
-            self.multi_label_on_line(label, line),
+            self.lane_mark_on_line(label, line),
             annotations,
         )?;
         Ok(())

@@ -47,10 +47,10 @@ diagnostic_view diagnostic = record {
 }
 
 -- the error is `FormatError` or `OutOfMemory`
-abbrev pub IsTextFailure : failures.Error → Type 0
-IsTextFailure FormatError = Unit {0}
-IsTextFailure OutOfMemory = Unit {0}
-IsTextFailure _ = ⊥
+abbrev pub IsDisplayError : failures.Error → Type 0
+IsDisplayError FormatError = Unit {0}
+IsDisplayError OutOfMemory = Unit {0}
+IsDisplayError _ = ⊥
 
 -- the rank of a severity in their order, from help to bug
 abbrev pub severity_rank : Severity → ℕ

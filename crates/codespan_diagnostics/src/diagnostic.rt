@@ -119,7 +119,7 @@ impl<FileId> Label<FileId> {
 }
 
 impl<FileId: Drop> Label<FileId> {
-    ghost use Rattle.codespan_diagnostics.specs.Diagnostics.{IsTextFailure};
+    ghost use Rattle.codespan_diagnostics.specs.Diagnostics.{IsDisplayError};
 
     /// Returns the label with the text that `message` displays as its message, instead of the
     /// earlier one.
@@ -132,7 +132,7 @@ impl<FileId: Drop> Label<FileId> {
         ensures message { IfOk result (λ label.
             IfSome (D.output message) (λ bytes. string_bytes label.message ≡ bytes)) }
         ensures others { IfOk result (λ label. label ≡ record self { message = label.message }) }
-        ensures failed { IfErr result IsTextFailure }
+        ensures failed { IfErr result IsDisplayError }
     {
         let text = display_text(*self.message.allocator(), message)?;
         self.message = text;

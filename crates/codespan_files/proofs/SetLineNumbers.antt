@@ -9,7 +9,7 @@ use Rattle.std.proofs.lemmas.List.Sorted.{IsNonDecreasingBy-from_default}
 use Rattle.std.proofs.lemmas.List.Edits.{length-insert, get_or-insert_below, get_or-insert_at, get_or-insert_above}
 use Rattle.std.proofs.lemmas.Bool.Decides.{nat_tests}
 use Rattle.codespan_files.specs.SetLineNumbers.{set_index_at, IsStrictlySorted, IsSetAt, IsInsertionPoint}
-use Rattle.codespan_files.specs.MappedModel.{nearest_set, with_number}
+use Rattle.codespan_files.specs.MappedModel.{nearest_set, with_set_number}
 
 module _ (l : List (ℕ × ℕ)) (sorted : IsStrictlySorted l) (k : ℕ) where
   -- the comparisons with k ascend along the list, as a binary search requires
@@ -31,12 +31,12 @@ module _ (l : List (ℕ × ℕ)) (sorted : IsStrictlySorted l) (k : ℕ) where
   }
 
 -- writing over the set number of an index
-replaced : (l : List (ℕ × ℕ)) (k v at : ℕ) → at < length l → ((j : ℕ) → j < at → set_index_at l j < k) → set_index_at l at ≡ k → set l at (k, v) ≡ with_number k v l
+replaced : (l : List (ℕ × ℕ)) (k v at : ℕ) → at < length l → ((j : ℕ) → j < at → set_index_at l j < k) → set_index_at l at ≡ k → set l at (k, v) ≡ with_set_number k v l
 replaced [] k v at low below here = absurd (omega arith)
 replaced (x ∷ l) k v zero low below here = grind (arith, nat_tests)
 replaced (x ∷ l) k v (suc at) low below here =
     let first : x.0 < k = below 0 (omega arith) in
-    let later : set l at (k, v) ≡ with_number k v l = replaced l k v at (omega arith) (λ j h. below (suc j) (omega arith)) here in
+    let later : set l at (k, v) ≡ with_set_number k v l = replaced l k v at (omega arith) (λ j h. below (suc j) (omega arith)) here in
     grind (arith, nat_tests)
 
 -- which changes no line index
@@ -48,7 +48,7 @@ kept (x ∷ l) (suc at) k v low here zero = refl
 kept (x ∷ l) (suc at) k v low here (suc q) = kept l at k v (omega arith) here q
 
 -- inserting a set number of a new line index
-inserted : (l : List (ℕ × ℕ)) (k v at : ℕ) → at ≤ length l → ((j : ℕ) → j < at → set_index_at l j < k) → (at < length l → k < set_index_at l at) → insert l at (k, v) ≡ with_number k v l
+inserted : (l : List (ℕ × ℕ)) (k v at : ℕ) → at ≤ length l → ((j : ℕ) → j < at → set_index_at l j < k) → (at < length l → k < set_index_at l at) → insert l at (k, v) ≡ with_set_number k v l
 inserted [] k v zero low below above = refl
 inserted [] k v (suc at) low below above = absurd (omega arith)
 inserted (x ∷ l) k v zero low below above =
@@ -56,7 +56,7 @@ inserted (x ∷ l) k v zero low below above =
     grind (arith, nat_tests)
 inserted (x ∷ l) k v (suc at) low below above =
     let first : x.0 < k = below 0 (omega arith) in
-    let later : insert l at (k, v) ≡ with_number k v l = inserted l k v at (omega arith) (λ j h. below (suc j) (omega arith)) (λ h. above (omega arith)) in
+    let later : insert l at (k, v) ≡ with_set_number k v l = inserted l k v at (omega arith) (λ j h. below (suc j) (omega arith)) (λ h. above (omega arith)) in
     grind (arith, nat_tests)
 
 -- where all line indices are greater, the line counts from no set number
@@ -79,7 +79,7 @@ last_set (x ∷ l) k (suc at) low here above =
 
 module _ (l : List (ℕ × ℕ)) (sorted : IsStrictlySorted l) (k at : ℕ) (is_at : IsSetAt l k at) where
   -- writing over the set number is setting the number
-  pub set_replaces : (v : ℕ) → set l at (k, v) ≡ with_number k v l
+  pub set_replaces : (v : ℕ) → set l at (k, v) ≡ with_set_number k v l
   set_replaces v = replaced l k v at is_at.in_range (λ j h. omega (arith, sorted j at h is_at.in_range, is_at.has_index)) is_at.has_index
 
   -- which keeps the order
@@ -94,7 +94,7 @@ module _ (l : List (ℕ × ℕ)) (sorted : IsStrictlySorted l) (k at : ℕ) (is_
 
 module _ (l : List (ℕ × ℕ)) (k at : ℕ) (point : IsInsertionPoint l k at) where
   -- inserting at the point is setting the number
-  pub insert_adds : (v : ℕ) → insert l at (k, v) ≡ with_number k v l
+  pub insert_adds : (v : ℕ) → insert l at (k, v) ≡ with_set_number k v l
   insert_adds v = inserted l k v at point.in_range point.smaller_before (λ h. point.greater_after at (omega arith) h)
 
   -- a line above all set ones counts from none

@@ -29,22 +29,22 @@ NeedsNoMemory r = IfErr r (λ e. e ≢ OutOfMemory)
 -- empty name and an empty text
 pub record IsLawful (f : FileModel) : Type 0 where
   -- the text
-  pub is_text : IsUtf8 f.text
+  pub is_utf8 : IsUtf8 f.text
   pub fits : length f.text < 2 ^ 64
   -- lines start in strictly ascending order, the first one at byte 0
-  pub some_line : 0 < length f.starts
+  pub has_line : 0 < length f.starts
   pub first : slice_index f.starts 0 ≡ 0
   pub ascending : (i : ℕ) → i + 1 < length f.starts
       → slice_index f.starts i < slice_index f.starts (i + 1)
   -- starts and ends are character boundaries
-  pub starts_cut : (i : ℕ) → i < length f.starts → IsCharBoundary f.text (slice_index f.starts i)
-  pub ends_cut : (i : ℕ) → i < length f.starts → IsCharBoundary f.text (slice_index f.ends i)
+  pub starts_on_boundaries : (i : ℕ) → i < length f.starts → IsCharBoundary f.text (slice_index f.starts i)
+  pub ends_on_boundaries : (i : ℕ) → i < length f.starts → IsCharBoundary f.text (slice_index f.ends i)
   -- each line ends at its start or after it, and not after the next line's start
-  pub ends_after : (i : ℕ) → i < length f.starts → slice_index f.starts i ≤ slice_index f.ends i
-  pub ends_before : (i : ℕ) → i + 1 < length f.starts
+  pub ends_after_start : (i : ℕ) → i < length f.starts → slice_index f.starts i ≤ slice_index f.ends i
+  pub ends_before_next : (i : ℕ) → i + 1 < length f.starts
       → slice_index f.ends i ≤ slice_index f.starts (i + 1)
   -- there are as many ends as starts
-  pub one_end : length f.ends ≡ length f.starts
+  pub same_length : length f.ends ≡ length f.starts
   -- an id that names no file
   pub missing_name : f.exists ≡ false → f.name ≡ Some []
   pub missing_text : f.exists ≡ false → f.text ≡ []

@@ -25,12 +25,12 @@ nearest_set (s ∷ ss) i = nearer (nearest_set ss i) (if nat_le s.0 i then Some 
     nearer None earlier = earlier
 
 -- the set numbers with one more, which replaces an earlier one of the same line index
-abbrev pub with_number : ℕ → ℕ → List (ℕ × ℕ) → List (ℕ × ℕ)
-with_number i number [] = (i, number) ∷ []
-with_number i number (s ∷ ss) =
+abbrev pub with_set_number : ℕ → ℕ → List (ℕ × ℕ) → List (ℕ × ℕ)
+with_set_number i number [] = (i, number) ∷ []
+with_set_number i number (s ∷ ss) =
     if s.0 == i then (i, number) ∷ ss
     else if nat_lt i s.0 then (i, number) ∷ s ∷ ss
-    else s ∷ with_number i number ss
+    else s ∷ with_set_number i number ss
 
 -- the number of line i, from the set number that it counts from
 abbrev pub number_from : Option (ℕ × ℕ) → ℕ → ℕ

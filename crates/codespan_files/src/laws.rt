@@ -7,7 +7,7 @@ ghost use Rattle.std.specs.Prelude.{◌≡◌, ℕ, List, Option};
 ghost use Rattle.std.specs.Iterator.{IsFinite, Drains};
 ghost use Rattle.std.specs.Str.{IsUtf8};
 ghost use Rattle.codespan_files.specs.FileLaws.{LinesJoin, LineCountsNewlines, ColumnsRise, nearest_set_after};
-ghost use Rattle.codespan_files.specs.MappedModel.{nearest_set, with_number};
+ghost use Rattle.codespan_files.specs.MappedModel.{nearest_set, with_set_number};
 ghost use Rattle.codespan_files.specs.SetLineNumbers.{IsStrictlySorted};
 ghost use Rattle.codespan_files.specs.LineStarts.{starts_left};
 ghost use Rattle.codespan_files.specs.SimpleModel.{simple_file};
@@ -35,7 +35,7 @@ pub fn line_counts_newlines()
 /// from there, up to the next line whose number is set; the lines above count as before.
 pub fn set_numbers_count_on()
     ensures { (set_numbers : List (ℕ × ℕ)) (line number i : ℕ) → IsStrictlySorted set_numbers →
-        nearest_set (with_number line number set_numbers) i
+        nearest_set (with_set_number line number set_numbers) i
         ≡ nearest_set_after line number i (nearest_set set_numbers i) }
 {}
 

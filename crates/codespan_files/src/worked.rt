@@ -7,7 +7,7 @@ ghost use Rattle.codespan_files.specs.FileModel.{line_of, line_text};
 ghost use Rattle.codespan_files.specs.FileModel.Lookup.{Source, LineNumber, LineRange};
 ghost use Rattle.codespan_files.specs.Lines.{line_starts_of, column_index_of};
 ghost use Rattle.codespan_files.specs.SimpleModel.{simple_file, simple_failure, past_end_failure, missing_failure};
-ghost use Rattle.codespan_files.specs.MappedModel.{with_number, number_from, nearest_set, mapped_failure};
+ghost use Rattle.codespan_files.specs.MappedModel.{with_set_number, number_from, nearest_set, mapped_failure};
 ghost use Rattle.codespan_files.specs.declared.files.error.Error.TheVariants.{FileMissing, LineTooLarge};
 
 /// Computes columns, which count the characters from the line's start to the byte, and lines, which
@@ -45,15 +45,15 @@ fn greatest_indices()
 
 /// Computes the numbers after a set number so great that the next line's number does not fit.
 fn mapped_overflow()
-    ensures greatest { number_from (nearest_set (with_number 1 (2 ^ 64 - 1) []) 1) 1 ≡ 2 ^ 64 - 1 }
-    ensures succeeds { let set_numbers = with_number 1 (2 ^ 64 - 1) [] in
+    ensures greatest { number_from (nearest_set (with_set_number 1 (2 ^ 64 - 1) []) 1) 1 ≡ 2 ^ 64 - 1 }
+    ensures succeeds { let set_numbers = with_set_number 1 (2 ^ 64 - 1) [] in
         mapped_failure (codes "a\nb\nc\nd") set_numbers (LineNumber 1) ≡ None }
-    ensures failed { let set_numbers = with_number 1 (2 ^ 64 - 1) [] in
+    ensures failed { let set_numbers = with_set_number 1 (2 ^ 64 - 1) [] in
         mapped_failure (codes "a\nb\nc\nd") set_numbers (LineNumber 2) ≡ Some (LineTooLarge 2 1) }
     ensures no_line { past_end_failure (codes "a\nb\nc\nd") 4 ≡ Some (LineTooLarge 4 3) }
 {}
 
 /// Computes the set numbers after a number is set again: the later one replaces the earlier one.
 fn set_again()
-    ensures { with_number 2 7 (with_number 1 5 (with_number 2 100 [])) ≡ (1, 5) ∷ (2, 7) ∷ [] }
+    ensures { with_set_number 2 7 (with_set_number 1 5 (with_set_number 2 100 [])) ≡ (1, 5) ∷ (2, 7) ∷ [] }
 {}

@@ -52,8 +52,8 @@ drawn-utf8 text u =
 pub line-utf8 : (f : FileModel) → IsLawful f → (l : ℕ) → IsUtf8 (line_text f l)
 line-utf8 f law l =
     ⊎_elim
-    (λ (h : l < length f.starts). IsUtf8-between f.text (get_or f.starts l 0) (get_or f.ends l 0) law.is_text (law.ends_after l h) (law.starts_cut l h) (law.ends_cut l h))
-    (λ (h : length f.starts ≤ l). subst (λ k. IsUtf8 (take (k - get_or f.starts l 0) (drop (get_or f.starts l 0) f.text))) (sym (get_or_past f.ends l 0 (omega (arith, law.one_end))))
+    (λ (h : l < length f.starts). IsUtf8-between f.text (get_or f.starts l 0) (get_or f.ends l 0) law.is_utf8 (law.ends_after_start l h) (law.starts_on_boundaries l h) (law.ends_on_boundaries l h))
+    (λ (h : length f.starts ≤ l). subst (λ k. IsUtf8 (take (k - get_or f.starts l 0) (drop (get_or f.starts l 0) f.text))) (sym (get_or_past f.ends l 0 (omega (arith, law.same_length))))
     (subst (λ k. IsUtf8 (take k (drop (get_or f.starts l 0) f.text))) (let e : 0 ≡ 0 - get_or f.starts l 0 = omega arith in e) IsUtf8-nil))
     (cases_lt l (length f.starts))
 

@@ -9,11 +9,11 @@ use Rattle.codespan_picture.specs.Sequences.{before_line, break_between, gap_bet
 -- ---- one line
 
 -- the line is shown, or filled in between two that are
-abbrev pub is_filled : (ℕ → Bool) → ℕ → Bool
-is_filled shown l = shown l || (nat_lt 0 l && shown (l - 1) && shown (l + 1))
+abbrev pub is_drawn_among : (ℕ → Bool) → ℕ → Bool
+is_drawn_among shown l = shown l || (nat_lt 0 l && shown (l - 1) && shown (l + 1))
 
 -- a line between two shown ones is drawn
-filled-between : (shown : ℕ → Bool) (c : ℕ) → shown c ≡ true → shown (c + 1 + 1) ≡ true → is_filled shown (c + 1) ≡ true
+filled-between : (shown : ℕ → Bool) (c : ℕ) → shown c ≡ true → shown (c + 1 + 1) ≡ true → is_drawn_among shown (c + 1) ≡ true
 filled-between shown c before after = by_test (shown (c + 1))
   where
     some : nat_lt 0 (c + 1) ≡ true
@@ -27,15 +27,15 @@ filled-between shown c before after = by_test (shown (c + 1))
     by_test false = rw (some, back) (simp (before, after))
 
 -- a shown line is drawn
-filled-shown : (shown : ℕ → Bool) (a : ℕ) → shown a ≡ true → is_filled shown a ≡ true
+filled-shown : (shown : ℕ → Bool) (a : ℕ) → shown a ≡ true → is_drawn_among shown a ≡ true
 filled-shown shown a h = simp h
 
 -- a line that is not shown, after one that is not, is not drawn
-not_filled-after : (shown : ℕ → Bool) (a : ℕ) → shown a ≡ false → (nat_lt 0 a && shown (a - 1)) ≡ false → is_filled shown a ≡ false
+not_filled-after : (shown : ℕ → Bool) (a : ℕ) → shown a ≡ false → (nat_lt 0 a && shown (a - 1)) ≡ false → is_drawn_among shown a ≡ false
 not_filled-after shown a here before = simp (here, before)
 
 -- a line that is not shown, before one that is not, is not drawn
-not_filled-before : (shown : ℕ → Bool) (a : ℕ) → shown a ≡ false → shown (a + 1) ≡ false → is_filled shown a ≡ false
+not_filled-before : (shown : ℕ → Bool) (a : ℕ) → shown a ≡ false → shown (a + 1) ≡ false → is_drawn_among shown a ≡ false
 not_filled-before shown a here after = simp (here, after) (and_last (nat_lt 0 a) (shown (a - 1)))
   where
     and_last : (b d : Bool) → (b && d && false) ≡ false
@@ -73,7 +73,7 @@ module _ {X : Type 0} (drawn filled broken : ℕ → List X) where
 
     -- the elements of `n` lines from one on, by those of them that are drawn
     abbrev lines_from : Option ℕ → ℕ → ℕ → List X
-    lines_from previous a n = expanded_lines previous (filter (is_filled shown) (range_with_len a n))
+    lines_from previous a n = expanded_lines previous (filter (is_drawn_among shown) (range_with_len a n))
 
     -- the same, by those of them that are shown
     abbrev shown_from : Option ℕ → ℕ → ℕ → List X
@@ -84,15 +84,15 @@ module _ {X : Type 0} (drawn filled broken : ℕ → List X) where
     NoneFrom a = (l : ℕ) → a ≤ l → shown l ≡ false
 
     -- a line that is not drawn has no elements
-    lines-skip : (previous : Option ℕ) (a n : ℕ) → is_filled shown a ≡ false → lines_from previous a (suc n) ≡ lines_from previous (a + 1) n
+    lines-skip : (previous : Option ℕ) (a n : ℕ) → is_drawn_among shown a ≡ false → lines_from previous a (suc n) ≡ lines_from previous (a + 1) n
     lines-skip previous a n h =
-        ap (λ b. expanded_lines previous (cond b (a ∷ filter (is_filled shown) (range_with_len (a + 1) n)) (filter (is_filled shown) (range_with_len (a + 1) n)))) h
+        ap (λ b. expanded_lines previous (cond b (a ∷ filter (is_drawn_among shown) (range_with_len (a + 1) n)) (filter (is_drawn_among shown) (range_with_len (a + 1) n)))) h
 
     -- a drawn line has its own elements
-    lines-keep : (previous : Option ℕ) (a n : ℕ) (b : Bool) → is_filled shown a ≡ true → shown a ≡ b
+    lines-keep : (previous : Option ℕ) (a n : ℕ) (b : Bool) → is_drawn_among shown a ≡ true → shown a ≡ b
         → lines_from previous a (suc n) ≡ before_line (break_between broken) previous a ++ cond b (drawn a) (filled a) ++ lines_from (Some a) (a + 1) n
     lines-keep previous a n b h k =
-        ap (λ t. expanded_lines previous (cond t (a ∷ filter (is_filled shown) (range_with_len (a + 1) n)) (filter (is_filled shown) (range_with_len (a + 1) n)))) h
+        ap (λ t. expanded_lines previous (cond t (a ∷ filter (is_drawn_among shown) (range_with_len (a + 1) n)) (filter (is_drawn_among shown) (range_with_len (a + 1) n)))) h
         ∙ ap (λ t. before_line (break_between broken) previous a ++ cond t (drawn a) (filled a) ++ lines_from (Some a) (a + 1) n) k
 
     -- a line that is not shown has no elements
@@ -193,8 +193,8 @@ module _ {X : Type 0} (drawn filled broken : ℕ → List X) where
 
     -- the elements of the drawn lines are those of the shown lines with what is between them
     pub lines-shown : (own : ℕ → List X) → ((l : ℕ) → own l ≡ given l) → (n : ℕ) → NoneFrom n
-        → in_sequence (λ l. l) (break_between broken) own None (filter (is_filled shown) (range_with_len 0 n))
+        → in_sequence (λ l. l) (break_between broken) own None (filter (is_drawn_among shown) (range_with_len 0 n))
         ≡ in_sequence (λ l. l) (gap_between filled broken) drawn None (filter shown (range_with_len 0 n))
     lines-shown own are n none =
-        (λ i. in_sequence (λ l. l) (break_between broken) (λ l. are l i) None (filter (is_filled shown) (range_with_len 0 n)))
+        (λ i. in_sequence (λ l. l) (break_between broken) (λ l. are l i) None (filter (is_drawn_among shown) (range_with_len 0 n)))
         ∙ from_start 0 n refl (λ l h. none l (omega arith))

@@ -15,7 +15,7 @@ use Rattle.codespan_picture.specs.Rows.{Row, BreakRow, SnippetStartRow, EmptyRow
 use Rattle.codespan_picture.specs.Snippets.{LabeledFileModel, line_at, rows_after, row_after, snippet, empty_lanes}
 use Rattle.codespan_laws.proofs.FillLemmas.{breaks_before}
 use Rattle.codespan_laws.specs.LaneLaws.{HasLane, LanesJoinCorners}
-use Rattle.codespan_laws.specs.RichLaws.{StartsBeforeEnds}
+use Rattle.codespan_laws.specs.RichLaws.{NoneReversed}
 use Rattle.codespan_laws.proofs.BarLemmas.{marks_from, lane_mark_in-from}
 use Rattle.codespan_laws.proofs.RangeLemmas.{kept, has_lane-ordered, line_of-below, shown-by, shows-first, shows-last}
 use Rattle.codespan_laws.proofs.LaneLineLemmas.{Shows, Begins, Finishes, Whole, finishes_later, finishes_before, whole_before, whole_later, whole_joined, one_line}
@@ -261,18 +261,18 @@ module _ (layout : Layout) (s : LabeledFileModel) (lane : ℕ) (x : LabelModel) 
 -- ---- the file
 
 -- two bytes are on different lines only where there are lines
-some_line : (starts : List ℕ) (a b : ℕ) → line_of starts a < line_of starts b → 0 < length starts
+has_line : (starts : List ℕ) (a b : ℕ) → line_of starts a < line_of starts b → 0 < length starts
 unfolding line_of
-some_line starts a b h = omega (arith, count_by-le-length (λ s. nat_le s b) starts)
+has_line starts a b h = omega (arith, count_by-le-length (λ s. nat_le s b) starts)
 
 shown_is_drawn : (b d : Bool) → b ≡ true → (b || d) ≡ true
 shown_is_drawn b d h = simp h
 
-pub lanes_are_lines : (config : Config) (layout : Layout) (s : LabeledFileModel) → StartsBeforeEnds s.labels → LanesJoinCorners config layout s
+pub lanes_are_lines : (config : Config) (layout : Layout) (s : LabeledFileModel) → NoneReversed s.labels → LanesJoinCorners config layout s
 lanes_are_lines config layout s ordered = λ locus is_followed lane x has.
     let several = has_lane-ordered s lane x ordered has in
     let inside = (kept (λ x. not (is_single s.file x)) s.labels lane x has).0 in
-    let some : 0 < line_count s.file = some_line s.file.starts x.start x.end several in
+    let some : 0 < line_count s.file = has_line s.file.starts x.start x.end several in
     let low = line_of-below s.file.starts x.start some in
     let high = line_of-below s.file.starts x.end some in
     one_line layout s (snippet config locus s ++ row_after is_followed s) lane x

@@ -201,10 +201,10 @@ filled_output {Id = Id} renderer_config view_config same file severity header_te
 
 pub messages_appear_once : {Id : Type 0} (renderer_config view_config : Config) (files : FileDatabase Id) (d : Diagnostic Id) → IsEquivalence files.same → ((id : Id) → 0 < line_count (files.file id))
     → (loci : List Locus) → AreLoci files d Rich loci → MessagesAppearOnce renderer_config view_config files d loci
-messages_appear_once {Id = Id} renderer_config view_config files d equal some_line loci are =
+messages_appear_once {Id = Id} renderer_config view_config files d equal has_line loci are =
     let many = as_many files.same files.file (labels_of d) loci are in
     record {
-      once = each_once (context_of renderer_config d.severity (padding_of view_config (labeled_file_models files.same files.file (all_slotted (labels_of d))))) view_config files.same files.file (header_text_of d) (notes_of d) (labels_of d) loci many equal some_line;
+      once = each_once (context_of renderer_config d.severity (padding_of view_config (labeled_file_models files.same files.file (all_slotted (labels_of d))))) view_config files.same files.file (header_text_of d) (notes_of d) (labels_of d) loci many equal has_line;
       whole = fill-is (message_text (labels_of d)) (slotted_output renderer_config view_config files d loci)
           ∙ filled_output renderer_config view_config files.same files.file d.severity (header_text_of d) loci (notes_of d) (labels_of d) many (plain d);
     }

@@ -11,7 +11,7 @@ use Rattle.codespan_base.specs.declared.term.config.Layout.{Layout}
 use Rattle.codespan_base.specs.FileModel.{line_of, line_count}
 use Rattle.codespan_base.specs.declared.term.config.Config.{Config}
 use Rattle.codespan_base.specs.Labels.{LabelModel, is_single, first_line, last_line}
-use Rattle.codespan_laws.specs.RichLaws.{StartsBeforeEnds}
+use Rattle.codespan_laws.specs.RichLaws.{NoneReversed}
 use Rattle.codespan_laws.specs.LaneLaws.{HasLane, BarsAreLabels}
 use Rattle.codespan_laws.specs.LineLaws.{BreaksHaveBars}
 use Rattle.codespan_picture.specs.Lines.{shows, is_shown}
@@ -44,14 +44,14 @@ kept p (y ∷ ys) k x h = by_test (λ j g. kept p ys j x g) (p y) refl k h
     by_test again true is (suc j) h = later (again j h)
     by_test again false is j h = later (again j h)
 
-pub has_lane-ordered : (s : LabeledFileModel) (lane : ℕ) (x : LabelModel) → StartsBeforeEnds s.labels → HasLane s lane x → first_line s.file x < last_line s.file x
+pub has_lane-ordered : (s : LabeledFileModel) (lane : ℕ) (x : LabelModel) → NoneReversed s.labels → HasLane s lane x → first_line s.file x < last_line s.file x
 has_lane-ordered s lane x ordered has =
     let r = kept (λ x. not (is_single s.file x)) s.labels lane x has in
     let low = line_of-rises s.file.starts x.start x.end (ordered x r.0) in
     let several = r.1 in
     grind (arith, nat_tests)
 
-pub bars_are_labels : (layout : Layout) (s : LabeledFileModel) → StartsBeforeEnds s.labels → BarsAreLabels layout s
+pub bars_are_labels : (layout : Layout) (s : LabeledFileModel) → NoneReversed s.labels → BarsAreLabels layout s
 bars_are_labels layout s ordered = λ l lane x has. bars.bars_are_labels layout s l lane x has (has_lane-ordered s lane x ordered has)
 
 -- ---- the labels that go through a break
@@ -81,7 +81,7 @@ not_between : (config : Config) (s : LabeledFileModel) (c d l : ℕ) → ((k : �
 not_between config s c d l none here =
     ⊎_elim (λ after. ⊎_elim (λ before. absurd (false≢true (sym (none l after before) ∙ here))) inr (cases_lt l d)) inl (cases_lt c l)
 
-pub breaks_have_bars : (config : Config) (layout : Layout) (s : LabeledFileModel) → StartsBeforeEnds s.labels → BreaksHaveBars config layout s
+pub breaks_have_bars : (config : Config) (layout : Layout) (s : LabeledFileModel) → NoneReversed s.labels → BreaksHaveBars config layout s
 breaks_have_bars config layout s ordered = λ c d lane x shown_c shown_d apart none has.
     let inside = (kept (λ x. not (is_single s.file x)) s.labels lane x has).0 in
     let several = has_lane-ordered s lane x ordered has in

@@ -42,10 +42,10 @@ snippet_means_labels view_config context s = record {
 -- the output means the labels of the diagnostic
 pub output_means_labels : {Id : Type 0} (renderer_config view_config : Config) (files : FileDatabase Id) (d : Diagnostic Id)
     → IsEquivalence files.same → ((id : Id) → 0 < line_count (files.file id)) → MeansLabels renderer_config view_config files d
-output_means_labels renderer_config view_config files d equal some_line = record {
+output_means_labels renderer_config view_config files d equal has_line = record {
   each_file = λ s inside. snippet_means_labels view_config _ s;
   carets = carets_are_cells;
   lanes = lanes_are_shown;
-  messages = messages.messages_appear_once renderer_config view_config files d equal some_line;
+  messages = messages.messages_appear_once renderer_config view_config files d equal has_line;
   padding_fits = padding.padding_fits view_config (files_of files d);
 }

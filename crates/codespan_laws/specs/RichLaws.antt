@@ -14,8 +14,8 @@ use Rattle.codespan_laws.specs.LineLaws.{BreaksAreGaps, BreaksHaveBars, RowsOfSh
 use Rattle.codespan_laws.specs.MessageLaws.{MessagesAppearOnce}
 
 -- no label of a file starts after its end
-abbrev pub StartsBeforeEnds : List LabelModel → Type 0
-StartsBeforeEnds labels = (x : LabelModel) → Contains labels x → x.start ≤ x.end
+abbrev pub NoneReversed : List LabelModel → Type 0
+NoneReversed labels = (x : LabelModel) → Contains labels x → x.start ≤ x.end
 
 -- what the snippet of one file means: the view's configuration chooses its lines, and the context
 -- is that of the renderer
@@ -26,9 +26,9 @@ pub record SnippetMeansLabels (view_config : Config) (context : RowContext)
   pub few : SourceRowsAreFew view_config s
   pub pointers : (l : ℕ) → StartsHaveCells (line_at s l).labels (line_metrics context (line_at s l))
       → PointersAreCells context (line_at s l)
-  pub bars : StartsBeforeEnds s.labels → BarsAreLabels context.layout s
-  pub break_bars : StartsBeforeEnds s.labels → BreaksHaveBars view_config context.layout s
-  pub lanes : StartsBeforeEnds s.labels → LanesJoinCorners view_config context.layout s
+  pub bars : NoneReversed s.labels → BarsAreLabels context.layout s
+  pub break_bars : NoneReversed s.labels → BreaksHaveBars view_config context.layout s
+  pub lanes : NoneReversed s.labels → LanesJoinCorners view_config context.layout s
 
 -- what the rich output of a view means, whatever the loci in it
 pub record MeansLabels {Id : Type 0} (renderer_config view_config : Config)

@@ -17,7 +17,7 @@ ghost use Rattle.codespan_base.specs.Streams.{Spelling};
 ghost use Rattle.codespan_laws.specs.RowLaws.{row_length, CharactersAreFree, RowsEndReset};
 ghost use Rattle.codespan_laws.specs.ColorLaws.{ColorsChangeNoText, NoColorIsPlain};
 ghost use Rattle.codespan_laws.specs.CaretLaws.{CaretsAreCells, PointersAreCells, StartsHaveCells};
-ghost use Rattle.codespan_laws.specs.RichLaws.{MeansLabels, StartsBeforeEnds};
+ghost use Rattle.codespan_laws.specs.RichLaws.{MeansLabels, NoneReversed};
 ghost use Rattle.codespan_laws.specs.LaneLaws.{BarsAreLabels, LanesJoinCorners, LanesAreShown};
 ghost use Rattle.codespan_laws.specs.LineLaws.{BreaksHaveBars, BreaksAreGaps, RowsOfShown, PaddingFits, SourceRowsAreFew};
 ghost use Rattle.codespan_laws.specs.MessageLaws.{MessagesAppearOnce};
@@ -60,7 +60,7 @@ pub fn breaks_are_gaps()
 /// left out there, where no label of the file starts after its end.
 pub fn breaks_have_bars()
     ensures { (config : Config) (layout : Layout) (s : LabeledFileModel)
-        → StartsBeforeEnds s.labels → BreaksHaveBars config layout s }
+        → NoneReversed s.labels → BreaksHaveBars config layout s }
 {}
 
 /// States that a file has at most twice as many source rows as its labels may show lines by the
@@ -91,7 +91,7 @@ pub fn pointers_are_cells()
 /// first, up to its last, where no label of the file starts after its end.
 pub fn bars_are_labels()
     ensures { (layout : Layout) (s : LabeledFileModel)
-        → StartsBeforeEnds s.labels → BarsAreLabels layout s }
+        → NoneReversed s.labels → BarsAreLabels layout s }
 {}
 
 /// States that each lane is one line, a top corner, bars, and a bottom corner below it, where no
@@ -99,7 +99,7 @@ pub fn bars_are_labels()
 /// the lane out below a corner in the source row.
 pub fn lanes_are_lines()
     ensures { (config : Config) (layout : Layout) (s : LabeledFileModel)
-        → StartsBeforeEnds s.labels → LanesJoinCorners config layout s }
+        → NoneReversed s.labels → LanesJoinCorners config layout s }
 {}
 
 /// States that after the left border the stream of each row that has lanes has what the row shows

@@ -61,8 +61,8 @@ module _ (encoding : PositionEncoding) (f : FileModel) (law : IsLawful f) (p : P
       → IsByteAt encoding f p (line_start f p.line + length (encode_utf8_all (prefix_within encoding p.character (chars (line_text f p.line)))))
   prefix-is-at units =
       let is_prefix_at : IsPrefixAt encoding f.text (line_start f p.line) (line_end f p.line) p.character =
-      prefix-is_prefix_at encoding f.text (line_start f p.line) (line_end f p.line) p.character law.is_text
-      (law.ends_after p.line exists) (law.starts_cut p.line exists) (law.ends_cut p.line exists) in
+      prefix-is_prefix_at encoding f.text (line_start f p.line) (line_end f p.line) p.character law.is_utf8
+      (law.ends_after_start p.line exists) (law.starts_on_boundaries p.line exists) (law.ends_on_boundaries p.line exists) in
       record {
         line_exists = exists;
         from_start = omega arith;

@@ -47,8 +47,8 @@ module _ (encoding : PositionEncoding) (f : FileModel) (law : IsLawful f) where
       → units_before encoding f i a < units_before encoding f i b
   units-rise i a b exists low less at_a at_b =
       let start : ℕ = line_start f i in
-      let front : IsUtf8 (slice_range f.text start a) = IsUtf8-between f.text start a law.is_text low (law.starts_cut i exists) at_a in
-      let between : IsUtf8 (slice_range f.text a b) = IsUtf8-between f.text a b law.is_text (omega arith) at_a at_b in
+      let front : IsUtf8 (slice_range f.text start a) = IsUtf8-between f.text start a law.is_utf8 low (law.starts_on_boundaries i exists) at_a in
+      let between : IsUtf8 (slice_range f.text a b) = IsUtf8-between f.text a b law.is_utf8 (omega arith) at_a at_b in
       let size : length (slice_range f.text a b) ≡ b - a = slice-length f.text a b at_b.0 in
       let some = code_units-some encoding (slice_range f.text a b) between (omega (arith, size, less)) in
       let sum : code_units encoding (slice_range f.text start b) ≡ code_units encoding (slice_range f.text start a) + code_units encoding (slice_range f.text a b) =
@@ -69,7 +69,7 @@ module _ (encoding : PositionEncoding) (f : FileModel) (law : IsLawful f) where
   -- a byte of a line is at its position
   at-own : (byte : ℕ) → IsOnLine f byte → IsByteAt encoding f (position_of encoding f byte) byte
   at-own byte on = record {
-    line_exists = line_of_below f.starts byte law.some_line;
+    line_exists = line_of_below f.starts byte law.has_line;
     from_start = line_of-start f law byte;
     to_end = on.to_end;
     boundary = on.boundary;
@@ -91,7 +91,7 @@ module _ (encoding : PositionEncoding) (f : FileModel) (law : IsLawful f) where
         | inl same ↦ inr (
           same,
           subst (λ k. units_before encoding f i a < units_before encoding f k b) same
-              (units-rise i a b (line_of_below f.starts a law.some_line) (line_of-start f law a) less on_a.boundary on_b.boundary),
+              (units-rise i a b (line_of_below f.starts a law.has_line) (line_of-start f law a) less on_a.boundary on_b.boundary),
         )
         | inr apart ↦ elim apart [
           | inl early ↦ inl early
@@ -104,12 +104,12 @@ module _ (encoding : PositionEncoding) (f : FileModel) (law : IsLawful f) where
       → IsCharBoundary f.text byte
       → chars (line_text f i) ≡ chars (slice_range f.text (line_start f i) byte) ++ chars (slice_range f.text byte (line_end f i))
   chars-parts i byte exists low high at =
-      let front : IsUtf8 (slice_range f.text (line_start f i) byte) = IsUtf8-between f.text (line_start f i) byte law.is_text low (law.starts_cut i exists) at in
+      let front : IsUtf8 (slice_range f.text (line_start f i) byte) = IsUtf8-between f.text (line_start f i) byte law.is_utf8 low (law.starts_on_boundaries i exists) at in
       ap chars (slice-parts f.text (line_start f i) byte (line_end f i) low high)
       ∙ chars-append (slice_range f.text (line_start f i) byte) (slice_range f.text byte (line_end f i)) front
 
   line-utf8 : (i : ℕ) → i < line_count f → IsUtf8 (line_text f i)
-  line-utf8 i exists = IsUtf8-between f.text (line_start f i) (line_end f i) law.is_text (law.ends_after i exists) (law.starts_cut i exists) (law.ends_cut i exists)
+  line-utf8 i exists = IsUtf8-between f.text (line_start f i) (line_end f i) law.is_utf8 (law.ends_after_start i exists) (law.starts_on_boundaries i exists) (law.ends_on_boundaries i exists)
 
   -- where a byte is at a position there is no error
   none-at : (p : Position) (byte : ℕ) → IsByteAt encoding f p byte
@@ -151,8 +151,8 @@ module _ (encoding : PositionEncoding) (f : FileModel) (law : IsLawful f) where
       let end : ℕ = line_end f p.line in
       let text : List ℕ = slice_range f.text start byte in
       let rest : List ℕ = is.starts.0 in
-      let after_utf8 : IsUtf8 (slice_range f.text byte end) = IsUtf8-between f.text byte end law.is_text is.to_end is.boundary (law.ends_cut p.line is.line_exists) in
-      let front_utf8 : IsUtf8 text = IsUtf8-between f.text start byte law.is_text is.from_start (law.starts_cut p.line is.line_exists) is.boundary in
+      let after_utf8 : IsUtf8 (slice_range f.text byte end) = IsUtf8-between f.text byte end law.is_utf8 is.to_end is.boundary (law.ends_on_boundaries p.line is.line_exists) in
+      let front_utf8 : IsUtf8 text = IsUtf8-between f.text start byte law.is_utf8 is.from_start (law.starts_on_boundaries p.line is.line_exists) is.boundary in
       let parts : chars line ≡ chars text ++ c ∷ chars rest =
       chars-parts p.line byte is.line_exists is.from_start is.to_end is.boundary
       ∙ ap (λ xs. chars text ++ xs) (chars_past_char (slice_range f.text byte end) rest c after_utf8 is.starts.1) in
@@ -160,8 +160,8 @@ module _ (encoding : PositionEncoding) (f : FileModel) (law : IsLawful f) where
       ap (prefix_within encoding n) parts ∙ prefix-inside encoding n (chars text) c (chars rest) (omega (arith, is.after)) is.before in
       let bytes : length (encode_utf8_all (prefix_within encoding n (chars line))) ≡ byte - start =
       ap (λ cs. length (encode_utf8_all cs)) prefix ∙ (ap length (encodes-chars text front_utf8) ∙ slice-length f.text start byte is.boundary.0) in
-      let size : length line ≡ end - start = slice-length f.text start end (law.ends_cut p.line is.line_exists).0 in
-      let left : length (slice_range f.text byte end) ≡ end - byte = slice-length f.text byte end (law.ends_cut p.line is.line_exists).0 in
+      let size : length line ≡ end - start = slice-length f.text start end (law.ends_on_boundaries p.line is.line_exists).0 in
+      let left : length (slice_range f.text byte end) ≡ end - byte = slice-length f.text byte end (law.ends_on_boundaries p.line is.line_exists).0 in
       let wide : 0 < length (slice_range f.text byte end) =
       omega (arith, ap length is.starts.1, length-append (encode_utf8 c) rest, length-encode c, (len_utf8_bounds c).0) in
       let units : total_units encoding (prefix_within encoding n (chars line)) ≡ units_before encoding f p.line byte = ap (total_units encoding) prefix in

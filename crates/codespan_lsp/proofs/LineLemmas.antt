@@ -66,7 +66,7 @@ pub line_of-start : (f : FileModel) → IsLawful f → (byte : ℕ)
 unfolding line_of
 line_of-start f law byte =
     counted-le byte f.starts law.ascending (line_of f.starts byte)
-    (omega (arith, some-counted byte f.starts law.some_line law.first))
+    (omega (arith, some-counted byte f.starts law.has_line law.first))
 
 -- a later byte is on no earlier line
 one-later : (s a b : ℕ) → a ≤ b → cond (nat_le s a) 1 0 ≤ cond (nat_le s b) 1 0

@@ -1,7 +1,7 @@
 //! The bytes of the output.
 
 ghost use Rattle.std.specs.Prelude.{◌≡◌, ◌++◌, true, IfOk, OnOk};
-ghost use Rattle.codespan_base.specs.Streams.{no_style_marks, spelled};
+ghost use Rattle.codespan_base.specs.Streams.{plain_spelling, spelled};
 ghost use Rattle.codespan_base.specs.WriterLaw.{is_known, with_written};
 ghost use Rattle.codespan_base.specs.declared.term.config.DisplayStyle.TheVariants.{Rich};
 ghost use Rattle.codespan_laws.specs.RichLaws.{MeansLabels};
@@ -64,7 +64,7 @@ fn render_plain(
     files: &NativeFiles<'_>,
     diagnostic: &Diagnostic<usize>,
 ) -> Result<Vec<u8>, OutOfMemory>
-    ensures value { IfOk result (λ bytes. bytes.items ≡ buffer.items ++ spelled no_style_marks
+    ensures value { IfOk result (λ bytes. bytes.items ≡ buffer.items ++ spelled plain_spelling
         (stream_of_output config.now (native_file_views files.now) diagnostic.now)) }
     ensures means { IfOk result (λ _. config.now.display_style ≡ Rich
         → MeansLabels config.now config.now

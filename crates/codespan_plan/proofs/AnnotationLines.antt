@@ -46,7 +46,7 @@ module _ {Id : Type 0} {same : Id → Id → Bool} {file : Id → FileModel} {id
 
   -- a label is on lines that the file has
   ends-below : (x : LabelModel) → (first_line own_file x < line_count own_file) × (last_line own_file x < line_count own_file)
-  ends-below x = (line_of-below own_file.starts x.start here.some_line, line_of-below own_file.starts x.end here.some_line)
+  ends-below x = (line_of-below own_file.starts x.start here.has_line, line_of-below own_file.starts x.end here.has_line)
 
   -- its annotations of the file are of such lines
   pub annotations-below : (xs before : List (InFile Id)) → AllByRecursion (λ e. is_of_file f e ≡ true → e.line < line_count own_file) (annotations_after same file config ids before xs)

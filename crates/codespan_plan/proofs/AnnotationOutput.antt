@@ -76,7 +76,7 @@ module _ {Id : Type 0} {database : FileDatabase Id} (lawful : AreFiles database)
     index = index_of_file-at same lawful.equivalence xs f id at;
     one_file = λ i t. sym (lawful.one_file id i t);
     lanes = λ before i t. sym (num_multi_labels_of-equal lawful before id i t);
-    some_line = lawful.some_line id;
+    has_line = lawful.has_line id;
   }
 
   -- its annotations are of the file

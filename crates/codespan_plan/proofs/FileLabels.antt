@@ -29,4 +29,4 @@ pub record HasFileIndex {Id : Type 0} (same : Id → Id → Bool) (file : Id →
   pub index : (i : Id) → (index_of_file same ids i == f) ≡ same id i
   pub one_file : (i : Id) → same id i ≡ true → file i ≡ file id
   pub lanes : (before : List (InFile Id)) (i : Id) → same id i ≡ true → num_multi_labels_of same file before i ≡ num_multi_labels_of same file before id
-  pub some_line : 0 < line_count (file id)
+  pub has_line : 0 < line_count (file id)

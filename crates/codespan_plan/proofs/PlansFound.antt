@@ -16,7 +16,7 @@ use Rattle.codespan_base.specs.declared.term.config.Layout.{Layout}
 use Rattle.codespan_base.specs.FileModel.{FileModel, Lookup, or_failure}
 use Rattle.codespan_picture.specs.Arguments.{locus_view}
 use Rattle.codespan_picture.specs.Lookups.{Failures, lookups_of_file, first_error}
-use Rattle.codespan_annotations.specs.FileLookups.{FailsByOrFormat}
+use Rattle.codespan_annotations.specs.FileLookups.{FailsByOrFormatError}
 use Rattle.codespan_annotations.specs.declared.annotation.Annotation.{Annotation as RustAnnotation}
 use Rattle.codespan_annotations.specs.declared.labeled_files.LabeledFile.{LabeledFile as RustFile}
 use Rattle.codespan_plan.specs.declared.plan.snippet_plans.SnippetPlan.{SnippetPlan}
@@ -175,8 +175,8 @@ module _ {Id : Type 0} {layout : Layout} {file : Id → FileModel} {es : List An
       )
 
 -- of two errors the first is kept
-first-located_fails : (o p : Option Error) (located : Result (Unit {0}) Error) (e : Error) → FailsByOrFormat o located → (e ≢ OutOfMemory → e ≢ FormatError → p ≡ Some e)
-    → FailsByOrFormat {T = Unit {0}} (or_failure o p) (result_and located (Err e))
+first-located_fails : (o p : Option Error) (located : Result (Unit {0}) Error) (e : Error) → FailsByOrFormatError o located → (e ≢ OutOfMemory → e ≢ FormatError → p ≡ Some e)
+    → FailsByOrFormatError {T = Unit {0}} (or_failure o p) (result_and located (Err e))
 first-located_fails o p (Ok x) e none known = λ memory display. or_failure-succeeded o p none ∙ known memory display
 first-located_fails o p (Err x) e located_fails known = λ memory display. or_failure-some o p x (located_fails memory display)
 
@@ -190,18 +190,18 @@ module _ {Id : Type 0} (layout : Layout) (file : Id → FileModel) (es : List An
   -- where no locus fails these are their plans
   pub record ArePlanned (files : List (RustFile Id)) (now : List (SnippetPlan Id)) (snippet_lines : List (RustLine Id)) (located : Result (Unit {0}) Error) : Type 0 where
     pub succeeded : first_error failure (number_lookups layout es (ids_view files)) ≡ None
-    pub located_fails : FailsByOrFormat (first_error failure (loci_lookups files)) located
+    pub located_fails : FailsByOrFormatError (first_error failure (loci_lookups files)) located
     pub plans : IfOk located (λ _. ArePlans layout file es 0 files now snippet_lines)
 
 module _ {Id : Type 0} {layout : Layout} {file : Id → FileModel} {es : List Annotation} {failure : Failures Id} {now : List (SnippetPlan Id)} {snippet_lines : List (RustLine Id)}
     {located : Result (Unit {0}) Error} where
   -- past the last file the lookups of all fail with what is kept
   pub plans-add : (files : List (RustFile Id)) (k : ℕ) → length files ≤ k → ArePlanned layout file es failure (take k files) now snippet_lines located
-      → FailsByOrFormat (first_error failure (number_lookups layout es (ids_view files) ++ loci_lookups files)) located
+      → FailsByOrFormatError (first_error failure (number_lookups layout es (ids_view files) ++ loci_lookups files)) located
   plans-add files k past found =
       let all = subst (λ (fs : List (RustFile Id)). ArePlanned layout file es failure fs now snippet_lines located) (take_all k files past) found in
       let numbers = number_lookups layout es (ids_view files) in
-      subst (λ o. FailsByOrFormat o located) (sym (first_error-none failure numbers (loci_lookups files) all.succeeded)) all.located_fails
+      subst (λ o. FailsByOrFormatError o located) (sym (first_error-none failure numbers (loci_lookups files) all.succeeded)) all.located_fails
 
   -- and the plans are those of all, where no error is kept
   pub plans-all : (files : List (RustFile Id)) (k : ℕ) → length files ≤ k → ArePlanned layout file es failure (take k files) now snippet_lines located
@@ -257,7 +257,7 @@ module _ {Id : Type 0} {files : List (RustFile Id)} {k : ℕ} {f : RustFile Id} 
       succeeded = lookups-more ∙ succeeded;
       located_fails =
           let others = first_error failure (loci_lookups (take k files)) in
-          subst (λ o. FailsByOrFormat o located) (sym (locus-fails failure ∙ ap (or_failure others) there ∙ or_failure-none others)) before.located_fails;
+          subst (λ o. FailsByOrFormatError o located) (sym (locus-fails failure ∙ ap (or_failure others) there ∙ or_failure-none others)) before.located_fails;
       plans =
           IfOk-weaker located (λ _. ArePlans layout file es 0 (take k files) now snippet_lines) (λ _. ArePlans layout file es 0 (take (k + 1) files) new all)
           (λ _ found. plans-with whole whole_steps is found) before.plans;
@@ -269,7 +269,7 @@ module _ {Id : Type 0} {files : List (RustFile Id)} {k : ℕ} {f : RustFile Id} 
         → ArePlanned layout file es failure (take (k + 1) files) now all (result_and located (Err e))
     planned-unlocated {all} {e} succeeded known = record {
       succeeded = lookups-more ∙ succeeded;
-      located_fails = subst (λ o. FailsByOrFormat {T = Unit {0}} o (result_and located (Err e))) (sym (locus-fails failure)) (first-located_fails _ _ located e before.located_fails known);
+      located_fails = subst (λ o. FailsByOrFormatError {T = Unit {0}} o (result_and located (Err e))) (sym (locus-fails failure)) (first-located_fails _ _ located e before.located_fails known);
       plans = some-located_fails located e (λ _. ArePlans layout file es 0 (take (k + 1) files) now all);
     }
 

@@ -7,7 +7,7 @@ use Rattle.codespan_base.specs.FileModel.{FileModel}
 use Rattle.codespan_picture.specs.Rows.{Line}
 use Rattle.codespan_picture.specs.Sequences.{break_between, gap_between, in_sequence}
 use Rattle.codespan_picture.specs.Snippets.{break_rows, line_rows}
-use Rattle.codespan_laws.proofs.Filling.{given, is_filled, lines-shown}
+use Rattle.codespan_laws.proofs.Filling.{given, is_drawn_among, lines-shown}
 use Rattle.codespan_laws.proofs.Sequences.{all-gap, all-sequence, flat_map-gap, flat_map-sequence, sequence-flat}
 use Rattle.codespan_annotations.specs.Annotations.{Annotation}
 use Rattle.codespan_plan.specs.SnippetLines.{SnippetLine, Labeled, Filled, Break, line_of_group, rows_of_line, rows_of_lines, filled_line_of, filled_lines_of, are_annotations_in_order, are_lane_marks_in_order, is_line_in_order}
@@ -40,7 +40,7 @@ snippet_lines-rendered : {A : Type 0} (image : SnippetLine → List A) (m : ℕ 
     → ((l : ℕ) → own l ≡ given (λ l. image (Labeled l (m l))) (λ l. image (Filled l (m l))) (λ d. image (Break (m d))) shown l)
     → (n : ℕ) → ((l : ℕ) → n ≤ l → shown l ≡ false)
     → flat_map image (lines_after m None (filter shown (range_with_len 0 n)))
-    ≡ in_sequence (λ l. l) (break_between (λ d. image (Break (m d)))) own None (filter (is_filled shown) (range_with_len 0 n))
+    ≡ in_sequence (λ l. l) (break_between (λ d. image (Break (m d)))) own None (filter (is_drawn_among shown) (range_with_len 0 n))
 snippet_lines-rendered image m shown own are n none =
     snippet_lines-image image m None (filter shown (range_with_len 0 n))
     ∙ sym (lines-shown (λ l. image (Labeled l (m l))) (λ l. image (Filled l (m l))) (λ d. image (Break (m d))) shown own are n none)
@@ -60,7 +60,7 @@ module _ (f : FileModel) (count : ℕ) (m : ℕ → List Annotation) where
   -- the snippet lines of shown lines make the rows of the drawn lines
   pub snippet_lines-rows : (shown : ℕ → Bool) (n : ℕ) → ((l : ℕ) → n ≤ l → shown l ≡ false)
       → rows_of_lines f count (lines_after m None (filter shown (range_with_len 0 n)))
-      ≡ in_sequence (λ l. l) (break_between (break_rows line)) (line_rows line) None (filter (is_filled shown) (range_with_len 0 n))
+      ≡ in_sequence (λ l. l) (break_between (break_rows line)) (line_rows line) None (filter (is_drawn_among shown) (range_with_len 0 n))
   snippet_lines-rows shown = snippet_lines-rendered (rows_of_line f count) m shown (line_rows line) (λ l. chosen (shown l) (line_rows line l) (line_rows line l) (λ h. refl))
 
 -- ---- labels in order
@@ -78,11 +78,11 @@ snippet_lines-fit count m fit lane_marks_fit =
 module _ (m : ℕ → List Annotation) (shown : ℕ → Bool) where
   -- the snippet lines are the shown lines and those between two of them
   pub snippet_lines-lines : (n : ℕ) → ((l : ℕ) → n ≤ l → shown l ≡ false)
-      → lines_of_snippet_lines (lines_after m None (filter shown (range_with_len 0 n))) ≡ filter (is_filled shown) (range_with_len 0 n)
+      → lines_of_snippet_lines (lines_after m None (filter shown (range_with_len 0 n))) ≡ filter (is_drawn_among shown) (range_with_len 0 n)
   snippet_lines-lines n none =
       snippet_lines-rendered line_of_snippet_line m shown (λ l. l ∷ []) (λ l. chosen (shown l) (l ∷ []) (l ∷ []) (λ _. refl)) n none
-      ∙ sequence-flat (λ l. l) (λ l. l ∷ []) None (filter (is_filled shown) (range_with_len 0 n))
-      ∙ all (filter (is_filled shown) (range_with_len 0 n))
+      ∙ sequence-flat (λ l. l) (λ l. l ∷ []) None (filter (is_drawn_among shown) (range_with_len 0 n))
+      ∙ all (filter (is_drawn_among shown) (range_with_len 0 n))
     where
       all : (ls : List ℕ) → flat_map (λ l. l ∷ []) ls ≡ ls
       all [] = refl
@@ -93,15 +93,15 @@ module _ (m : ℕ → List Annotation) (shown : ℕ → Bool) where
   fill l = if shown l then [] else l ∷ []
 
   -- the lines that are filled in are drawn and not shown
-  all_fills : (ls : List ℕ) → flat_map fill (filter (is_filled shown) ls) ≡ filter (λ l. is_filled shown l && not (shown l)) ls
+  all_fills : (ls : List ℕ) → flat_map fill (filter (is_drawn_among shown) ls) ≡ filter (λ l. is_drawn_among shown l && not (shown l)) ls
   all_fills [] = refl
-  all_fills (l ∷ ls) = by_tests (all_fills ls) (is_filled shown l) (shown l) refl
+  all_fills (l ∷ ls) = by_tests (all_fills ls) (is_drawn_among shown l) (shown l) refl
     where
       filtered : List ℕ
-      filtered = filter (is_filled shown) ls
+      filtered = filter (is_drawn_among shown) ls
 
       left : List ℕ
-      left = filter (λ k. is_filled shown k && not (shown k)) ls
+      left = filter (λ k. is_drawn_among shown k && not (shown k)) ls
 
       by_tests : flat_map fill filtered ≡ left → (a b : Bool) → shown l ≡ b → flat_map fill (cond a (l ∷ filtered) filtered) ≡ cond (a && not b) (l ∷ left) left
       by_tests rest false b e = rest
@@ -110,8 +110,8 @@ module _ (m : ℕ → List Annotation) (shown : ℕ → Bool) where
 
   -- the snippet lines fill in the lines between two shown ones
   pub snippet_lines-fills : (n : ℕ) → ((l : ℕ) → n ≤ l → shown l ≡ false)
-      → filled_lines_of (lines_after m None (filter shown (range_with_len 0 n))) ≡ filter (λ l. is_filled shown l && not (shown l)) (range_with_len 0 n)
+      → filled_lines_of (lines_after m None (filter shown (range_with_len 0 n))) ≡ filter (λ l. is_drawn_among shown l && not (shown l)) (range_with_len 0 n)
   snippet_lines-fills n none =
       snippet_lines-rendered filled_line_of m shown fill (λ l. refl) n none
-      ∙ sequence-flat (λ l. l) fill None (filter (is_filled shown) (range_with_len 0 n))
+      ∙ sequence-flat (λ l. l) fill None (filter (is_drawn_among shown) (range_with_len 0 n))
       ∙ all_fills (range_with_len 0 n)

@@ -1,7 +1,7 @@
 //! The plan of a rich output: all that is known before its header is rendered.
 
 ghost use Rattle.std.specs.Prelude.{IfOk, map};
-ghost use Rattle.codespan_annotations.specs.FileLookups.{FailsByOrFormat};
+ghost use Rattle.codespan_annotations.specs.FileLookups.{FailsByOrFormatError};
 ghost use Rattle.codespan_picture.specs.OutputStreams.{label_of};
 ghost use Rattle.codespan_collect.specs.Collections.{IsCollected};
 ghost use Rattle.codespan_plan.specs.OutputPlans.{IsOutputPlan, output_plan_failure};
@@ -60,7 +60,7 @@ pub fn plan_output<'files, 'e, 'd, F: Files<'files>>(
         collected.now }
     ensures planned { IfOk result (IsOutputPlan (F.database files.now) config.now
         (map label_of collected.now.labels.now)) }
-    ensures failed { FailsByOrFormat (output_plan_failure config.now (F.database files.now)
+    ensures failed { FailsByOrFormatError (output_plan_failure config.now (F.database files.now)
         (map label_of collected.now.labels.now)) result }
 {
     let mut snippet_lines = Vec::with_capacity(alloc, line_capacity(collected))?;

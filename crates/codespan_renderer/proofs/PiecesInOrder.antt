@@ -1,4 +1,4 @@
--- For `take_line`: prefixes and suffixes of labels in order are in order.
+-- For `cache_line`: prefixes and suffixes of labels in order are in order.
 use Rattle.std.proofs.Common.{◌≡◌, ℕ, ◌≤◌, true, nat_le, List, [], ◌∷◌, ◌++◌, refl, ap, ◌∙◌, arith}
 use Rattle.std.proofs.lemmas.Bool.{and_parts}
 use Rattle.std.proofs.lemmas.Bool.Decides.{nat_tests}

@@ -19,7 +19,7 @@ use Rattle.codespan_renderer.specs.Private.PreferredStyles.{prefer_primary, pref
 use Rattle.codespan_row_parts.specs.Runs.{AreHanging}
 use Rattle.codespan_renderer.proofs.PreferredStyles.{preferred-cons, preferred-primary}
 use Rattle.codespan_row_parts.proofs.RowEquations.{spaces-add}
-use Rattle.codespan_row_parts.proofs.Hanging.{hanging_parts, spaces_is}
+use Rattle.codespan_row_parts.proofs.Hanging.{hanging_parts, is_empty_bytes}
 
 -- ---- the style of a pointer
 
@@ -69,7 +69,7 @@ pub preferred-step : (c : Metrics) (found best : Option LabelStyle) (xs : List S
     → empty ≡ (length (get_or xs i d).2.now == 0)
     → best ≡ (if not empty then (if starts_in c (single_label_view (get_or xs i d)) then prefer_primary found (get_or xs i d).0 else found) else found)
     → preferred_style (starts_in c) best (filter has_message (single_label_views (drop (i + 1) xs))) ≡ preferred_style (starts_in c) found (filter has_message (single_label_views (drop i xs)))
-preferred-step c found best xs i d empty h is e = rw (drop-cons xs i d h, add-one, e, spaces_is, ← is) (by_message (get_or xs i d) (not empty))
+preferred-step c found best xs i d empty h is e = rw (drop-cons xs i d h, add-one, e, is_empty_bytes, ← is) (by_message (get_or xs i d) (not empty))
   where
     by_message : (x : SingleLabelTuple) (b : Bool)
         → preferred_style (starts_in c) (if b then (if starts_in c (single_label_view x) then prefer_primary found x.0 else found) else found) (filter has_message (single_label_views (drop (suc i) xs)))

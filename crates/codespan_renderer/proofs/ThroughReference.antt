@@ -4,7 +4,7 @@ use Rattle.std.proofs.Common.{◌≡◌, ℕ, Bool, true, false, cond, List, ◌
 use Rattle.std.specs.Prelude.{◌==◌, ◌&&◌, nat_lt}
 use Rattle.std.specs.Borrow.{GName}
 use Rattle.codespan_base.specs.Streams.{Stream}
-use Rattle.codespan_base.specs.WriterLaw.{Sink, Frame, is_known, failing, with_written, PrefixWritten, Writes, Puts}
+use Rattle.codespan_base.specs.WriterLaw.{Sink, Frame, is_known, failed_frame, with_written, PrefixWritten, Writes, Puts}
 use Rattle.codespan_renderer.specs.Renderers.{sink_through}
 
 prefix_through : (name : GName) (s : Sink) (items : Stream) (t : Sink) → PrefixWritten s items t → PrefixWritten (sink_through name s) items (sink_through name t)
@@ -19,7 +19,7 @@ unfolding with_written is_known
 writes_through name s items (Ok x) t p = (ap (frame_through name) p.0, λ known. ap (sink_through name) (p.1 known))
 writes_through name s items (Err x) t p = (ap (frame_through name) p.0, λ known. prefix_through name s items t (p.1 known))
 
-flag_through : (name : GName) (f : Frame) (b : Bool) → frame_through name (cond b (failing f) f) ≡ cond b (failing (frame_through name f)) (frame_through name f)
+flag_through : (name : GName) (f : Frame) (b : Bool) → frame_through name (cond b (failed_frame f) f) ≡ cond b (failed_frame (frame_through name f)) (frame_through name f)
 flag_through name f true = refl
 flag_through name f false = refl
 

@@ -19,15 +19,15 @@ use Rattle.codespan_picture.specs.RowStreams.{pointer_row, hanging_row, stream_o
 use Rattle.codespan_row_parts.specs.Runs.{label_entry_view, AreHanging, hanging_stream}
 
 -- a text is empty as a stream where it is empty
-pub spaces_is : (text : List ℕ) → is_empty_stream (bytes text) ≡ (length text == 0)
+pub is_empty_bytes : (text : List ℕ) → is_empty_stream (bytes text) ≡ (length text == 0)
 unfolding bytes
-spaces_is [] = refl
-spaces_is (b ∷ bs) = sym (ne_eqb (length (b ∷ bs)) 0 (λ e. omega arith))
+is_empty_bytes [] = refl
+is_empty_bytes (b ∷ bs) = sym (ne_eqb (length (b ∷ bs)) 0 (λ e. omega arith))
 
 -- one of the labels from here on has a message where this one or a later one has
 pub any_from : (xs : List SingleLabelTuple) (i : ℕ) (d : SingleLabelTuple) (empty : Bool) → i < length xs → empty ≡ (length (get_or xs i d).2.now == 0)
     → list_any has_message (single_label_views (drop i xs)) ≡ (not empty || list_any has_message (single_label_views (drop (i + 1) xs)))
-any_from xs i d empty h e = rw (drop-cons xs i d h, e, spaces_is, add-one) refl
+any_from xs i d empty h e = rw (drop-cons xs i d h, e, is_empty_bytes, add-one) refl
 
 -- ---- the label whose message trails
 
@@ -107,7 +107,7 @@ without_at xs k =
 pub trails_at : (xs : List SingleLabelTuple) (k : ℕ) (d : SingleLabelTuple) (empty : Bool) → k < length xs → empty ≡ (length (get_or xs k d).2.now == 0)
     → option_map_or (does_trail (single_label_views xs)) (label_entry_view xs (Some k)) false
     ≡ (not empty && not (overlaps_any (single_label_view (get_or xs k d)) (single_label_views (take k xs)) || overlaps_any (single_label_view (get_or xs k d)) (single_label_views (drop (k + 1) xs))))
-trails_at xs k d empty h e = rw (entry_is xs k d h, without_at xs k, e, spaces_is, list_any-append) refl
+trails_at xs k d empty h e = rw (entry_is xs k d h, without_at xs k, e, is_empty_bytes, list_any-append) refl
 
 -- ---- where one trails
 
@@ -200,7 +200,7 @@ hanging_push context line xs x = rw (reverse-append xs (x ∷ [])) refl
 -- the labels with a message, of these and one more
 messages_push : (xs : List SingleLabelTuple) (x : SingleLabelTuple) (b : Bool) → not (length x.2.now == 0) ≡ b
     → filter has_message (single_label_views (push xs x)) ≡ filter has_message (single_label_views xs) ++ cond b (single_label_view x ∷ []) []
-messages_push xs x b h = rw (map-append single_label_view xs (x ∷ []), filter-append, spaces_is, h) refl
+messages_push xs x b h = rw (map-append single_label_view xs (x ∷ []), filter-append, is_empty_bytes, h) refl
 
 -- the last of the remaining labels has a message
 pub hanging_first : (context : RowContext) (line : Line) (left rest : List SingleLabelTuple) (x : SingleLabelTuple) (empty : Bool) → left ≡ push rest x

@@ -5,7 +5,7 @@ ghost use Rattle.codespan_base.specs.Streams.{newline, spaces};
 ghost use Rattle.codespan_base.specs.WriterLaw.{Writes};
 ghost use Rattle.codespan_picture.specs.Arguments.{single_label_view, single_label_views};
 ghost use Rattle.codespan_row_parts.specs.LineViews.{context_view, line_view};
-ghost use Rattle.codespan_row_parts.specs.RowViews.{hanging_stream_view, hanging_rows_view, messages_view};
+ghost use Rattle.codespan_row_parts.specs.RowViews.{hanging_stream_view, hanging_rows_view, pointer_and_hanging_view};
 ghost use Rattle.codespan_picture.specs.Lanes.{label_glyph};
 ghost use Rattle.codespan_picture.specs.RowParts.{max_label_start};
 ghost use Rattle.codespan_picture.specs.RowStreams.{pointer_row, hanging_row};
@@ -142,7 +142,7 @@ fn write_pointers_and_messages<W: PutStyle, S: LineCharacters>(
         rows.now.messages.before.now rows.now.messages.after.now }
     requires slices { ArePrefixAndSuffix rows.now.line.labels.now
         rows.now.messages.before.now rows.now.messages.after.now }
-    ensures { Writes (W.sink w.old) (messages_view rows.now.context rows.now.line rows.now.messages)
+    ensures { Writes (W.sink w.old) (pointer_and_hanging_view rows.now.context rows.now.line rows.now.messages)
         result (W.sink w.new) }
 {
     write_pointer_row(w, rows)?;

@@ -15,5 +15,5 @@ pub byte_has_line : (f : NativeFile) (byte : ℕ)
 byte_has_line f byte =
     let starts = (native_file_view f).cut.starts in
     let law = text_is_lawful f.text (location_at f.first_byte f.locations.now) in
-    let h : line_of starts byte < length starts = line_of_below starts byte law.some_line in
+    let h : line_of starts byte < length starts = line_of_below starts byte law.has_line in
     rw (le-leb (suc (line_of starts byte)) (length starts) (omega (arith, h))) refl

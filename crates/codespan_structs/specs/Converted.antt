@@ -4,7 +4,7 @@ use Rattle.std.specs.Option.{option_map_or}
 use Rattle.codespan_base.specs.Characters.{ascii, box_drawing}
 use Rattle.codespan_base.specs.Diagnostics.{DiagnosticView, LabelView}
 use Rattle.codespan_base.specs.FileModel.{FileDatabase}
-use Rattle.codespan_base.specs.Streams.{Spelling, no_style_marks}
+use Rattle.codespan_base.specs.Streams.{Spelling, plain_spelling}
 use Rattle.codespan_base.specs.StyleTables.{ansi_spelling, default_styles}
 use Rattle.codespan_base.specs.declared.diagnostic.LabelStyle.{LabelStyle}
 use Rattle.codespan_base.specs.declared.diagnostic.LabelStyle.TheVariants.{Primary, Secondary}
@@ -172,7 +172,7 @@ custom_styles s = record {
 -- how style marks are spelled
 abbrev pub spelling_of : RawConfig → Spelling
 spelling_of c =
-    if c.spelling == 0 then no_style_marks else if c.spelling == 1 then ansi_spelling default_styles
+    if c.spelling == 0 then plain_spelling else if c.spelling == 1 then ansi_spelling default_styles
     else if c.spelling == 2 then ansi_spelling (custom_styles c.styles) else style_mark_spelling
 
 -- ---- the files

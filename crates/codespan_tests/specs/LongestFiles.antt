@@ -108,24 +108,24 @@ line_of_byte byte h =
 
 pub longest_lawful : (name : List ℕ) → IsLawful (longest_file name)
 longest_lawful name = record {
-  is_text = text_is;
+  is_utf8 = text_is;
   fits = omega (arith, text_len, greatest_is);
-  some_line = omega (arith, starts_len);
+  has_line = omega (arith, starts_len);
   first = start_at 0 (omega arith);
   ascending = λ i h. omega (
     arith,
     start_at i (omega (arith, h, starts_len)),
     start_at (i + 1) (omega (arith, h, starts_len)),
   );
-  starts_cut = cut_at;
-  ends_cut = cut_at;
-  ends_after = λ i h. omega arith;
-  ends_before = λ i h. omega (
+  starts_on_boundaries = cut_at;
+  ends_on_boundaries = cut_at;
+  ends_after_start = λ i h. omega arith;
+  ends_before_next = λ i h. omega (
     arith,
     start_at i (omega (arith, h, starts_len)),
     start_at (i + 1) (omega (arith, h, starts_len)),
   );
-  one_end = refl;
+  same_length = refl;
   missing_name = λ e. absurd (cc);
   missing_text = λ e. absurd (cc);
 }

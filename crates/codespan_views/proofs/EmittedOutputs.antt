@@ -11,7 +11,7 @@ use Rattle.codespan_base.specs.declared.files.Error.TheVariants.{OutOfMemory}
 use Rattle.std.specs.Str.{IsUtf8}
 use Rattle.codespan_base.specs.FileModel.{FileDatabase}
 use Rattle.codespan_base.specs.LawfulFiles.{IsLawful}
-use Rattle.codespan_base.specs.Streams.{Stream, Spelling, spelled, text_of, no_style_marks}
+use Rattle.codespan_base.specs.Streams.{Stream, Spelling, spelled, text_of, plain_spelling}
 use Rattle.codespan_base.specs.WriterLaw.{Frame, Sink, with_written, is_known, are_known, extended, PrefixWritten, PrefixAppended}
 use Rattle.codespan_base.specs.declared.term.config.plain_ref.PlainWriterRef.{PlainWriterRef}
 use Rattle.codespan_base.specs.Writers.{fresh_plain_ref, fresh_sink, borrow_name, plain_ref_sink, borrowed_writer}
@@ -23,7 +23,7 @@ use Rattle.codespan_views.specs.Output.{IsEmitError, IsRendered}
 use Rattle.codespan_views.specs.WriteCalls.{WritesStyled, WritesText}
 
 -- a plain writer that was empty and received a stream has its text
-written_text : {old new : Sink} {bytes : List ℕ} (s : Stream) → old ≡ fresh_sink no_style_marks (Some []) → new.contents ≡ Some bytes
+written_text : {old new : Sink} {bytes : List ℕ} (s : Stream) → old ≡ fresh_sink plain_spelling (Some []) → new.contents ≡ Some bytes
     → (is_known old ≡ true → new ≡ with_written old s) → bytes ≡ text_of s
 unfolding with_written is_known are_known extended
 written_text {old} {new} {bytes} s fresh contents written =
@@ -32,12 +32,12 @@ written_text {old} {new} {bytes} s fresh contents written =
     cc
 
 -- a stream that was written to a writer that spells style marks as nothing was written as its text
-text_written : (old new : Sink) (s : Stream) → old.frame.spelling ≡ no_style_marks → new ≡ with_written old s → new.contents ≡ extended old.contents (text_of s)
+text_written : (old new : Sink) (s : Stream) → old.frame.spelling ≡ plain_spelling → new ≡ with_written old s → new.contents ≡ extended old.contents (text_of s)
 unfolding with_written
 text_written old new s plain written = ap (λ (x : Sink). x.contents) written ∙ ap (λ (spelling : Spelling). extended old.contents (spelled spelling s)) plain
 
 -- and a prefix of one, as a prefix of its text
-text_prefix : (old new : Sink) (s : Stream) → old.frame.spelling ≡ no_style_marks → PrefixWritten old s new → PrefixAppended old.contents (text_of s) new.contents
+text_prefix : (old new : Sink) (s : Stream) → old.frame.spelling ≡ plain_spelling → PrefixWritten old s new → PrefixAppended old.contents (text_of s) new.contents
 text_prefix old new s plain p = record { prefix = p.prefix; rest = p.rest; whole = p.whole ∙ ap (λ (spelling : Spelling). spelled spelling s) plain; contents = p.contents }
 
 -- what has been written before an error of lookups, in other words about the writer
@@ -52,7 +52,7 @@ written_before-other files view_config d loci Short e unchanged wrote left =
 module _ {Id : Type 0} {config : Config} {files : FileDatabase Id} {d : Diagnostic Id} where
   -- the output that was rendered to a plain writer is what that writer has received
   pub string_rendered : {old new : Sink} {bytes : List ℕ} → WritesStyled config.display_style config config files d old (Ok tt) new
-      → old ≡ fresh_sink no_style_marks (Some []) → new.contents ≡ Some bytes → IsRendered config files d bytes
+      → old ≡ fresh_sink plain_spelling (Some []) → new.contents ≡ Some bytes → IsRendered config files d bytes
   string_rendered rendered fresh contents = record {
     loci = rendered.writes.loci;
     are_loci = rendered.writes.are_loci;
@@ -63,7 +63,7 @@ module _ {Id : Type 0} {config : Config} {files : FileDatabase Id} {d : Diagnost
 
   -- and it is UTF-8
   pub text_is_utf8 : {old new : Sink} {bytes : List ℕ} → WritesStyled config.display_style config config files d old (Ok tt) new
-      → old ≡ fresh_sink no_style_marks (Some []) → new.contents ≡ Some bytes → AreCharacters config.chars → ((id : Id) → IsLawful (files.file id)) → IsUtf8 bytes
+      → old ≡ fresh_sink plain_spelling (Some []) → new.contents ≡ Some bytes → AreCharacters config.chars → ((id : Id) → IsLawful (files.file id)) → IsUtf8 bytes
   text_is_utf8 rendered fresh contents characters lawful =
       subst IsUtf8 (sym (written_text _ fresh contents rendered.writes.received))
       (text-output files d lawful config.display_style config config characters
@@ -82,7 +82,7 @@ module _ {Id : Type 0} {config : Config} {files : FileDatabase Id} {d : Diagnost
   references_of (Err e) rendered = ⊎_elim (λ w. ap (λ (f : Frame). f.through) w.1) (λ w. ap (λ (f : Frame). f.through) w.0) rendered.writes.on_end.error_is
 
   -- a writer of plain text has received the output's text, or a prefix of it
-  written : (old new : Sink) → old.frame.spelling ≡ no_style_marks → (r : Result (Unit {0}) Error) → WritesStyled config.display_style config config files d old r new
+  written : (old new : Sink) → old.frame.spelling ≡ plain_spelling → (r : Result (Unit {0}) Error) → WritesStyled config.display_style config config files d old r new
       → WritesText config files d old.contents r new.contents
   unfolding is_known
   written old new plain (Ok done) rendered = record {

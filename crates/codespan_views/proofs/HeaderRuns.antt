@@ -13,7 +13,7 @@ use Rattle.codespan_base.specs.declared.term.config.DisplayStyle.TheVariants.{Sh
 use Rattle.codespan_base.specs.Errors.{IsIo}
 use Rattle.codespan_base.specs.FileModel.{FileDatabase, Lookup}
 use Rattle.codespan_base.specs.Streams.{Stream}
-use Rattle.codespan_base.specs.WriterLaw.{Sink, with_written, is_known, PrefixWritten, Writes, failing}
+use Rattle.codespan_base.specs.WriterLaw.{Sink, with_written, is_known, PrefixWritten, Writes, failed_frame}
 use Rattle.codespan_base.proofs.Writes.{is_known-with_written, with_written-append, with_written-nil, PrefixWritten-first, PrefixWritten-last}
 use Rattle.codespan_picture.specs.Lookups.{first_error, header_lookups_of}
 use Rattle.codespan_picture.specs.OutputStreams.{AreLoci, IsLocus, header_text_of, label_locus_start, notes_of}
@@ -91,7 +91,7 @@ module _ {Id : Type 0} {config : Config} (files : FileDatabase Id) {d : Diagnost
     received = λ known. prefix_whole stop.locus known (λ there.
         subst (λ (s : Stream). PrefixWritten w.mid s new) (sym (headers_stream-append config d (stop.locus ∷ []) others))
         (PrefixWritten-first w.mid (headers_stream config d (stop.locus ∷ [])) new (headers_stream config d others) (stop.prefix there)));
-    on_end = record { error_is = inl (stop.io, stop.frame ∙ ap failing w.written.frame); early = λ rich. cc };
+    on_end = record { error_is = inl (stop.io, stop.frame ∙ ap failed_frame w.written.frame); early = λ rich. cc };
   }
 
   -- a lookup for a header failed, or an allocation, or a `Display`
@@ -197,7 +197,7 @@ module _ {Id : Type 0} {config : Config} (files : FileDatabase Id) {d : Diagnost
         let is = none_written none known in
         subst (λ (s : Stream). PrefixWritten old s new) (sym (bare none))
         (subst (λ (x : Sink). PrefixWritten x (header config d None) new) is (writes.1 (ap is_known is ∙ known)));
-    on_end = record { error_is = inl (io, writes.0 ∙ ap failing written.frame); early = λ rich. cc };
+    on_end = record { error_is = inl (io, writes.0 ∙ ap failed_frame written.frame); early = λ rich. cc };
   }
 
 -- ---- the notes after them
@@ -250,5 +250,5 @@ module _ {Id : Type 0} {config : Config} {files : FileDatabase Id} {d : Diagnost
             let is = rendered.received known in
             subst (λ (s : Stream). PrefixWritten old s new) (sym rows)
             (PrefixWritten-last old before notes new (subst (λ (y : Sink). PrefixWritten y notes new) is (writes.1 (ap is_known is ∙ is_known-with_written old before ∙ known))));
-        on_end = record { error_is = inl (io, writes.0 ∙ ap failing rendered.on_end.0); early = λ rich. cc };
+        on_end = record { error_is = inl (io, writes.0 ∙ ap failed_frame rendered.on_end.0); early = λ rich. cc };
       }

@@ -28,7 +28,7 @@ module _ {Id : Type 0} (files : FileDatabase Id) (d : Diagnostic Id) (loci : Lis
 
   -- and their names are UTF-8
   pub file_texts : AllZip IsLocusOfFile own loci → NamesAreTexts loci
-  file_texts are = zip_texts IsLocusOfFile (λ s p h. h.is_text) own loci are
+  file_texts are = zip_texts IsLocusOfFile (λ s p h. h.is_utf8) own loci are
 
   -- those of the labels' headers are loci of a short output
   pub label_loci : AllZip (IsLocusOfLabel files.file) primary_labels loci → AreLoci files d Short loci
@@ -38,4 +38,4 @@ module _ {Id : Type 0} (files : FileDatabase Id) (d : Diagnostic Id) (loci : Lis
 
   -- and their names are UTF-8
   pub label_texts : AllZip (IsLocusOfLabel files.file) primary_labels loci → NamesAreTexts loci
-  label_texts are = zip_texts (IsLocusOfLabel files.file) (λ x p h. h.is_text) primary_labels loci are
+  label_texts are = zip_texts (IsLocusOfLabel files.file) (λ x p h. h.is_utf8) primary_labels loci are

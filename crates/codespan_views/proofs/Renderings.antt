@@ -10,7 +10,7 @@ use Rattle.codespan_base.specs.declared.files.Error.TheVariants.{FormatError, Ou
 use Rattle.codespan_base.specs.Errors.{IsIo}
 use Rattle.codespan_base.specs.FileModel.{FileDatabase, Lookup}
 use Rattle.codespan_base.specs.Streams.{Stream}
-use Rattle.codespan_base.specs.WriterLaw.{Sink, with_written, is_known, PrefixWritten, Writes, failing}
+use Rattle.codespan_base.specs.WriterLaw.{Sink, with_written, is_known, PrefixWritten, Writes, failed_frame}
 use Rattle.codespan_base.proofs.KnownBytes.{extended-nil}
 use Rattle.codespan_base.specs.declared.term.config.DisplayStyle.TheVariants.{Rich}
 use Rattle.codespan_picture.specs.OutputStreams.{files_of, labels_of, output}
@@ -81,7 +81,7 @@ module _ {Id : Type 0} {renderer_config view_config : Config} {files : FileDatab
   }
 
   -- the writer failed
-  pub failed_by_writer : {old new : Sink} {e : Error} → early_failure view_config files d ≡ None → new.frame ≡ failing old.frame → IsIo e
+  pub failed_by_writer : {old new : Sink} {e : Error} → early_failure view_config files d ≡ None → new.frame ≡ failed_frame old.frame → IsIo e
       → ByLoci renderer_config view_config files d (λ s. is_known old ≡ true → PrefixWritten old s new) → WritesOutput Rich renderer_config view_config files d old (Err e) new
   failed_by_writer succeeded frame io prefix = record {
     loci = prefix.loci;

@@ -4,7 +4,7 @@ use Rattle.std.specs.Prelude.{◌≡◌, true, ℕ, List, Option, Result, MatchR
 use Rattle.codespan_picture.specs.Types.{Diagnostic, Error, Config, DisplayStyle, Rich}
 use Rattle.codespan_base.specs.FileModel.{FileDatabase}
 use Rattle.codespan_base.specs.Streams.{text_of}
-use Rattle.codespan_base.specs.WriterLaw.{AppendsBytes, WritesOrPrefix, Sink, extended, is_known, failing, with_written, are_known}
+use Rattle.codespan_base.specs.WriterLaw.{AppendsBytes, WritesOrPrefix, Sink, extended, is_known, failed_frame, with_written, are_known}
 use Rattle.codespan_laws.specs.RichLaws.{MeansLabels}
 use Rattle.codespan_picture.specs.OutputStreams.{AreLoci, output}
 use Rattle.codespan_picture.specs.Picture.{headers_at}
@@ -43,7 +43,7 @@ module _ {Id : Type 0} (style : DisplayStyle) (renderer_config view_config : Con
         (λ e. FailsAs view_config files d loci
         (new ≡ old)
         (λ wrote. is_known old ≡ true → new ≡ with_written old (headers_at renderer_config d wrote))
-        e style (new.frame ≡ failing old.frame) (new.frame ≡ old.frame))
+        e style (new.frame ≡ failed_frame old.frame) (new.frame ≡ old.frame))
 
   -- the call writes the output, and whatever the result, in rich style the output means the labels
   pub record WritesStyled (old : Sink) (r : Result (Unit {0}) Error) (new : Sink) : Type 0 where

@@ -1,7 +1,7 @@
 //! Short and medium style: a header for each primary label, and in medium style the notes.
 
 ghost use Rattle.std.specs.Prelude.{◌≡◌, ◌∷◌, [], IfOk};
-ghost use Rattle.codespan_annotations.specs.FileLookups.{FailsByOrFormat};
+ghost use Rattle.codespan_annotations.specs.FileLookups.{FailsByOrFormatError};
 ghost use Rattle.codespan_annotations.specs.TextLoci.{IsLocusOfLabel};
 ghost use Rattle.codespan_base.specs.declared.term.config.DisplayStyle.TheVariants.{Short, Medium};
 ghost use Rattle.codespan_picture.specs.Arguments.{locus_view};
@@ -194,7 +194,7 @@ fn label_locus<'files, F: Files<'files>>(
 ) -> Result<Locus, Error>
     ensures locus { IfOk result (λ locus. IsLocusOfLabel
         (F.database files.now).file (label_of label.now) (locus_view locus)) }
-    ensures failed { FailsByOrFormat
+    ensures failed { FailsByOrFormatError
         (first_error (F.database files.now).failure (header_lookups_of (label_of label.now)))
         result }
 {

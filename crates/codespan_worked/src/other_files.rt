@@ -2,7 +2,7 @@
 
 ghost use Rattle.std.specs.Prelude.{◌≡◌, ℕ, List, ◌∷◌, [], ◌++◌, codes, reverse, Some, None};
 ghost use Rattle.codespan_base.specs.Defaults.{default_config};
-ghost use Rattle.codespan_base.specs.MappedModel.{with_number};
+ghost use Rattle.codespan_base.specs.MappedModel.{with_set_number};
 ghost use Rattle.codespan_base.specs.SimpleModel.{database_failure};
 ghost use Rattle.codespan_base.specs.Streams.{text_of};
 ghost use Rattle.codespan_base.specs.declared.diagnostic.Severity.TheVariants.{Error};
@@ -14,7 +14,7 @@ ghost use Rattle.codespan_worked.specs.Worked.{text_file, mapped_text, from_zero
 /// Computes the output of a line whose number is set, and of those after it.
 fn mapped_numbers()
     ensures { text_of (rich default_config (message_only Error [])
-        (mapped_text (codes "m") (codes "a\nb\nc\nd") (with_number 2 100 []) ∷ [])
+        (mapped_text (codes "m") (codes "a\nb\nc\nd") (with_set_number 2 100 []) ∷ [])
         (label Primary 0 2 7 (codes "x") ∷ []))
         ≡ rows (codes "error: "
         ∷ codes "    ┌─ m:2:1"

@@ -3,7 +3,7 @@ use Rattle.std.specs.Prelude.{◌≡◌, ℕ, List, [], ◌∷◌, map}
 use Rattle.std.specs.Borrow.{Bor}
 use Rattle.codespan_base.specs.declared.diagnostic.Diagnostic.{Diagnostic}
 use Rattle.codespan_base.specs.Diagnostics.{DiagnosticView, LabelView, diagnostic_view}
-use Rattle.codespan_base.specs.MappedModel.{with_number}
+use Rattle.codespan_base.specs.MappedModel.{with_set_number}
 use Rattle.codespan_base.specs.DatabaseViews.{entries, mapped_name_of, mapped_source_of, name_of, set_numbers_of, source_of}
 use Rattle.gallery_script.specs.declared.case.Case.{Case}
 use Rattle.gallery_script.specs.declared.case.DatabaseKind.TheVariants as kinds
@@ -31,7 +31,7 @@ by_unit_id diagnostic =
 abbrev pub with_numbers : List (ℕ × ℕ) → List (ℕ × ℕ) → List (ℕ × ℕ)
 with_numbers settings [] = settings
 with_numbers settings (setting ∷ more) =
-    with_numbers (with_number setting.0 setting.1 settings) more
+    with_numbers (with_set_number setting.0 setting.1 settings) more
 
 -- a borrowed name and source
 abbrev pub BorrowedFile : Type 0

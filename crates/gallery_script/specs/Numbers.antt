@@ -9,5 +9,5 @@ abbrev pub IsNumber : List ℕ → ℕ → Type 0
 IsNumber text n = ParsesUnsigned {E = LineError} 64 10 text (Ok n)
 
 -- the text is not a number, or does not fit a `usize`
-abbrev pub IsNoNumber : List ℕ → Type 0
-IsNoNumber text = ParsesUnsigned {E = LineError} 64 10 text (Err BadNumber)
+abbrev pub IsBadNumber : List ℕ → Type 0
+IsBadNumber text = ParsesUnsigned {E = LineError} 64 10 text (Err BadNumber)

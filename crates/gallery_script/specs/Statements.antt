@@ -15,7 +15,7 @@ use Rattle.gallery_script.specs.declared.words.Word.TheVariants.{Database, File,
 use Rattle.gallery_script.specs.Escapes.{Unescapes}
 use Rattle.script_words.specs.Fields.{field_of, past_space, is_ignored_text}
 use Rattle.script_words.specs.Names.{severity_named, display_style_named}
-use Rattle.gallery_script.specs.Numbers.{IsNumber, IsNoNumber}
+use Rattle.gallery_script.specs.Numbers.{IsNumber, IsBadNumber}
 use Rattle.gallery_script.specs.Words.{characters_named, colors_named, database_kind_named}
 use Rattle.gallery_script.specs.Words.{layout_named, case_word_named}
 
@@ -106,19 +106,19 @@ HasUnknownName rest Severity = severity_named rest ≡ None
 HasUnknownName rest _ = ⊥
 
 -- one of the first three fields of the rest is not a number
-abbrev pub LacksOneOfThree : List ℕ → Type 0
-LacksOneOfThree rest =
-    IsNoNumber (field_of rest)
-    ⊎ (IsNoNumber (field_of (past_space rest)) ⊎ IsNoNumber (field_of (past_two rest)))
+abbrev pub HasBadNumberOfThree : List ℕ → Type 0
+HasBadNumberOfThree rest =
+    IsBadNumber (field_of rest)
+    ⊎ (IsBadNumber (field_of (past_space rest)) ⊎ IsBadNumber (field_of (past_two rest)))
 
 -- the rest lacks a number that has to follow its word
-abbrev pub LacksNumber : List ℕ → Word → Type 0
-LacksNumber rest Number = IsNoNumber (field_of rest) ⊎ IsNoNumber (past_space rest)
-LacksNumber rest Tab = IsNoNumber rest
-LacksNumber rest Context = LacksOneOfThree rest ⊎ IsNoNumber (past_three rest)
-LacksNumber rest Primary = LacksOneOfThree rest
-LacksNumber rest Secondary = LacksOneOfThree rest
-LacksNumber rest _ = ⊥
+abbrev pub HasBadNumber : List ℕ → Word → Type 0
+HasBadNumber rest Number = IsBadNumber (field_of rest) ⊎ IsBadNumber (past_space rest)
+HasBadNumber rest Tab = IsBadNumber rest
+HasBadNumber rest Context = HasBadNumberOfThree rest ⊎ IsBadNumber (past_three rest)
+HasBadNumber rest Primary = HasBadNumberOfThree rest
+HasBadNumber rest Secondary = HasBadNumberOfThree rest
+HasBadNumber rest _ = ⊥
 
 -- the text of the rest has a backslash that does not begin an escape
 abbrev pub HasBadEscape : List ℕ → Word → Type 0
@@ -135,7 +135,7 @@ HasBadEscape rest _ = ⊥
 abbrev pub IsWrong : Option Word → List ℕ → LineError → Type 0
 IsWrong word rest UnknownWord = word ≡ None
 IsWrong word rest UnknownName = IsSomeAnd word (HasUnknownName rest)
-IsWrong word rest BadNumber = IsSomeAnd word (LacksNumber rest)
+IsWrong word rest BadNumber = IsSomeAnd word (HasBadNumber rest)
 IsWrong word rest BadEscape = IsSomeAnd word (HasBadEscape rest)
 IsWrong word rest NoCase = ⊥
 IsWrong word rest NoFile = ⊥

@@ -4,7 +4,7 @@ ghost use Rattle.std.specs.Prelude.{◌≡◌, codes};
 ghost use Rattle.gallery_script.specs.declared.errors.LineError.TheVariants as line_errors;
 
 use codespan_base::files::Error;
-use program_io::run_error::OwnError;
+use program_io::run_error::ProgramError;
 use std::alloc::{AllocError, AllocFailed};
 use std::fmt;
 
@@ -38,7 +38,7 @@ pub enum GalleryError {
     CannotRender(Error),
 }
 
-impl OwnError for GalleryError {
+impl ProgramError for GalleryError {
     ghost program_name = { codes "gallery" };
 
     ghost usage_line = { codes "usage: gallery [svg|html|terminal NAME | styles] < CASES" };

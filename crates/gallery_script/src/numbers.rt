@@ -3,7 +3,7 @@
 ghost use Rattle.std.specs.Prelude.{◌≡◌, IfOk, IfErr};
 ghost use Rattle.std.specs.Str.Parse.{ParsesUnsigned};
 ghost use Rattle.script_words.specs.Fields.{field_of, past_space};
-ghost use Rattle.gallery_script.specs.Numbers.{IsNumber, IsNoNumber};
+ghost use Rattle.gallery_script.specs.Numbers.{IsNumber, IsBadNumber};
 ghost use Rattle.gallery_script.specs.declared.errors.LineError.TheVariants.{BadNumber};
 
 use crate::errors::LineError;
@@ -33,7 +33,7 @@ pub fn split_number(text: &str) -> Result<(usize, &str), LineError>
     ensures number { IfOk result (λ read. IsNumber (field_of text.now) read.0) }
     ensures left { IfOk result (λ read. read.1.now ≡ past_space text.now) }
     ensures failed { IfErr result (λ line_error. (line_error ≡ BadNumber)
-        × IsNoNumber (field_of text.now)) }
+        × IsBadNumber (field_of text.now)) }
 {
     let (number, left) = split_field(text);
     Ok((parse_number(number)?, left))

@@ -11,14 +11,14 @@ use std::io::{ErrorKind, Write};
 ///
 /// # Errors
 ///
-/// Those of [`write_whole`], and that of the flush. A prefix of the bytes, or all of them, has then
+/// Those of [`write_all`], and that of the flush. A prefix of the bytes, or all of them, has then
 /// been written.
 pub fn write_and_flush<W: Write>(output: &mut W, bytes: &[u8]) -> io::Result<()>
     ensures written { OnOk result (Appends (W.contents output.old)
         (W.contents output.new) bytes.now) }
     ensures prefix { AppendsPrefix (W.contents output.old) (W.contents output.new) bytes.now }
 {
-    write_whole(output, bytes)?;
+    write_all(output, bytes)?;
     output.flush()
 }
 
@@ -33,7 +33,7 @@ pub fn write_and_flush<W: Write>(output: &mut W, bytes: &[u8]) -> io::Result<()>
 /// - `Other`: there were `u64::MAX` writes.
 ///
 /// A prefix of the bytes has then been written.
-pub fn write_whole<W: Write>(writer: &mut W, bytes: &[u8]) -> io::Result<()>
+pub fn write_all<W: Write>(writer: &mut W, bytes: &[u8]) -> io::Result<()>
     ensures written { OnOk result (Appends (W.contents writer.old)
         (W.contents writer.new) bytes.now) }
     ensures prefix { AppendsPrefix (W.contents writer.old) (W.contents writer.new) bytes.now }

@@ -9,7 +9,7 @@ ghost use Rattle.program_io.specs.declared.run_error.RunError.TheVariants as run
 
 use crate::arguments::ArgumentsError;
 use crate::input::InputError;
-use crate::output::{write_and_flush, write_whole};
+use crate::output::{write_and_flush, write_all};
 use std::alloc::AllocError;
 use std::error::Error;
 use std::io::Write;
@@ -34,7 +34,7 @@ pub enum RunError<E> {
 
 /// An error that only one program has. Its type also has the name and the usage of that program,
 /// from which [`RunError`] makes its lines.
-pub trait OwnError: Error {
+pub trait ProgramError: Error {
     /// The program's name.
     ghost program_name: { List ℕ };
 
@@ -50,7 +50,7 @@ pub trait OwnError: Error {
         ensures { result.now ≡ usage_line };
 }
 
-impl<E: OwnError> RunError<E> {
+impl<E: ProgramError> RunError<E> {
     /// Writes the error and a newline.
     ///
     /// # Errors
@@ -68,8 +68,8 @@ impl<E: OwnError> RunError<E> {
         match self {
             // The contract of `writeln!` leaves open what a failed one has written.
             RunError::CannotWriteOutput => {
-                write_whole(error_output, E::program().as_bytes())?;
-                write_whole(error_output, b": cannot write output\n")
+                write_all(error_output, E::program().as_bytes())?;
+                write_all(error_output, b": cannot write output\n")
             }
             _ => writeln!(error_output, "{self}"),
         }
@@ -78,7 +78,7 @@ impl<E: OwnError> RunError<E> {
 
 /// Writes the error, if there is one, in one line, and returns the program's status: 0 without an
 /// error, 2 for wrong arguments, 1 for any other. A failure of `error_output` is ignored.
-pub fn conclude<E: OwnError + Drop, W: Write>(
+pub fn conclude<E: ProgramError + Drop, W: Write>(
     outcome: Result<(), RunError<E>>,
     error_output: &mut W,
 ) -> u8
@@ -157,7 +157,7 @@ impl<E> From<AllocError> for RunError<E> {
 
 /// Writes the error's line, without its newline; for [`RunError::Failed`], what the `Display` of
 /// the program's own error writes.
-impl<E: OwnError> fmt::Display for RunError<E> {
+impl<E: ProgramError> fmt::Display for RunError<E> {
     ghost output = { displayed_error E.program_name E.usage_line E.output };
 
     fn fmt<W: fmt::Write>(&self, f: &mut fmt::Formatter<W>) -> fmt::Result {
@@ -173,4 +173,4 @@ impl<E: OwnError> fmt::Display for RunError<E> {
     }
 }
 
-impl<E: OwnError> Error for RunError<E> {}
+impl<E: ProgramError> Error for RunError<E> {}

@@ -5,7 +5,7 @@ ghost use Rattle.program_io.specs.declared.run_error.RunError.TheVariants.{Faile
 ghost use Rattle.report_runs.specs.declared.report_error.ReportError.TheVariants.{CannotRender};
 
 use codespan_base::files::Error;
-use program_io::run_error::{OwnError, RunError};
+use program_io::run_error::{ProgramError, RunError};
 use std::fmt;
 
 /// An error that only `report` has.
@@ -17,7 +17,7 @@ pub enum ReportError {
     BadScript(String),
 }
 
-impl OwnError for ReportError {
+impl ProgramError for ReportError {
     ghost program_name = { codes "report" };
 
     ghost usage_line = { codes "usage: report STYLE NAME START END MESSAGE" };

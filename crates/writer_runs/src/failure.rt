@@ -53,7 +53,7 @@ pub struct FailureAt {
 
 /// An error that ends the program.
 #[derive(Drop)]
-pub enum ProgramError {
+pub enum StreamError {
     /// Reading the input failed, or it is not UTF-8.
     NoText(InputError),
     /// The line of this number, from 1, has an error.
@@ -63,27 +63,27 @@ pub enum ProgramError {
 }
 
 /// Converts an error of reading the input.
-impl From<InputError> for ProgramError {
-    fn from(error: InputError) -> ProgramError {
-        ProgramError::NoText(error)
+impl From<InputError> for StreamError {
+    fn from(error: InputError) -> StreamError {
+        StreamError::NoText(error)
     }
 }
 
 /// Converts an error of writing the output.
-impl From<io::Error> for ProgramError {
-    fn from(_error: io::Error) -> ProgramError {
-        ProgramError::CannotWriteOutput
+impl From<io::Error> for StreamError {
+    fn from(_error: io::Error) -> StreamError {
+        StreamError::CannotWriteOutput
     }
 }
 
 /// Writes a few words.
-impl fmt::Display for ProgramError {
+impl fmt::Display for StreamError {
     fn fmt<W: Write>(&self, f: &mut fmt::Formatter<W>) -> fmt::Result {
         match self {
-            ProgramError::NoText(InputError::Unreadable) => f.write_str("cannot read input"),
-            ProgramError::NoText(InputError::NotUtf8) => f.write_str("input is not UTF-8"),
-            ProgramError::Line(number, line_error) => write!(f, "line {number}: {line_error}"),
-            ProgramError::CannotWriteOutput => f.write_str("cannot write output"),
+            StreamError::NoText(InputError::Unreadable) => f.write_str("cannot read input"),
+            StreamError::NoText(InputError::NotUtf8) => f.write_str("input is not UTF-8"),
+            StreamError::Line(number, line_error) => write!(f, "line {number}: {line_error}"),
+            StreamError::CannotWriteOutput => f.write_str("cannot write output"),
         }
     }
 }

@@ -3,7 +3,7 @@
 ghost use Rattle.std.specs.Prelude.{◌≤◌};
 
 use crate::direct::rows::{DirectRow, rows};
-use crate::failure::{FailureAt, ProgramError};
+use crate::failure::{FailureAt, StreamError};
 use crate::judging::{STYLES, judge_direct, judge_output};
 use crate::rendering::CALLS;
 use crate::stops::WRITERS;
@@ -39,7 +39,7 @@ pub fn run<R: Read, W: Write, E: Write>(
 fn write_counts<E: Write>(
     error_output: &mut E,
     sum: Sum,
-    outcome: &Result<(), ProgramError>,
+    outcome: &Result<(), StreamError>,
 ) -> io::Result<()> {
     if let Err(error) = outcome {
         writeln!(error_output, "writer_runs: {error}")?;
@@ -86,7 +86,7 @@ fn judge_all<R: Read, W: Write>(
     input: &mut R,
     output: &mut W,
     sum: &mut Sum,
-) -> Result<(), ProgramError> {
+) -> Result<(), StreamError> {
     let text = read_text(alloc, input)?;
     judge_text(alloc, text.as_str(), output, sum)?;
     for rows in &rows() {
@@ -101,7 +101,7 @@ fn judge_text<W: Write>(
     text: &str,
     output: &mut W,
     sum: &mut Sum,
-) -> Result<(), ProgramError> {
+) -> Result<(), StreamError> {
     let worked_outputs = parse_outputs(alloc, text)?;
     judge_outputs(alloc, worked_outputs.as_slice(), output, sum)
 }
@@ -112,7 +112,7 @@ fn judge_outputs<W: Write>(
     worked_outputs: &[WorkedOutput<'_>],
     output: &mut W,
     sum: &mut Sum,
-) -> Result<(), ProgramError> {
+) -> Result<(), StreamError> {
     let (styles, calls) = (STYLES.len(), CALLS.len());
     for worked in worked_outputs {
         let judged = judge_output(alloc, worked);
@@ -129,7 +129,7 @@ fn judge_direct_rows<W: Write>(
     rows: &[DirectRow<'_>],
     output: &mut W,
     sum: &mut Sum,
-) -> Result<(), ProgramError> {
+) -> Result<(), StreamError> {
     for row in rows {
         let (name, judged) = (row.name, judge_direct(alloc, row));
         sum.report(output, format_args!("row {name}"), judged, row.call)?;

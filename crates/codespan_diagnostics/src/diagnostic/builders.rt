@@ -12,7 +12,7 @@ use codespan_files::files::Error;
 use std::fmt::Display;
 
 impl<FileId: Drop> Diagnostic<FileId> {
-    ghost use Rattle.codespan_diagnostics.specs.Diagnostics.{IsTextFailure};
+    ghost use Rattle.codespan_diagnostics.specs.Diagnostics.{IsDisplayError};
 
     /// Returns the diagnostic with the text that `code` displays as its code.
     ///
@@ -25,7 +25,7 @@ impl<FileId: Drop> Diagnostic<FileId> {
             IfSome (D.output code) (λ bytes. option_map string_bytes d.code ≡ Some bytes)) }
         ensures set { IfOk result (λ d. IsSome d.code) }
         ensures others { IfOk result (λ d. d ≡ record self { code = d.code }) }
-        ensures failed { IfErr result IsTextFailure }
+        ensures failed { IfErr result IsDisplayError }
     {
         self.code = Some(display_text(*self.message.allocator(), code)?);
         Ok(self)
@@ -41,7 +41,7 @@ impl<FileId: Drop> Diagnostic<FileId> {
         ensures message { IfOk result (λ d.
             IfSome (D.output message) (λ bytes. string_bytes d.message ≡ bytes)) }
         ensures others { IfOk result (λ d. d ≡ record self { message = d.message }) }
-        ensures failed { IfErr result IsTextFailure }
+        ensures failed { IfErr result IsDisplayError }
     {
         self.message = display_text(*self.message.allocator(), message)?;
         Ok(self)
@@ -117,7 +117,7 @@ impl<FileId: Drop> Diagnostic<FileId> {
         ensures added { IfOk result (λ d.
             (added : String Global) × (d.notes.items ≡ self.notes.items ++ added ∷ [])) }
         ensures others { IfOk result (λ d. d ≡ record self { notes = d.notes }) }
-        ensures failed { IfErr result IsTextFailure }
+        ensures failed { IfErr result IsDisplayError }
     {
         let text = display_text(*self.message.allocator(), note)?;
         self.notes.push(text)?;

@@ -1,7 +1,7 @@
 //! The text of a value's `Display` as a `String`.
 
 ghost use Rattle.std.specs.Prelude.{◌≡◌, ◌++◌, IfOk, IfSome, IfErr, string_bytes};
-ghost use Rattle.codespan_diagnostics.specs.Diagnostics.{IsTextFailure};
+ghost use Rattle.codespan_diagnostics.specs.Diagnostics.{IsDisplayError};
 
 use codespan_files::files::Error;
 use std::alloc::Global;
@@ -39,7 +39,7 @@ impl Write for DisplayBuffer {
 pub fn display_text<D: Display + Drop>(alloc: Global, value: D) -> Result<String, Error>
     ensures text { IfOk result (λ text.
         IfSome (D.output value) (λ bytes. string_bytes text ≡ bytes)) }
-    ensures failed { IfErr result IsTextFailure }
+    ensures failed { IfErr result IsDisplayError }
 {
     let mut buffer = DisplayBuffer {
         text: String::new(alloc),

@@ -145,8 +145,8 @@ module _ (f : FileModel) (law : IsLawful f) where
   pub lines_within_text : line_count f ≤ length f.text + 1
   lines_within_text =
       let last : ℕ = line_count f - 1 in
-      let below : last < line_count f = omega (arith, law.some_line) in
-      omega (arith, start_from_index last below, (law.starts_cut last below).0)
+      let below : last < line_count f = omega (arith, law.has_line) in
+      omega (arith, start_from_index last below, (law.starts_on_boundaries last below).0)
 
   -- and at most as many lines as there are `usize` indices
   pub lines_have_indices : line_count f ≤ 2 ^ 64

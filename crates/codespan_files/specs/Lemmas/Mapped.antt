@@ -78,16 +78,16 @@ pub mapped_lawful : (name : Option (List ℕ)) (text : List ℕ) (set_numbers : 
 mapped_lawful name text set_numbers u fits =
     let law = simple_lawful name text u fits in
     record {
-      is_text = law.is_text;
+      is_utf8 = law.is_utf8;
       fits = law.fits;
-      some_line = law.some_line;
+      has_line = law.has_line;
       first = law.first;
       ascending = law.ascending;
-      starts_cut = law.starts_cut;
-      ends_cut = end_cut text u;
-      ends_after = end_after text u;
-      ends_before = λ i h. omega (arith, mapped_end_before_last text i h);
-      one_end = simp (length-append, length-map) (omega arith);
+      starts_on_boundaries = law.starts_on_boundaries;
+      ends_on_boundaries = end_cut text u;
+      ends_after_start = end_after text u;
+      ends_before_next = λ i h. omega (arith, mapped_end_before_last text i h);
+      same_length = simp (length-append, length-map) (omega arith);
       missing_name = law.missing_name;
       missing_text = law.missing_text;
     }

@@ -21,16 +21,16 @@ cut_at_zero (suc i) h = absurd (omega arith)
 -- the file of an id that names none is lawful
 missing_lawful : IsLawful missing_file
 missing_lawful = record {
-  is_text = IsUtf8-nil;
+  is_utf8 = IsUtf8-nil;
   fits = omega arith;
-  some_line = omega arith;
+  has_line = omega arith;
   first = refl;
   ascending = λ i h. absurd (omega arith);
-  starts_cut = cut_at_zero;
-  ends_cut = cut_at_zero;
-  ends_after = λ i h. omega arith;
-  ends_before = λ i h. absurd (omega arith);
-  one_end = refl;
+  starts_on_boundaries = cut_at_zero;
+  ends_on_boundaries = cut_at_zero;
+  ends_after_start = λ i h. omega arith;
+  ends_before_next = λ i h. absurd (omega arith);
+  same_length = refl;
   missing_name = λ _. refl;
   missing_text = λ _. refl;
 }

@@ -86,16 +86,16 @@ end_after text u i h =
 pub simple_lawful : (name : Option (List ℕ)) (text : List ℕ) → IsUtf8 text → length text < 2 ^ 64
     → IsLawful (simple_file name text)
 simple_lawful name text u fits = record {
-  is_text = u;
+  is_utf8 = u;
   fits = fits;
-  some_line = omega arith;
+  has_line = omega arith;
   first = refl;
   ascending = ascending text;
-  starts_cut = start_cut text u;
-  ends_cut = end_cut text u;
-  ends_after = end_after text u;
-  ends_before = λ i h. omega (arith, end_before_last text i h);
-  one_end = simp length-append (omega arith);
+  starts_on_boundaries = start_cut text u;
+  ends_on_boundaries = end_cut text u;
+  ends_after_start = end_after text u;
+  ends_before_next = λ i h. omega (arith, end_before_last text i h);
+  same_length = simp length-append (omega arith);
   missing_name = λ e. absurd (cc);
   missing_text = λ e. absurd (cc);
 }
@@ -181,16 +181,16 @@ pub renumbered_lawful : (f : FileModel) (number : ℕ → ℕ) (column : ℕ →
     (location : ℕ → Location) → IsLawful f
     → IsLawful (record f { line_number = number; column_number = column; location = location })
 renumbered_lawful f number column location law = record {
-  is_text = law.is_text;
+  is_utf8 = law.is_utf8;
   fits = law.fits;
-  some_line = law.some_line;
+  has_line = law.has_line;
   first = law.first;
   ascending = law.ascending;
-  starts_cut = law.starts_cut;
-  ends_cut = law.ends_cut;
-  ends_after = law.ends_after;
-  ends_before = law.ends_before;
-  one_end = law.one_end;
+  starts_on_boundaries = law.starts_on_boundaries;
+  ends_on_boundaries = law.ends_on_boundaries;
+  ends_after_start = law.ends_after_start;
+  ends_before_next = law.ends_before_next;
+  same_length = law.same_length;
   missing_name = law.missing_name;
   missing_text = law.missing_text;
 }

@@ -61,7 +61,7 @@ impl<Name, Source: AsStr> MappedFile<Name, Source> {
     ghost use Rattle.codespan_files.specs.DatabaseViews.{mapped_name_of, mapped_source_of, mapped_text_of, set_numbers_of};
     ghost use Rattle.codespan_files.specs.LawfulFiles.{FailsBy};
     ghost use Rattle.codespan_files.specs.SimpleModel.{past_end_failure};
-    ghost use Rattle.codespan_files.specs.MappedModel.{nearest_set, with_number};
+    ghost use Rattle.codespan_files.specs.MappedModel.{nearest_set, with_set_number};
 
     /// Sets the number of the line at this index, from 0; replaces an earlier one. The law
     /// [`codespan_base::laws::set_numbers_count_on`] states what becomes of the other lines.
@@ -77,7 +77,7 @@ impl<Name, Source: AsStr> MappedFile<Name, Source> {
         ensures name { mapped_name_of self.new ≡ mapped_name_of self.old }
         ensures source { mapped_source_of self.new ≡ mapped_source_of self.old }
         ensures ok { OnOk result
-            (set_numbers_of self.new ≡ with_number line_index number (set_numbers_of self.old)) }
+            (set_numbers_of self.new ≡ with_set_number line_index number (set_numbers_of self.old)) }
         ensures err { OnErr result (set_numbers_of self.new ≡ set_numbers_of self.old) }
         ensures failed { FailsBy (past_end_failure (mapped_text_of self.old) line_index) result }
     {

@@ -6,7 +6,7 @@ ghost use Rattle.std.specs.List.Sorted.{IsSortedBy};
 ghost use Rattle.std.specs.Result.{result_and};
 ghost use Rattle.codespan_base.specs.LawfulFiles.{FailsBy};
 ghost use Rattle.codespan_picture.specs.Arguments.{locus_view};
-ghost use Rattle.codespan_annotations.specs.FileLookups.{FailsByOrFormat, failure_in};
+ghost use Rattle.codespan_annotations.specs.FileLookups.{FailsByOrFormatError, failure_in};
 ghost use Rattle.codespan_annotations.specs.Annotations.{is_before};
 ghost use Rattle.codespan_annotations.specs.AnnotationViews.{IsLineOf, IsOfFiles, annotation_view};
 ghost use Rattle.codespan_annotations.specs.LabeledFiles.{ids_view};
@@ -92,7 +92,7 @@ fn locate_snippet<'files, 'e, F: Files<'files>>(
     ensures locus { IfOk result (λ snippet_plan. IsTextLocus
         (locus_start_of (F.database files.now).file file.now) (locus_view snippet_plan.locus)) }
     ensures line_total { IfOk result (λ snippet_plan. snippet_plan.line_total ≡ line_total) }
-    ensures failed { FailsByOrFormat (locus_failure (F.database files.now).failure file.now)
+    ensures failed { FailsByOrFormatError (locus_failure (F.database files.now).failure file.now)
         result }
 {
     let source = SourceFile {
@@ -108,7 +108,7 @@ fn locate_snippet<'files, 'e, F: Files<'files>>(
 }
 
 /// Returns the first error: that of `located` if it is `Err`, else `failed`.
-fn first_failed(located: Result<(), Error>, failed: Error) -> Result<(), Error>
+fn first_error_of(located: Result<(), Error>, failed: Error) -> Result<(), Error>
     ensures { result ≡ result_and located (Err failed) }
 {
     located.and(Err(failed))
@@ -146,7 +146,7 @@ pub fn plan_snippets<'files, 'e, 'd, F: Files<'files>>(
     ensures plans { IfOk result
         (λ snippet_plans. ArePlansOf layout (F.database files.now).file collected.now
         snippet_plans.items snippet_lines.new.items) }
-    ensures failed { FailsByOrFormat
+    ensures failed { FailsByOrFormatError
         (plans_failure layout (F.database files.now).failure collected.now) result }
 {
     let mut snippet_plans = Vec::with_capacity(alloc, collected.files.len())?;
@@ -159,7 +159,7 @@ pub fn plan_snippets<'files, 'e, 'd, F: Files<'files>>(
         start += len;
         match locate_snippet(alloc, files, file, line_total) {
             Ok(snippet_plan) => snippet_plans.push(snippet_plan)?,
-            Err(failed) => located = first_failed(located, failed),
+            Err(failed) => located = first_error_of(located, failed),
         }
     }
     located?;

@@ -20,7 +20,7 @@ use codespan_row_parts::parts::write_newline;
 use codespan_rows::header::{write_header, write_snippet_start};
 use codespan_rows::line_rows::write_line;
 use codespan_rows::notes::{write_break, write_note, write_snippet_empty};
-use row_writer::{RowWriter, with_error, write_zero_error};
+use row_writer::{RowWriter, with_saved_error, write_zero_error};
 use scanned_line::ScannedLine;
 use std::cell::Cell;
 use std::io;
@@ -118,7 +118,7 @@ impl<'writer, 'config, W: WriteStyle> Renderer<'writer, 'config, W> {
     {
         let mut rows = RowWriter::new(self.writer, &self.saved);
         let written = write_header(&mut rows, locus, severity, code, message);
-        with_error(written, &self.saved)
+        with_saved_error(written, &self.saved)
     }
 
     /// Writes an empty line: a line feed alone.
@@ -131,7 +131,7 @@ impl<'writer, 'config, W: WriteStyle> Renderer<'writer, 'config, W> {
     {
         let mut rows = RowWriter::new(self.writer, &self.saved);
         let written = write_newline(&mut rows);
-        with_error(written, &self.saved)
+        with_saved_error(written, &self.saved)
     }
 
     /// Writes the start of a snippet: `snippet_start` of the configuration, and the locus.
@@ -146,7 +146,7 @@ impl<'writer, 'config, W: WriteStyle> Renderer<'writer, 'config, W> {
         let config = self.config;
         let mut rows = RowWriter::new(self.writer, &self.saved);
         let written = write_snippet_start(&mut rows, &config.chars, outer_padding, locus);
-        with_error(written, &self.saved)
+        with_saved_error(written, &self.saved)
     }
 
     /// Writes a line of the source with the carets, messages and underlines of its labels.
@@ -196,7 +196,7 @@ impl<'writer, 'config, W: WriteStyle> Renderer<'writer, 'config, W> {
         };
         let mut rows = RowWriter::new(self.writer, &self.saved);
         let written = write_line(&mut rows, context, line, &scanned);
-        with_error(written, &self.saved)
+        with_saved_error(written, &self.saved)
     }
 
     /// Writes an empty row: the border and the lanes alone.
@@ -226,7 +226,7 @@ impl<'writer, 'config, W: WriteStyle> Renderer<'writer, 'config, W> {
         };
         let mut rows = RowWriter::new(self.writer, &self.saved);
         let written = write_snippet_empty(&mut rows, context, lanes);
-        with_error(written, &self.saved)
+        with_saved_error(written, &self.saved)
     }
 
     /// Writes a break, for lines that are left out. The views pass the lane marks of the next line,
@@ -257,7 +257,7 @@ impl<'writer, 'config, W: WriteStyle> Renderer<'writer, 'config, W> {
         };
         let mut rows = RowWriter::new(self.writer, &self.saved);
         let written = write_break(&mut rows, context, lanes);
-        with_error(written, &self.saved)
+        with_saved_error(written, &self.saved)
     }
 
     /// Writes a note: a row for each of its lines, the first after the note bullet. An empty note
@@ -273,6 +273,6 @@ impl<'writer, 'config, W: WriteStyle> Renderer<'writer, 'config, W> {
         let config = self.config;
         let mut rows = RowWriter::new(self.writer, &self.saved);
         let written = write_note(&mut rows, &config.chars, outer_padding, message);
-        with_error(written, &self.saved)
+        with_saved_error(written, &self.saved)
     }
 }

@@ -38,13 +38,13 @@ module _ (text : List ℕ) (first : ℕ) where
   record Chain (ls : List RawLine) : Type 0 where
     pub rising : (i : ℕ) → i + 1 < length (starts_of first ls)
         → slice_index (starts_of first ls) i < slice_index (starts_of first ls) (i + 1)
-    pub starts_cut : (i : ℕ) → i < length (starts_of first ls)
+    pub starts_on_boundaries : (i : ℕ) → i < length (starts_of first ls)
         → IsCharBoundary text (slice_index (starts_of first ls) i)
-    pub ends_cut : (i : ℕ) → i < length (starts_of first ls)
+    pub ends_on_boundaries : (i : ℕ) → i < length (starts_of first ls)
         → IsCharBoundary text (slice_index (ends_of first ls) i)
-    pub ends_after : (i : ℕ) → i < length (starts_of first ls)
+    pub ends_after_start : (i : ℕ) → i < length (starts_of first ls)
         → slice_index (starts_of first ls) i ≤ slice_index (ends_of first ls) i
-    pub ends_before : (i : ℕ) → i + 1 < length (starts_of first ls)
+    pub ends_before_next : (i : ℕ) → i + 1 < length (starts_of first ls)
         → slice_index (ends_of first ls) i ≤ slice_index (starts_of first ls) (i + 1)
 
   -- what the test says of the first of some lines, and of those after it
@@ -82,19 +82,19 @@ module _ (text : List ℕ) (first : ℕ) where
       → IsCharBoundary text (l.end - first) → l.start - first ≤ l.end - first → Chain (l ∷ [])
   chain_one l s e h = record {
     rising = λ i p. absurd (omega (arith, p));
-    starts_cut = one_start;
-    ends_cut = one_end;
-    ends_after = one_after;
-    ends_before = λ i p. absurd (omega (arith, p));
+    starts_on_boundaries = one_start;
+    ends_on_boundaries = end_on_boundary;
+    ends_after_start = one_after;
+    ends_before_next = λ i p. absurd (omega (arith, p));
   }
     where
       one_start : (i : ℕ) → i < 1 → IsCharBoundary text (slice_index ((l.start - first) ∷ []) i)
       one_start zero p = s
       one_start (suc i) p = absurd (omega (arith, p))
 
-      one_end : (i : ℕ) → i < 1 → IsCharBoundary text (slice_index ((l.end - first) ∷ []) i)
-      one_end zero p = e
-      one_end (suc i) p = absurd (omega (arith, p))
+      end_on_boundary : (i : ℕ) → i < 1 → IsCharBoundary text (slice_index ((l.end - first) ∷ []) i)
+      end_on_boundary zero p = e
+      end_on_boundary (suc i) p = absurd (omega (arith, p))
 
       one_after : (i : ℕ) → i < 1
           → slice_index ((l.start - first) ∷ []) i ≤ slice_index ((l.end - first) ∷ []) i
@@ -108,10 +108,10 @@ module _ (text : List ℕ) (first : ℕ) where
       → Chain (m ∷ ms) → Chain (l ∷ m ∷ ms)
   chain_more l m ms s e h later apart c = record {
     rising = rising;
-    starts_cut = starts_cut;
-    ends_cut = ends_cut;
-    ends_after = ends_after;
-    ends_before = ends_before;
+    starts_on_boundaries = starts_on_boundaries;
+    ends_on_boundaries = ends_on_boundaries;
+    ends_after_start = ends_after_start;
+    ends_before_next = ends_before_next;
   }
     where
       rising : (i : ℕ) → i + 1 < length (starts_of first (l ∷ m ∷ ms))
@@ -121,28 +121,28 @@ module _ (text : List ℕ) (first : ℕ) where
       rising (suc k) p =
           let q : suc k + 1 ≡ suc (k + 1) = omega arith in rw q (c.rising k (omega (arith, p)))
 
-      starts_cut : (i : ℕ) → i < length (starts_of first (l ∷ m ∷ ms))
+      starts_on_boundaries : (i : ℕ) → i < length (starts_of first (l ∷ m ∷ ms))
           → IsCharBoundary text (slice_index (starts_of first (l ∷ m ∷ ms)) i)
-      starts_cut zero p = s
-      starts_cut (suc k) p = c.starts_cut k (omega (arith, p))
+      starts_on_boundaries zero p = s
+      starts_on_boundaries (suc k) p = c.starts_on_boundaries k (omega (arith, p))
 
-      ends_cut : (i : ℕ) → i < length (starts_of first (l ∷ m ∷ ms))
+      ends_on_boundaries : (i : ℕ) → i < length (starts_of first (l ∷ m ∷ ms))
           → IsCharBoundary text (slice_index (ends_of first (l ∷ m ∷ ms)) i)
-      ends_cut zero p = e
-      ends_cut (suc k) p = c.ends_cut k (omega (arith, p))
+      ends_on_boundaries zero p = e
+      ends_on_boundaries (suc k) p = c.ends_on_boundaries k (omega (arith, p))
 
-      ends_after : (i : ℕ) → i < length (starts_of first (l ∷ m ∷ ms))
+      ends_after_start : (i : ℕ) → i < length (starts_of first (l ∷ m ∷ ms))
           → slice_index (starts_of first (l ∷ m ∷ ms)) i
           ≤ slice_index (ends_of first (l ∷ m ∷ ms)) i
-      ends_after zero p = h
-      ends_after (suc k) p = c.ends_after k (omega (arith, p))
+      ends_after_start zero p = h
+      ends_after_start (suc k) p = c.ends_after_start k (omega (arith, p))
 
-      ends_before : (i : ℕ) → i + 1 < length (starts_of first (l ∷ m ∷ ms))
+      ends_before_next : (i : ℕ) → i + 1 < length (starts_of first (l ∷ m ∷ ms))
           → slice_index (ends_of first (l ∷ m ∷ ms)) i
           ≤ slice_index (starts_of first (l ∷ m ∷ ms)) (i + 1)
-      ends_before zero p = apart
-      ends_before (suc k) p =
-          let q : suc k + 1 ≡ suc (k + 1) = omega arith in rw q (c.ends_before k (omega (arith, p)))
+      ends_before_next zero p = apart
+      ends_before_next (suc k) p =
+          let q : suc k + 1 ≡ suc (k + 1) = omega arith in rw q (c.ends_before_next k (omega (arith, p)))
 
   -- lines that the test passes are a chain
   chain : (l : RawLine) (ls : List RawLine) → IsCharBoundary text (l.start - first)
@@ -167,16 +167,16 @@ stated_lawful name text first (l ∷ ls) stated u fits t =
     let c = chain text first l ls (rw zero_start (IsCharBoundary-start text u))
     (boundary text (l.end - first) b.0) (omega (arith, zero_start)) b.1 in
     record {
-      is_text = u;
+      is_utf8 = u;
       fits = fits;
-      some_line = omega arith;
+      has_line = omega arith;
       first = zero_start;
       ascending = c.rising;
-      starts_cut = c.starts_cut;
-      ends_cut = c.ends_cut;
-      ends_after = c.ends_after;
-      ends_before = c.ends_before;
-      one_end = simp length-map refl;
+      starts_on_boundaries = c.starts_on_boundaries;
+      ends_on_boundaries = c.ends_on_boundaries;
+      ends_after_start = c.ends_after_start;
+      ends_before_next = c.ends_before_next;
+      same_length = simp length-map refl;
       missing_name = λ e. absurd (cc);
       missing_text = λ e. absurd (cc);
     }

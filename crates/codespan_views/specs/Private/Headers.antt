@@ -4,7 +4,7 @@ use Rattle.std.specs.List.{AllZip}
 use Rattle.codespan_picture.specs.Types.{Diagnostic, Error, FormatError, OutOfMemory, Config}
 use Rattle.codespan_base.specs.Errors.{IsIo}
 use Rattle.codespan_base.specs.FileModel.{FileModel}
-use Rattle.codespan_base.specs.WriterLaw.{Sink, with_written, is_known, PrefixWritten, failing}
+use Rattle.codespan_base.specs.WriterLaw.{Sink, with_written, is_known, PrefixWritten, failed_frame}
 use Rattle.codespan_picture.specs.Lookups.{Failures, first_error, header_lookups_of}
 use Rattle.codespan_picture.specs.Picture.{headers_at}
 use Rattle.codespan_picture.specs.Rows.{Locus}
@@ -25,7 +25,7 @@ module _ {Id : Type 0} (config : Config) (file : Id → FileModel) (failure : Fa
   pub record HeaderWriteFailed (old : Sink) (x : InFile Id) (error : Error)
       (new : Sink) : Type 0 where
     pub io : IsIo error
-    pub frame : new.frame ≡ failing old.frame
+    pub frame : new.frame ≡ failed_frame old.frame
     pub locus : Locus
     pub at : IsLocusOfLabel file x locus
     pub prefix : is_known old ≡ true → PrefixWritten old (headers_at config d (locus ∷ [])) new

@@ -3,7 +3,7 @@ use Rattle.std.specs.Prelude.{◌≡◌, ◌≢◌, ◌⊎◌, true, Option, Som
 use Rattle.codespan_picture.specs.Types.{Error, OutOfMemory}
 use Rattle.codespan_base.specs.Errors.{IsIo}
 use Rattle.codespan_base.specs.Streams.{Stream}
-use Rattle.codespan_base.specs.WriterLaw.{Sink, with_written, is_known, PrefixWritten, failing}
+use Rattle.codespan_base.specs.WriterLaw.{Sink, with_written, is_known, PrefixWritten, failed_frame}
 
 -- the stream has been written, where the writer's bytes are known, and nothing failed
 abbrev pub WroteStream : Sink → Stream → Sink → Type 0
@@ -13,7 +13,7 @@ WroteStream old items new =
 -- the writer failed, and a prefix of the stream has been written
 abbrev pub WrotePrefix : Sink → Stream → Sink → Type 0
 WrotePrefix old items new =
-    (new.frame ≡ failing old.frame) × (is_known old ≡ true → PrefixWritten old items new)
+    (new.frame ≡ failed_frame old.frame) × (is_known old ≡ true → PrefixWritten old items new)
 
 -- a lookup or an allocation failed after a prefix of the stream
 pub record FailedWithLookups (failed : Option Error) (old : Sink) (items : Stream) (error : Error)

@@ -1,7 +1,7 @@
 //! Plain text.
 
 ghost use Rattle.std.specs.Prelude.{◌≡◌, refl};
-ghost use Rattle.codespan_base.specs.Streams.{Header, HeaderMessage, LineNumber, NoteBullet, SourceBorder, LabelStyleMark, Reset, no_style_marks, style_mark};
+ghost use Rattle.codespan_base.specs.Streams.{Header, HeaderMessage, LineNumber, NoteBullet, SourceBorder, LabelStyleMark, Reset, plain_spelling, style_mark};
 ghost use Rattle.codespan_base.specs.WriterLaw.{Writes};
 ghost use Rattle.codespan_base.specs.Writers.{WritesNothing};
 
@@ -41,7 +41,7 @@ impl<W: Write> PlainWriter<W> {
     /// Returns a writer of plain text over `writer`. Its flag is not set.
     pub fn new(writer: W) -> PlainWriter<W>
         ensures begins { plain_sink W.contents result
-            ≡ fresh_sink no_style_marks (W.contents writer) }
+            ≡ fresh_sink plain_spelling (W.contents writer) }
         ensures inner { plain_inner result ≡ writer }
     {
         PlainWriter {

@@ -1,5 +1,5 @@
 use Rattle.std.proofs.Common.{◌∙◌, ap, refl, ℕ, Vec, Global}
-use Rattle.codespan_base.specs.Streams.{no_style_marks}
+use Rattle.codespan_base.specs.Streams.{plain_spelling}
 use Rattle.codespan_native.proofs.Rendered.{fresh_known, text_after}
 use Rattle.codespan_sources.specs.SourceModel.{native_file_views}
 use Rattle.codespan_native.specs.RenderedStreams.{stream_of_output}
@@ -10,6 +10,6 @@ returns-clause-value c =
     let stream = stream_of_output c.args.config.now (native_file_views c.args.files.now) c.args.diagnostic.now in
     let first = c.args.buffer.items in
     let begins = c.new-writer.ensures.begins in
-    let written = c.in_ok-write_to.ensures.value (fresh_known no_style_marks _ first begins) in
+    let written = c.in_ok-write_to.ensures.value (fresh_known plain_spelling _ first begins) in
     ap (λ (v : Vec ℕ Global). v.items) c.into_inner.ensures
-    ∙ text_after no_style_marks _ _ stream first _ begins written refl
+    ∙ text_after plain_spelling _ _ stream first _ begins written refl

@@ -49,7 +49,7 @@ pub fn write_zero_error() -> io::Error {
 ///
 /// `Io` alone: the saved error, where `written` is `Err`.
 #[inline(always)]
-pub fn with_error(written: Result<(), Failed>, saved: &Cell<io::Error>) -> Result<(), Error>
+pub fn with_saved_error(written: Result<(), Failed>, saved: &Cell<io::Error>) -> Result<(), Error>
     ensures same { SameOutcome written result }
     ensures io { IfErr result IsIo }
 {

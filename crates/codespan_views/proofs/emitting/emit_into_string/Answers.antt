@@ -1,14 +1,14 @@
 use Rattle.std.proofs.Common.{rules, ◌≡◌, ℕ, List, [], Some, ap, ◌∙◌}
 use Rattle.codespan_base.specs.LawfulFiles.{IsLawful}
-use Rattle.codespan_base.specs.Streams.{no_style_marks}
+use Rattle.codespan_base.specs.Streams.{plain_spelling}
 use Rattle.codespan_base.specs.WriterLaw.{Sink}
 use Rattle.codespan_base.specs.Writers.{fresh_sink}
 use Rattle.codespan_views.proofs.EmittedOutputs.{string_rendered, text_is_utf8, string_failed}
 use Rattle.codespan_views.proofs.emitting.emit_into_string.Goals as goal
 
 -- a writer of plain text over an empty buffer begins with nothing
-begins-empty : {s : Sink} {xs : List ℕ} → s ≡ fresh_sink no_style_marks (Some xs) → xs ≡ [] → s ≡ fresh_sink no_style_marks (Some [])
-begins-empty begins empty = begins ∙ ap (λ ys. fresh_sink no_style_marks (Some ys)) empty
+begins-empty : {s : Sink} {xs : List ℕ} → s ≡ fresh_sink plain_spelling (Some xs) → xs ≡ [] → s ≡ fresh_sink plain_spelling (Some [])
+begins-empty begins empty = begins ∙ ap (λ ys. fresh_sink plain_spelling (Some ys)) empty
 
 -- what was written is UTF-8
 pub from_utf8_unchecked-requires : goal.from_utf8_unchecked-requires

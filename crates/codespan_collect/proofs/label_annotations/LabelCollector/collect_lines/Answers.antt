@@ -25,7 +25,7 @@ module _ (g : Over) where
       → HasEnds (collector_label collector label)
   has_ends κs claim collector label =
       let x = collector_label collector label in
-      let some = ((g.met.F.Files κs claim).lawful collector.file.files.now x.file_id).some_line in
+      let some = ((g.met.F.Files κs claim).lawful collector.file.files.now x.file_id).has_line in
       record { first = line_of_below x.file.starts x.label.start some; last = line_of_below x.file.starts x.label.end some }
 
 pub loop-index-init : goal.loop-index-init

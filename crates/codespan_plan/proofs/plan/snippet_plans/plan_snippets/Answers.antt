@@ -1,6 +1,6 @@
 use Rattle.std.proofs.Common.{◌<◌, ◌≤◌, [], Err, length, map, get_or, refl, sym, ap, ◌∙◌, subst, arith}
 use Rattle.std.proofs.lemmas.Result.{err_from_is_err_and}
-use Rattle.codespan_annotations.specs.FileLookups.{FailsByOrFormat}
+use Rattle.codespan_annotations.specs.FileLookups.{FailsByOrFormatError}
 use Rattle.codespan_annotations.specs.AnnotationViews.{annotation_view}
 use Rattle.codespan_plan.specs.SnippetPlans.{ArePlans, plans_failure}
 use Rattle.codespan_annotations.proofs.FileLengths.{rest-sorted}
@@ -75,12 +75,12 @@ loop-index-preserved g c =
             rw w.located-is (planned-more at.here before (ap (λ snippet_plans. snippet_plans.items) w.snippet_plans-is ∙ w.in_ok-push-in-Ok.ensures.items) added.whole
             (plan_found at added zs_are c.in_ok-line_total.ensures.count w.in-Ok.ensures.file w.in-Ok.ensures.locus w.in-Ok.ensures.line_total)
             numbers w.in-Ok.ensures.failed)
-        | in-Err w ↦ rw (w.snippet_plans-is, w.located-is ∙ w.first_failed-located.ensures) (planned-unlocated at.here before numbers w.in-Err.ensures.failed)
+        | in-Err w ↦ rw (w.snippet_plans-is, w.located-is ∙ w.first_error_of-located.ensures) (planned-unlocated at.here before numbers w.in-Err.ensures.failed)
       ];
     }
 
 -- after the last file what is kept is the error of the lookups of all
-all-add : (g : Over) (c : After-branch-located g) → FailsByOrFormat (plans_failure c.args.layout (((g.F.Files.database c.args.files.now).failure)) c.args.collected.now) c.loop-index.located
+all-add : (g : Over) (c : After-branch-located g) → FailsByOrFormatError (plans_failure c.args.layout (((g.F.Files.database c.args.files.now).failure)) c.args.collected.now) c.loop-index.located
 all-add g c =
     plans-add c.args.collected.now.files.items c.loop-index.index
     (subst (λ fs. length fs ≤ c.loop-index.index) c.deref-file-items.ensures.value c.loop-index-test.false) c.loop-index.invariant.planned

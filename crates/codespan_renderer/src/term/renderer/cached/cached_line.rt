@@ -18,7 +18,7 @@ use crate::term::renderer::cached::cached_metrics::CachedMetrics;
 use crate::term::renderer::cached::label_cursor::LabelCursor;
 use crate::term::renderer::cached::pointers::{Pointer, write_pointers};
 use crate::term::renderer::char_metrics::{CharMetrics, Metrics};
-use crate::term::renderer::row_writer::{RowWriter, with_error};
+use crate::term::renderer::row_writer::{RowWriter, with_saved_error};
 use codespan_base::diagnostic::{LabelStyle, Severity};
 use codespan_base::files::Error;
 use codespan_base::term::WriteStyle;
@@ -111,7 +111,7 @@ impl<'cache, 'row, 'd> CachedLine<'cache, 'row, 'd> {
         let context = renderer.context(severity, outer_padding);
         let mut rows = RowWriter::new(renderer.writer, &renderer.saved);
         let written = write_line(&mut rows, context, self.line, self);
-        with_error(written, &renderer.saved)
+        with_saved_error(written, &renderer.saved)
     }
 
     /// Returns the least start of its labels, or `end` where all start past it or there is none.

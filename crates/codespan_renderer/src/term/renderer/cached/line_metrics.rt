@@ -49,7 +49,7 @@ impl LineMetrics {
     ///
     /// The labels are in the order of their starts.
     #[inline(always)]
-    pub fn take_line<'cache, 'row, 'd, W: WriteStyle>(
+    pub fn cache_line<'cache, 'row, 'd, W: WriteStyle>(
         &'cache mut self,
         renderer: &Renderer<'_, '_, W>,
         line: Line<'row, 'd>,

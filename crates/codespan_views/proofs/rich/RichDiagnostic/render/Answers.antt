@@ -17,7 +17,7 @@ written : {Id : Type 0} {renderer_config view_config : Config} {files : FileData
     → files.same ≡ equal → IsEquivalence equal → ((id : Id) → IsLawful (files.file id)) → WritesOutput Rich renderer_config view_config files d old r new → WritesStyled Rich renderer_config view_config files d old r new
 written is equal lawful writes = record {
   writes = writes;
-  means = λ rich. output_means_labels _ _ _ _ (subst IsEquivalence (sym is) equal) (λ i. (lawful i).some_line);
+  means = λ rich. output_means_labels _ _ _ _ (subst IsEquivalence (sym is) equal) (λ i. (lawful i).has_line);
 }
 
 pub returns-then-is_empty-clause-renders : goal.returns-then-is_empty-clause-renders

@@ -1,7 +1,7 @@
 use Rattle.std.proofs.Common.{false, [], ◌∷◌}
-use Rattle.codespan_base.specs.Streams.{no_style_marks}
+use Rattle.codespan_base.specs.Streams.{plain_spelling}
 use Rattle.codespan_base.specs.Writers.{borrow_name}
 use Rattle.codespan_base.proofs.term.config.plain_ref.PlainWriterRefWriteStyle.put.Goals as goal
 
 pub returns-clause-took : goal.returns-clause-took
-returns-clause-took g c = c.forward_put.ensures.took (record { spelling = no_style_marks; failed = false; through = borrow_name c.args.self.now ∷ [] })
+returns-clause-took g c = c.forward_put.ensures.took (record { spelling = plain_spelling; failed = false; through = borrow_name c.args.self.now ∷ [] })

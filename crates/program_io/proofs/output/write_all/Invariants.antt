@@ -1,6 +1,6 @@
 use Rattle.std.proofs.Common.{◌≡◌, ℕ, List, ◌++◌}
 use Rattle.std.specs.Io.KnownBytes.{Appends}
-use Rattle.program_io.proofs.output.write_whole.Given as goal
+use Rattle.program_io.proofs.output.write_all.Given as goal
 
 -- what is gone from the rest was appended
 abbrev pub invariant-loop : goal.invariant-loop

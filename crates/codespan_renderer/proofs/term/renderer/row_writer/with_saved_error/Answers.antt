@@ -1,5 +1,5 @@
 use Rattle.std.proofs.Common.{refl}
-use Rattle.codespan_renderer.proofs.term.renderer.row_writer.with_error.Goals as goal
+use Rattle.codespan_renderer.proofs.term.renderer.row_writer.with_saved_error.Goals as goal
 
 -- a failed call stays one
 pub returns-in-Err-clause-same : goal.returns-in-Err-clause-same
