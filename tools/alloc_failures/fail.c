@@ -44,7 +44,7 @@ int posix_memalign(void **pointer, size_t alignment, size_t size) {
     return original(pointer, alignment, size);
 }
 
-/* A number of the environment, 0 where it is not there. */
+/* A number of the environment, 0 where it is not set. */
 static unsigned long number_of(const char *name) {
     const char *number = getenv(name);
     return number ? strtoul(number, NULL, 10) : 0;

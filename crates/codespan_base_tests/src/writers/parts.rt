@@ -1,4 +1,4 @@
-//! Parts of rows, written to writers that take little at a time, or stop.
+//! Parts of rows, and style marks, written to writers that take little at a time, or stop.
 
 use crate::asserts::assert_same;
 use crate::writers::written::{Part, write_parts};
@@ -42,7 +42,7 @@ struct Case {
     stop: Stop,
     // The most bytes that a write takes.
     most: usize,
-    // The number of writes after which it stops.
+    // The number of writes before it stops.
     writes: usize,
 }
 
@@ -69,7 +69,7 @@ fn assert_tags_stop(rt: &impl Abort, alloc: Global, case: &Case) {
     assert_is_right(rt, &inner, is_ok, TAG_PARTS, case);
 }
 
-/// Asserts so of the parts in plain text, and that the flag is set exactly where they failed.
+/// Asserts so of the parts in plain text, and that `has_failed` is true exactly if they failed.
 fn assert_plain_stops(rt: &impl Abort, alloc: Global, case: &Case) {
     let mut plain = PlainWriter::new(case.writer(alloc));
     let is_ok = write_parts(&mut plain, &PARTS, "").is_ok();
@@ -88,6 +88,7 @@ static STOPS: [Stop; 4] = [
 /// The most bytes that a write takes.
 static MOST: [usize; 4] = [1, 2, 5, 100];
 
+/// A writer that stops holds a prefix of the parts, and no write follows the one that stopped it.
 #[test]
 fn rows_over_writers_that_stop(rt: HostRuntime) {
     for stop in &STOPS {

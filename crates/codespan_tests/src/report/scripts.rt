@@ -7,8 +7,8 @@ use crate::report::{Failing, Run, check_run, run_over};
 use std::alloc::Global;
 use std::process::Abort;
 
-/// The style of a run over the file `f.txt`, its script, and what is to be seen of it: the output,
-/// what is written to `error_output`, and the status.
+/// The style of a run over the file `f.txt`, its input, which is a script and a source, and what is
+/// seen of it: the output, what is written to `error_output`, and the status.
 pub type ScriptRun<'run> = (&'run str, &'run str, (&'run str, &'run str, u8));
 
 /// The run of `script_run`.
@@ -138,7 +138,7 @@ const SCRIPT_MEDIUM_AND_SHORT: [ScriptRun<'static>; 4] = [
     ),
 ];
 
-/// The runs of `scripts_that_are_read`.
+/// The runs of `scripts_that_are_read`: scripts without errors.
 const SCRIPTS_THAT_ARE_READ: [ScriptRun<'static>; 7] = [
     ("rich", "---", ("error: \n\n", "", 0)),
     ("rich", "---\r\nabc", ("error: \n\n", "", 0)),
