@@ -282,8 +282,8 @@ fn check_runs(rt: &impl Abort, alloc: Global, name: &str, runs: &[Run<'_>]) {
     }
 }
 
-/// Asserts so of the runs with wrong arguments. Each table has a function, since its size is a cost
-/// there.
+/// Asserts what is seen of the runs with wrong arguments. One function names each table, since a
+/// function is proved more slowly for each row of a table that it names.
 fn check_wrong_arguments(rt: &impl Abort, alloc: Global) {
     check_runs(rt, alloc, "wrong_arguments", &WRONG_ARGUMENTS);
 }

@@ -53,7 +53,7 @@ impl Case {
     }
 }
 
-/// Asserts that a writer holds `whole` where the parts were written, and else a prefix of it.
+/// Asserts that a writer holds `whole` if writing the parts succeeded, and else a prefix of it.
 fn assert_is_right(rt: &impl Abort, inner: &StoppingWriter, is_ok: bool, whole: &str, case: &Case) {
     let Case { stop, most, writes } = case;
     assert!(rt;
@@ -62,14 +62,14 @@ fn assert_is_right(rt: &impl Abort, inner: &StoppingWriter, is_ok: bool, whole: 
     );
 }
 
-/// Asserts that the parts in tags are right over a writer that stops so.
+/// Asserts what a writer that stops in this way holds of the parts in tags.
 fn assert_tags_stop(rt: &impl Abort, alloc: Global, case: &Case) {
     let mut inner = case.writer(alloc);
     let is_ok = write_parts(&mut TagWriter::new(&mut inner), &PARTS, "").is_ok();
     assert_is_right(rt, &inner, is_ok, TAG_PARTS, case);
 }
 
-/// Asserts so of the parts in plain text, and that `has_failed` is true exactly if they failed.
+/// Asserts the same of the parts in plain text, and that `has_failed` is true exactly if they failed.
 fn assert_plain_stops(rt: &impl Abort, alloc: Global, case: &Case) {
     let mut plain = PlainWriter::new(case.writer(alloc));
     let is_ok = write_parts(&mut plain, &PARTS, "").is_ok();

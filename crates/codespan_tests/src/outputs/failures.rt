@@ -87,7 +87,7 @@ pub fn assert_fails(
     assert_renders(rt, config, files, diagnostic, expected);
 }
 
-/// Asserts so of a lookup that fails alone.
+/// Asserts the same of a lookup that fails alone.
 fn assert_fails_alone(rt: &impl Abort, diagnostic: &Diagnostic<()>, lookup: &Lookup) {
     let failed = lookup.0.failed_beside(Failed::default());
     let files = Listing::new(*diagnostic.labels.allocator(), "f", "ab", failed).expect(

@@ -217,14 +217,15 @@ pub fn check_scripts(rt: &impl Abort, alloc: Global, name: &str, runs: &[ScriptR
     }
 }
 
-/// Asserts so of the worked scripts. Each table has a function, since its size is a cost there.
+/// Asserts what is seen of the runs over worked scripts. One function names each table, since a
+/// function is proved more slowly for each row of a table that it names.
 fn check_worked_scripts(rt: &impl Abort, alloc: Global) {
     for (name, runs) in &WORKED_SCRIPTS {
         check_scripts(rt, alloc, name, runs);
     }
 }
 
-/// Asserts so of the other scripts.
+/// Asserts what is seen of the runs over the other scripts.
 fn check_other_scripts(rt: &impl Abort, alloc: Global) {
     for (name, runs) in &OTHER_SCRIPTS {
         check_scripts(rt, alloc, name, runs);
