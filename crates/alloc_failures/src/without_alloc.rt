@@ -250,8 +250,7 @@ fn are_starts() -> bool {
         && starts.next().is_none()
 }
 
-/// Returns whether a new label is in its file, a new diagnostic has no labels, and clones of what
-/// owns no text are equal to it.
+/// Returns whether a label has its file, a diagnostic no labels, and clones what they were made of.
 fn are_made(alloc: Global) -> bool {
     let label = Label::primary(alloc, 3, 5..2);
     let diagnostic: Diagnostic<usize> = Diagnostic::help(alloc);
