@@ -48,7 +48,7 @@ fn write_counts<E: Write>(
     writeln!(error_output, "writer_runs: {texts} texts, {runs} runs")
 }
 
-/// How many worked outputs and rows were judged so far, by how many runs, and whether one was wrong.
+/// How many worked outputs and rows were judged, by how many runs, and whether one was wrong.
 #[derive(Clone, Copy, Default)]
 struct Sum {
     texts: usize,
