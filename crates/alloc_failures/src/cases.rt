@@ -25,15 +25,15 @@ pub struct Case<'text> {
     pub database: Database,
     /// The style of the configuration.
     pub display_style: DisplayStyle,
-    /// The lines that are shown after the first line of a multi-line label.
+    /// How many lines are shown after the first line of a multi-line label.
     pub start_context_lines: usize,
-    /// The lines that are shown before a label.
+    /// How many lines are shown before a label.
     pub before_label_lines: usize,
-    /// The lines that are shown after a label.
+    /// How many lines are shown after a label.
     pub after_label_lines: usize,
     /// The name and the text of each file.
     pub files: &'text [(&'text str, &'text str)],
-    /// The code of an error.
+    /// The code of the error.
     pub code: Option<&'text str>,
     /// Its message.
     pub message: &'text str,
@@ -43,7 +43,7 @@ pub struct Case<'text> {
     pub notes: &'text [&'text str],
     /// The output, in plain text.
     pub output: &'text str,
-    /// The output in escape sequences, if it is rendered in these.
+    /// The output in escape sequences, if the case is rendered in these too.
     pub colored: Option<&'text str>,
 }
 
@@ -103,7 +103,7 @@ pub const MUTABLE_BORROWS: Case<'static> = Case {
     ..EMPTY
 };
 
-/// A label over nine lines, of which some are left out, and one inside it; and a note.
+/// A label over nine lines, two of which are left out, and one inside it; and a note.
 pub const MISMATCHED_TYPES: Case<'static> = Case {
     start_context_lines: 2,
     files: &[(
@@ -137,7 +137,7 @@ pub const MISMATCHED_TYPES: Case<'static> = Case {
     ..EMPTY
 };
 
-/// A header in short style, without a lookup, and in colors if the call has some.
+/// A header in short style, without a lookup, and in colors if the call writes style marks.
 pub const COLOURED_HEADER: Case<'static> = Case {
     display_style: DisplayStyle::Short,
     message: "m",
@@ -222,7 +222,8 @@ pub const MAPPED_NUMBERS: Case<'static> = Case {
     ..EMPTY
 };
 
-/// The end of a file, with lines before it, where each lookup of a line's range allocates.
+/// A label at the end of a file, with two lines of context before it, where each lookup of a line's
+/// range allocates.
 pub const SURROUNDING_LINES: Case<'static> = Case {
     database: Database::Copying,
     before_label_lines: 2,

@@ -20,7 +20,7 @@ pub enum CloneCall {
 /// The `snippet_start` of the configuration.
 const START: &str = "==>";
 
-/// Returns whether it is this owned text.
+/// Returns whether a `snippet_start` is the owned text [`START`].
 fn is_start(start: &SnippetStart<'_>) -> bool {
     match start {
         SnippetStart::Owned(text) => text.as_str() == START,
@@ -28,17 +28,17 @@ fn is_start(start: &SnippetStart<'_>) -> bool {
     }
 }
 
-/// Returns whether they are the characters with this `snippet_start`.
+/// Returns whether characters are the expected ones, with that `snippet_start`.
 fn are_chars(chars: &Chars<'_>, expected: &Chars<'_>) -> bool {
     is_start(&chars.snippet_start) && are_same_chars(chars, expected)
 }
 
-/// Returns whether it is the configuration with this `snippet_start`.
+/// Returns whether a configuration is the expected one, with that `snippet_start`.
 fn is_config(config: &Config<'_>, expected: &Config<'_>) -> bool {
     is_start(&config.chars.snippet_start) && is_same_config(config, expected)
 }
 
-/// Returns the configuration that is cloned, with these characters. No other field is the default.
+/// Returns the configuration that is cloned, with these characters. No field has its default.
 fn config_of(chars: Chars<'_>) -> Config<'_> {
     Config {
         display_style: DisplayStyle::Short,
@@ -68,7 +68,7 @@ pub fn judge_clone(alloc: Global, call: CloneCall) -> Result<Outcome, Error> {
     })
 }
 
-/// Makes the clone, and returns whether it is equal.
+/// Makes the clone, and returns whether it is equal to what was cloned.
 fn is_cloned(config: &Config<'_>, call: CloneCall) -> Result<bool, Error> {
     match call {
         CloneCall::SnippetStart => Ok(is_start(&config.chars.snippet_start.clone()?)),

@@ -6,8 +6,8 @@ use codespan_base::files::{Error, Files, Location, SimpleFile};
 use std::alloc::Global;
 use std::ops::Range;
 
-/// One file, of which each lookup of a line's range allocates, as one that is read line by line
-/// does.
+/// One file that allocates at each lookup of a line's range, as a database that reads its text from
+/// a disk would.
 #[derive(Drop)]
 pub struct Copying<'text> {
     file: SimpleFile<&'text str, &'text str>,

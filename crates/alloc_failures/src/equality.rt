@@ -1,8 +1,8 @@
-//! Equality of configurations, but for the `snippet_start`.
+//! Equality of configurations in all but the `snippet_start`.
 
 use codespan_base::term::{Chars, Config};
 
-/// Returns whether two configurations are equal, but for the `snippet_start`.
+/// Returns whether two configurations are equal in all but the `snippet_start`.
 pub fn is_same_config(left: &Config<'_>, right: &Config<'_>) -> bool {
     left.display_style == right.display_style
         && left.layout == right.layout
@@ -10,12 +10,12 @@ pub fn is_same_config(left: &Config<'_>, right: &Config<'_>) -> bool {
         && are_same_chars(&left.chars, &right.chars)
 }
 
-/// Returns whether characters are equal, but for the `snippet_start`.
+/// Returns whether the characters of two configurations are equal in all but the `snippet_start`.
 pub fn are_same_chars(left: &Chars<'_>, right: &Chars<'_>) -> bool {
     characters_of(left) == characters_of(right)
 }
 
-/// Returns the tab width and the numbers of lines that are shown.
+/// Returns the tab width, and how many lines of each kind of context are shown.
 fn numbers_of(config: &Config<'_>) -> [usize; 5] {
     [
         config.tab_width,

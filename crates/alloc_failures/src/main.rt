@@ -2,12 +2,12 @@
 //! allocates, or the calls that do not, and judges the outcome. `alloc_failures` does so for each
 //! subject, one after another.
 //!
-//! It is made to be run while one allocation after another fails: `tools/alloc_failures` does that.
-//! A subject is prepared, its call is made, and one line reports the outcome: `unprepared`, an
-//! allocation failed before the call; `done`, the call returned `Ok` with exactly what is expected;
-//! `failed`, it failed with an error that it may return, and all that must stay unchanged is
-//! unchanged; or `wrong`. What is expected is written down in this crate: worked outputs, and what
-//! the contract of each call promises.
+//! It is meant to run while one allocation after another fails: `tools/alloc_failures/run` makes
+//! them fail. A subject is prepared, its call is made, and one line reports the outcome:
+//! `unprepared`, an allocation failed before the call; `done`, the call returned `Ok` with exactly
+//! what is expected; `failed`, it failed with an error that it may return, and all that must stay
+//! unchanged is unchanged; or `wrong`. What is expected is written down in this crate: worked
+//! outputs, and what the contract of each call promises.
 //!
 //! | status | meaning |
 //! |---|---|
@@ -40,14 +40,14 @@ use std::process::ExitCode;
 fn main(rt: HostRuntime) -> ExitCode {
     let status = match arguments(&rt) {
         Ok(args) => run(rt.alloc(), args.as_slice(), &mut rt.stdout()),
-        Err(error) => conclude(unknown_arguments(error), &mut rt.stdout()),
+        Err(error) => conclude(unreadable_arguments(error), &mut rt.stdout()),
     };
     ExitCode::from(status)
 }
 
 /// Returns the outcome where the arguments can not be read: those that are not UTF-8 name no
 /// subject.
-fn unknown_arguments(error: ArgumentsError) -> Outcome {
+fn unreadable_arguments(error: ArgumentsError) -> Outcome {
     match error {
         ArgumentsError::NotUtf8 => Outcome::Unknown,
         ArgumentsError::OutOfMemory => Outcome::Unprepared,

@@ -105,7 +105,7 @@ fn judge_copying(alloc: Global, rendering: &Rendering<'_>) -> Result<Outcome, Er
     judge_call(alloc, rendering, &file, &diagnostic)
 }
 
-/// Makes a call, as plain text, and judges it. Fails if making the string to append to fails.
+/// Makes a call, as plain text, and judges it. Fails if the string to append to can not be made.
 fn judge_call<'files, F: Files<'files>>(
     alloc: Global,
     rendering: &Rendering<'_>,
@@ -181,7 +181,7 @@ fn render_to<'files, F: Files<'files>, W: Write>(
     }
 }
 
-/// Makes a call that writes style marks, without these.
+/// Makes a call that writes style marks, to a writer of plain text.
 fn render_plain<'files, F: Files<'files>, W: Write>(
     writer: &mut W,
     rendering: &Rendering<'_>,

@@ -10,7 +10,7 @@ use std::io;
 use std::io::Write;
 
 /// Judges the subject that the arguments name, or all subjects if there are none, writes the
-/// outcome, and returns the program's status.
+/// outcome, and returns the program's status: 1 if writing fails.
 pub fn run<W: Write>(alloc: Global, args: &[String], output: &mut W) -> u8
     ensures { result ≤ 2 }
 {
@@ -27,7 +27,7 @@ pub fn run<W: Write>(alloc: Global, args: &[String], output: &mut W) -> u8
     conclude(outcome, output)
 }
 
-/// Writes an outcome as one line, and returns the program's status.
+/// Writes an outcome as one line, and returns the program's status: 1 if writing fails.
 pub fn conclude<W: Write>(outcome: Outcome, output: &mut W) -> u8
     ensures { result ≤ 2 }
 {

@@ -183,7 +183,7 @@ pub fn cases() -> &'static [(&'static str, &'static Case<'static>)] {
 }
 
 impl Subject {
-    /// Returns the subject that the arguments name.
+    /// Returns the subject that the arguments name, or `None` if there is none of that name.
     pub fn from_arguments(args: &[String]) -> Option<Subject> {
         match args {
             [word] => call_named(word.as_str()),
@@ -210,7 +210,7 @@ impl Subject {
     }
 }
 
-/// Returns the subject of this name.
+/// Returns the subject that a single word names, if there is one.
 fn call_named(name: &str) -> Option<Subject> {
     for calls in &calls() {
         if let Some(subject) = entry_named(calls, name) {
@@ -220,7 +220,7 @@ fn call_named(name: &str) -> Option<Subject> {
     None
 }
 
-/// Returns the entry of a table of this name.
+/// Returns the value of this name in a table, if there is one.
 fn entry_named<T: Copy>(table: &[(&str, T)], name: &str) -> Option<T> {
     for (known, value) in table {
         if *known == name {

@@ -45,7 +45,7 @@ struct Prepared<'text> {
     databases: Databases<'text>,
 }
 
-/// What the calls write to. Each vector has capacity for all that is written to it.
+/// What the calls write to. Each vector has the capacity for all that is written to it.
 #[derive(Drop)]
 struct Outputs {
     /// The rows, in plain text.
@@ -203,7 +203,7 @@ fn looks_up<'files, F: Files<'files>>(
         && is_ok_with(files.location(id, 7), location)
 }
 
-/// Returns whether the existing file is found, and no other.
+/// Returns whether `get` returns the existing file, and `FileMissing` for the next id.
 fn is_found(files: &SimpleFiles<&str, &str>) -> bool {
     let is_found = match files.get(0) {
         Ok(file) => file.source().as_str() == TEXT,
@@ -228,7 +228,7 @@ fn are_defaults(files: &SimpleFiles<&str, &str>) -> bool {
         && is_ok_with(default_column_number(files, 0, 1, 7), 3)
 }
 
-/// Returns whether each lookup of the default styles returns what is expected.
+/// Returns whether each lookup returns a style of the expected color, or a bold one.
 fn are_styles(styles: &Styles) -> bool {
     let color = Some(Color::Cyan);
     styles.header(Severity::Warning).fg == Some(Color::Yellow)
@@ -240,7 +240,7 @@ fn are_styles(styles: &Styles) -> bool {
         && styles.label(Severity::Bug, Secondary).fg == color
 }
 
-/// Returns whether the lines of a text start where they should.
+/// Returns whether the lines of a text start at the bytes that are expected.
 fn are_starts() -> bool {
     let mut starts = line_starts("foo\nbar\r\n\nbaz");
     starts.next() == Some(0)
@@ -250,7 +250,7 @@ fn are_starts() -> bool {
         && starts.next().is_none()
 }
 
-/// Returns whether constructors, and clones of what owns no text, return what is expected.
+/// Returns whether a label has its file, a diagnostic no labels, and clones what they were made of.
 fn are_made(alloc: Global) -> bool {
     let label = Label::primary(alloc, 3, 5..2);
     let diagnostic: Diagnostic<usize> = Diagnostic::help(alloc);
@@ -277,7 +277,7 @@ fn are_chars_cloned() -> bool {
     }
 }
 
-/// Returns whether it is this text, which is not owned.
+/// Returns whether a `snippet_start` is this text, not owned.
 fn is_start(start: &SnippetStart<'_>, text: &str) -> bool {
     match start {
         SnippetStart::Fixed(fixed) => *fixed == text,

@@ -152,7 +152,7 @@ fn texts(rt: HostRuntime) {
     assert_same(&rt, &texts, &(Some("308"), "mismatched types"));
 }
 
-/// Asserts that there is one label, with the message `here`.
+/// Asserts that there is exactly one label, and that its message is `here`.
 fn assert_one_label(rt: &impl Abort, labels: &[Label<char>]) {
     assert_same(rt, &labels.len(), &1);
     for label in labels {

@@ -14,7 +14,7 @@ pub fn simple_file(
     SimpleFile::new(alloc, "f", text).expect(rt, "a file")
 }
 
-/// Returns a file `f` of this text, one line of which has this number.
+/// Returns a file `f` of this text, whose line `line`, a 0-based index, has this number.
 pub fn mapped_file(
     rt: &impl Abort,
     alloc: Global,

@@ -19,7 +19,7 @@ pub fn assert_row(rt: &impl Abort, name: &str, text: &str, expected: &str) {
     assert_eq!(rt; text, expected, "{name}");
 }
 
-/// Asserts that rendering failed with `Io`, when this text was written.
+/// Asserts that rendering failed with `Io`, and that this text was written before.
 pub fn assert_stopped(rt: &impl Abort, failed: &Result<(), Error>, written: &[u8], text: &str) {
     assert!(rt; matches!(failed, Err(Error::Io(_))));
     assert_bytes(rt, written, text);

@@ -1,5 +1,6 @@
 //! Tests of the calls that emit, of the views and the rows, of styled text, of the call for C and
-//! of the runs of `report`: what no contract says. And the quick start of `README.md`.
+//! of the runs of `report`. Some repeat on worked values what a contract says; others test what
+//! none says, such as which calls flush. `quick_start` has the code of `README.md`.
 #![tactic(auto)]
 
 #[cfg(test)]

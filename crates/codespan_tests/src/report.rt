@@ -10,7 +10,7 @@ use std::io::{ErrorKind, Read, Write};
 use std::panic::Expect;
 use std::process::Abort;
 
-/// The arguments of most runs.
+/// The arguments of most runs, in rich style.
 const REQUEST: [&str; 5] = ["rich", "f.txt", "0", "3", "bad"];
 
 /// Their output over `abc` and a newline.
@@ -19,10 +19,10 @@ const OUTPUT: &str = "error: bad\n  ┌─ f.txt:1:1\n  │\n1 │ abc\n  │ ^^
 /// The output of a label over both lines of `abc`, a newline and `d`.
 const TWO_LINES: &str = "error: bad\n  ┌─ f.txt:1:1\n  │  \n1 │ ╭ abc\n2 │ │ d\n  │ ╰^ bad\n\n";
 
-/// The line of wrong arguments.
+/// The line that is written where the arguments are wrong.
 const USAGE: &str = "usage: report STYLE NAME START END MESSAGE\n";
 
-/// The line of an input that is not UTF-8.
+/// The line that is written where the input is not UTF-8.
 const NOT_UTF8: &str = "report: input is not UTF-8\n";
 
 /// An input that counts its reads, and fails one of them.
@@ -47,6 +47,7 @@ impl Read for Input<'_> {
 /// An output that takes four bytes at a write, and fails one write, or each flush.
 #[derive(Drop)]
 pub struct Output {
+    /// The bytes that it has taken.
     pub accepted: Vec<u8>,
     writes: usize,
     failed_write: Option<usize>,
@@ -107,9 +108,13 @@ pub struct Failing {
 /// What a run returned and wrote, and how often it read.
 #[derive(Drop)]
 pub struct Outcome {
+    /// The status that the run returned.
     pub status: u8,
+    /// The output after the run.
     pub output: Output,
+    /// The error output after the run.
     pub error_output: Output,
+    /// How often the input was read.
     pub reads: usize,
 }
 
@@ -119,8 +124,8 @@ impl Outcome {
         (self.output.text(), self.error_output.text(), self.status)
     }
 
-    /// Returns whether a run ended with this status and an empty output, when `error_output` had
-    /// taken this many bytes.
+    /// Returns whether the run returned this status, wrote nothing to the output, and this number
+    /// of bytes to the error output. Which bytes these are is not compared.
     pub fn ended_after(&self, error_bytes: usize, status: u8) -> bool {
         self.output.accepted.is_empty()
             && self.error_output.accepted.len() == error_bytes
@@ -128,7 +133,7 @@ impl Outcome {
     }
 }
 
-/// Returns the words as the program has them.
+/// Returns the words as the program receives them.
 fn arguments(rt: &impl Abort, alloc: Global, words: &[&str]) -> Vec<String> {
     let mut args = Vec::new(alloc);
     for word in words {
@@ -138,7 +143,7 @@ fn arguments(rt: &impl Abort, alloc: Global, words: &[&str]) -> Vec<String> {
     args
 }
 
-/// Runs over an input and outputs in which this fails.
+/// Makes a run over an input and outputs of which `failing` fails.
 pub fn run_over(
     rt: &impl Abort,
     alloc: Global,
@@ -167,8 +172,8 @@ pub fn run_over(
 /// `error_output`, and the status.
 pub type Run<'run> = (&'run [&'run str], &'run [u8], (&'run str, &'run str, u8));
 
-/// Asserts what is seen of a run of this name in which this fails. It reads nothing exactly where
-/// its arguments are wrong.
+/// Asserts what is seen of a run of this name, of which `failing` fails. The run reads nothing
+/// exactly if its arguments are wrong.
 pub fn check_run(rt: &impl Abort, alloc: Global, name: &str, failing: Failing, run: &Run<'_>) {
     let (words, text, expected) = run;
     let outcome = run_over(rt, alloc, words, text, failing);
@@ -277,8 +282,8 @@ fn check_runs(rt: &impl Abort, alloc: Global, name: &str, runs: &[Run<'_>]) {
     }
 }
 
-/// Asserts so of the runs with wrong arguments. Each table has a function, since its size is a cost
-/// there.
+/// Asserts what is seen of the runs with wrong arguments. One function names each table, since a
+/// function is proved more slowly for each row of a table that it names.
 fn check_wrong_arguments(rt: &impl Abort, alloc: Global) {
     check_runs(rt, alloc, "wrong_arguments", &WRONG_ARGUMENTS);
 }

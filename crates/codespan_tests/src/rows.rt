@@ -18,13 +18,13 @@ use test_writers::style_marks::set_styles;
 /// A lane mark: the lane, 0-based, the style of the label and its part on the line.
 type LaneMark = (usize, LabelStyle, MultiLabel<'static>);
 
-/// A mark that goes through in the first lane.
+/// The mark of a label that goes through the line, in the first lane.
 const FIRST: LaneMark = (0, LabelStyle::Primary, MultiLabel::Left);
 
-/// One in the second lane.
+/// Such a mark in the second lane.
 const SECOND: LaneMark = (1, LabelStyle::Primary, MultiLabel::Left);
 
-/// One in the third lane.
+/// Such a mark in the third lane.
 const THIRD: LaneMark = (2, LabelStyle::Primary, MultiLabel::Left);
 
 /// The number of lanes of a file, some lane marks, and whether these are in order.
@@ -44,7 +44,7 @@ fn lanes_in_order_test(rt: HostRuntime) {
     }
 }
 
-/// Renders an empty row, of this padding and so many lanes.
+/// Renders an empty row, with this padding and this number of lanes.
 fn render_empty_row<W: WriteStyle>(w: &mut W, padding: usize, lanes: usize) -> Result<(), Error> {
     let config = Config::default();
     let mut renderer = Renderer::new(w, &config);
@@ -57,7 +57,8 @@ static ENDLESS: [(usize, usize, &str); 2] = [
     (0, usize::MAX, " │      "),
 ];
 
-/// A padding and lanes of the greatest `usize` are written until the writer fails.
+/// The padding of the greatest width, and the greatest number of lanes, are written until the
+/// writer fails.
 #[test]
 fn endless_padding(rt: HostRuntime) {
     for (padding, lanes, expected) in &ENDLESS {
@@ -117,7 +118,7 @@ fn first_locus(rt: &impl Abort, alloc: Global) -> Locus {
 /// The mark of a line with a lane.
 static MARKS: [LaneMark; 1] = [FIRST];
 
-/// Renders a line with a lane. Its lanes are in order, as the call requires.
+/// Renders a line with one lane, after asserting that its lanes are in order, as the call requires.
 fn render_line<W: WriteStyle>(rt: &impl Abort, renderer: &mut Renderer<'_, '_, W>) {
     assert!(rt; lanes_in_order(1, &MARKS));
     renderer

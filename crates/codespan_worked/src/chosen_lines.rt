@@ -66,7 +66,7 @@ fn empty_note()
         ∷ [] ∷ []) }
 {}
 
-/// Shows that a number longer than the padding pushes its row.
+/// Shows that in the classic layout a line number longer than the padding shifts its row.
 fn long_number_pushes_row()
     ensures { text_of (rich (record default_config { after_label_lines = 1 })
         (message_only Error [])
@@ -96,7 +96,8 @@ fn unbroken_padding()
         ∷ [] ∷ []) }
 {}
 
-/// Shows that between shown lines one line is filled in, and of more there is a break.
+/// Shows that one line between shown lines is filled in, and that two or more are left out at a
+/// break.
 fn fills_and_breaks()
     ensures { text_of (rich default_config (message_only Error [])
         (text_file (codes "f") (codes "a\nb\nc\nd\ne\nf\ng") ∷ [])
@@ -117,7 +118,7 @@ fn fills_and_breaks()
         ∷ [] ∷ []) }
 {}
 
-/// Shows that a note is cut at its newlines.
+/// Shows that a note is split at its newlines, without the carriage return before one.
 fn note_pieces()
     ensures { text_of (rich default_config
         (with_note (codes "a\r\n\nb\n") (message_only Error (codes "m"))) [] [])

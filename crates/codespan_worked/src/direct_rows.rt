@@ -20,7 +20,7 @@ fn reversed_handed_in()
         ∷ []) }
 {}
 
-/// Shows that lanes ascend strictly and are below their number.
+/// Shows that lanes are in order if they ascend strictly and are below the number of lanes.
 fn lanes_in_order_test()
     ensures none { lanes_in_order 0 [] ≡ true }
     ensures ascending { lanes_in_order 2 (bars_in (0 ∷ 1 ∷ [])) ≡ true }

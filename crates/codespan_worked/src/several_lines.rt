@@ -78,7 +78,7 @@ fn mismatched_types()
         ∷ [] ∷ []) }
 {}
 
-/// Shows that an underline passes a bar.
+/// Shows that an underline from a bottom corner passes a bar.
 fn crossing_lanes()
     ensures { text_of (rich default_config (message_only Error [])
         (text_file (codes "f") (codes "ab\ncd\nef") ∷ [])
@@ -110,7 +110,8 @@ fn report_two_lines()
         ∷ [] ∷ []) }
 {}
 
-/// Shows that the underline and the caret of a bottom corner have characters of their own.
+/// Shows that the underline from a bottom corner, and the caret at its end, have characters of
+/// their own.
 fn other_bottom_characters()
     ensures { text_of (rich (record default_config {
       chars = record box_drawing {
@@ -135,7 +136,8 @@ fn other_bottom_characters()
         ∷ [] ∷ []) }
 {}
 
-/// Computes the output of a start after its end, on another line: no line has a bar.
+/// Computes the output of a label that starts on a line after the one on which it ends: its bottom
+/// corner is above its top corner.
 fn reversed_over_lines()
     ensures { text_of (rich default_config (message_only Error [])
         (text_file (codes "f") (codes "ab\ncd") ∷ [])
@@ -150,7 +152,7 @@ fn reversed_over_lines()
         ∷ [] ∷ []) }
 {}
 
-/// Shows that below a corner in a source row the lane is left out.
+/// Shows that in the classic layout the lane is left out below a corner in a source row.
 fn below_corner()
     ensures { text_of (rich default_config (message_only Error [])
         (text_file (codes "f") (codes "ab\ncd") ∷ [])

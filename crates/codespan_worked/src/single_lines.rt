@@ -113,7 +113,7 @@ fn overlapping_labels()
         ∷ [] ∷ []) }
 {}
 
-/// Computes the output of a start after its end, in one line.
+/// Computes the output of a label whose start is after its end, in one line.
 fn reversed_in_line()
     ensures { text_of (rich default_config (message_only Error [])
         (text_file (codes "f") (codes "abc") ∷ [])
@@ -152,7 +152,7 @@ fn past_the_end()
         ∷ [] ∷ []) }
 {}
 
-/// Computes the output of tabs up to the next stop, of four cells.
+/// Computes the output of tabs where there is a stop every four cells.
 fn tab_stops_4()
     ensures { text_of (rich default_config (message_only Error [])
         (tabbed_file ∷ [])
@@ -165,7 +165,7 @@ fn tab_stops_4()
         ∷ [] ∷ []) }
 {}
 
-/// Computes the same, of three cells.
+/// Computes the same with a stop every three cells.
 fn tab_stops_3()
     ensures { text_of (rich (record default_config { tab_width = 3 }) (message_only Error [])
         (tabbed_file ∷ [])
@@ -191,7 +191,7 @@ fn tab_stops_0()
         ∷ [] ∷ []) }
 {}
 
-/// Shows that a range that cuts characters takes them whole.
+/// Shows that the characters that a range cuts have all their carets.
 fn moon_jump()
     ensures { text_of (rich default_config (message_only Note (codes "invalid unicode range"))
         (text_file (codes "moon_jump.rs") (codes "🐄🌑🐄🌒🐄🌓🐄🌔🐄🌕🐄🌖🐄🌗🐄🌘🐄") ∷ [])

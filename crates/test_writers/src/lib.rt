@@ -1,5 +1,5 @@
-//! What tests share: the custom writers of `docs/WRITERS.md`, writers that count or stop, and what
-//! is written to them.
+//! What tests share: the custom writers of `docs/WRITERS.md`, writers that count or stop, a style
+//! mark of each kind, and the removal of escape sequences.
 #![tactic(auto)]
 
 pub mod counting;

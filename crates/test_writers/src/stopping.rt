@@ -20,10 +20,10 @@ pub enum Stop {
     TakesOneByte,
 }
 
-/// A writer that takes so many bytes at most at a time, and stops after so many writes.
+/// A writer that takes at most a number of bytes at a time, and stops after a number of writes.
 #[derive(Drop)]
 pub struct StoppingWriter {
-    /// What it has taken.
+    /// The bytes that it has taken.
     pub text: Vec<u8>,
     // The most bytes that a write takes.
     most: usize,
@@ -36,8 +36,8 @@ pub struct StoppingWriter {
 }
 
 impl StoppingWriter {
-    /// Returns a writer that takes `most` bytes at most at a time, and stops so after `writes`
-    /// writes.
+    /// Returns a writer that takes at most `most` bytes at a time, and stops in this way after
+    /// `writes` writes.
     pub fn new(alloc: Global, most: usize, writes: usize, stop: Stop) -> StoppingWriter {
         StoppingWriter {
             text: Vec::new(alloc),
@@ -49,9 +49,10 @@ impl StoppingWriter {
         }
     }
 
-    /// Returns whether it did as expected, where the writing of the whole text has or has not
-    /// `succeeded`: that is so exactly where the writer has not stopped, it then holds the whole
-    /// text, and else a prefix, and no write has followed the one that stopped it.
+    /// Returns whether the writer is as it has to be once writing the whole text has `succeeded`,
+    /// or failed. If writing succeeded, the writer has not stopped, and holds the whole text. If
+    /// writing failed, the writer has stopped, holds a prefix, and no write followed the one that
+    /// stopped it.
     pub fn is_right(&self, succeeded: bool, whole: &[u8]) -> bool {
         let text = self.text.as_slice();
         succeeded != self.has_stopped
@@ -104,8 +105,8 @@ impl Write for StoppingWriter {
     }
 }
 
-/// Returns whether rendering into a writer ended as it should: with `Io` where the writer has
-/// stopped, and else without an error.
+/// Returns whether rendering into a writer returned what it has to: `Io` if the writer has stopped,
+/// and else `Ok`.
 pub fn is_as_expected(returned: &Result<(), Error>, is_stopped: bool) -> bool {
     match returned {
         Ok(()) => !is_stopped,

@@ -4,7 +4,7 @@ use codespan_base::diagnostic::{LabelStyle, Severity};
 use codespan_base::term::WriteStyle;
 use std::io;
 
-/// Writes a style mark of each kind, those with a severity as of an error, and the reset last.
+/// Writes a style mark of each kind, those that have a severity for an error, and the reset last.
 ///
 /// # Errors
 ///

@@ -18,9 +18,9 @@ pub struct Line<'text> {
     pub number: usize,
     /// Its text.
     pub text: &'text str,
-    /// The cells between tab stops.
+    /// The number of cells from one tab stop to the next.
     pub tab_width: usize,
-    /// The severity, whose color its primary labels have.
+    /// The severity, from which its primary labels have their color.
     pub severity: Severity,
     /// Its labels.
     pub labels: &'text [SingleLabel<'text>],
@@ -75,7 +75,7 @@ pub struct Direct<'text> {
 }
 
 impl<'text> Direct<'text> {
-    /// Returns the call, with the first locus of `f.txt`.
+    /// Returns the call, with the locus `f.txt:1:1`.
     ///
     /// # Errors
     ///
@@ -156,7 +156,7 @@ fn render_call<W: WriteStyle>(
 }
 
 impl RowCall<'_> {
-    /// Returns the cells between tab stops.
+    /// Returns the number of cells from one tab stop to the next.
     fn tab_width(&self) -> usize {
         match self {
             RowCall::Source(line) => line.tab_width,

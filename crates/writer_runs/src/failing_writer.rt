@@ -11,7 +11,7 @@ use codespan_base::term::config::writing::{forward_all, forward_put, write_all};
 use std::io;
 use std::io::{ErrorKind, Write};
 
-/// Returns the number of calls after an error, at one more call.
+/// Counts one more call, if a call before it has failed.
 fn counted(calls_after: usize, failed: bool) -> usize {
     if failed {
         calls_after.saturating_add(1)

@@ -1,4 +1,4 @@
-//! All runs of a worked output, and of a row by a call of its own.
+//! All runs of a worked output, and of a row that is rendered by a direct call.
 
 use crate::direct::Direct;
 use crate::direct::rows::DirectRow;

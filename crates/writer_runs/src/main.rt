@@ -10,9 +10,9 @@
 //! which is compared with the text that is expected, and in colors it is the same text once the
 //! escape sequences are removed.
 //!
-//! A line for each worked output and each direct call states by how many calls and into how many
-//! writers it was rendered, or the error. The number of runs is written to standard error, after
-//! an error of the input.
+//! A line for each worked output and each direct call states by how many calls, or by which, and
+//! into how many kinds of writers it was rendered, or the error. The number of runs is written to
+//! standard error, after an error of the input.
 //!
 //! | status | meaning |
 //! |---|---|

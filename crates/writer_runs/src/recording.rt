@@ -20,7 +20,7 @@ impl Recording {
         Recording::stopping(alloc, usize::MAX, usize::MAX, Stop::Fails)
     }
 
-    /// Returns an empty recording of a writer that takes `most` bytes at most at a time, and stops
+    /// Returns an empty recording of a writer that takes at most `most` bytes at a time, and stops
     /// in this way after `writes` writes.
     pub fn stopping(alloc: Global, most: usize, writes: usize, stop: Stop) -> Recording {
         Recording {

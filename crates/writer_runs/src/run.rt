@@ -48,7 +48,7 @@ fn write_counts<E: Write>(
     writeln!(error_output, "writer_runs: {texts} texts, {runs} runs")
 }
 
-/// How many expected texts and runs there were so far, and whether one was wrong.
+/// How many worked outputs and rows were judged, by how many runs, and whether one was wrong.
 #[derive(Clone, Copy, Default)]
 struct Sum {
     texts: usize,
@@ -57,8 +57,8 @@ struct Sum {
 }
 
 impl Sum {
-    /// Counts a text and its runs, and writes its line: by which calls it was rendered, or the
-    /// error.
+    /// Counts a worked output or a row, and its runs, and writes its line: by which calls it was
+    /// rendered, or the error.
     fn report<W: Write, T: Display + Drop, D: Display + Drop>(
         &mut self,
         output: &mut W,

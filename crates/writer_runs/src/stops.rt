@@ -16,8 +16,8 @@ pub const STOPS: [Stop; 4] = [
     Stop::TakesOneByte,
 ];
 
-/// The number of writers: those that stop, the one that accepts a byte at a time, and the one that
-/// stops at a style mark.
+/// The number of kinds of writers: those that stop at a write, the one that accepts a byte at a
+/// time, and the one that stops at a style mark.
 pub const WRITERS: usize = STOPS.len() + 2;
 
 /// Renders by way of a writer of styles to each writer that stops, at each write that rendering
@@ -65,9 +65,9 @@ fn written_length(stop: Stop, start: usize, whole: usize) -> usize {
     }
 }
 
-/// Renders by way of a writer of styles to a writer, and returns whether it then holds this length
-/// of the whole text and, if that is less than all, the result is `Io`, the writer has stopped, and
-/// no write followed.
+/// Renders by way of a writer of styles to a writer, and returns whether it then holds a prefix of
+/// this length. If that is the whole text, the result has to be `Ok`; else it has to be `Io`, and
+/// no write may follow the one that stopped the writer.
 fn stops_at<D: Render>(
     style_writer: StyleWriterKind,
     output: &D,

@@ -70,13 +70,14 @@ impl StyleWriterKind {
         matches!(self, StyleWriterKind::Ansi | StyleWriterKind::Custom)
     }
 
-    /// Renders by way of this writer of styles to a writer that records, and returns that. Without
-    /// the escape sequences that style marks are written as, its text has to be the plain text.
+    /// Renders by way of this writer of styles to a writer that records, and returns the recording.
+    /// Once the escape sequences are removed, what was written has to be the plain text; a writer
+    /// that spells style marks as escape sequences has to have written some.
     ///
     /// # Errors
     ///
     /// - `Failed`: rendering or an allocation fails.
-    /// - `OtherText`: the text is another.
+    /// - `OtherText`: what was written is not as said above.
     pub fn record<D: Render>(
         self,
         alloc: Global,

@@ -87,7 +87,7 @@ impl<'input> WorkedOutput<'input> {
         }
     }
 
-    /// Adds a text, or appends it to the text of its kind if one is expected.
+    /// Adds an expected text, or appends it to the one of its kind if there is one.
     ///
     /// # Errors
     ///
@@ -103,7 +103,7 @@ impl<'input> WorkedOutput<'input> {
         Ok(())
     }
 
-    /// Returns the index of the text of a kind, if expected.
+    /// Returns the index of the expected text of a kind, if there is one.
     fn index_of(&self, kind: TextKind) -> Option<usize> {
         for (index, expected) in self.texts.iter().enumerate() {
             if expected.kind == kind {
@@ -113,7 +113,7 @@ impl<'input> WorkedOutput<'input> {
         None
     }
 
-    /// Returns the text of a kind, if expected.
+    /// Returns the expected text of a kind, if there is one.
     fn text(&self, kind: TextKind) -> Option<&str> {
         for expected in self.texts.as_slice() {
             if expected.kind == kind {
@@ -123,13 +123,13 @@ impl<'input> WorkedOutput<'input> {
         None
     }
 
-    /// Returns the plain text in a style, if expected.
+    /// Returns the expected plain text in a style, if there is one.
     pub fn plain_text(&self, style: DisplayStyle) -> Option<&str> {
         self.text(TextKind::plain(style))
     }
 
-    /// Returns what is expected of the text in escape sequences in a style: nothing if the plain
-    /// text of the style is not expected.
+    /// Returns what is expected of the text in escape sequences in a style: nothing if no plain
+    /// text of the style is expected.
     pub fn colors(&self, style: DisplayStyle) -> ExpectedColors<'_> {
         if self.plain_text(style).is_none() {
             return ExpectedColors::End("");

@@ -1,7 +1,7 @@
 //! The parser of the worked outputs.
 //!
-//! The input is that of [`gallery_script::cases`], with these lines more, of which each belongs to
-//! the last case; texts are escaped as there:
+//! The input is that of [`gallery_script::cases`], and may have these lines too, each of which
+//! belongs to the last case; texts are escaped as there:
 //!
 //! | line | meaning |
 //! |---|---|
@@ -10,7 +10,7 @@
 //! | `ansi-end TEXT` | the expected end of that text |
 //! | `character FIELD C` | this field of [`Chars`] is this character |
 //!
-//! A text may take several lines of its word, which are joined. FIELD is `multi_top`,
+//! A text may take several lines with its word, which are joined. FIELD is `multi_top`,
 //! `multi_bottom`, `multi_primary_caret_end` or `multi_secondary_caret_end`. Any other field, and a
 //! C that is not one character, is the error `UnknownName`.
 

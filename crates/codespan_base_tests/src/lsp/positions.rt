@@ -33,7 +33,7 @@ fn assert_at<'a, F: Files<'a>>(
     assert_same_at(rt, byte_index, &back, &byte_index);
 }
 
-/// Asserts so of each counterpart of a table.
+/// Asserts the same of each counterpart of a table.
 fn assert_counterparts<'a, F: Files<'a>>(
     rt: &impl Abort,
     files: &'a F,
@@ -45,7 +45,7 @@ fn assert_counterparts<'a, F: Files<'a>>(
     }
 }
 
-/// Asserts so of one file.
+/// Asserts the same of a database of one file.
 fn assert_in_file(
     rt: &impl Abort,
     file: &SimpleFile<&'static str, &'static str>,

@@ -1,4 +1,4 @@
-//! Clones of configurations, of their characters and of the texts before a locus.
+//! Clones of configurations, of their characters and of their `snippet_start`.
 
 use crate::asserts::assert_same;
 use codespan_base::term::config::chars::SnippetStart;
@@ -7,6 +7,8 @@ use std::alloc::{AllocError, Global};
 use std::panic::Expect;
 use std::process::Abort;
 
+/// The clone of the default configuration has the defaults, of which four are compared, and does
+/// not own its `snippet_start`.
 #[test]
 fn clone_of_default_configuration(rt: HostRuntime) {
     let fixed = Config::default().clone().expect(&rt, "a copy");
@@ -44,18 +46,19 @@ fn start_of<'a>(start: &'a SnippetStart<'_>) -> (&'a str, bool) {
 /// What `start_of` returns for that configuration.
 static OWNED_START: (&str, bool) = ("==>", true);
 
-/// Asserts that the clone of such a start is such a start.
+/// Asserts that the clone of an owned `==>` is an owned `==>`.
 fn assert_start_clone(rt: &impl Abort, start: &SnippetStart<'_>) {
     let copy = start.clone().expect(rt, "a copy");
     assert_same(rt, &start_of(&copy), &OWNED_START);
 }
 
-/// Asserts that the clone of these characters has such a start.
+/// Asserts that the clone of these characters owns a `==>`.
 fn assert_chars_clone(rt: &impl Abort, chars: &Chars<'_>) {
     let copy = chars.clone().expect(rt, "a copy");
     assert_same(rt, &start_of(&copy.snippet_start), &OWNED_START);
 }
 
+/// The clones of an owned `snippet_start`, and of characters with it, own their text.
 #[test]
 fn clones(rt: HostRuntime) {
     let config = with_owned_start(rt.alloc()).expect(&rt, "a configuration");

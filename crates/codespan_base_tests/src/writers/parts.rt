@@ -1,4 +1,4 @@
-//! Parts of rows, written to writers that take little at a time, or stop.
+//! Parts of rows, and style marks, written to writers that take little at a time, or stop.
 
 use crate::asserts::assert_same;
 use crate::writers::written::{Part, write_parts};
@@ -42,7 +42,7 @@ struct Case {
     stop: Stop,
     // The most bytes that a write takes.
     most: usize,
-    // The number of writes after which it stops.
+    // The number of writes before it stops.
     writes: usize,
 }
 
@@ -53,7 +53,7 @@ impl Case {
     }
 }
 
-/// Asserts that a writer holds `whole` where the parts were written, and else a prefix of it.
+/// Asserts that a writer holds `whole` if writing the parts succeeded, and else a prefix of it.
 fn assert_is_right(rt: &impl Abort, inner: &StoppingWriter, is_ok: bool, whole: &str, case: &Case) {
     let Case { stop, most, writes } = case;
     assert!(rt;
@@ -62,14 +62,14 @@ fn assert_is_right(rt: &impl Abort, inner: &StoppingWriter, is_ok: bool, whole: 
     );
 }
 
-/// Asserts that the parts in tags are right over a writer that stops so.
+/// Asserts what a writer that stops in this way holds of the parts in tags.
 fn assert_tags_stop(rt: &impl Abort, alloc: Global, case: &Case) {
     let mut inner = case.writer(alloc);
     let is_ok = write_parts(&mut TagWriter::new(&mut inner), &PARTS, "").is_ok();
     assert_is_right(rt, &inner, is_ok, TAG_PARTS, case);
 }
 
-/// Asserts so of the parts in plain text, and that the flag is set exactly where they failed.
+/// Asserts the same of the parts in plain text, and that `has_failed` is true exactly if they failed.
 fn assert_plain_stops(rt: &impl Abort, alloc: Global, case: &Case) {
     let mut plain = PlainWriter::new(case.writer(alloc));
     let is_ok = write_parts(&mut plain, &PARTS, "").is_ok();
@@ -88,6 +88,7 @@ static STOPS: [Stop; 4] = [
 /// The most bytes that a write takes.
 static MOST: [usize; 4] = [1, 2, 5, 100];
 
+/// A writer that stops holds a prefix of the parts, and no write follows the one that stopped it.
 #[test]
 fn rows_over_writers_that_stop(rt: HostRuntime) {
     for stop in &STOPS {

@@ -40,6 +40,7 @@ fn every_style_mark_of_every_writer(rt: HostRuntime) {
     assert_written(&rt, tag_style_marks(alloc), TAG_STYLE_MARKS);
 }
 
+/// No style mark of a writer of plain text fails.
 #[test]
 fn plain_style_marks_set_no_flag(rt: HostRuntime) {
     let mut plain = PlainWriter::new(Vec::new(rt.alloc()));
@@ -49,9 +50,7 @@ fn plain_style_marks_set_no_flag(rt: HostRuntime) {
 
 #[test]
 fn coloured_header(rt: HostRuntime) {
-    let expected =
-        "\x1b\x5b\x30\x6d\x1b\x5b\x31\x6d\x1b\x5b\x33\x38\x3b\x35\x3b\x39\x6d\x65\x72\x72\x6f\x72\
-        \x1b\x5b\x30\x6d\x1b\x5b\x31\x6d\x3a\x20\x6d\x1b\x5b\x30\x6d\x0a";
+    let expected = "\x1b[0m\x1b[1m\x1b[38;5;9merror\x1b[0m\x1b[1m: m\x1b[0m\n";
     assert_written(&rt, ansi(rt.alloc(), Rows::Header), expected);
 }
 

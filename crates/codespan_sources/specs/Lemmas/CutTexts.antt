@@ -82,24 +82,24 @@ module _ (text : List ℕ) (first : ℕ) where
       → IsCharBoundary text (l.end - first) → l.start - first ≤ l.end - first → Chain (l ∷ [])
   chain_one l s e h = record {
     rising = λ i p. absurd (omega (arith, p));
-    starts_on_boundaries = one_start;
+    starts_on_boundaries = start_on_boundary;
     ends_on_boundaries = end_on_boundary;
-    ends_after_start = one_after;
+    ends_after_start = end_after_start;
     ends_before_next = λ i p. absurd (omega (arith, p));
   }
     where
-      one_start : (i : ℕ) → i < 1 → IsCharBoundary text (slice_index ((l.start - first) ∷ []) i)
-      one_start zero p = s
-      one_start (suc i) p = absurd (omega (arith, p))
+      start_on_boundary : (i : ℕ) → i < 1 → IsCharBoundary text (slice_index ((l.start - first) ∷ []) i)
+      start_on_boundary zero p = s
+      start_on_boundary (suc i) p = absurd (omega (arith, p))
 
       end_on_boundary : (i : ℕ) → i < 1 → IsCharBoundary text (slice_index ((l.end - first) ∷ []) i)
       end_on_boundary zero p = e
       end_on_boundary (suc i) p = absurd (omega (arith, p))
 
-      one_after : (i : ℕ) → i < 1
+      end_after_start : (i : ℕ) → i < 1
           → slice_index ((l.start - first) ∷ []) i ≤ slice_index ((l.end - first) ∷ []) i
-      one_after zero p = h
-      one_after (suc i) p = absurd (omega (arith, p))
+      end_after_start zero p = h
+      end_after_start (suc i) p = absurd (omega (arith, p))
 
   -- a line before a chain that follows it
   chain_more : (l m : RawLine) (ms : List RawLine) → IsCharBoundary text (l.start - first)

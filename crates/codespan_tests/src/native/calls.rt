@@ -10,7 +10,7 @@ use codespan_native::status::write_status;
 use std::alloc::Global;
 use std::process::Abort;
 
-/// The default color.
+/// A style without a color, neither bold nor intense.
 const NO_COLOR: RawColorSpec = RawColorSpec {
     fg: 0,
     bg: 0,
@@ -18,7 +18,7 @@ const NO_COLOR: RawColorSpec = RawColorSpec {
     intense: 0,
 };
 
-/// The configuration: the caller's characters, no color.
+/// The configuration: the caller's characters, and no colors.
 static CONFIG: RawConfig<'static> = RawConfig {
     abi: 1,
     display_style: 0,
@@ -67,7 +67,7 @@ static CONFIG: RawConfig<'static> = RawConfig {
     },
 };
 
-/// A primary label of the first file, from its first byte to its second, without a message.
+/// A primary label over the first byte of the first file, without a message.
 const LABEL: RawLabel<'static> = RawLabel {
     style: 0,
     file: 0,
@@ -144,7 +144,7 @@ static CALLS: [Call<'static>; 3] = [
         "warning: bad\n    @ f.txt:101:1\n    !\n101 ! two\n    ! $$$\n\n",
     ),
     (
-        "given_lines_and_locations",
+        "stated_lines_and_locations",
         &[RawFile {
             source: b"one;two;",
             first_byte: 10,
@@ -179,7 +179,7 @@ static CALLS: [Call<'static>; 3] = [
     ),
 ];
 
-/// Returns the first of these bytes, so many or all.
+/// Returns the first `count` bytes, or all if there are fewer.
 fn first_bytes(bytes: &[u8], count: usize) -> &[u8] {
     &bytes[..count.min(bytes.len())]
 }
@@ -194,6 +194,7 @@ fn assert_emits(rt: &impl Abort, alloc: Global, call: &Call<'_>) {
     assert!(rt; outcome.status == 0);
 }
 
+/// Calls return `OK`, and write the output.
 #[test]
 fn calls(rt: HostRuntime) {
     for call in &CALLS {
@@ -201,8 +202,8 @@ fn calls(rt: HostRuntime) {
     }
 }
 
-/// A call without files that fails: its name, its diagnostic, the status, and which argument is
-/// named, by its number and its index.
+/// A call without files that fails: its name, its diagnostic, and the status, with the number and
+/// the index of the argument that is reported.
 type FailedCall<'call> = (&'call str, RawDiagnostic<'call>, (u32, u32, usize));
 
 /// Calls that fail.
@@ -248,6 +249,8 @@ fn assert_fails(rt: &impl Abort, alloc: Global, call: &FailedCall<'_>) {
     assert!(rt; failed == *expected && is_unwritten, "{name}");
 }
 
+/// The first argument that is invalid, or names a missing file, is reported, and nothing is
+/// written.
 #[test]
 fn failed_calls(rt: HostRuntime) {
     for call in &FAILED_CALLS {
@@ -263,6 +266,8 @@ fn assert_status_text(rt: &impl Abort, status: u32, argument: u32, text: &str) {
     assert_bytes(rt, first_bytes(&out, written), text);
 }
 
+/// Statuses have their texts; a buffer that is a byte too short leads to `TOO_SMALL`, and the
+/// length of the text is reported.
 #[test]
 fn texts_of_statuses(rt: HostRuntime) {
     assert_status_text(&rt, 2, 0, "out of memory");

@@ -17,17 +17,23 @@ use std::process::Abort;
 /// A lookup of a [`Listing`], with its byte or its line, if it has one. Both are 0-based indices.
 #[derive(Clone, Copy)]
 pub enum LookupCall {
+    /// `name`
     Name,
+    /// `source`
     Source,
+    /// `location` of a byte
     Location(usize),
+    /// `line_index` of a byte
     LineIndex(usize),
+    /// `line_number` of a line
     LineNumber(usize),
+    /// `line_range` of a line
     LineRange(usize),
 }
 
 impl LookupCall {
-    /// Returns these failures and that of this lookup. With the line of a byte those of later bytes
-    /// fail too.
+    /// Returns `failed` with this lookup failing too. Where `line_index` of a byte fails, so does
+    /// that of each later byte.
     pub fn failed_beside(&self, mut failed: Failed) -> Failed {
         match *self {
             LookupCall::Name => failed.name = true,
@@ -68,8 +74,8 @@ static LOOKUPS: [Lookup; 7] = [
     (LookupCall::Source, "error: \n"),
 ];
 
-/// Asserts that a failed lookup's error is returned, after its text, by the view and by a call that
-/// emits.
+/// Asserts that the view and a call that emits return the error of a failed lookup, and that the
+/// view has written its text before.
 pub fn assert_fails(
     rt: &impl Abort,
     config: &Config<'_>,
@@ -81,7 +87,7 @@ pub fn assert_fails(
     assert_renders(rt, config, files, diagnostic, expected);
 }
 
-/// Asserts so of a lookup that fails alone.
+/// Asserts the same of a lookup that fails alone.
 fn assert_fails_alone(rt: &impl Abort, diagnostic: &Diagnostic<()>, lookup: &Lookup) {
     let failed = lookup.0.failed_beside(Failed::default());
     let files = Listing::new(*diagnostic.labels.allocator(), "f", "ab", failed).expect(

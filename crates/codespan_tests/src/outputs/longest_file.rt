@@ -1,4 +1,4 @@
-//! A file that has a line for each index, so that contexts meet the greatest one.
+//! A file that has a line for each index, so that context lines reach the greatest one.
 
 ghost use Rattle.std.specs.Prelude.{refl};
 
@@ -88,8 +88,8 @@ fn with_last_labels(alloc: Global) -> Result<Diagnostic<()>, Error> {
         .with_label(Label::secondary(alloc, (), last..last))
 }
 
-/// Asserts that the header of this diagnostic is written, in a layout and with so many lines after
-/// a label, and that the source is looked up then.
+/// Asserts that the header of this diagnostic is written, in a layout and with this number of lines
+/// after a label, and that the lookup of the source then fails.
 fn assert_header(
     rt: &impl Abort,
     diagnostic: &Diagnostic<()>,
@@ -112,8 +112,8 @@ static LAYOUTS: [Layout; 2] = [Layout::Classic, Layout::Unbroken];
 /// Numbers of lines after a label.
 static AFTER_LABEL: [usize; 5] = [0, 3, 4, 5, usize::MAX];
 
-/// A context ends with the greatest index, and rendering goes on: the header is written, and then
-/// the source is looked up.
+/// Context lines end with the greatest index, and no lookup of theirs fails: the header is written,
+/// and then the lookup of the source fails.
 #[test]
 fn context_past_all_indices(rt: HostRuntime) {
     let diagnostic = with_last_labels(rt.alloc()).expect(&rt, "the diagnostic");

@@ -1,4 +1,5 @@
-//! A failed line number, a missing file, and a view and a renderer of two configurations.
+//! A line number that can not be looked up, a missing file, and a view and a renderer with two
+//! configurations.
 
 use crate::asserts::assert_bytes;
 use crate::outputs::failures::with_label;
@@ -27,7 +28,8 @@ fn two_lines_after<'chars>() -> Config<'chars> {
     }
 }
 
-/// A context line whose number fails fails the call; it does not end the context.
+/// Where the number of a context line can not be looked up, the call fails: the context does not
+/// end before that line.
 #[test]
 fn mapped_overflow(rt: HostRuntime) {
     let file = numbered_to_the_end(&rt, rt.alloc());

@@ -35,6 +35,7 @@ pub fn in_first_and_eighth(rt: &impl Abort, alloc: Global) -> Diagnostic<usize> 
 #[derive(Drop)]
 pub struct Rendered {
     returned: Result<(), Error>,
+    /// The bytes that were written.
     pub text: Vec<u8>,
 }
 
@@ -65,8 +66,8 @@ fn is_same_return<T>(one: &Result<(), Error>, other: &Result<T, Error>) -> bool 
     parts_of(one) == parts_of(other)
 }
 
-/// `Ok`, or which error was returned, and its numbers, `given` and `max`; 0 for one that it does
-/// not have. Of an `Io` the cause is left out.
+/// `Ok` or the name of an error, and its `given` and `max`, each 0 if it has none. The cause of an
+/// `Io` is left out.
 pub type Parts<'name> = (&'name str, usize, usize);
 
 /// The parts of `Ok`.
@@ -128,8 +129,8 @@ fn is_same_without_color<'files, F: Files<'files>>(
     plain.is_same(&returned, without_color.into_inner().as_slice())
 }
 
-/// Returns whether a view is rendered the same over [`Ansi`], once the escape sequences are taken
-/// out.
+/// Returns whether a view is rendered the same over [`Ansi`], once the escape sequences are
+/// removed.
 fn is_same_in_color<'files, F: Files<'files>>(
     rt: &impl Abort,
     alloc: Global,
@@ -144,7 +145,7 @@ fn is_same_in_color<'files, F: Files<'files>>(
 }
 
 /// Renders a view plain, over [`NoColor`], and over [`Ansi`]. Asserts that all three return the
-/// same, `Ok` or an error, and write the same, once the escape sequences are taken out. Returns the
+/// same, `Ok` or an error, and write the same, once the escape sequences are removed. Returns the
 /// plain rendering.
 pub fn render_alike<'files, F: Files<'files>>(
     rt: &impl Abort,

@@ -23,7 +23,8 @@ pub fn in_style<'chars>(display_style: DisplayStyle) -> Config<'chars> {
     }
 }
 
-/// Emits by each call that writes. Returns `Ok` or which error, where all of them return the same.
+/// Emits by each call that writes to a writer, one after another. Returns `Ok` or the name of the
+/// error that all of them return, or `different results`.
 pub fn emit_by_each<W: Write>(
     inner: &mut W,
     config: &Config<'_>,
@@ -163,7 +164,7 @@ fn with_note(rt: &impl Abort, alloc: Global) -> Diagnostic<usize> {
         .expect(rt, "the note")
 }
 
-/// Asserts that the escape sequences are taken out of a header.
+/// Asserts that `without_sequences` removes the escape sequences of a header.
 fn assert_without_sequences(rt: &impl Abort, alloc: Global) {
     let colored = b"\x1b[0m\x1b[1m\x1b[38;5;9merror\x1b[0m\x1b[1m: m\x1b[0m\n";
     let text = without_sequences(alloc, colored).expect(rt, "the text");
@@ -171,7 +172,7 @@ fn assert_without_sequences(rt: &impl Abort, alloc: Global) {
 }
 
 /// Over `NoColor` a diagnostic is written as in plain text, and over `Ansi` too, once the escape
-/// sequences are taken out.
+/// sequences are removed.
 #[test]
 fn colours_change_no_text(rt: HostRuntime) {
     assert_without_sequences(&rt, rt.alloc());

@@ -5,10 +5,10 @@ use crate::report::{Failing, OUTPUT, Outcome, REQUEST, Run, check_run, run_over}
 /// What is seen of a run whose input fails.
 const FAILED_INPUT: (&str, &str, u8) = ("", "report: cannot read input\n", 1);
 
-/// The line of an output that fails.
+/// The line that is written where the output fails.
 const CANNOT_WRITE: &str = "report: cannot write output\n";
 
-/// Where nothing fails.
+/// Nothing fails.
 const NOTHING: Failing = Failing {
     read: None,
     write: None,
@@ -16,7 +16,7 @@ const NOTHING: Failing = Failing {
     error_write: None,
 };
 
-/// Where the second write to the error output fails.
+/// The second write to the error output fails.
 const ERROR_WRITE: Failing = Failing {
     error_write: Some(1),
     ..NOTHING
@@ -79,7 +79,8 @@ fn failed_runs(rt: HostRuntime) {
     }
 }
 
-/// Returns whether a run ended when its output, whose next write failed, had taken this many bytes.
+/// Returns whether a run ended with an error of its output, which had taken a prefix of this number
+/// of bytes.
 fn ended_after(outcome: &Outcome, bytes: usize) -> bool {
     let accepted = outcome.output.accepted.as_slice();
     let (_, error_text, status) = outcome.seen();
@@ -89,6 +90,7 @@ fn ended_after(outcome: &Outcome, bytes: usize) -> bool {
         && status == 1
 }
 
+/// If any write to the output fails, the status is 1, and the error output says so.
 #[test]
 fn failed_output(rt: HostRuntime) {
     for write in 0..OUTPUT.len().div_ceil(4) {

@@ -7,8 +7,8 @@ use crate::report::{Failing, Run, check_run, run_over};
 use std::alloc::Global;
 use std::process::Abort;
 
-/// The style of a run over the file `f.txt`, its script, and what is to be seen of it: the output,
-/// what is written to `error_output`, and the status.
+/// The style of a run over the file `f.txt`, its input, which is a script and a source, and what is
+/// seen of it: the output, what is written to `error_output`, and the status.
 pub type ScriptRun<'run> = (&'run str, &'run str, (&'run str, &'run str, u8));
 
 /// The run of `script_run`.
@@ -138,7 +138,7 @@ const SCRIPT_MEDIUM_AND_SHORT: [ScriptRun<'static>; 4] = [
     ),
 ];
 
-/// The runs of `scripts_that_are_read`.
+/// The runs of `scripts_that_are_read`: scripts without errors.
 const SCRIPTS_THAT_ARE_READ: [ScriptRun<'static>; 7] = [
     ("rich", "---", ("error: \n\n", "", 0)),
     ("rich", "---\r\nabc", ("error: \n\n", "", 0)),
@@ -217,14 +217,15 @@ pub fn check_scripts(rt: &impl Abort, alloc: Global, name: &str, runs: &[ScriptR
     }
 }
 
-/// Asserts so of the worked scripts. Each table has a function, since its size is a cost there.
+/// Asserts what is seen of the runs over worked scripts. One function names each table, since a
+/// function is proved more slowly for each row of a table that it names.
 fn check_worked_scripts(rt: &impl Abort, alloc: Global) {
     for (name, runs) in &WORKED_SCRIPTS {
         check_scripts(rt, alloc, name, runs);
     }
 }
 
-/// Asserts so of the other scripts.
+/// Asserts what is seen of the runs over the other scripts.
 fn check_other_scripts(rt: &impl Abort, alloc: Global) {
     for (name, runs) in &OTHER_SCRIPTS {
         check_scripts(rt, alloc, name, runs);

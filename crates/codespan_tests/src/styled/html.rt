@@ -1,4 +1,4 @@
-//! Tests of what no contract says: whole documents, against HTML's own entities.
+//! Whole documents, with HTML's own entities, and the runs of a styled text.
 
 use crate::asserts::{assert_row, assert_text};
 use crate::outputs::styles::in_style;
@@ -108,6 +108,8 @@ fn has_style(text: &StyledText, style: Style) -> bool {
     is_found
 }
 
+/// The texts of the runs join to what `emit_into_string` returns, and a run has the style of the
+/// label.
 #[test]
 fn runs_of_a_rich_diagnostic(rt: HostRuntime) {
     let files = SimpleFile::new(rt.alloc(), "wide.txt", "日本語 = 1\n").expect(&rt, "the file");

@@ -29,7 +29,8 @@ fn default_styles(rt: HostRuntime) {
     assert_text(&rt, css.as_str(), want);
 }
 
-/// Returns styles with this color behind the first one and, bold and bright, in the last one.
+/// Returns styles without color, but for two: the first has this color as its background, and the
+/// last has it as its foreground, bold and intense.
 fn with_color(color: Color) -> Styles {
     let mut styles = Styles::no_color();
     styles.header_bug = ColorSpec {
@@ -47,7 +48,8 @@ fn with_color(color: Color) -> Styles {
     styles
 }
 
-/// Asserts that a style sheet has these colors alone, a color and the bright one of it.
+/// Asserts that the style sheet of these styles has no colors but these two, the color and the
+/// bright one of it.
 fn assert_colors(rt: &impl Abort, alloc: Global, color: Color, normal: &str, bright: &str) {
     let want = format!(in alloc;
         ".diagnostic .header-bug {{ background-color: {normal}; }}\n\
@@ -71,7 +73,7 @@ fn assert_colors(rt: &impl Abort, alloc: Global, color: Color, normal: &str, bri
     assert_text(rt, css.as_str(), want.as_str());
 }
 
-/// Each color, and how it and the bright one of it are named.
+/// Each color, and how it and the bright one of it are written in CSS.
 static COLORS: [(Color, &str, &str); 8] = [
     (Color::Black, "#000000", "#7f7f7f"),
     (Color::Red, "#cd0000", "#ff0000"),

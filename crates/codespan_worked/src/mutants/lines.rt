@@ -30,8 +30,8 @@ fn lanes_count_per_file()
         ∷ [] ∷ []) }
 {}
 
-/// Shows that the padding is that of the longest number.
-fn padding_of_all_lines()
+/// Shows that the padding fits the line numbers of all labels, not those of the first one alone.
+fn padding_of_all_labels()
     ensures { text_of (rich default_config (message_only Error [])
         (text_file (codes "f") (codes "\n\n\n\n\n\n\n\n\n") ∷ [])
         (label Secondary 0 0 0 []
@@ -67,7 +67,8 @@ fn lanes_in_given_order()
         ∷ [] ∷ []) }
 {}
 
-/// Shows that a snippet starts at its primary label, though a secondary one starts before it.
+/// Shows that the locus of a file is that of its primary label, though a secondary one starts
+/// before it.
 fn locus_of_primary_first()
     ensures { text_of (rich (record default_config { end_context_lines = 0 })
         (message_only Error [])
@@ -84,7 +85,8 @@ fn locus_of_primary_first()
         ∷ [] ∷ []) }
 {}
 
-/// Shows that a start right at the end of the leading white space has its corner in the source row.
+/// Shows that a label that starts right after the leading white space has its corner in the source
+/// row.
 fn corner_at_end_of_whitespace()
     ensures { text_of (rich default_config (message_only Error [])
         (text_file (codes "f") (codes "  a\nb") ∷ [])
@@ -164,7 +166,7 @@ fn overlap_forbids_trailing()
         ∷ [] ∷ []) }
 {}
 
-/// Shows that an underline from a bottom corner passes a bar with its own character.
+/// Shows that an underline from a bottom corner passes a bar as `multi_bottom`, not as `multi_top`.
 fn underline_characters_of_bottom()
     ensures { text_of
         (rich (record default_config { chars = record box_drawing { multi_top = 0x25 } })

@@ -1,4 +1,4 @@
-//! Rows by their own calls of `Renderer`. The file is `f.txt`, and the locus its first.
+//! Rows that are rendered by direct calls of `Renderer`. Their locus is `f.txt:1:1`.
 
 use crate::direct::{Line, RowCall};
 use crate::worked_output::ExpectedColors;
@@ -6,7 +6,7 @@ use codespan_base::diagnostic::LabelStyle::{Primary, Secondary};
 use codespan_base::diagnostic::Severity;
 use codespan_renderer::term::renderer::MultiLabel;
 
-/// A row by a call of its own.
+/// A row that is rendered by a direct call.
 #[derive(Clone, Copy)]
 pub struct DirectRow<'text> {
     /// Its name.
@@ -15,11 +15,11 @@ pub struct DirectRow<'text> {
     pub call: RowCall<'text>,
     /// Its text.
     pub text: &'text str,
-    /// What is known of its text in escape sequences.
+    /// What is expected of its text in escape sequences.
     pub colors: ExpectedColors<'text>,
 }
 
-/// A row of whose escape sequences nothing is known.
+/// A row of whose escape sequences nothing is expected.
 const ROW: DirectRow<'static> = DirectRow {
     name: "",
     call: RowCall::Empty,
@@ -38,7 +38,7 @@ const LINE: Line<'static> = Line {
     multi_labels: &[],
 };
 
-/// The text of `tab_stops`.
+/// The line of `tab_stops` that has the label.
 const WITH_TABS: Line<'static> = Line {
     number: 4,
     text: "\t\tReloadingCondition:\tattack-cooldown\n",

@@ -101,7 +101,7 @@ fn assert_first_error(
     assert_fails(rt, &around_labels(layout), &files, diagnostic, first);
 }
 
-/// Asserts so of each lookup in a layout, and the next one.
+/// Asserts the same of each lookup in a layout and the next one.
 fn assert_first_errors(
     rt: &impl Abort,
     diagnostic: &Diagnostic<()>,

@@ -246,14 +246,14 @@ fn check_scripts_with_unknown(rt: &impl Abort, alloc: Global) {
     }
 }
 
-/// Asserts so of the runs over scripts with other errors.
+/// Asserts what is seen of the runs over scripts with other errors.
 fn check_scripts_with_other_errors(rt: &impl Abort, alloc: Global) {
     for (name, runs) in &SCRIPTS_WITH_OTHER_ERRORS {
         check_scripts(rt, alloc, name, runs);
     }
 }
 
-/// Asserts so of the runs over scripts with an error.
+/// Asserts what is seen of all runs over scripts with an error.
 pub fn check_scripts_with_errors(rt: &impl Abort, alloc: Global) {
     check_scripts_with_unknown(rt, alloc);
     check_scripts_with_other_errors(rt, alloc);
