@@ -13,8 +13,8 @@ use Rattle.codespan_documents.specs.Svg.{first_pen, background_tag_content, is_f
 
 -- ---- characters
 
--- a character as a document shows it: some control characters by a backslash, and any other that
--- XML can not hold as U+FFFD
+-- a character as a document shows it: four control characters by a backslash and a letter or
+-- digit, and any other that XML can not hold as U+FFFD
 abbrev pub svg_shown : ℕ → List ℕ
 svg_shown c =
     if c == 10 then 10 ∷ []
@@ -47,7 +47,7 @@ joined_glyphs before [] = []
 joined_glyphs before (glyph ∷ glyphs) =
     if joins before glyph then glyph ∷ joined_glyphs glyph glyphs else []
 
--- the cells of glyphs
+-- the number of cells of glyphs
 abbrev pub text_width : List Glyph → ℕ
 text_width [] = 0
 text_width (glyph ∷ glyphs) = cells_of glyph + text_width glyphs

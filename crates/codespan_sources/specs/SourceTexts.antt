@@ -23,8 +23,8 @@ pub record CutText : Type 0 where
   pub ends : List ℕ
   pub number : ℕ → ℕ
 
--- a text whose lines start after newlines, and whose numbers count on from the lines before it, up
--- to the greatest usize
+-- a text whose lines start after newlines, and whose line numbers count on from the lines before
+-- it, up to the greatest usize
 abbrev pub newline_text : List ℕ → List ℕ → ℕ → CutText
 newline_text name text first_line = record {
   name = name;
@@ -62,7 +62,7 @@ pub record NativeFileView : Type 0 where
   pub cut : CutText
   pub stated_location : ℕ → Option Location
 
--- the file of it; a location that is stated comes before the computed one
+-- the file that has it; a location that is stated is used in place of the computed one
 abbrev pub native_file_model : NativeFileView → FileModel
 native_file_model s = record {
   exists = true;
@@ -81,12 +81,12 @@ pub record IsCutLineRange (t : CutText) (i : ℕ) (r : Range ℕ) : Type 0 where
   pub start_is : r.start ≡ slice_index t.starts i
   pub end_is : r.end ≡ slice_index t.ends i
 
--- a line past the last fails
+-- the error of the lookup of line i: it is past the last one
 abbrev pub cut_line_failure : List ℕ → ℕ → Option Error
 cut_line_failure starts i =
     if nat_lt i (length starts) then None else Some (LineTooLarge i (length starts - 1))
 
--- what a lookup fails with: those of the range and of a column of a line past the last alone
+-- the error of a lookup: only that of a range or a column of a line past the last one
 abbrev pub native_failure : NativeFileView → Lookup → Option Error
 native_failure s (LineRange i) = cut_line_failure s.cut.starts i
 native_failure s (ColumnNumber i byte) = cut_line_failure s.cut.starts i

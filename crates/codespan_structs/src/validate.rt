@@ -1,4 +1,4 @@
-//! Which argument is invalid, found without a conversion or an allocation.
+//! Finds the first invalid argument, before anything is converted or allocated.
 
 ghost use Rattle.std.specs.Prelude.{IfNone, IfSome, IsTrue, MatchOption, ◌≡◌};
 ghost use Rattle.codespan_structs.specs.Validity.{AreValid, FindsInvalid, IsFirstInvalid, IsValidAt};
@@ -22,8 +22,8 @@ use crate::validate::values::is_text;
 pub struct Invalid {
     /// Which one it is.
     pub argument: Argument,
-    /// The index, from 0, of the character, style, file, label or note; 0 of an argument of which
-    /// there is only one.
+    /// The index, from 0, of the character, style, file, label or note; 0 where there is only one
+    /// such argument.
     pub index: usize,
 }
 
@@ -101,7 +101,7 @@ fn invalid_index(
     }
 }
 
-/// Returns the index of an argument that there is only one of, unless it is valid.
+/// Returns 0, the index of an argument of which there is only one, unless it is valid.
 fn index_unless(is_valid: bool) -> Option<usize>
     ensures { MatchOption result (IsTrue is_valid) (λ index. (index ≡ 0) × ¬ IsTrue is_valid) }
 {

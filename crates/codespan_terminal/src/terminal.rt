@@ -16,7 +16,7 @@ use std::alloc::{AllocError, Global};
 use std::io;
 use ucd_props::is_bidi_control;
 
-/// Returns a styled text for a terminal: each run after the escape sequences of its style.
+/// Returns a styled text as text for a terminal: each run after the escape sequences of its style.
 ///
 /// The sequences are those that `Ansi` writes for these styles, and the reset for plain text; a
 /// plain first run has none. Characters that are not safe to print are left out of the texts: see
@@ -32,7 +32,7 @@ use ucd_props::is_bidi_control;
 ///
 /// ```rust
 /// let text = styled_text(alloc, &Config::default(), &files, &diagnostic)?;
-/// let bytes = to_terminal(alloc, &text, &Styles::default())?;
+/// let output = to_terminal(alloc, &text, &Styles::default())?;
 /// ```
 pub fn to_terminal(alloc: Global, text: &StyledText, styles: &Styles) -> Result<String, AllocError>
     ensures runs { IfOk result (λ terminal. string_bytes terminal
@@ -62,6 +62,13 @@ pub fn safe_text(alloc: Global, text: &str) -> Result<String, AllocError>
 ///
 /// All characters are but control characters (C0, U+007F and C1) other than tab and newline, and
 /// directional controls, those of Unicode's property `Bidi_Control`.
+///
+/// # Example
+///
+/// ```rust
+/// assert!(rt; is_safe('é') && is_safe('\t'));
+/// assert!(rt; !is_safe('\x1b') && !is_safe('\u{202e}'));
+/// ```
 pub fn is_safe(c: char) -> bool
     ensures { result ≡ is_safe c }
 {

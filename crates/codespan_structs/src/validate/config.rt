@@ -1,4 +1,4 @@
-//! The configuration.
+//! Validates the configuration.
 
 ghost use Rattle.std.specs.Prelude.{◌≡◌, IsTrue, ◌↔◌};
 ghost use Rattle.std.specs.Char.{InScalarRange};
@@ -8,10 +8,10 @@ ghost use Rattle.codespan_structs.specs.Validity.{code_points_of, color_specs_of
 use crate::raw::{ABI, RawChars, RawColorSpec, RawConfig, RawStyles};
 use crate::validate::values::{is_character, is_color_spec, is_text};
 
-/// The choice of the caller's characters.
+/// The number that chooses the caller's characters.
 const CUSTOM_CHARACTERS: u32 = 2;
 
-/// The spelling in the caller's styles.
+/// The number of the spelling as escape sequences, in the caller's styles.
 const CUSTOM_STYLES: u32 = 2;
 
 /// Returns whether the layouts of the structs are those of this library.
@@ -54,7 +54,7 @@ pub fn color_index(config: &RawConfig<'_>) -> Option<usize>
     color_spec_index(&color_specs_of(&config.styles))
 }
 
-/// Returns the index of the first code point that is no Unicode scalar value.
+/// Returns the index of the first code point that is not a Unicode scalar value.
 fn code_point_index(codes: &[u32]) -> Option<usize>
     ensures { FindsWithout InScalarRange codes.now result }
 {

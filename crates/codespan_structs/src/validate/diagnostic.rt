@@ -1,4 +1,4 @@
-//! The diagnostic.
+//! Validates the diagnostic.
 
 ghost use Rattle.std.specs.Prelude.{◌≤◌, length};
 ghost use Rattle.codespan_structs.specs.Validity.{FindsWithout, HasLabelStyle, HasTextMessage, HasLabelFile, IsValidText};
@@ -34,7 +34,7 @@ pub fn label_file_index(files: &[RawFile<'_>], labels: &[RawLabel<'_>]) -> Optio
     index_past(files.len(), labels)
 }
 
-/// Returns the index of the first label whose file is not one of so many files.
+/// Returns the index of the first label whose file is not one of `count` files.
 fn index_past(count: usize, labels: &[RawLabel<'_>]) -> Option<usize>
     ensures { FindsWithout (HasLabelFile count) labels.now result }
 {

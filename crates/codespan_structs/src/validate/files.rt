@@ -1,4 +1,4 @@
-//! The files.
+//! Validates the files.
 
 ghost use Rattle.std.specs.Prelude.{IsTrue, ◌↔◌};
 ghost use Rattle.codespan_structs.specs.Validity.{FindsWithout, HasTextName, HasTextSource, HasValidLines, HasValidLocations};
@@ -28,7 +28,7 @@ pub fn lines_index(files: &[RawFile<'_>]) -> Option<usize>
     files.iter().position(|file| !has_valid_lines(file))
 }
 
-/// Returns the index of the first file whose locations do not ascend.
+/// Returns the index of the first file whose locations do not ascend strictly by their bytes.
 pub fn locations_index(files: &[RawFile<'_>]) -> Option<usize>
     ensures { FindsWithout HasValidLocations files.now result }
 {

@@ -1,4 +1,4 @@
-//! Tests of single values.
+//! Validates single values.
 
 ghost use Rattle.std.specs.Prelude.{◌≡◌, ◌-◌, IsTrue, ◌↔◌};
 ghost use Rattle.std.specs.Char.{InScalarRange};
