@@ -15,7 +15,7 @@ use crate::validate::diagnostic::{
     label_file_index, label_message_index, label_style_index, note_index,
 };
 use crate::validate::files::{lines_index, locations_index, name_index, source_index};
-use crate::validate::values::is_text;
+use crate::validate::values::is_utf8;
 
 /// An invalid argument.
 #[derive(Drop)]
@@ -92,8 +92,8 @@ fn invalid_index(
         Argument::FileLines => lines_index(files),
         Argument::FileLocations => locations_index(files),
         Argument::Severity => index_unless(diagnostic.severity <= 4),
-        Argument::Code => index_unless(is_text(diagnostic.code)),
-        Argument::Message => index_unless(is_text(diagnostic.message)),
+        Argument::Code => index_unless(is_utf8(diagnostic.code)),
+        Argument::Message => index_unless(is_utf8(diagnostic.message)),
         Argument::LabelStyle => label_style_index(diagnostic.labels),
         Argument::LabelMessage => label_message_index(diagnostic.labels),
         Argument::LabelFile => label_file_index(files, diagnostic.labels),

@@ -89,7 +89,7 @@ fn push_text(
         return Ok(());
     };
     if first.style != Style::Plain {
-        push_sequence(alloc, terminal, styles, first.style)?;
+        push_sequences(alloc, terminal, styles, first.style)?;
     }
     push_safe(terminal, first.text.as_str())?;
     push_runs(alloc, terminal, styles, rest)
@@ -106,7 +106,7 @@ fn push_runs(
         ≡ string_bytes terminal.old ++ runs_bytes styles.now (map run_view runs.now)) }
 {
     for run in runs {
-        push_sequence(alloc, terminal, styles, run.style)?;
+        push_sequences(alloc, terminal, styles, run.style)?;
         push_safe(terminal, run.text.as_str())?;
     }
     Ok(())
@@ -126,7 +126,7 @@ fn push_safe(terminal: &mut String, text: &str) -> Result<(), AllocError>
 }
 
 /// Appends the sequences of a style.
-fn push_sequence(
+fn push_sequences(
     alloc: Global,
     terminal: &mut String,
     styles: &Styles,
@@ -135,7 +135,7 @@ fn push_sequence(
     ensures { OnOk result (string_bytes terminal.new
         ≡ string_bytes terminal.old ++ ansi_spelling styles.now (style_mark_of style)) }
 {
-    let bytes = sequence(alloc, styles, style)?;
+    let bytes = sequences(alloc, styles, style)?;
     let Ok(text) = String::from_utf8(bytes) else {
         unreachable!()
     };
@@ -143,7 +143,7 @@ fn push_sequence(
 }
 
 /// Returns the bytes of the sequences of a style.
-fn sequence(alloc: Global, styles: &Styles, style: Style) -> Result<Vec<u8>, AllocError>
+fn sequences(alloc: Global, styles: &Styles, style: Style) -> Result<Vec<u8>, AllocError>
     ensures { IfOk result (λ bytes. bytes.items ≡ ansi_spelling styles.now (style_mark_of style)) }
 {
     let mut writer = StylesWriter::new(Ansi::new(Vec::new(alloc)), styles);

@@ -36,8 +36,9 @@ database_is_lawful files id =
     (λ f. text_is_lawful f.text (location_at f.first_byte f.locations.now))
 
 -- the lookup of a line's range fails past the last line
-pub database_fails_past_end : (ss : List NativeFileView) (id i : ℕ)
-    → FailsPastEnd ((native_database ss).file id) i ((native_database ss).failure id (LineRange i))
-database_fails_past_end ss id i =
-    past_end_or native_file_model native_failure i (slice_get ss id)
-    (λ s there. past_end_is (length s.cut.starts) i)
+pub database_fails_past_end : (views : List NativeFileView) (id i : ℕ)
+    → FailsPastEnd ((native_database views).file id) i
+    ((native_database views).failure id (LineRange i))
+database_fails_past_end views id i =
+    past_end_or native_file_model native_failure i (slice_get views id)
+    (λ view there. past_end_is (length view.cut.starts) i)
