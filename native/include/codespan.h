@@ -4,17 +4,17 @@
  * any number of threads may call it at once, each with its own `out`, `written` and `detail`. It
  * returns a status whatever the numbers and the bytes of its arguments are.
  *
- * What a caller owes is only what a C type can not say:
- *  - each pointer is aligned, is not NULL, and points to as many values as the length beside it says.
- *    For a length of 0 use the CODESPAN_NO_ names or codespan_no_text below;
+ * A caller has to ensure only what a C type can not state:
+ *  - each pointer is aligned, is not NULL, and points to as many values as the length beside it
+ *    says. For a length of 0 use the CODESPAN_NO_ names or codespan_no_text below;
  *  - `out`, `written` and `detail` overlap nothing else that is passed;
  *  - nothing that is passed changes while the call runs.
  *
- * Lengths and indices of bytes are in bytes, indices start at 0, and ends are exclusive. Texts are
- * UTF-8 without a final NUL; control characters in them reach the output. Enumerations are passed as
- * uint32_t; an unknown number is CODESPAN_INVALID.
+ * Lengths and byte indices are in bytes, indices start at 0, and ends are exclusive. Texts are
+ * UTF-8 without a final NUL; control characters in them reach the output. Enumerations are passed
+ * as uint32_t; with an unknown number a call returns CODESPAN_INVALID.
  *
- * C11 and C++11. The layout of the structs is fixed by CODESPAN_ABI: a library with other layouts
+ * For C11 and C++11. CODESPAN_ABI fixes the layouts of the structs: a library with other layouts
  * has another number, and returns CODESPAN_INVALID where `abi` of the configuration is not its own.
  */
 #ifndef CODESPAN_H
@@ -31,8 +31,8 @@ extern "C" {
 /* The ABI version of this header; codespan_abi_version returns that of the library. */
 #define CODESPAN_ABI 1u
 
-/* A tab width above this one is taken as this one, in cells: it bounds how far a tab can grow the
- * output. */
+/* The greatest tab width, in cells: a greater one is taken as this one, so that a tab can not grow
+ * the output without bound. */
 #define CODESPAN_TAB_WIDTH_MAX 1024u
 
 /* A text: bytes of the caller, in UTF-8. */
@@ -43,7 +43,7 @@ typedef struct codespan_text {
 
 /* ---- files ---- */
 
-/* A line of a file: the bytes from start to end. Its newline may be inside or not. */
+/* A line of a file: the bytes from start to end. Its newline may be one of them or not. */
 typedef struct codespan_line {
     size_t start;  /* byte index in the file */
     size_t end;    /* byte index in the file, exclusive */
@@ -61,26 +61,27 @@ typedef struct codespan_location {
  *
  * `source` is the whole file, and then first_byte and first_line are 0; or a window of it, some
  * whole lines one after another, and then they say where it starts. All byte indices, those of
- * labels too, count from the start of the file, not of the window. An index before the window is
- * taken as the start of the window, those of lines and locations before they are checked. A label
- * past the end of the window is rendered as in a file that ends there; a line past it is
+ * labels too, count from the start of the file, not of the window. An index before the window
+ * counts as the start of the window; in lines and locations it does so before they are checked. A
+ * label past the end of the window is rendered as in a file that ends there; a line past it is
  * invalid. */
 typedef struct codespan_file {
     codespan_text name;
     codespan_text source;
     size_t first_byte; /* byte index in the file of the first byte of `source` */
-    /* The number of lines of the file before `source`, that is the index, from 0, of the first line
-     * of `source`. Not read where there are `lines`. */
+    /* The index in the file, from 0, of the first line of `source`: the number of lines before it.
+     * Not read where there are `lines`. */
     size_t first_line;
-    /* The lines of `source`, in ascending order; none: a line starts after each '\n', and line
-     * numbers count on from first_line + 1, up to SIZE_MAX. Where there are lines, the first one
-     * starts at first_byte, each later one starts after the start of the one before it and not
-     * before its end, none ends before its start or past the end of `source`, and all starts and
-     * ends are boundaries of characters. */
+    /* The lines of `source`, in ascending order. Where there are none, a line starts after each
+     * '\n', and line numbers count on from first_line + 1, up to SIZE_MAX. Where there are some,
+     * the first one starts at first_byte, each later one starts after the start of the one before
+     * it and not before its end, none ends before its start or past the end of `source`, and all
+     * starts and ends are character boundaries. */
     const codespan_line *lines;
     size_t lines_length;
     /* Locations that are shown in place of computed ones, in strictly ascending order of their
-     * bytes. A computed one has the number of the byte's line and counts characters from 1. */
+     * bytes. A computed one has the number of the byte's line, and a column number in characters
+     * from 1. */
     const codespan_location *locations;
     size_t locations_length;
 } codespan_file;
@@ -96,8 +97,9 @@ typedef struct codespan_label {
     uint32_t style; /* CODESPAN_PRIMARY or CODESPAN_SECONDARY */
     size_t file;    /* index in the files that are passed to codespan_emit */
     size_t start;   /* byte index in the file */
-    size_t end;     /* byte index in the file, exclusive; any number: also before start, past the
-                     * end of the file, or inside a character */
+    size_t end;     /* byte index in the file, exclusive. Both may be any number: the end may be
+                     * before the start, and either past the end of the file or inside a
+                     * character */
     codespan_text message; /* empty: none */
 } codespan_label;
 
@@ -131,10 +133,12 @@ enum {
     CODESPAN_SHORT = 2   /* the headers of CODESPAN_MEDIUM alone */
 };
 
-/* How lines between those of labels are laid out. */
+/* How lanes of multi-line labels are rendered, and which line numbers the padding width fits. */
 enum {
-    CODESPAN_CLASSIC = 0, /* as the Rust crate codespan-reporting */
-    CODESPAN_UNBROKEN = 1 /* lanes of multi-line labels have no gaps */
+    CODESPAN_CLASSIC = 0, /* as in the Rust crate codespan-reporting: a lane may have a gap on the
+                           * first line of its label, and the padding width fits the numbers of the
+                           * lines from the start to the end of each label */
+    CODESPAN_UNBROKEN = 1 /* lanes have no gaps, and the padding width fits all line numbers */
 };
 
 /* Which characters are used. */
@@ -153,8 +157,8 @@ enum {
                                * style mark */
 };
 
-/* The numbers of style marks, for CODESPAN_MARKED. Those of headers and labels are added to a
- * severity. A reset ends each style. */
+/* The numbers of style marks, for CODESPAN_MARKED. To those of headers and labels the number of the
+ * severity is added. A reset ends each style. */
 enum {
     CODESPAN_MARK_HEADER = 0, /* 0 to 4 */
     CODESPAN_MARK_HEADER_MESSAGE = 5,
@@ -169,7 +173,8 @@ enum {
 /* The byte before the number of a style mark. */
 #define CODESPAN_MARK_BYTE 255u
 
-/* The characters of the output, each by its code point. */
+/* The characters of the output, each by its code point. codespan_box_chars has those of box
+ * drawing. */
 typedef struct codespan_chars {
     codespan_text snippet_start; /* before a locus */
     uint32_t source_border_left;
@@ -191,7 +196,7 @@ typedef struct codespan_chars {
 
 /* A color of a terminal. */
 enum {
-    CODESPAN_NO_COLOR = 0, /* leaves the color */
+    CODESPAN_NO_COLOR = 0, /* the color of plain text */
     CODESPAN_BLACK = 1,
     CODESPAN_RED = 2,
     CODESPAN_GREEN = 3,
@@ -205,9 +210,9 @@ enum {
 /* A style of text. */
 typedef struct codespan_color_spec {
     uint32_t fg;      /* CODESPAN_NO_COLOR to CODESPAN_WHITE */
-    uint32_t bg;      /* the same, of the background */
-    uint32_t bold;    /* 0: no */
-    uint32_t intense; /* 0: no; otherwise both colors are the bright ones */
+    uint32_t bg;      /* the same, for the background */
+    uint32_t bold;    /* bold unless 0 */
+    uint32_t intense; /* unless 0 both colors are the bright ones */
 } codespan_color_spec;
 
 /* The styles of the parts of the output. */
@@ -231,7 +236,7 @@ typedef struct codespan_styles {
 
 /* A configuration. codespan_default_config returns one that a caller may change. */
 typedef struct codespan_config {
-    uint32_t abi;           /* CODESPAN_ABI; it speaks for all structs that are passed */
+    uint32_t abi;           /* CODESPAN_ABI, for all structs that are passed */
     uint32_t display_style; /* CODESPAN_RICH to CODESPAN_SHORT */
     uint32_t layout;        /* CODESPAN_CLASSIC or CODESPAN_UNBROKEN */
     uint32_t spelling;      /* CODESPAN_PLAIN to CODESPAN_MARKED */
@@ -241,8 +246,8 @@ typedef struct codespan_config {
     size_t end_context_lines;   /* lines shown before its last line */
     size_t before_label_lines;  /* lines shown before a label */
     size_t after_label_lines;   /* lines shown after a label */
-    codespan_chars chars;       /* its values are not read but for CODESPAN_OWN_CHARS */
-    codespan_styles styles;     /* its values are not read but for CODESPAN_ANSI_STYLES */
+    codespan_chars chars;       /* read only for CODESPAN_OWN_CHARS */
+    codespan_styles styles;     /* read only for CODESPAN_ANSI_STYLES */
 } codespan_config;
 
 /* ---- the call ---- */
@@ -252,8 +257,8 @@ enum {
     CODESPAN_OK = 0,            /* out[0..*written) is the output */
     CODESPAN_TOO_SMALL = 1,     /* *written is the length of the output, in bytes */
     CODESPAN_OUT_OF_MEMORY = 2, /* an allocation failed */
-    CODESPAN_FILE_MISSING = 3,  /* `detail` names a label whose `file` is no index in the files */
-    CODESPAN_INVALID = 4        /* `detail` names another argument that is invalid */
+    CODESPAN_FILE_MISSING = 3,  /* `detail` names a label whose `file` is not one of the files */
+    CODESPAN_INVALID = 4        /* `detail` names another argument, which is invalid */
 };
 
 /* Arguments, for codespan_detail, in the order in which they are checked. */
@@ -265,9 +270,10 @@ enum {
     CODESPAN_ARGUMENT_SPELLING = 4,
     CODESPAN_ARGUMENT_CHARACTERS = 5,
     CODESPAN_ARGUMENT_SNIPPET_START = 6,   /* not UTF-8 */
-    CODESPAN_ARGUMENT_CHARACTER = 7,       /* no Unicode scalar value; index: the field, from 0 for
-                                            * source_border_left to 14 for pointer_left */
-    CODESPAN_ARGUMENT_COLOR = 8,           /* index: the style, from 0 for header_bug to 14 */
+    CODESPAN_ARGUMENT_CHARACTER = 7,       /* not a Unicode scalar value; index: the field, from 0
+                                            * for source_border_left to 14 for pointer_left */
+    CODESPAN_ARGUMENT_COLOR = 8,           /* index: the style, from 0 for header_bug to 14 for
+                                            * note_bullet */
     CODESPAN_ARGUMENT_FILE_NAME = 9,       /* not UTF-8; index: the file */
     CODESPAN_ARGUMENT_FILE_SOURCE = 10,    /* not UTF-8; index: the file */
     CODESPAN_ARGUMENT_FILE_LINES = 11,     /* index: the file */
@@ -286,7 +292,7 @@ typedef struct codespan_detail {
     uint32_t argument; /* CODESPAN_ARGUMENT_NONE unless the status is CODESPAN_INVALID or
                         * CODESPAN_FILE_MISSING */
     size_t index;      /* of the file, label, note, character or style, from 0, as above; 0 where
-                        * there is one argument */
+                        * there is only one such argument */
 } codespan_detail;
 
 /* Renders a diagnostic over files into `out`, which has room for out_length bytes, and returns a
@@ -294,14 +300,14 @@ typedef struct codespan_detail {
  *
  * CODESPAN_OK: out[0..*written) is the output, and the rest of `out` is unchanged.
  * CODESPAN_TOO_SMALL: *written is the length of the output, more than out_length, and `out` is
- * unchanged. Call again with as much room: the output is the same. So a call with an out_length of
- * 0, and any `out` but NULL, returns the length.
+ * unchanged. Call again with that much room: the output is the same. So a call with an out_length
+ * of 0, and any `out` but NULL, sets *written to the length.
  * Any other status: *written is 0, and `out` is unchanged.
  *
  * The arguments are checked before anything is allocated. Where one is invalid the status is
- * CODESPAN_INVALID, or CODESPAN_FILE_MISSING for the file of a label. Of several, `detail` names the
- * one with the lowest number, and of those with one number the one with the lowest index. Where all
- * are valid the status is one of the first three. */
+ * CODESPAN_INVALID, or CODESPAN_FILE_MISSING for the file of a label. Of several, `detail` names
+ * the one with the lowest number, and of those with one number the one with the lowest index. Where
+ * all are valid the status is one of the first three. */
 uint32_t codespan_emit(const codespan_file *files, size_t files_length,
                        const codespan_diagnostic *diagnostic, const codespan_config *config,
                        uint8_t *out, size_t out_length, size_t *written, codespan_detail *detail);
@@ -310,16 +316,17 @@ uint32_t codespan_emit(const codespan_file *files, size_t files_length,
 uint32_t codespan_abi_version(void);
 
 /* Writes what a status means, in English, to `text`, which has room for text_length bytes: one line
- * of ASCII, without a newline or a NUL, of at most CODESPAN_STATUS_TEXT_MAX bytes. Of
- * CODESPAN_INVALID it says what the argument must be. Returns CODESPAN_OK or CODESPAN_TOO_SMALL and
- * sets *written, as codespan_emit does. */
+ * of ASCII, without a newline or a NUL, of at most CODESPAN_STATUS_TEXT_MAX bytes. For
+ * CODESPAN_INVALID it writes what the argument must be; `argument` is that of a codespan_detail,
+ * and is read for this status alone. Returns CODESPAN_OK or CODESPAN_TOO_SMALL and sets *written,
+ * as codespan_emit does. */
 uint32_t codespan_status_text(uint32_t status, uint32_t argument, uint8_t *text,
                               size_t text_length, size_t *written);
 
 /* The greatest length of a text of codespan_status_text, in bytes. */
 #define CODESPAN_STATUS_TEXT_MAX 128u
 
-/* ---- help for callers: no symbols of the library ---- */
+/* ---- helpers for callers, which are not symbols of the library ---- */
 
 /* What a pointer for a length of 0 points to. */
 static const size_t codespan_nothing = 0;

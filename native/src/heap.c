@@ -1,9 +1,11 @@
-/* The heap of the library: the three names that the archive leaves open, over the C library's. */
+/* The heap of the library: defines the three symbols that the archive leaves undefined, over the
+ * heap of the C library. */
 #include <stdbool.h>
 #include <stddef.h>
 #include <stdlib.h>
 
-/* An allocation. `block` is never NULL: of one that failed it points to `nothing`. */
+/* The result of an allocation. `block` is never NULL; if the allocation failed, it points to
+ * `nothing`. */
 struct allocation {
     bool ok;
     void *block;
@@ -16,7 +18,7 @@ static struct allocation allocation_of(void *block) {
     return allocation;
 }
 
-/* malloc may return NULL for a size of 0 without failing, so that size is never passed to it. */
+/* malloc may return NULL for a size of 0 without failing, so it is never passed that size. */
 static size_t at_least_one(size_t size) { return size > 0 ? size : 1; }
 
 struct allocation rattle_alloc(size_t size, size_t alignment);
@@ -29,7 +31,7 @@ struct allocation rattle_alloc(size_t size, size_t alignment) {
     return allocation_of(malloc(at_least_one(size)));
 }
 
-/* Makes a block `size` bytes long, and keeps its first bytes. */
+/* Changes the size of a block to `size` bytes, and keeps its first bytes. */
 struct allocation rattle_realloc(void *block, size_t kept, size_t size, size_t alignment) {
     (void)kept;
     (void)alignment;

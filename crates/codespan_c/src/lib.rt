@@ -1,4 +1,5 @@
-//! What C calls: the functions of `native/include/codespan.h`, each a call of `codespan_native`.
+//! The exports for C: the functions of `native/include/codespan.h`, each a call of
+//! `codespan_native` or a constant of it.
 #![tactic(auto)]
 
 ghost use Rattle.std.specs.Prelude.{◌≡◌, ◌≢◌, ◌≤◌, ◌↔◌};
@@ -51,7 +52,7 @@ pub extern "C" fn codespan_emit(
     outcome.status
 }
 
-/// Returns the ABI version of the layouts of the structs.
+/// Returns the ABI version, which fixes the layouts of the structs.
 #[unsafe(no_mangle)]
 pub extern "C" fn codespan_abi_version() -> u32
     ensures { result ≡ 1 }

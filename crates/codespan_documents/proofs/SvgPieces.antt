@@ -14,7 +14,7 @@ use Rattle.codespan_documents.specs.Glyphs.{cells_of, follows, joins_next, is_na
 use Rattle.codespan_documents.specs.HtmlReading.{Token, Tag, TextByte}
 use Rattle.codespan_documents.specs.Inks.{optional_color_number, same_ink}
 use Rattle.codespan_documents.specs.Svg.{first_pen, next_pen, text_tag_content}
-use Rattle.codespan_documents.specs.SvgReading.{InCell, Piece, RowEnd, Text, cells_in, cells_of_piece, joined_glyphs, piece_tokens, pieces_from, shown_cells, shown_glyphs, svg_shown, text_width}
+use Rattle.codespan_documents.specs.SvgReading.{InCell, Piece, RowEnd, Text, text_characters, piece_characters, joined_glyphs, piece_tokens, pieces_from, characters_from, shown_glyphs, svg_shown, text_width}
 use Rattle.codespan_documents.proofs.HtmlReading.{and_true, is_code}
 
 -- ---- glyph by glyph
@@ -220,17 +220,17 @@ joined_inks glyph next e = one_ink glyph.ink next.ink (and_true (is_narrow glyph
 -- the cells of the text that goes on, if one does
 abbrev cells_left : Option Glyph → CellPosition → List Glyph → List InCell
 cells_left before position [] = []
-cells_left before position (glyph ∷ glyphs) = if follows before glyph then cells_in glyph.ink position (glyph ∷ joined_glyphs glyph glyphs) else []
+cells_left before position (glyph ∷ glyphs) = if follows before glyph then text_characters glyph.ink position (glyph ∷ joined_glyphs glyph glyphs) else []
 
 -- of the text of this glyph
-left_in : (glyph : Glyph) (position : CellPosition) (others : List Glyph) → cells_left (Some glyph) position others ≡ cells_in glyph.ink position (joined_glyphs glyph others)
+left_in : (glyph : Glyph) (position : CellPosition) (others : List Glyph) → cells_left (Some glyph) position others ≡ text_characters glyph.ink position (joined_glyphs glyph others)
 left_in glyph position [] = refl
 left_in glyph position (next ∷ others) =
-    two_ifs (joins glyph next) (cells_in next.ink position (next ∷ joined_glyphs next others)) [] (next ∷ joined_glyphs next others) []
-    (λ cells glyphs. cells ≡ cells_in glyph.ink position glyphs)
-    (λ e. ap (λ ink. cells_in ink position (next ∷ joined_glyphs next others)) (joined_inks glyph next e)) (λ _. refl)
+    two_ifs (joins glyph next) (text_characters next.ink position (next ∷ joined_glyphs next others)) [] (next ∷ joined_glyphs next others) []
+    (λ cells glyphs. cells ≡ text_characters glyph.ink position glyphs)
+    (λ e. ap (λ ink. text_characters ink position (next ∷ joined_glyphs next others)) (joined_inks glyph next e)) (λ _. refl)
 
-cells_by_pieces : (pen : Pen) (glyphs : List Glyph) → shown_cells pen.position glyphs ≡ cells_left pen.before pen.position glyphs ++ flat_map cells_of_piece (pieces_from pen glyphs)
+cells_by_pieces : (pen : Pen) (glyphs : List Glyph) → characters_from pen.position glyphs ≡ cells_left pen.before pen.position glyphs ++ flat_map piece_characters (pieces_from pen glyphs)
 cells_by_pieces pen [] = refl
 cells_by_pieces pen (glyph ∷ glyphs) = all (cells_by_pieces (next_pen pen glyph) glyphs)
   where
@@ -241,10 +241,10 @@ cells_by_pieces pen (glyph ∷ glyphs) = all (cells_by_pieces (next_pen pen glyp
     rest = pieces_from next glyphs
 
     cells : List InCell
-    cells = flat_map cells_of_piece rest
+    cells = flat_map piece_characters rest
 
     own : List InCell
-    own = cells_in glyph.ink pen.position (glyph ∷ joined_glyphs glyph glyphs)
+    own = text_characters glyph.ink pen.position (glyph ∷ joined_glyphs glyph glyphs)
 
     first : InCell
     first = record { character = glyph.character; ink = glyph.ink; position = pen.position }
@@ -253,31 +253,31 @@ cells_by_pieces pen (glyph ∷ glyphs) = all (cells_by_pieces (next_pen pen glyp
     piece = Text pen.position glyph (joined_glyphs glyph glyphs)
 
     Rest : Type 0
-    Rest = shown_cells next.position glyphs ≡ cells_left (Some glyph) next.position glyphs ++ cells
+    Rest = characters_from next.position glyphs ≡ cells_left (Some glyph) next.position glyphs ++ cells
 
-    whole : Rest → first ∷ shown_cells next.position glyphs ≡ own ++ cells
+    whole : Rest → first ∷ characters_from next.position glyphs ≡ own ++ cells
     whole is =
         ap (λ (cs : List InCell). first ∷ cs) (is ∙ ap (λ (cs : List InCell). cs ++ cells) (left_in glyph next.position glyphs))
 
-    character : Rest → first ∷ shown_cells next.position glyphs ≡ (if follows pen.before glyph then own else []) ++ flat_map cells_of_piece (if follows pen.before glyph then rest else piece ∷ rest)
+    character : Rest → first ∷ characters_from next.position glyphs ≡ (if follows pen.before glyph then own else []) ++ flat_map piece_characters (if follows pen.before glyph then rest else piece ∷ rest)
     character is =
-        two_ifs (follows pen.before glyph) own [] rest (piece ∷ rest) (λ (left : List InCell) (pieces : List Piece). first ∷ shown_cells next.position glyphs ≡ left ++ flat_map cells_of_piece pieces)
+        two_ifs (follows pen.before glyph) own [] rest (piece ∷ rest) (λ (left : List InCell) (pieces : List Piece). first ∷ characters_from next.position glyphs ≡ left ++ flat_map piece_characters pieces)
         (λ _. whole is) (λ _. whole is)
 
     none_left : (others : List Glyph) → is_newline_glyph glyph ≡ true → cells_left (Some glyph) next.position others ≡ []
     none_left [] e = refl
-    none_left (other ∷ others) e = ap (λ t. if t then cells_in other.ink next.position (other ∷ joined_glyphs other others) else []) (newline_joins glyph other e)
+    none_left (other ∷ others) e = ap (λ t. if t then text_characters other.ink next.position (other ∷ joined_glyphs other others) else []) (newline_joins glyph other e)
 
-    newline : Rest → is_newline_glyph glyph ≡ true → shown_cells next.position glyphs ≡ (if follows pen.before glyph then own else []) ++ cells
+    newline : Rest → is_newline_glyph glyph ≡ true → characters_from next.position glyphs ≡ (if follows pen.before glyph then own else []) ++ cells
     newline is e =
         is ∙ ap (λ (cs : List InCell). cs ++ cells) (none_left glyphs e)
         ∙ ap (λ t. (if t then own else []) ++ cells) (sym (follows_newline pen.before glyph e))
 
-    all : Rest → shown_cells pen.position (glyph ∷ glyphs) ≡ cells_left pen.before pen.position (glyph ∷ glyphs) ++ flat_map cells_of_piece (pieces_from pen (glyph ∷ glyphs))
+    all : Rest → characters_from pen.position (glyph ∷ glyphs) ≡ cells_left pen.before pen.position (glyph ∷ glyphs) ++ flat_map piece_characters (pieces_from pen (glyph ∷ glyphs))
     all is =
-        two_ifs (is_newline_glyph glyph) (shown_cells next.position glyphs) (first ∷ shown_cells next.position glyphs)
+        two_ifs (is_newline_glyph glyph) (characters_from next.position glyphs) (first ∷ characters_from next.position glyphs)
         (RowEnd ∷ rest) (if follows pen.before glyph then rest else piece ∷ rest)
-        (λ (cs : List InCell) (pieces : List Piece). cs ≡ (if follows pen.before glyph then own else []) ++ flat_map cells_of_piece pieces)
+        (λ (cs : List InCell) (pieces : List Piece). cs ≡ (if follows pen.before glyph then own else []) ++ flat_map piece_characters pieces)
         (newline is) (λ _. character is)
 
 no_cells_before : (glyphs : List Glyph) → cells_left None start glyphs ≡ []
@@ -285,6 +285,6 @@ no_cells_before [] = refl
 no_cells_before (glyph ∷ glyphs) = refl
 
 -- all glyphs
-pub cells_of_pieces : (glyphs : List Glyph) → flat_map cells_of_piece (pieces_from first_pen glyphs) ≡ shown_cells start glyphs
+pub cells_of_pieces : (glyphs : List Glyph) → flat_map piece_characters (pieces_from first_pen glyphs) ≡ characters_from start glyphs
 cells_of_pieces glyphs =
-    sym (cells_by_pieces first_pen glyphs ∙ ap (λ (cs : List InCell). cs ++ flat_map cells_of_piece (pieces_from first_pen glyphs)) (no_cells_before glyphs))
+    sym (cells_by_pieces first_pen glyphs ∙ ap (λ (cs : List InCell). cs ++ flat_map piece_characters (pieces_from first_pen glyphs)) (no_cells_before glyphs))

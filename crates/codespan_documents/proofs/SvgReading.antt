@@ -42,14 +42,14 @@ inside-append (c ∷ cs) b x y =
     ap (λ t. t && is_inside (cs ++ b)) both.0 ∙ inside-append cs b both.1 y
 
 -- the content of a tag is read as it is
-tag-read : (tag bs rest : List ℕ) → is_inside bs ≡ true → tokens_from (InTag tag) (bs ++ 62 ∷ rest) ≡ Tag (tag ++ bs) ∷ tokens_from InText rest
-tag-read tag [] rest h = ap (λ (t : List ℕ). Tag t ∷ tokens_from InText rest) (sym (append-nil tag))
-tag-read tag (b ∷ bs) rest h =
+content-read : (tag bs rest : List ℕ) → is_inside bs ≡ true → tokens_from (InTag tag) (bs ++ 62 ∷ rest) ≡ Tag (tag ++ bs) ∷ tokens_from InText rest
+content-read tag [] rest h = ap (λ (t : List ℕ). Tag t ∷ tokens_from InText rest) (sym (append-nil tag))
+content-read tag (b ∷ bs) rest h =
     let both = and_true (not (b == 62)) (is_inside bs) h in
     let ended = Tag tag ∷ tokens_from InText (bs ++ 62 ∷ rest) in
     let more = tokens_from (InTag (tag ++ b ∷ [])) (bs ++ 62 ∷ rest) in
     ap (λ (t : Bool). if t then ended else more) (not_true (b == 62) both.0)
-    ∙ tag-read (tag ++ b ∷ []) bs rest both.1
+    ∙ content-read (tag ++ b ∷ []) bs rest both.1
     ∙ ap (λ (t : List ℕ). Tag t ∷ tokens_from InText rest) (append_assoc tag (b ∷ []) bs)
 
 -- ---- numbers
@@ -74,7 +74,7 @@ decimal-inside : (n : ℕ) → is_inside (decimal n) ≡ true
 unfolding digits
 decimal-inside n = onto-inside 64 n [] refl
 
--- ---- elements
+-- ---- the contents of tags
 
 color-inside : (color : Option Color) → is_inside (color_attribute color) ≡ true
 color-inside None = refl
@@ -136,9 +136,9 @@ unfolding font_attributes
 svg-inside extent = inside-append (svg_tag_start extent) font_attributes (size-inside extent) refl
 
 -- a tag
-element-read : (element rest : List ℕ) → is_inside element ≡ true → tokens_from InText ((codes "<" ++ element ++ codes ">") ++ rest) ≡ Tag element ∷ tokens_from InText rest
-element-read element rest h =
-    ap (tokens_from (InTag [])) (append_assoc element (codes ">") rest) ∙ tag-read [] element rest h
+tag-read : (content rest : List ℕ) → is_inside content ≡ true → tokens_from InText ((codes "<" ++ content ++ codes ">") ++ rest) ≡ Tag content ∷ tokens_from InText rest
+tag-read content rest h =
+    ap (tokens_from (InTag [])) (append_assoc content (codes ">") rest) ∙ content-read [] content rest h
 
 -- ---- characters
 
@@ -185,10 +185,10 @@ ended-read : (t : Bool) (rest : List ℕ) → tokens_from InText ((if t then [] 
 ended-read true rest = refl
 ended-read false rest = refl
 
-prefix-read : (t : Bool) (element rest : List ℕ) → is_inside element ≡ true
-    → tokens_from InText ((if t then [] else codes "<" ++ element ++ codes ">") ++ rest) ≡ (if t then [] else Tag element ∷ []) ++ tokens_from InText rest
-prefix-read true element rest h = refl
-prefix-read false element rest h = element-read element rest h
+prefix-read : (t : Bool) (content rest : List ℕ) → is_inside content ≡ true
+    → tokens_from InText ((if t then [] else codes "<" ++ content ++ codes ">") ++ rest) ≡ (if t then [] else Tag content ∷ []) ++ tokens_from InText rest
+prefix-read true content rest h = refl
+prefix-read false content rest h = tag-read content rest h
 
 -- a glyph that is no newline
 character-glyph : (pen : Pen) (glyph : Glyph) (others : List Glyph) (rest : List ℕ) → is_newline_glyph glyph ≡ false
@@ -196,15 +196,15 @@ character-glyph : (pen : Pen) (glyph : Glyph) (others : List Glyph) (rest : List
     ≡ ((if follows pen.before glyph then [] else Tag (text_tag_content pen.position (cells_of glyph + joined_cells glyph others) glyph.ink) ∷ []) ++ map TextByte (svg_shown glyph.character) ++ (if joins_next glyph others then [] else Tag (codes "/text") ∷ []))
     ++ tokens_from InText rest
 character-glyph pen glyph others rest ends =
-    let element = text_tag_content pen.position (cells_of glyph + joined_cells glyph others) glyph.ink in
-    let prefix = if follows pen.before glyph then [] else codes "<" ++ element ++ codes ">" in
+    let content = text_tag_content pen.position (cells_of glyph + joined_cells glyph others) glyph.ink in
+    let prefix = if follows pen.before glyph then [] else codes "<" ++ content ++ codes ">" in
     let character = xml_character glyph.character in
     let ended = if joins_next glyph others then [] else codes "</text>" in
-    let opening_tokens : List Token = if follows pen.before glyph then [] else Tag element ∷ [] in
+    let opening_tokens : List Token = if follows pen.before glyph then [] else Tag content ∷ [] in
     let shown : List Token = map TextByte (svg_shown glyph.character) in
     let ended_tokens : List Token = if joins_next glyph others then [] else Tag (codes "/text") ∷ [] in
     ap (tokens_from InText) (append_assoc (prefix ++ character) ended rest ∙ append_assoc prefix character (ended ++ rest))
-    ∙ prefix-read (follows pen.before glyph) element (character ++ (ended ++ rest)) (text-inside pen.position (cells_of glyph + joined_cells glyph others) glyph.ink)
+    ∙ prefix-read (follows pen.before glyph) content (character ++ (ended ++ rest)) (text-inside pen.position (cells_of glyph + joined_cells glyph others) glyph.ink)
     ∙ ap (λ (tokens : List Token). opening_tokens ++ tokens) (character-read glyph.character (ended ++ rest) ends ∙ ap (λ (tokens : List Token). shown ++ tokens) (ended-read (joins_next glyph others) rest))
     ∙ sym (append_assoc opening_tokens shown (ended_tokens ++ tokens_from InText rest)) ∙ sym (append_assoc (opening_tokens ++ shown) ended_tokens (tokens_from InText rest))
 
@@ -242,7 +242,7 @@ svg-read glyphs =
     let inner : tokens_from InText (texts ++ last) ≡ pieces ++ Tag (codes "/svg") ∷ TextByte 10 ∷ [] =
     glyphs-read first_pen glyphs last ∙ ap (λ (tokens : List Token). tokens ++ tokens_from InText last) (tokens_of_pieces glyphs) in
     ap html_tokens whole
-    ∙ element-read head (codes "\n<" ++ background_tag_content ++ codes ">\n" ++ (texts ++ last)) (svg-inside (extent_from start glyphs))
+    ∙ tag-read head (codes "\n<" ++ background_tag_content ++ codes ">\n" ++ (texts ++ last)) (svg-inside (extent_from start glyphs))
     ∙ ap (λ (tokens : List Token). Tag head ∷ TextByte 10 ∷ Tag background_tag_content ∷ TextByte 10 ∷ tokens) inner
 
 -- ---- text

@@ -22,7 +22,8 @@ glyphs_of_run styles run =
 abbrev pub glyphs_of : Styles → List StyledRun → List Glyph
 glyphs_of styles runs = flat_map (glyphs_of_run styles) runs
 
--- the cells that a glyph occupies: what `unicode_width` returns for its character, or 0
+-- the number of cells that a glyph occupies: the width that `unicode_width` returns for its
+-- character, or 0 where it returns none
 abbrev pub cells_of : Glyph → ℕ
 cells_of glyph = unwrap_or (char_width false glyph.character) 0
 
@@ -73,7 +74,7 @@ abbrev pub joins_next : Glyph → List Glyph → Bool
 joins_next glyph [] = false
 joins_next glyph (next ∷ glyphs) = joins glyph next
 
--- the cells of the glyphs that follow this one in its text
+-- the number of cells of the glyphs that follow this one in its text
 abbrev pub joined_cells : Glyph → List Glyph → ℕ
 joined_cells before [] = 0
 joined_cells before (glyph ∷ glyphs) =

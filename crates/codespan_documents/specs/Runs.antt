@@ -56,10 +56,10 @@ AreTexts runs = AllByRecursion (λ (run : StyledRun). IsUtf8 run.text) runs
 
 -- ---- the runs of a styled text
 
--- a run
+-- a run, its text as bytes
 abbrev pub run_view : Run → StyledRun
 run_view run = record { style = run.style; text = string_bytes run.text }
 
--- all its runs
+-- the runs of a styled text
 abbrev pub styled_runs : StyledText → List StyledRun
 styled_runs text = map run_view text.runs.items

@@ -25,7 +25,7 @@ normal_color Magenta = codes "#cd00cd"
 normal_color Cyan = codes "#00cdcd"
 normal_color White = codes "#e5e5e5"
 
--- the CSS color of its bright one
+-- the CSS color of its bright variant
 abbrev pub bright_color : Color → List ℕ
 bright_color Black = codes "#7f7f7f"
 bright_color Red = codes "#ff0000"
@@ -71,7 +71,7 @@ rule styles style =
     codes ".diagnostic ." ++ style_class style ++ codes " { "
     ++ declarations (color_spec_of_style styles style) ++ codes "}\n"
 
--- a style of each class
+-- one style of each class
 abbrev pub classed_styles : List Style
 classed_styles =
     Header Bug ∷ Header Error ∷ Header Warning ∷ Header Note ∷ Header Help ∷ HeaderMessage

@@ -15,9 +15,9 @@ use Rattle.codespan_documents.specs.Glyphs.{after_glyph, cells_of, extent_from, 
 abbrev pub is_forbidden_in_xml : ℕ → Bool
 is_forbidden_in_xml c = nat_lt c 32 || (c == 65534) || (c == 65535)
 
--- a character as XML escapes it: one that begins a tag or an entity as an entity; the escape
--- character, the character of the number 0, the carriage return and the tab by a backslash; any
--- other that can not be in a document as the replacement character
+-- a character as XML escapes it: `&`, `<` and `>` as entities; the escape character, U+0000, the
+-- carriage return and the tab by a backslash and a letter or digit; any other that a document can
+-- not hold as the replacement character
 abbrev pub xml_character : ℕ → List ℕ
 xml_character c =
     if c == 38 then codes "&amp;"
@@ -32,7 +32,7 @@ xml_character c =
 
 -- ---- tags
 
--- the CSS color of a terminal color, chosen to be read on the dark background
+-- the CSS color of a terminal color, chosen to be legible on the dark background
 abbrev pub color_on_dark : Color → List ℕ
 color_on_dark Black = codes "#6e7681"
 color_on_dark Red = codes "#ff7b72"
@@ -61,8 +61,8 @@ x_of position = 12 + 9 * position.column
 abbrev pub y_of : CellPosition → ℕ
 y_of position = 25 + 18 * position.row
 
--- the content of the tag that begins a text of this many cells at a position: its position, its
--- length and its ink
+-- the content of the tag that begins a `text` element of this many cells at a position: its
+-- position, its length and its ink
 abbrev pub text_tag_content : CellPosition → ℕ → Ink → List ℕ
 text_tag_content position cells ink =
     codes "text x=\"" ++ decimal (x_of position) ++ codes "\" y=\"" ++ decimal (y_of position)

@@ -1,5 +1,5 @@
 -- How an SVG document is read back, by the reader of `HtmlReading`: its tags, and the text between
--- them, and which cells its texts take.
+-- them, and in which cells the characters of its texts are.
 use Rattle.std.specs.Prelude.{ℕ, ◌+◌, ◌==◌, List, [], ◌∷◌, ◌++◌, map, codes, encode_utf8, if◌then◌else◌}
 use Rattle.std.specs.List.{flat_map}
 use Rattle.codespan_documents.specs.declared.svg.glyph.Glyph.{Glyph}
@@ -13,8 +13,8 @@ use Rattle.codespan_documents.specs.Svg.{first_pen, background_tag_content, is_f
 
 -- ---- characters
 
--- a character as a document shows it: some control characters by a backslash, and any other that
--- XML can not hold as U+FFFD
+-- a character as a document shows it: four control characters by a backslash and a letter or
+-- digit, and any other that XML can not hold as U+FFFD
 abbrev pub svg_shown : ℕ → List ℕ
 svg_shown c =
     if c == 10 then 10 ∷ []
@@ -47,7 +47,7 @@ joined_glyphs before [] = []
 joined_glyphs before (glyph ∷ glyphs) =
     if joins before glyph then glyph ∷ joined_glyphs glyph glyphs else []
 
--- the cells of glyphs
+-- the number of cells of glyphs
 abbrev pub text_width : List Glyph → ℕ
 text_width [] = 0
 text_width (glyph ∷ glyphs) = cells_of glyph + text_width glyphs
@@ -86,22 +86,23 @@ pub record InCell : Type 0 where
   pub ink : Ink
   pub position : CellPosition
 
--- the glyphs of a text in one ink, the first one at this position
-abbrev pub cells_in : Ink → CellPosition → List Glyph → List InCell
-cells_in ink position [] = []
-cells_in ink position (glyph ∷ glyphs) =
+-- the characters of a text in one ink, the first one at this position
+abbrev pub text_characters : Ink → CellPosition → List Glyph → List InCell
+text_characters ink position [] = []
+text_characters ink position (glyph ∷ glyphs) =
     record { character = glyph.character; ink = ink; position = position }
-    ∷ cells_in ink (after_glyph position glyph) glyphs
+    ∷ text_characters ink (after_glyph position glyph) glyphs
 
 -- the characters of a piece
-abbrev pub cells_of_piece : Piece → List InCell
-cells_of_piece RowEnd = []
-cells_of_piece (Text position first others) = cells_in first.ink position (first ∷ others)
+abbrev pub piece_characters : Piece → List InCell
+piece_characters RowEnd = []
+piece_characters (Text position first others) = text_characters first.ink position (first ∷ others)
 
--- all glyphs but newlines, each in its ink and where it is among all of them
-abbrev pub shown_cells : CellPosition → List Glyph → List InCell
-shown_cells position [] = []
-shown_cells position (glyph ∷ glyphs) =
-    let rest = shown_cells (after_glyph position glyph) glyphs in
+-- the characters of glyphs from a position on but newlines, each in its ink and in the cell that it
+-- has among all of them
+abbrev pub characters_from : CellPosition → List Glyph → List InCell
+characters_from position [] = []
+characters_from position (glyph ∷ glyphs) =
+    let rest = characters_from (after_glyph position glyph) glyphs in
     if is_newline_glyph glyph then rest
     else record { character = glyph.character; ink = glyph.ink; position = position } ∷ rest

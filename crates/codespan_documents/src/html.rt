@@ -16,7 +16,8 @@ use std::alloc::{AllocError, Global};
 ///
 /// The classes are named as the fields of `Styles`: `header-error`, `header-message`,
 /// `primary-label-error`, `secondary-label`, `line-number`, `source-border`, `note-bullet`, and the
-/// like of the other severities.
+/// like of the other severities. After the tag of the `pre` is a newline, which HTML does not show,
+/// so that a text that begins with a newline keeps it.
 ///
 /// A text can neither start nor end a tag, an attribute or an entity: each of the characters `&`,
 /// `<`, `>`, `"` and `'` becomes an entity. A control character other than a tab, a newline and a
@@ -126,7 +127,7 @@ fn is_noncharacter(c: char) -> bool
     matches!(c, '\u{fdd0}'..='\u{fdef}') || c as u32 % 0x1_0000 >= 0xfffe
 }
 
-/// Returns the class of a style.
+/// Returns the class of a style; plain text has none.
 pub(crate) fn class_of(style: Style) -> &'static str
     ensures { result.now ≡ style_class style }
 {

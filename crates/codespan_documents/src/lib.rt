@@ -1,7 +1,7 @@
 //! Text in runs, each in one style, as an HTML element or an SVG document.
 //!
-//! Users name these by the paths of `codespan_styled`, which renders a diagnostic to a
-//! [`StyledText`]. [`to_html`] makes an element of it, and [`to_svg`] a document.
+//! [`to_html`] makes an element of a [`StyledText`], and [`to_svg`] a document. `codespan_styled`,
+//! which renders a diagnostic to a [`StyledText`], re-exports all of this crate.
 #![tactic(auto)]
 
 pub mod html;

@@ -10,7 +10,7 @@ use codespan_base::files::Error;
 use codespan_base::term::{Color, ColorSpec, Styles};
 use std::alloc::{AllocError, Global};
 
-/// A style of each class.
+/// One style of each class.
 const CLASSED_STYLES: [Style; 15] = [
     Style::Header(Severity::Bug),
     Style::Header(Severity::Error),
@@ -32,8 +32,8 @@ const CLASSED_STYLES: [Style; 15] = [
 /// Returns a style sheet for the elements of [`to_html`](crate::to_html): a rule for each class,
 /// with the colors and the weight that `styles` has for it.
 ///
-/// The colors are those that xterm shows by default, the bright one where a style is `intense`, on
-/// a background that is the page's: `Styles::default` is meant for a dark one.
+/// The colors are those that xterm shows by default, bright where a style is `intense`. Where a
+/// style has no `bg`, the background is the page's: `Styles::default` is meant for a dark page.
 ///
 /// # Errors
 ///
@@ -53,7 +53,7 @@ pub fn html_styles(alloc: Global, styles: &Styles) -> Result<String, Error>
     Ok(css)
 }
 
-/// Appends the rules of the classes of some styles.
+/// Appends the rule of each style's class.
 fn push_rules(css: &mut String, styles: &Styles, classed: &[Style]) -> Result<(), AllocError>
     ensures { OnOk result (string_bytes css.new
         ≡ string_bytes css.old ++ flat_map (rule styles.now) classed.now) }
@@ -115,7 +115,7 @@ fn push_color(
     Ok(())
 }
 
-/// Returns a color as a style sheet names it.
+/// Returns the CSS color of a terminal color, or of its bright variant.
 fn color_code(intense: bool, color: Color) -> &'static str
     ensures { result.now ≡ (if intense then bright_color color else normal_color color) }
 {
@@ -142,7 +142,7 @@ fn normal_color(color: Color) -> &'static str
     }
 }
 
-/// Returns the CSS color of the bright one of a terminal color, as xterm shows it by default.
+/// Returns the CSS color of the bright variant of a terminal color, as xterm shows it by default.
 fn bright_color(color: Color) -> &'static str
     ensures { result.now ≡ bright_color color }
 {

@@ -44,15 +44,15 @@ const FONT_AND_BACKGROUND: &str =
 /// The ink of a run is the color of its style in `styles`, on the dark background, and whether it
 /// is bold; `bg` and `intense` have no effect. A cell is nine pixels wide and a row eighteen high,
 /// and each `text` is at the cell where it begins and as long as its cells, so that carets are
-/// under their characters in any font of one width, except in a row with a control character, which
+/// under their characters in any monospaced font, except in a row with a control character, which
 /// takes no cell. A character that takes two cells or more is a `text` alone.
 ///
-/// The text has to end with a newline, as each output does: a last row without one is below the
-/// document's end.
+/// The text should end with a newline, as each output does: a last row without one would be below
+/// the bottom of the document.
 ///
 /// A text can neither start nor end a tag or an entity: each of the characters `&`, `<` and `>`
-/// becomes an entity. The escape character, the character of the number 0, the carriage return and
-/// the tab are shown by a backslash, and any other character that XML can not hold as U+FFFD.
+/// becomes an entity. The escape character, U+0000, the carriage return and the tab are shown as
+/// `\e`, `\0`, `\r` and `\t`, and any other character that XML can not hold as U+FFFD.
 ///
 /// # Errors
 ///
@@ -108,13 +108,13 @@ fn push_size(alloc: Global, document: &mut String, extent: CellPosition) -> Resu
 /// The position of the next glyph, and the glyph before it.
 #[derive(Clone, Copy)]
 struct Pen {
-    /// The position.
+    /// The position of the next glyph.
     position: CellPosition,
-    /// The glyph before it, if there is one.
+    /// The glyph before that position, if there is one.
     before: Option<Glyph>,
 }
 
-/// Appends glyphs as texts.
+/// Appends glyphs: `text` elements, and a newline at the end of each row.
 fn push_texts(alloc: Global, document: &mut String, glyphs: &[Glyph]) -> Result<(), AllocError>
     ensures { OnOk result (string_bytes document.new ≡ string_bytes document.old
         ++ texts_from first_pen glyphs.now) }
@@ -133,7 +133,7 @@ fn push_texts(alloc: Global, document: &mut String, glyphs: &[Glyph]) -> Result<
     Ok(())
 }
 
-/// Appends a glyph that these others follow.
+/// Appends a glyph, which `others` follow.
 fn push_glyph(
     alloc: Global,
     document: &mut String,
@@ -161,7 +161,7 @@ fn push_glyph(
     Ok(())
 }
 
-/// Appends the tag that begins a text of this many cells at a position.
+/// Appends the tag that begins a `text` element of this many cells at a position.
 fn push_tag(
     alloc: Global,
     document: &mut String,
@@ -211,7 +211,7 @@ fn push_weight(document: &mut String, bold: bool) -> Result<(), AllocError>
     Ok(())
 }
 
-/// Returns the CSS color of a terminal color, chosen to be read on the dark background.
+/// Returns the CSS color of a terminal color, chosen to be legible on the dark background.
 fn color_on_dark(color: Color) -> &'static str
     ensures { result.now ≡ color_on_dark color }
 {

@@ -76,7 +76,7 @@ module _ {FileId : Type 0} (encoding : PositionEncoding) (database : FileDatabas
     message = string_bytes label.message;
   }
 
-  -- that of the labels that are not primary, and the error of their first lookup that fails
+  -- that of the secondary labels, and the error of their first lookup that fails
   abbrev pub related_views : List (Label FileId) → List (RelatedView FileId)
   related_views labels = map related_view_for (secondary_labels labels)
 

@@ -13,7 +13,7 @@ joined_messages d label =
     if length (string_bytes label.message) == 0 then string_bytes d.message
     else string_bytes d.message ++ next_line (string_bytes label.message)
 
--- the same, with each note on a line of its own
+-- the same, and then the notes, each on the next line
 abbrev pub full_message : {FileId : Type 0} → Diagnostic FileId → Label FileId → List ℕ
 full_message d label =
     joined_messages d label ++ flat_map next_line (map string_bytes d.notes.items)

@@ -13,7 +13,7 @@ use crate::spans::Range;
 use codespan_base::diagnostic::{Diagnostic, Label, LabelStyle};
 use codespan_base::files::{Error, Files};
 
-/// A range that explains more of a diagnostic.
+/// Related information of a diagnostic: a message on a range of a file.
 #[derive(Debug, Drop, PartialEq, Eq)]
 pub struct RelatedInformation<FileId> {
     /// The id of the file.
@@ -33,11 +33,11 @@ pub struct LspDiagnostic<FileId> {
     pub range: Range,
     /// The severity.
     pub severity: DiagnosticSeverity,
-    /// The code of this kind of diagnostic.
+    /// The code, if the diagnostic has one.
     pub code: Option<String>,
-    /// The message, of one line or more.
+    /// The message, which may have several lines.
     pub message: String,
-    /// What explains more of it.
+    /// The related information.
     pub related_information: Vec<RelatedInformation<FileId>>,
 }
 
@@ -93,7 +93,8 @@ impl PositionEncoding {
         })
     }
 
-    /// Returns what the secondary labels explain.
+    /// Returns the related information of a diagnostic with these labels: one for each secondary
+    /// label, in their order.
     fn related_information<'files, F: Files<'files>>(
         self,
         files: &'files F,
@@ -127,17 +128,25 @@ impl PositionEncoding {
 /// - The range is the label's. Severity and code are the diagnostic's.
 /// - The message is the diagnostic's, then the label's, if it is not empty, and the notes, each
 ///   after a newline.
-/// - Related information is the file, the range and the message of each label that is not primary,
-///   in the order of the labels.
+/// - Related information is the file, the range and the message of each secondary label, in the
+///   order of the labels.
 ///
-/// For a diagnostic without primary labels the list is empty: it names no file to which it could be
-/// sent.
+/// For a diagnostic without primary labels the list is empty: no file is known for which it could
+/// be sent.
+///
+/// # Example
+///
+/// ```rust
+/// for sent in &to_lsp_diagnostics(&files, &diagnostic)? {
+///     publish(sent.file_id, sent.range, sent.severity.number(), sent.message.as_str());
+/// }
+/// ```
 ///
 /// # Errors
 ///
 /// - [`Error::OutOfMemory`] where an allocation fails.
-/// - The first error of [`byte_span_to_range`](crate::byte_span_to_range) among the labels: for
-///   each primary label its own, and then those of the labels that are not.
+/// - The first error of [`byte_span_to_range`](crate::byte_span_to_range): for each primary label
+///   in turn, that of its own range, and then those of the ranges of the secondary labels.
 pub fn to_lsp_diagnostics<'files, F: Files<'files>>(
     files: &'files F,
     diagnostic: &Diagnostic<F::FileId>,

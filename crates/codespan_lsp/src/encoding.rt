@@ -50,8 +50,8 @@ impl PositionEncoding {
         units
     }
 
-    /// Returns the length of the longest prefix of whole characters with at most `max_units` code
-    /// units.
+    /// Returns the length of the longest prefix of whole characters that has at most `max_units`
+    /// code units.
     pub(crate) fn prefix_within(self, max_units: usize, text: &str) -> Prefix
         ensures len { let prefix = prefix_within self max_units (chars text.now) in
             result.len ≡ length (encode_utf8_all prefix) }

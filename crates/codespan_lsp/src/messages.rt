@@ -56,7 +56,7 @@ fn push_line(text: &mut String, line: &str) -> Result<(), Error>
     Ok(())
 }
 
-/// Returns an equal code.
+/// Returns a copy of a code.
 ///
 /// # Errors
 ///

@@ -136,8 +136,8 @@ pub fn byte_index_to_position<'files, F: Files<'files>>(
 /// units.
 ///
 /// A position may be at the line's end, after its newline where its range has one; that byte is
-/// where the next line starts. The protocol lets a client send a greater character for the line's
-/// end; this is an error here, which has the line's end in it.
+/// where the next line starts. The protocol takes a `character` past the line's end as the line's
+/// end; here it is an error, whose `max` is the line's end.
 ///
 /// # Examples
 ///

@@ -6,8 +6,8 @@ use codespan_base::diagnostic::Severity;
 
 /// The severity of a diagnostic that a language server sends.
 ///
-/// A severity of this project becomes one by `from`: both `Bug` and `Error` are errors, a note is
-/// information, and help is a hint.
+/// `from` converts a [`Severity`]: `Bug` and `Error` to `Error`, `Warning` to `Warning`, `Note` to
+/// `Information`, and `Help` to `Hint`.
 #[derive(Clone, Copy, Debug, PartialEq, Eq)]
 pub enum DiagnosticSeverity {
     /// An error.
@@ -23,7 +23,7 @@ pub enum DiagnosticSeverity {
 impl DiagnosticSeverity {
     ghost use Rattle.codespan_lsp.specs.Severities.{severity_number};
 
-    /// Returns the protocol's number: 1 of an error, 2 of a warning, 3 of information and 4 of a
+    /// Returns the protocol's number: 1 for an error, 2 for a warning, 3 for information, 4 for a
     /// hint.
     pub fn number(self) -> u8
         ensures { result ≡ severity_number self }

@@ -30,8 +30,8 @@ pub record Means (files : List RawFile) (diagnostic : RawDiagnostic) (config : R
   pub is_config : IsEqualConfig (converted_config config) c
   pub means : MeansLabels c c (converted_files files) d
 
--- no lookup of an output of the structs fails: whatever the configuration is, and whichever
--- diagnostic of Rust the struct stands for
+-- no lookup of the rendering fails, whatever the configuration is, and for each `Diagnostic` of
+-- Rust that the struct stands for
 abbrev pub NoLookupFails : List RawFile → RawDiagnostic → Type 0
 NoLookupFails files diagnostic =
     (d : Diagnostic ℕ) (config : Config) → diagnostic_view d ≡ converted_diagnostic files diagnostic

@@ -8,4 +8,5 @@ use Rattle.codespan_sources.specs.SourceTexts.{NativeFileView, native_database}
 
 -- the output of a diagnostic over files, with the names that the files have
 abbrev pub stream_of_output : Config → List NativeFileView → Diagnostic ℕ → Stream
-stream_of_output config ss d = picture config.display_style config config (native_database ss) d
+stream_of_output config files d =
+    picture config.display_style config config (native_database files) d

@@ -1,4 +1,4 @@
--- What is seen of a writer of style marks in band.
+-- What contracts see of a writer of style marks in band.
 use Rattle.std.specs.Prelude.{ℕ, Bool, List, [], Option}
 use Rattle.codespan_base.specs.WriterLaw.{Sink}
 use Rattle.codespan_structs.specs.StyleMarkBytes.{style_mark_spelling}
@@ -11,7 +11,7 @@ style_mark_sink failed contents = record {
   contents = contents;
 }
 
--- what it writes to
+-- the inner writer
 abbrev pub style_mark_inner : {W : Type 0} → StyleMarkWriter W → W
 style_mark_inner w = w.inner
 

@@ -1,4 +1,4 @@
-//! The call.
+//! The call that renders for C.
 
 ghost use Rattle.std.specs.Prelude.{◌≡◌, ◌≢◌, ◌≤◌, ◌↔◌, IfOk};
 ghost use Rattle.codespan_structs.specs.declared.error.Argument.TheVariants.{LabelFile};
@@ -37,7 +37,7 @@ pub struct Outcome {
 ///
 /// With any status but `OK`, `out` is unchanged; with the last three, `written` is 0. The arguments
 /// are checked before anything is allocated, in the order of their numbers. With the last two,
-/// `detail` names the first invalid one, with the others none.
+/// `detail` names the first invalid one; with the others it names none.
 pub fn emit(
     alloc: Global,
     files: &[RawFile<'_>],

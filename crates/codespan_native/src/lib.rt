@@ -1,8 +1,8 @@
 //! Rendering for C: one call that renders a diagnostic over files, all borrowed from the caller.
 //!
-//! [`emit::emit`] takes the structs of [`raw`], which any caller can fill with any numbers and
-//! bytes, and returns a status. It has no condition on its arguments. The static library
-//! `codespan_c` exports it to C; `native/include/codespan.h` is its header.
+//! [`emit::emit`] takes the structs of [`raw`], which may hold any numbers and bytes, and returns a
+//! status. It has no `requires`. The static library `codespan_c` exports it to C;
+//! `native/include/codespan.h` is its header.
 #![tactic(auto)]
 
 pub mod emit;

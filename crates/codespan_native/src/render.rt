@@ -1,4 +1,4 @@
-//! The bytes of the output.
+//! Renders an output to bytes.
 
 ghost use Rattle.std.specs.Prelude.{◌≡◌, ◌++◌, true, IfOk, OnOk};
 ghost use Rattle.codespan_base.specs.Streams.{plain_spelling, spelled};
@@ -28,8 +28,8 @@ const INITIAL_CAPACITY: usize = 1024;
 ///
 /// # Errors
 ///
-/// [`OutOfMemory`]: an allocation fails, or a label's file is none of `files`, which `emit` has
-/// excluded.
+/// [`OutOfMemory`]: an allocation fails, or the file of a label is not one of `files`, which `emit`
+/// excludes.
 pub fn render(
     alloc: Global,
     settings: &Settings<'_>,
@@ -57,7 +57,7 @@ pub fn render(
     }
 }
 
-/// Appends the output without its style marks.
+/// Returns the buffer with the output appended, without its style marks.
 fn render_plain(
     buffer: Vec<u8>,
     config: &Config<'_>,
@@ -75,7 +75,7 @@ fn render_plain(
     Ok(writer.into_inner())
 }
 
-/// Appends the output with its style marks as escape sequences.
+/// Returns the buffer with the output appended, its style marks as escape sequences.
 fn render_ansi(
     buffer: Vec<u8>,
     styles: &Styles,
@@ -95,7 +95,8 @@ fn render_ansi(
     Ok(writer.into_inner().into_inner())
 }
 
-/// Appends the output with its style marks in band, each as the byte 255 and its number.
+/// Returns the buffer with the output appended, its style marks in band: each is the byte 255 and
+/// its number.
 fn render_style_marks(
     buffer: Vec<u8>,
     config: &Config<'_>,
@@ -117,8 +118,8 @@ fn render_style_marks(
 ///
 /// # Errors
 ///
-/// [`OutOfMemory`], as [`render`]: the vector fails only where an allocation fails, the names are
-/// texts, and no lookup of a file that is one of `files` fails.
+/// [`OutOfMemory`], as for [`render`]: a write to a vector fails only where an allocation fails,
+/// the names are texts, and no lookup in one of `files` fails.
 fn write_to<W: WriteStyle>(
     writer: &mut W,
     config: &Config<'_>,

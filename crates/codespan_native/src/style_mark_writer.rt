@@ -28,20 +28,21 @@ const NOTE_BULLET: u8 = 7;
 /// The number of the style mark of the border left of the source.
 const SOURCE_BORDER: u8 = 8;
 
-/// The number of the style mark of a primary label of a help; of other severities their ranks are
-/// added.
+/// The number of the style mark of a primary label of a help message, to which the rank of any
+/// other severity is added.
 const PRIMARY_LABEL: u8 = 9;
 
-/// The number of the style mark of a secondary label, likewise.
+/// The number of the style mark of a secondary label of a help message, to which the rank of any
+/// other severity is added.
 const SECONDARY_LABEL: u8 = 14;
 
-/// The number of the style mark after which text has no style.
+/// The number of the reset, after which text is plain.
 const RESET: u8 = 19;
 
 /// A writer that spells each style mark as the byte 255 and its number.
 #[derive(Drop)]
 pub struct StyleMarkWriter<W> {
-    /// The writer to which it writes.
+    /// The writer that receives the bytes.
     inner: W,
     /// Whether a style mark or a `put` has failed.
     failed: bool,
@@ -85,7 +86,7 @@ impl<W: Write> StyleMarkWriter<W> {
     }
 }
 
-/// Returns the rank of a severity, from 0 of help to 4 of bug.
+/// Returns the rank of a severity: from 0 for help to 4 for a bug.
 fn severity_rank(severity: Severity) -> u8
     ensures { result ≡ severity_rank severity }
 {

@@ -9,7 +9,7 @@ use Rattle.codespan_sources.specs.SourceModel.{native_file_view}
 use Rattle.codespan_sources.specs.SourceTexts.{cut_line_failure}
 use Rattle.codespan_sources.specs.StatedLines.{location_at}
 
--- the line of a byte is there
+-- the line of a byte exists
 pub byte_has_line : (f : NativeFile) (byte : ℕ)
     → cut_line_failure (native_file_view f).cut.starts (line_of (native_file_view f).cut.starts byte) ≡ None
 byte_has_line f byte =

@@ -1,4 +1,4 @@
--- What is seen of the Rust values of the files of C.
+-- What contracts see of the Rust values of the files that a caller of C passes.
 use Rattle.std.specs.Prelude.{List, map}
 use Rattle.codespan_base.specs.DatabaseViews.{name_of, source_of as simple_source_of}
 use Rattle.codespan_sources.specs.declared.native_file.stated.StatedText.{StatedText}

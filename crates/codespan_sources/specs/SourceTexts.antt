@@ -23,8 +23,8 @@ pub record CutText : Type 0 where
   pub ends : List ℕ
   pub number : ℕ → ℕ
 
--- a text whose lines start after newlines, and whose numbers count on from the lines before it, up
--- to the greatest usize
+-- a text whose lines start after newlines, and whose line numbers count on from the lines before
+-- it, up to the greatest usize
 abbrev pub newline_text : List ℕ → List ℕ → ℕ → CutText
 newline_text name text first_line = record {
   name = name;
@@ -62,17 +62,17 @@ pub record NativeFileView : Type 0 where
   pub cut : CutText
   pub stated_location : ℕ → Option Location
 
--- the file of it; a location that is stated comes before the computed one
+-- the file that has it; a location that is stated is used in place of the computed one
 abbrev pub native_file_model : NativeFileView → FileModel
-native_file_model s = record {
+native_file_model view = record {
   exists = true;
-  name = Some s.cut.name;
-  text = s.cut.text;
-  starts = s.cut.starts;
-  ends = s.cut.ends;
-  line_number = s.cut.number;
-  column_number = cut_column s.cut;
-  location = λ byte. unwrap_or (s.stated_location byte) (cut_location s.cut byte);
+  name = Some view.cut.name;
+  text = view.cut.text;
+  starts = view.cut.starts;
+  ends = view.cut.ends;
+  line_number = view.cut.number;
+  column_number = cut_column view.cut;
+  location = λ byte. unwrap_or (view.stated_location byte) (cut_location view.cut byte);
 }
 
 -- the range of line i
@@ -81,22 +81,22 @@ pub record IsCutLineRange (t : CutText) (i : ℕ) (r : Range ℕ) : Type 0 where
   pub start_is : r.start ≡ slice_index t.starts i
   pub end_is : r.end ≡ slice_index t.ends i
 
--- a line past the last fails
+-- the error of the lookup of line i: it is past the last one
 abbrev pub cut_line_failure : List ℕ → ℕ → Option Error
 cut_line_failure starts i =
     if nat_lt i (length starts) then None else Some (LineTooLarge i (length starts - 1))
 
--- what a lookup fails with: those of the range and of a column of a line past the last alone
+-- the error of a lookup: only that of a range or a column of a line past the last one
 abbrev pub native_failure : NativeFileView → Lookup → Option Error
-native_failure s (LineRange i) = cut_line_failure s.cut.starts i
-native_failure s (ColumnNumber i byte) = cut_line_failure s.cut.starts i
-native_failure s _ = None
+native_failure view (LineRange i) = cut_line_failure view.cut.starts i
+native_failure view (ColumnNumber i byte) = cut_line_failure view.cut.starts i
+native_failure view _ = None
 
 -- the files, by their indices
 abbrev pub native_database : List NativeFileView → FileDatabase ℕ
-native_database ss = record {
+native_database views = record {
   same = nat_eq;
-  file = λ id. option_map_or native_file_model (slice_get ss id) missing_file;
+  file = λ id. option_map_or native_file_model (slice_get views id) missing_file;
   failure = λ id lookup.
-      option_map_or (λ s. native_failure s lookup) (slice_get ss id) (Some FileMissing);
+      option_map_or (λ view. native_failure view lookup) (slice_get views id) (Some FileMissing);
 }

@@ -1,8 +1,9 @@
-//! The files of a call for C: texts cut into lines, and windows of texts, as a file database.
+//! The files that a caller of C passes, whole or as windows, as a file database.
 //!
 //! A text is cut at newlines, or into lines that the caller states, and the caller can state the
-//! locations of bytes. [`native_file`] has a file, [`native_files`] the database of several, and
-//! [`stated_lines`] tests what a caller states. `codespan_structs` makes them from structs of C.
+//! locations of bytes. [`native_file`] has a file, [`native_files`] the database, and
+//! [`stated_lines`] validates what a caller states. `codespan_structs` converts structs of C to
+//! these.
 #![tactic(auto)]
 
 pub mod error;

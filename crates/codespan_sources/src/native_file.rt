@@ -1,4 +1,4 @@
-//! A file of C: a text cut into lines, with locations of the caller.
+//! A file that a caller of C passes: a text cut into lines, with locations that the caller states.
 
 ghost use Rattle.std.specs.Prelude.{◌≡◌, true, IfOk, None};
 ghost use Rattle.codespan_base.specs.FileModel.{line_of};
@@ -17,14 +17,14 @@ pub use stated::StatedText;
 use std::ops::Range;
 pub use text::SourceText;
 
-/// A file: a text cut into lines, and locations of the caller.
+/// A file: a text cut into lines, and locations that the caller states.
 #[derive(Drop)]
 pub struct NativeFile<'a> {
     /// The text, with its name and its lines.
     text: SourceText<'a>,
     /// Byte index in the file, from 0, of the first byte of the text.
     first_byte: usize,
-    /// The locations of the caller, in ascending order of their bytes.
+    /// The locations that the caller states, in strictly ascending order of their bytes.
     locations: &'a [RawLocation],
     ghost ascending: { locations_ascend first_byte locations.now ≡ true },
 }
@@ -37,7 +37,8 @@ impl<'a> NativeFile<'a> {
     ///
     /// # Requires
     ///
-    /// The bytes of the locations ascend strictly. One before `first_byte` counts as `first_byte`.
+    /// The bytes of the locations ascend strictly. A byte index before `first_byte` counts as
+    /// `first_byte`.
     pub fn new(
         text: SourceText<'a>,
         first_byte: usize,
@@ -113,7 +114,7 @@ impl<'a> NativeFile<'a> {
         Ok(column_index(self.source(), range, byte_index) + 1)
     }
 
-    /// Returns the caller's location of a byte, by binary search.
+    /// Returns the location that the caller states for a byte, by binary search.
     fn stated_location(&self, byte_index: usize) -> Option<Location>
         ensures { result ≡ (native_file_view self.now).stated_location byte_index }
     {
@@ -133,13 +134,13 @@ impl<'a> NativeFile<'a> {
         }
     }
 
-    /// Returns the location of a byte: that of the caller, or else the computed one. The byte index
-    /// counts from 0, in the source.
+    /// Returns the location of a byte: the one that the caller states, or else the computed one.
+    /// The byte index counts from 0, in the source.
     ///
     /// # Errors
     ///
-    /// None but [`Error::OutOfMemory`], by the contract: the line of a byte is there. Nothing is
-    /// allocated, so that neither occurs.
+    /// The contract allows only [`Error::OutOfMemory`], since each byte has a line. Nothing is
+    /// allocated, so it does not occur.
     #[tactic(auto, using(crate::proofs::FileLines::byte_has_line))]
     pub fn location(&self, byte_index: usize) -> Result<Location, Error>
         ensures value { IfOk result (λ location.

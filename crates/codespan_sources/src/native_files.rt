@@ -1,4 +1,4 @@
-//! The files of C as a file database.
+//! The files that a caller of C passes, as a file database.
 
 ghost use Rattle.std.specs.Prelude.{◌≡◌, [], ◌∷◌, ◌++◌, OnOk, IfOk, IfErr, refl, slice_get, Some, None, length};
 ghost use Rattle.codespan_base.specs.declared.files.Error.TheVariants.{FileMissing};
@@ -9,7 +9,7 @@ use codespan_base::files::{Error, Files, Location};
 use std::alloc::Global;
 use std::ops::Range;
 
-/// The files that are passed to the call. Ids are their indices.
+/// The files that are passed to the call. Ids are their indices, from 0.
 #[derive(Drop)]
 pub struct NativeFiles<'a> {
     /// The files, each at the index that is its id.
@@ -73,7 +73,7 @@ impl<'files, 'a: 'files> Files<'files> for NativeFiles<'a> {
     ghost use Rattle.codespan_sources.specs.SourceModel.{native_file_views};
     ghost use Rattle.codespan_sources.specs.SourceTexts.{native_database};
 
-    /// The index of a file.
+    /// The index of a file, from 0.
     type FileId = usize;
 
     /// The borrowed name.

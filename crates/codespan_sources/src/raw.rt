@@ -1,13 +1,13 @@
 //! The structs of stated lines and locations that cross from C, field by field those of
 //! `native/include/codespan.h`.
 
-/// A line of a file.
+/// A line of a file, as the caller states it.
 #[derive(Drop)]
 #[repr(C)]
 pub struct RawLine {
-    /// Byte index in the file, from 0.
+    /// Byte index in the file, from 0, of its start.
     pub start: usize,
-    /// Byte index in the file, from 0, exclusive.
+    /// Byte index in the file, from 0, of its end, exclusive.
     pub end: usize,
     /// The line number that is shown.
     pub number: usize,

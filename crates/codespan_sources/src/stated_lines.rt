@@ -1,4 +1,4 @@
-//! Tests of stated lines and locations.
+//! Validates the lines and locations that a caller states.
 
 ghost use Rattle.std.specs.Prelude.{◌≡◌};
 ghost use Rattle.codespan_base.specs.Lines.{is_char_boundary};
@@ -6,7 +6,8 @@ ghost use Rattle.codespan_sources.specs.StatedLines.{are_lines, locations_ascend
 
 use crate::raw::{RawLine, RawLocation};
 
-/// Returns whether a text, which is a window of a file from a byte on, is cut into these lines.
+/// Returns whether these lines cut a text, which is a window of a file from a byte on: they start
+/// with the text, ascend without overlap and end inside it, at character boundaries.
 pub fn are_lines(text: &[u8], first_byte: usize, lines: &[RawLine]) -> bool
     ensures { result ≡ are_lines text.now first_byte lines.now }
 {

@@ -127,7 +127,7 @@ converted_chars c =
     if c.characters == 0 then box_drawing else if c.characters == 1 then ascii
     else custom_chars c.chars
 
--- the configuration; a tab stops after 1024 cells at most
+-- the configuration; a tab width above 1024 is taken as 1024
 abbrev pub converted_config : RawConfig → Config
 converted_config c = record {
   display_style = display_style_of c.display_style;

@@ -1,4 +1,4 @@
--- What the call leaves.
+-- What a call leaves in the caller's buffer `out` and in `written`.
 use Rattle.std.specs.Prelude.{◌≡◌, ℕ, ◌<◌, ◌≤◌, List, ◌++◌, length, drop}
 
 -- the bytes are at the front of `out`, whose rest is unchanged

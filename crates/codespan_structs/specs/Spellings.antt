@@ -1,4 +1,4 @@
--- How the Rust values of a configuration spell style marks.
+-- How a `SpellingKind` spells style marks.
 use Rattle.codespan_base.specs.Streams.{Spelling, plain_spelling}
 use Rattle.codespan_structs.specs.declared.convert.config.SpellingKind.{SpellingKind}
 use Rattle.codespan_structs.specs.declared.convert.config.SpellingKind.TheVariants.{Plain, Ansi, StyleMarks}

@@ -48,6 +48,6 @@ argument_text a =
     if a == argument_number Note then codes "a note must be UTF-8" else
     codes "an argument is invalid"
 
--- of a status with an argument: of an invalid one, what it must be
+-- the text for a status: what it means, or, where an argument is invalid, what that must be
 abbrev pub text_for : ℕ → ℕ → List ℕ
 text_for status argument = if status == INVALID then argument_text argument else status_text status

@@ -1,4 +1,4 @@
--- Which arguments are valid, and which invalid one is named.
+-- Which arguments are valid, and which invalid one is the first.
 use Rattle.std.specs.Prelude.{◌≡◌, ◌<◌, ◌≤◌, ℕ, true, List, [], ◌∷◌, length, Option, MatchOption}
 use Rattle.std.specs.List.{slice_index_or, HoldsAt, AllWithin}
 use Rattle.std.specs.Char.{InScalarRange}
@@ -36,7 +36,7 @@ color_specs_of s =
     ∷ s.primary_label_note ∷ s.primary_label_help ∷ s.secondary_label ∷ s.line_number
     ∷ s.source_border ∷ s.note_bullet ∷ []
 
--- both colors of a style are numbers of the header
+-- both colors of a style are numbers of colors: from 0, for none, to 8
 pub record IsColorSpec (s : RawColorSpec) : Type 0 where
   pub fg : s.fg ≤ 8
   pub bg : s.bg ≤ 8

@@ -1,4 +1,4 @@
-//! The structs of C, which are valid, converted to the types of `codespan_base`.
+//! Converts valid structs of C to the types of `codespan_base` and to a file database.
 
 mod chars;
 mod config;

@@ -1,4 +1,4 @@
-//! Arguments that are invalid, and failed allocations.
+//! The arguments that can be invalid, and the error of a failed allocation.
 
 pub use codespan_sources::error::OutOfMemory;
 
@@ -27,7 +27,7 @@ pub enum Argument {
     /// A file's source. Invalid unless UTF-8.
     FileSource = 10,
     /// A file's lines. Invalid unless there are none or they start with its source, ascend without
-    /// overlap and end inside it, at boundaries of characters.
+    /// overlap and end inside it, at character boundaries.
     FileLines = 11,
     /// A file's locations. Invalid unless their bytes ascend strictly.
     FileLocations = 12,
@@ -41,7 +41,7 @@ pub enum Argument {
     LabelStyle = 16,
     /// A label's message. Invalid unless UTF-8.
     LabelMessage = 17,
-    /// A label's file. Invalid unless it is an index of the files.
+    /// A label's file. Invalid unless it is the index of a file, from 0.
     LabelFile = 18,
     /// A note. Invalid unless UTF-8.
     Note = 19,

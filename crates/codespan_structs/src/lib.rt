@@ -1,8 +1,9 @@
-//! The structs of C: validated, and converted to a diagnostic, a configuration and a file database.
+//! The structs that a caller of C passes: validated, and converted to a diagnostic, a configuration
+//! and a file database.
 //!
-//! [`raw`] has the structs, which any caller can fill with any numbers and bytes. [`validate`]
-//! finds the first invalid argument, and [`convert`] converts valid ones. [`status`] has what a
-//! call returns. `codespan_native` is the call.
+//! [`raw`] has the structs, which may hold any numbers and bytes. [`validate`] finds the first
+//! invalid argument, and [`convert`] converts valid ones. [`status`] has the statuses that a call
+//! returns, and [`buffer`] copies the output to the caller's buffer. `codespan_native` is the call.
 #![tactic(auto)]
 
 pub mod buffer;

@@ -1,14 +1,15 @@
 //! The structs that cross from C, field by field those of `native/include/codespan.h`.
 //!
-//! Numbers stand for enumerations and bytes for texts, so any value can be passed, which
-//! [`crate::validate`] checks. Those of stated lines and locations are of [`codespan_sources`].
+//! Numbers stand for enumerations and bytes for texts, so any value can be passed;
+//! [`crate::validate`] finds the invalid ones. The structs of stated lines and locations are
+//! re-exported from [`codespan_sources`].
 
 pub use codespan_sources::raw::{RawLine, RawLocation};
 
-/// The ABI version of the layouts of these structs.
+/// The ABI version, which fixes the layouts of these structs.
 pub const ABI: u32 = 1;
 
-/// The greatest tab width, in cells: one above it is taken as this one.
+/// The greatest tab width, in cells: a greater one is taken as this one.
 pub const TAB_WIDTH_MAX: usize = 1024;
 
 /// A text, in UTF-8.
@@ -73,35 +74,35 @@ pub struct RawDiagnostic<'a> {
 #[derive(Drop)]
 #[repr(C)]
 pub struct RawChars<'a> {
-    /// The text before a locus, in UTF-8.
+    /// Before the locus of a snippet: a text, in UTF-8.
     pub snippet_start: &'a [u8],
-    /// The border left of the source.
+    /// Left of the source.
     pub source_border_left: u32,
-    /// The same in a break.
+    /// Left of a break.
     pub source_border_left_break: u32,
     /// Before a note.
     pub note_bullet: u32,
-    /// Under a primary label of one line.
+    /// Under each cell of a primary single-line label.
     pub single_primary_caret: u32,
-    /// Under a secondary label of one line.
+    /// Under each cell of a secondary single-line label.
     pub single_secondary_caret: u32,
-    /// Under the start of a multi-line primary label.
+    /// Under the start of a primary multi-line label.
     pub multi_primary_caret_start: u32,
-    /// Under its end.
+    /// Under the end of a primary multi-line label.
     pub multi_primary_caret_end: u32,
-    /// Under the start of a multi-line secondary label.
+    /// Under the start of a secondary multi-line label.
     pub multi_secondary_caret_start: u32,
-    /// Under its end.
+    /// Under the end of a secondary multi-line label.
     pub multi_secondary_caret_end: u32,
-    /// The top corner of a lane.
+    /// The top corner of a multi-line label.
     pub multi_top_left: u32,
-    /// The line from it.
+    /// The underline from the top corner to the label's start.
     pub multi_top: u32,
-    /// The bottom corner of a lane.
+    /// The bottom corner of a multi-line label.
     pub multi_bottom_left: u32,
-    /// The line from it.
+    /// The underline from the bottom corner to the label's end.
     pub multi_bottom: u32,
-    /// The bar of a lane.
+    /// The lane of a multi-line label between its corners.
     pub multi_left: u32,
     /// The pointer between a caret and a hanging message.
     pub pointer_left: u32,
@@ -113,11 +114,11 @@ pub struct RawChars<'a> {
 pub struct RawColorSpec {
     /// 0: none, 1 to 8: black, red, green, yellow, blue, magenta, cyan, white.
     pub fg: u32,
-    /// The same, of the background.
+    /// The same, for the background.
     pub bg: u32,
-    /// 0: not bold.
+    /// Bold unless 0.
     pub bold: u32,
-    /// 0: not intense.
+    /// Intense unless 0: both colors are the bright ones.
     pub intense: u32,
 }
 
@@ -133,7 +134,7 @@ pub struct RawStyles {
     pub header_warning: RawColorSpec,
     /// The severity in the header of a note.
     pub header_note: RawColorSpec,
-    /// The severity in the header of a help.
+    /// The severity in the header of a help message.
     pub header_help: RawColorSpec,
     /// The message of a header.
     pub header_message: RawColorSpec,
@@ -145,13 +146,13 @@ pub struct RawStyles {
     pub primary_label_warning: RawColorSpec,
     /// Primary labels of a note.
     pub primary_label_note: RawColorSpec,
-    /// Primary labels of a help.
+    /// Primary labels of a help message.
     pub primary_label_help: RawColorSpec,
     /// Secondary labels.
     pub secondary_label: RawColorSpec,
     /// Line numbers.
     pub line_number: RawColorSpec,
-    /// The border left of the source.
+    /// The border left of the source, and the start of a snippet.
     pub source_border: RawColorSpec,
     /// The bullet of a note.
     pub note_bullet: RawColorSpec,
@@ -167,12 +168,12 @@ pub struct RawConfig<'a> {
     pub display_style: u32,
     /// 0: classic, 1: unbroken.
     pub layout: u32,
-    /// How style marks are spelled. 0: as nothing, 1: as escape sequences of the default styles, 2:
-    /// as those of `styles`, 3: in band, each as the byte 255 and its number.
+    /// How style marks are spelled. 0: as no bytes, 1: as escape sequences, in the default styles,
+    /// 2: as escape sequences, in `styles`, 3: in band, each as the byte 255 and its number.
     pub spelling: u32,
     /// 0: box drawing, 1: ASCII, 2: those of `chars`.
     pub characters: u32,
-    /// The number of cells between tab stops; one above [`TAB_WIDTH_MAX`] is taken as that one.
+    /// The number of cells between tab stops; above [`TAB_WIDTH_MAX`] it is taken as that.
     pub tab_width: usize,
     /// The number of lines shown after the first line of a multi-line label.
     pub start_context_lines: usize,
@@ -182,9 +183,9 @@ pub struct RawConfig<'a> {
     pub before_label_lines: usize,
     /// The number of lines shown after a label.
     pub after_label_lines: usize,
-    /// The caller's characters.
+    /// The caller's characters, read only where `characters` is 2.
     pub chars: RawChars<'a>,
-    /// The caller's styles.
+    /// The caller's styles, read only where `spelling` is 2.
     pub styles: RawStyles,
 }
 
@@ -194,7 +195,7 @@ pub struct RawConfig<'a> {
 pub struct Detail {
     /// The number of an [`Argument`](crate::error::Argument), 0 where none is invalid.
     pub argument: u32,
-    /// The index, from 0, of the character, style, file, label or note; 0 of an argument of which
-    /// there is only one.
+    /// The index, from 0, of the character, style, file, label or note; 0 where there is only one
+    /// such argument.
     pub index: usize,
 }

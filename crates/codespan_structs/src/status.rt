@@ -18,19 +18,19 @@ pub const TOO_SMALL: u32 = 1;
 /// An allocation failed.
 pub const OUT_OF_MEMORY: u32 = 2;
 
-/// The file of a label is no index of the files, and each argument of a lower number is valid.
+/// The first invalid argument is the file of a label: it is not one of the files.
 pub const FILE_MISSING: u32 = 3;
 
-/// An argument is invalid, and the first such is not the file of a label.
+/// The first invalid argument is another one.
 pub const INVALID: u32 = 4;
 
 /// The number of no argument.
 pub const NO_ARGUMENT: u32 = 0;
 
-/// That an argument is invalid, of a number that has no text of its own.
+/// The text of a number that is of no argument or of one without a text of its own.
 const ANY_ARGUMENT_TEXT: &str = "an argument is invalid";
 
-/// What each argument must be, by its number.
+/// What each argument must be, at the index that is its number.
 static ARGUMENT_TEXTS: [&str; 20] = [
     ANY_ARGUMENT_TEXT,
     "the ABI version must be that of the library",
@@ -85,8 +85,8 @@ pub fn status_for(argument: Argument) -> u32
 /// Writes what a status means to `out`, as [`copy_out`] copies bytes, and returns [`OK`] or
 /// [`TOO_SMALL`].
 ///
-/// Of [`INVALID`] it says what the argument must be: `argument` is the number of an [`Argument`],
-/// and is read for this status alone.
+/// For [`INVALID`] it writes what the argument must be: `argument` is the number of an
+/// [`Argument`], and is read for this status alone. The text is ASCII, and at most 128 bytes long.
 pub fn write_status(status: u32, argument: u32, out: &mut [u8], written: &mut usize) -> u32
     ensures ok { result ≡ OK → IsWritten (text_for status argument) out.old out.new written.new }
     ensures too_small { result ≡ TOO_SMALL

@@ -1,4 +1,4 @@
-//! Which argument is invalid, found without a conversion or an allocation.
+//! Finds the first invalid argument, before anything is converted or allocated.
 
 ghost use Rattle.std.specs.Prelude.{IfNone, IfSome, IsTrue, MatchOption, ◌≡◌};
 ghost use Rattle.codespan_structs.specs.Validity.{AreValid, FindsInvalid, IsFirstInvalid, IsValidAt};
@@ -15,15 +15,15 @@ use crate::validate::diagnostic::{
     label_file_index, label_message_index, label_style_index, note_index,
 };
 use crate::validate::files::{lines_index, locations_index, name_index, source_index};
-use crate::validate::values::is_text;
+use crate::validate::values::is_utf8;
 
 /// An invalid argument.
 #[derive(Drop)]
 pub struct Invalid {
     /// Which one it is.
     pub argument: Argument,
-    /// The index, from 0, of the character, style, file, label or note; 0 of an argument of which
-    /// there is only one.
+    /// The index, from 0, of the character, style, file, label or note; 0 where there is only one
+    /// such argument.
     pub index: usize,
 }
 
@@ -92,8 +92,8 @@ fn invalid_index(
         Argument::FileLines => lines_index(files),
         Argument::FileLocations => locations_index(files),
         Argument::Severity => index_unless(diagnostic.severity <= 4),
-        Argument::Code => index_unless(is_text(diagnostic.code)),
-        Argument::Message => index_unless(is_text(diagnostic.message)),
+        Argument::Code => index_unless(is_utf8(diagnostic.code)),
+        Argument::Message => index_unless(is_utf8(diagnostic.message)),
         Argument::LabelStyle => label_style_index(diagnostic.labels),
         Argument::LabelMessage => label_message_index(diagnostic.labels),
         Argument::LabelFile => label_file_index(files, diagnostic.labels),
@@ -101,7 +101,7 @@ fn invalid_index(
     }
 }
 
-/// Returns the index of an argument that there is only one of, unless it is valid.
+/// Returns 0, the index of an argument of which there is only one, unless it is valid.
 fn index_unless(is_valid: bool) -> Option<usize>
     ensures { MatchOption result (IsTrue is_valid) (λ index. (index ≡ 0) × ¬ IsTrue is_valid) }
 {

@@ -38,32 +38,32 @@ module _ {Id : Type 0} {config : Config} {files : FileDatabase Id} {d : Diagnost
   pub runs_rendered : {old new : Sink} {last : List ℕ} (text : StyledText) → WritesStyled config.display_style config config files d old (Ok tt) new
       → old ≡ fresh_sink style_spelling (Some (style_number Plain ∷ [])) → new.contents ≡ Some last → AreCharacters config.chars → ((id : Id) → IsLawful (files.file id))
       → recorded_runs (styled_runs text) ≡ last → AreRuns config files d (styled_runs text)
-  runs_rendered {old} {new} {last} text drawn fresh contents characters lawful are =
-      let loci = drawn.writes.loci in
+  runs_rendered {old} {new} {last} text rendered fresh contents characters lawful are =
+      let loci = rendered.writes.loci in
       let stream : Stream = output_at config files d loci in
-      let utf8 = (text-output files d lawful config.display_style config config characters loci drawn.writes.on_end.1.texts).utf8 in
-      let whole = bytes_after style_spelling old new stream (style_number Plain ∷ []) last fresh contents drawn.writes.received in
+      let utf8 = (text-output files d lawful config.display_style config config characters loci rendered.writes.on_end.1.texts).utf8 in
+      let whole = bytes_after style_spelling old new stream (style_number Plain ∷ []) last fresh contents rendered.writes.received in
       let runs = runs_of_recorded (styled_runs text) stream (runs-bytes text.runs.items) (utf8-bytes _ utf8) (are ∙ whole) in
       record {
         loci = loci;
-        are_loci = drawn.writes.are_loci;
+        are_loci = rendered.writes.are_loci;
         runs_are = runs;
         text_is = ap joined runs ∙ joined_runs stream;
-        succeeds = drawn.writes.on_end.1;
-        means = drawn.means;
+        succeeds = rendered.writes.on_end.1;
+        means = rendered.means;
       }
 
   -- the same of what the writer returns
   pub runs_emitted : {old new : Sink} {last : List ℕ} (r : Result StyledText Error) → WritesStyled config.display_style config config files d old (Ok tt) new
       → old ≡ fresh_sink style_spelling (Some (style_number Plain ∷ [])) → new.contents ≡ Some last → AreCharacters config.chars → ((id : Id) → IsLawful (files.file id))
       → MatchResult r (λ text. recorded_runs (styled_runs text) ≡ last) (λ e. e ≡ OutOfMemory) → EmitsRuns config files d styled_runs r
-  runs_emitted (Ok text) drawn fresh contents characters lawful are = runs_rendered text drawn fresh contents characters lawful are
-  runs_emitted (Err e) drawn fresh contents characters lawful is = inl is
+  runs_emitted (Ok text) rendered fresh contents characters lawful are = runs_rendered text rendered fresh contents characters lawful are
+  runs_emitted (Err e) rendered fresh contents characters lawful is = inl is
 
   -- an error of a writer that has not failed is one of lookups
   pub error_emitted : {old new : Sink} (e : Error) → WritesStyled config.display_style config config files d old (Err e) new → new.frame.failed ≡ false → IsEmitError config files d e
-  error_emitted {old} {new} e drawn not_failed =
-      ⊎_elim (λ own. absurd (true≢false (sym (ap (λ (f : Frame). f.failed) own.1) ∙ not_failed))) (λ found. inr found.1) drawn.writes.on_end.error_is
+  error_emitted {old} {new} e rendered not_failed =
+      ⊎_elim (λ own. absurd (true≢false (sym (ap (λ (f : Frame). f.failed) own.1) ∙ not_failed))) (λ found. inr found.1) rendered.writes.on_end.error_is
 
 -- ---- texts
 

@@ -1,3 +1,3 @@
--- Definitions that private calls and proofs use: a reader of the public contracts needs none of
--- them.
+-- Definitions that only private contracts and proofs use. A reader of the public contracts may
+-- skip them.
 pub mod Recorded

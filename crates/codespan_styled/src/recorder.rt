@@ -19,7 +19,8 @@ use std::{io, str};
 
 /// A writer of styles that starts a run at each style mark.
 ///
-/// It fails where an allocation does, and at a style mark inside a character.
+/// It fails where an allocation does, and at a style mark where the bytes of the last run are not
+/// UTF-8, as inside a character.
 #[derive(Debug, Drop)]
 pub struct Recorder {
     /// The runs before the last one.

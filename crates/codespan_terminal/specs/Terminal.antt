@@ -59,8 +59,8 @@ terminal_text styles (first ∷ rest) =
 
 -- ---- what a terminal shows
 
--- the state of a terminal: in text, in a sequence of styles after its first character or from its
--- parameters on, or after anything else, of which nothing is claimed
+-- the state of a terminal: in text, after the first character of a sequence of styles, in the
+-- parameters of one, or after anything else, of which nothing is claimed
 pub data TerminalState : Type 0 where
   Text : TerminalState
   Escape : TerminalState
@@ -104,13 +104,13 @@ abbrev pub columns : ℕ → ℕ → List ℕ → List InColumn
 columns tab column [] = []
 columns tab column (c ∷ cs) = (c, column) ∷ columns tab (column_after tab column c) cs
 
--- of these the safe characters
+-- the safe ones of these
 abbrev pub safe_columns : ℕ → ℕ → List ℕ → List InColumn
 safe_columns tab column cs = filter (λ (p : InColumn). is_safe p.0) (columns tab column cs)
 
 -- ---- the whole
 
--- what a terminal makes of a text for these runs
+-- how a terminal shows a text for these runs
 pub record ShowsSafe (text : List ℕ) (runs : List StyledRun) : Type 0 where
   -- no sequence but those of styles, no other control character but tab and newline, and no
   -- directional control: after any of them a reader would not be in text again

@@ -1,5 +1,4 @@
-//! Styled text as text that is safe to print on a terminal. Users name it by the paths of
-//! `codespan_styled`.
+//! Styled text as text that is safe to print on a terminal. `codespan_styled` re-exports it.
 #![tactic(auto)]
 
 pub mod terminal;

@@ -16,7 +16,7 @@ use std::alloc::{AllocError, Global};
 use std::io;
 use ucd_props::is_bidi_control;
 
-/// Returns a styled text for a terminal: each run after the escape sequences of its style.
+/// Returns a styled text as text for a terminal: each run after the escape sequences of its style.
 ///
 /// The sequences are those that `Ansi` writes for these styles, and the reset for plain text; a
 /// plain first run has none. Characters that are not safe to print are left out of the texts: see
@@ -32,7 +32,7 @@ use ucd_props::is_bidi_control;
 ///
 /// ```rust
 /// let text = styled_text(alloc, &Config::default(), &files, &diagnostic)?;
-/// let bytes = to_terminal(alloc, &text, &Styles::default())?;
+/// let output = to_terminal(alloc, &text, &Styles::default())?;
 /// ```
 pub fn to_terminal(alloc: Global, text: &StyledText, styles: &Styles) -> Result<String, AllocError>
     ensures runs { IfOk result (λ terminal. string_bytes terminal
@@ -62,6 +62,13 @@ pub fn safe_text(alloc: Global, text: &str) -> Result<String, AllocError>
 ///
 /// All characters are but control characters (C0, U+007F and C1) other than tab and newline, and
 /// directional controls, those of Unicode's property `Bidi_Control`.
+///
+/// # Example
+///
+/// ```rust
+/// assert!(rt; is_safe('é') && is_safe('\t'));
+/// assert!(rt; !is_safe('\x1b') && !is_safe('\u{202e}'));
+/// ```
 pub fn is_safe(c: char) -> bool
     ensures { result ≡ is_safe c }
 {
@@ -82,7 +89,7 @@ fn push_text(
         return Ok(());
     };
     if first.style != Style::Plain {
-        push_sequence(alloc, terminal, styles, first.style)?;
+        push_sequences(alloc, terminal, styles, first.style)?;
     }
     push_safe(terminal, first.text.as_str())?;
     push_runs(alloc, terminal, styles, rest)
@@ -99,7 +106,7 @@ fn push_runs(
         ≡ string_bytes terminal.old ++ runs_bytes styles.now (map run_view runs.now)) }
 {
     for run in runs {
-        push_sequence(alloc, terminal, styles, run.style)?;
+        push_sequences(alloc, terminal, styles, run.style)?;
         push_safe(terminal, run.text.as_str())?;
     }
     Ok(())
@@ -119,7 +126,7 @@ fn push_safe(terminal: &mut String, text: &str) -> Result<(), AllocError>
 }
 
 /// Appends the sequences of a style.
-fn push_sequence(
+fn push_sequences(
     alloc: Global,
     terminal: &mut String,
     styles: &Styles,
@@ -128,7 +135,7 @@ fn push_sequence(
     ensures { OnOk result (string_bytes terminal.new
         ≡ string_bytes terminal.old ++ ansi_spelling styles.now (style_mark_of style)) }
 {
-    let bytes = sequence(alloc, styles, style)?;
+    let bytes = sequences(alloc, styles, style)?;
     let Ok(text) = String::from_utf8(bytes) else {
         unreachable!()
     };
@@ -136,7 +143,7 @@ fn push_sequence(
 }
 
 /// Returns the bytes of the sequences of a style.
-fn sequence(alloc: Global, styles: &Styles, style: Style) -> Result<Vec<u8>, AllocError>
+fn sequences(alloc: Global, styles: &Styles, style: Style) -> Result<Vec<u8>, AllocError>
     ensures { IfOk result (λ bytes. bytes.items ≡ ansi_spelling styles.now (style_mark_of style)) }
 {
     let mut writer = StylesWriter::new(Ansi::new(Vec::new(alloc)), styles);

@@ -1,4 +1,4 @@
-/* What the C tests share: a check that names its line, and one call of the library over a room. */
+/* What the C tests share: a check that names its line, and one call of the library. */
 #ifndef CHECK_H
 #define CHECK_H
 
@@ -35,14 +35,14 @@ struct outcome {
 };
 
 static inline struct outcome emit(const struct call *call, uint8_t *out, size_t capacity) {
-    /* values that no call returns, so that one that is not set is seen */
+    /* values that no call returns, so that a test sees one that is not set */
     struct outcome outcome = {UINT32_MAX, SIZE_MAX, {UINT32_MAX, SIZE_MAX}};
     outcome.status = codespan_emit(call->files, call->files_length, call->diagnostic, call->config,
                                    out, capacity, &outcome.written, &outcome.detail);
     return outcome;
 }
 
-/* The byte that rooms are filled with before a call. */
+/* The byte that buffers are filled with before a call. */
 enum { UNWRITTEN = 0xee };
 
 /* Whether all these bytes are still as filled: the first one is, and each one is as the next. */

@@ -1,8 +1,9 @@
 /* Each allocation of a call fails in turn, alone and with all after it: the call returns
- * CODESPAN_OUT_OF_MEMORY or the same output as ever, and frees all that it allocated.
+ * CODESPAN_OUT_OF_MEMORY, or the output that it writes where none fails, and frees all that it
+ * allocated.
  *
- * It is linked with -Wl,--wrap=malloc,--wrap=realloc,--wrap=free, so that the library's calls of
- * these arrive here. */
+ * Linked with -Wl,--wrap=malloc,--wrap=realloc,--wrap=free, so that the library's calls of these
+ * arrive here. */
 #include "check.h"
 
 void *__real_malloc(size_t size);
@@ -126,6 +127,6 @@ int main(void) {
             config.spelling = spelling;
             failed += fail_all(&config);
         }
-    printf("failed allocations: %zu calls ran out of memory, and said so\n", failed);
+    printf("failed allocations: %zu calls ran out of memory, and reported it\n", failed);
     return 0;
 }

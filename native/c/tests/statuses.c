@@ -53,7 +53,7 @@ static struct call call_of(const struct sample *sample) {
 
 /* ---- invalid arguments ---- */
 
-/* No UTF-8: it ends inside a character. */
+/* Not UTF-8: the text ends inside a character. */
 static codespan_text cut(void) { return codespan_text_from("\303"); }
 
 static void set_abi(struct sample *s) { s->config.abi = CODESPAN_ABI + 1; }
@@ -98,7 +98,8 @@ static void set_label_file(struct sample *s) { s->labels[1].file = 2; }
 static void set_greatest_file(struct sample *s) { s->labels[0].file = SIZE_MAX; }
 static void set_note(struct sample *s) { s->notes[1] = cut(); }
 
-/* Two at once: the argument with the lower number is named, and the lower index. */
+/* Two at once: the one with the lower number is named, and of one number the one with the lower
+ * index. */
 static void set_file_and_severity(struct sample *s) {
     set_label_file(s);
     set_severity(s);
@@ -188,29 +189,30 @@ static void test_invalid(const struct invalid_case *wanted) {
     CHECK(outcome.written == 0 && is_unwritten(out, sizeof out));
 }
 
-/* With each room up to the length of the output, the call reports that length or fills it. */
-static void test_rooms(const struct call *call) {
+/* With each capacity below the length of the output the call reports that length and writes
+ * nothing; with that length it writes the output. */
+static void test_capacities(const struct call *call) {
     uint8_t out[OUT_CAPACITY];
     struct outcome whole = emit(call, out, sizeof out);
     CHECK(whole.status == CODESPAN_OK && whole.written > 0 && whole.written < sizeof out);
     CHECK(whole.detail.argument == CODESPAN_ARGUMENT_NONE && whole.detail.index == 0);
-    for (size_t room = 0; room <= whole.written; room++) {
+    for (size_t capacity = 0; capacity <= whole.written; capacity++) {
         uint8_t again[OUT_CAPACITY];
         memset(again, UNWRITTEN, sizeof again);
-        struct outcome outcome = emit(call, again, room);
+        struct outcome outcome = emit(call, again, capacity);
         CHECK(outcome.written == whole.written);
         CHECK(outcome.detail.argument == CODESPAN_ARGUMENT_NONE && outcome.detail.index == 0);
-        if (room < whole.written) {
+        if (capacity < whole.written) {
             CHECK(outcome.status == CODESPAN_TOO_SMALL && is_unwritten(again, sizeof again));
         } else {
             CHECK(outcome.status == CODESPAN_OK && memcmp(out, again, whole.written) == 0);
-            CHECK(is_unwritten(again + room, sizeof again - room));
+            CHECK(is_unwritten(again + capacity, sizeof again - capacity));
         }
     }
 }
 
-/* Values that are not read may be anything: the characters unless they are custom ones, the styles
- * likewise, and first_line where there are lines. */
+/* Values that are not read may be anything: the characters unless custom ones are chosen, the
+ * styles likewise, and first_line where there are lines. */
 static void test_unread(void) {
     struct sample sample, other;
     set_sample(&sample);
@@ -225,7 +227,7 @@ static void test_unread(void) {
     CHECK(first.written == second.written && memcmp(out, again, first.written) == 0);
 }
 
-/* Nothing at all but a message: no files, no labels, no notes, and no room at first. */
+/* Nothing but a message: no files, no labels and no notes. */
 static void test_empty(void) {
     codespan_config config = codespan_default_config();
     codespan_diagnostic diagnostic =
@@ -246,7 +248,7 @@ static bool is_line(const uint8_t *text, size_t length) {
     return length > 0 && length <= CODESPAN_STATUS_TEXT_MAX;
 }
 
-/* Each status has a text, in a room as long as it and not in a shorter one. */
+/* Each status has a text, which is written to a buffer of its length and not to a shorter one. */
 static void test_status_text(uint32_t status, uint32_t argument) {
     uint8_t text[CODESPAN_STATUS_TEXT_MAX + 1];
     size_t length = SIZE_MAX, again = SIZE_MAX;
@@ -269,7 +271,7 @@ int main(void) {
     for (uint32_t spelling = CODESPAN_PLAIN; spelling <= CODESPAN_MARKED; spelling++) {
         sample.config.spelling = spelling;
         struct call call = call_of(&sample);
-        test_rooms(&call);
+        test_capacities(&call);
     }
     test_unread();
     test_empty();

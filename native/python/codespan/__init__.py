@@ -8,7 +8,7 @@
     print(codespan.emit([codespan.File("settings.conf", source)], diagnostic))
 
 Texts are `str`, or `bytes` in UTF-8. Indices of sources count **bytes of UTF-8**, from 0, and ends
-are exclusive: `byte_index` returns that of a character. Numbers are from 0 to 2**64 - 1.
+are exclusive: `byte_index` returns the index of a character. Numbers are from 0 to 2**64 - 1.
 """
 from __future__ import annotations
 
@@ -28,7 +28,8 @@ Text = Union[str, bytes]
 
 
 class Severity(IntEnum):
-    """The severity of a diagnostic, ascending: the first word of a header, which sets its color."""
+    """The severity of a diagnostic, in ascending order. It is the first word of a header, and sets
+    its color."""
     HELP = 0
     NOTE = 1
     WARNING = 2
@@ -46,14 +47,14 @@ class LabelStyle(IntEnum):
 class DisplayStyle(IntEnum):
     """What is rendered."""
     RICH = 0  #: a header, the source with its labels, and the notes
-    MEDIUM = 1  #: a header for each primary label, or one if there is none, and the notes
+    MEDIUM = 1  #: a header for each primary label, or one without a location, and the notes
     SHORT = 2  #: the headers of `MEDIUM` alone
 
 
 class Layout(IntEnum):
-    """How lines between those of labels are laid out."""
+    """How lanes of multi-line labels are rendered, and which line numbers the padding fits."""
     CLASSIC = 0  #: as by the Rust crate codespan-reporting
-    UNBROKEN = 1  #: lanes of multi-line labels have no gaps
+    UNBROKEN = 1  #: lanes have no gaps, and the padding fits all line numbers
 
 
 class Characters(IntEnum):
@@ -68,12 +69,12 @@ class Spelling(IntEnum):
     PLAIN = 0  #: not at all
     ANSI = 1  #: by escape sequences, in the default styles
     ANSI_STYLES = 2  #: by escape sequences, in those of `Config.styles`
-    MARKED = 3  #: by the character U+DCFF and that of the style mark's number, as in codespan.h
+    MARKED = 3  #: by the character U+DCFF and the one of the style mark's number in codespan.h
 
 
 class Color(IntEnum):
     """A color of a terminal."""
-    NONE = 0  #: leaves the color
+    NONE = 0  #: the color of plain text
     BLACK = 1
     RED = 2
     GREEN = 3
@@ -86,7 +87,7 @@ class Color(IntEnum):
 
 @dataclass(frozen=True)
 class Line:
-    """A line of a file: the bytes from start to end. Its newline may be inside or not."""
+    """A line of a file: the bytes from start to end. Its newline may be one of them or not."""
     start: int  #: byte index in the file
     end: int  #: byte index in the file, exclusive
     number: int  #: the line number that is shown
@@ -106,14 +107,15 @@ class File:
     name: Text
     source: Text
     first_byte: int = 0  #: byte index in the file of the first byte of `source`
-    first_line: int = 0  #: number of lines of the file before `source`
-    lines: Sequence[Line] = ()  #: its lines, in ascending order; none: they start after newlines
-    locations: Sequence[Location] = ()  #: locations shown in place of those that are computed
+    first_line: int = 0  #: index in the file of the first line of `source`
+    lines: Sequence[Line] = ()  #: in ascending order; if empty, lines start after newlines
+    locations: Sequence[Location] = ()  #: locations that are shown in place of computed ones
 
 
 @dataclass(frozen=True)
 class Label:
-    """A range of bytes of a file, with a message."""
+    """A range of bytes of a file, with a message. The end may be before the start, and either past
+    the end of the file or inside a character."""
     start: int  #: byte index in the file
     end: int  #: byte index in the file, exclusive
     message: Text = ''  #: empty: none
@@ -197,8 +199,8 @@ class Config:
     end_context_lines: int = 1  #: lines shown before its last line
     before_label_lines: int = 0  #: lines shown before a label
     after_label_lines: int = 0  #: lines shown after a label
-    chars: Chars = field(default_factory=Chars)  #: for `Characters.OWN`
-    styles: Styles = field(default_factory=Styles)  #: for `Spelling.ANSI_STYLES`
+    chars: Chars = field(default_factory=Chars)  #: read only for `Characters.OWN`
+    styles: Styles = field(default_factory=Styles)  #: read only for `Spelling.ANSI_STYLES`
 
 
 class Argument(IntEnum):
@@ -210,8 +212,8 @@ class Argument(IntEnum):
     SPELLING = 4
     CHARACTERS = 5
     SNIPPET_START = 6
-    CHARACTER = 7  #: index: the field of `Chars` after `snippet_start`
-    COLOR = 8  #: index: the field of `Styles`
+    CHARACTER = 7  #: index: the field of `Chars`, from 0 for `source_border_left`
+    COLOR = 8  #: index: the field of `Styles`, from 0 for `header_bug`
     FILE_NAME = 9  #: index: the file
     FILE_SOURCE = 10  #: index: the file
     FILE_LINES = 11  #: index: the file
@@ -221,14 +223,15 @@ class Argument(IntEnum):
     MESSAGE = 15
     LABEL_STYLE = 16  #: index: the label
     LABEL_MESSAGE = 17  #: index: the label
-    LABEL_FILE = 18  #: none of the files; index: the label
+    LABEL_FILE = 18  #: not one of the files; index: the label
     NOTE = 19  #: index: the note
 
 
 class InvalidArgument(ValueError):
-    """An argument is invalid, or the file of a label is none of the files.
+    """An argument is invalid, or the file of a label is not one of the files.
 
-    `argument` says which, and `index` which of several, from 0; it is 0 where there is one."""
+    `argument` is the first invalid one, and `index` its index among several, from 0; it is 0 where
+    there is only one."""
 
     def __init__(self, message: str, argument: Argument, index: int):
         super().__init__(message)
@@ -237,7 +240,7 @@ class InvalidArgument(ValueError):
 
 
 def byte_index(source: str, character: int) -> int:
-    """Returns the byte index, for a label, of a character of a source.
+    """Returns the byte index of a character of a source, as a label needs it.
 
     `character` counts code points from 0. For one past the end it returns the length in bytes; a
     negative one counts from the end, as in a slice."""
@@ -248,8 +251,8 @@ def emit(files: Sequence[File], diagnostic: Diagnostic, config: Config = Config(
     """Returns the rendered diagnostic over these files.
 
     Raises `InvalidArgument` where an argument is invalid, `ValueError` where a number is negative
-    or too large or a `str` has no UTF-8, `TypeError` where a field of `Chars` is not one character,
-    and `MemoryError` where an allocation fails."""
+    or too large or a `str` has a surrogate, `TypeError` where a field of `Chars` is not one
+    character, and `MemoryError` where an allocation fails."""
     outcome = _native.emit(files, diagnostic, config)
     if outcome.status == _native.OK:
         return outcome.output.decode(errors='surrogateescape')

@@ -89,7 +89,7 @@ class Detail(c.Structure):
 
 
 class Outcome(NamedTuple):
-    """What a call returned."""
+    """What a call returned. `output` is empty unless the status is OK."""
     status: int
     output: bytes
     argument: int
@@ -119,7 +119,7 @@ LIBRARY = load()
 
 
 def number(value, greatest=SIZE_MAX):
-    """Returns a number that C holds: ctypes would cut it off."""
+    """Returns a number that fits a type of C. ctypes would truncate one that does not."""
     value = index(value)
     if not 0 <= value <= greatest:
         raise ValueError('%d is not from 0 to %d' % (value, greatest))
@@ -132,12 +132,14 @@ def choice(value):
 
 
 def text_of(text):
+    """Returns the struct of a text."""
     data = text.encode() if isinstance(text, str) else bytes(memoryview(text))
     return Text(data, len(data))
 
 
 def array_of(kind, values):
-    """Returns an array of structs. It has one at least: a pointer to it is not NULL."""
+    """Returns an array of structs, and their number. The array is never empty, so that a pointer to
+    it is not NULL."""
     values = list(values)
     return (kind * max(1, len(values)))(*values), len(values)
 
@@ -173,31 +175,32 @@ def chars_of(chars):
     return Chars(text_of(chars.snippet_start), *(ord(getattr(chars, name)) for name in CHARACTERS))
 
 
-def color_of(spec):
+def color_spec_of(spec):
     return ColorSpec(choice(spec.fg), choice(spec.bg), bool(spec.bold), bool(spec.intense))
 
 
 def config_of(config):
-    styles = Styles(*(color_of(getattr(config.styles, name)) for name in STYLES))
+    styles = Styles(*(color_spec_of(getattr(config.styles, name)) for name in STYLES))
     return Config(ABI, *(choice(getattr(config, name)) for name in CHOICES),
                   *(number(getattr(config, name)) for name in COUNTS), chars_of(config.chars),
                   styles)
 
 
 def emit(files, diagnostic, config) -> Outcome:
-    """Calls codespan_emit, with as much room as the output needs."""
+    """Calls codespan_emit, again with a larger buffer where the first one is too small."""
     file_array, files_length = array_of(File, map(file_of, files))
     arguments = (file_array, files_length, c.byref(diagnostic_of(diagnostic)),
                  c.byref(config_of(config)))
-    room = 4096
+    capacity = 4096
     while True:
-        out = c.create_string_buffer(room)
+        out = c.create_string_buffer(capacity)
         written, detail = c.c_size_t(), Detail()
-        status = LIBRARY.codespan_emit(*arguments, out, room, c.byref(written), c.byref(detail))
+        status = LIBRARY.codespan_emit(*arguments, out, capacity, c.byref(written),
+                                       c.byref(detail))
         if status != TOO_SMALL:
             output = c.string_at(out, written.value)
             return Outcome(status, output, detail.argument, detail.index)
-        room = written.value
+        capacity = written.value
 
 
 def status_text(status, argument) -> str:

@@ -103,7 +103,7 @@ pub trait Files<'a> {
     /// Any; [`Error::FileMissing`] where there is no such file.
     fn source(&'a self, id: Self::FileId) -> Result<Self::Source, Error>;
 
-    /// Returns the index of the line of a byte. Of a byte past the end of the text it is that of
+    /// Returns the index of the line of a byte. For a byte past the end of the text it is that of
     /// the last line.
     ///
     /// # Errors

@@ -3,7 +3,7 @@
 //!
 //! Build a [`Diagnostic`](diagnostic::Diagnostic) from labels on ranges of files, and emit it with
 //! one of the functions of [`term`]. The files come from a file database:
-//! [`SimpleFiles`](files::SimpleFiles), or any type of yours that implements
+//! [`SimpleFiles`](files::SimpleFiles), or a custom type that implements
 //! [`Files`](files::Files).
 //!
 //! ```

@@ -15,7 +15,7 @@ use ffi::EmitError;
 pub(crate) use layout::{File, Label, Line, Location, Slice};
 pub(crate) use style_marks::{replay, write_text};
 
-/// What a panic says of a file database whose lines the archive does not accept.
+/// The panic message for a file database whose lines the archive does not accept.
 pub(crate) const OVERLAP: &str = "the lines of a file overlap, or do not ascend";
 
 /// How changes of style are spelled in an output.
@@ -32,9 +32,9 @@ pub(crate) struct Request<'a> {
     /// How much of the diagnostic is rendered.
     pub(crate) display_style: &'a DisplayStyle,
     pub(crate) spelling: Spelling,
-    /// Where the characters and the tab width are from.
+    /// The configuration that has the characters and the tab width.
     pub(crate) characters: &'a Config,
-    /// Where the lines of context are from.
+    /// The configuration that has the numbers of context lines.
     pub(crate) context: &'a Config,
     pub(crate) severity: Severity,
     /// The code, or the empty text for none.
@@ -51,7 +51,7 @@ impl Request<'_> {
     ///
     /// # Panics
     ///
-    /// Where the lines of a file overlap, or do not ascend, or where the archive has another ABI.
+    /// Where the lines of a file overlap or do not ascend, or the archive has another ABI.
     pub(crate) fn render(&self) -> Vec<u8> {
         let notes: Vec<_> = self.notes.iter().map(|note| note.as_str().into()).collect();
         let diagnostic = layout::Diagnostic {
@@ -63,7 +63,7 @@ impl Request<'_> {
         };
         match ffi::emit(self.files, &diagnostic, &self.config()) {
             Ok(output) => output,
-            // The archive does not report what it requested.
+            // The archive does not report the layout of the allocation that failed.
             Err(EmitError::OutOfMemory) => handle_alloc_error(Layout::new::<u8>()),
             Err(EmitError::Invalid(detail)) if detail.argument == layout::FILE_LINES => {
                 panic!("{OVERLAP}: {detail:?}")

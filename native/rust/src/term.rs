@@ -37,8 +37,8 @@ use views::Output;
 ///
 /// # Panics
 ///
-/// Where the lines of a file overlap, do not ascend, or do not have the bytes that `line_index`
-/// says. So do the other calls.
+/// Where the lines of a file overlap or do not ascend, or `line_index` returns a line that starts
+/// after the byte. The other functions panic there too.
 pub fn emit_into_string<'files, F: Files<'files> + ?Sized>(
     config: &Config,
     files: &'files F,

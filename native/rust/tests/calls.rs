@@ -1,4 +1,4 @@
-//! Data types, file databases, and calls whose outputs are long, or made by several threads.
+//! Data types, file databases, long outputs, and calls from several threads.
 
 use std::error::Error as _;
 use std::io;
@@ -10,7 +10,7 @@ use codespan_reporting::files::{line_starts, Error, Files, Location, SimpleFile,
 use codespan_reporting::term::{emit_into_string, emit_to_string, Chars, Config};
 
 #[test]
-fn builders_set_what_they_are_named_for() {
+fn label_builders_set_their_fields() {
     let label = Label::new(LabelStyle::Secondary, 'a', 1..2).with_message(3);
     assert_eq!(
         (label.style, label.file_id, label.range.clone()),
@@ -25,7 +25,11 @@ fn builders_set_what_they_are_named_for() {
         Label::secondary('b', 0..9),
         Label::new(LabelStyle::Secondary, 'b', 0..9)
     );
+}
 
+#[test]
+fn diagnostic_builders_set_their_fields() {
+    let label = Label::secondary('a', 1..2).with_message(3);
     let diagnostic = Diagnostic::error()
         .with_code("E")
         .with_message("m")
@@ -48,9 +52,13 @@ fn builders_set_what_they_are_named_for() {
         "abc"
     );
     assert_eq!(diagnostic.notes, ["x", "y", "z"]);
+}
 
+#[test]
+fn new_diagnostics_have_only_a_severity() {
     let severities = [
         (Diagnostic::<()>::bug(), Severity::Bug),
+        (Diagnostic::error(), Severity::Error),
         (Diagnostic::warning(), Severity::Warning),
         (Diagnostic::note(), Severity::Note),
         (Diagnostic::help(), Severity::Help),

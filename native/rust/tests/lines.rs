@@ -1,5 +1,5 @@
 //! Custom file databases: lines that end before their line breaks, locations that are not
-//! computed, and lines that are no lines.
+//! computed, and lines that are not lines of the source.
 
 mod common;
 
@@ -11,7 +11,7 @@ use codespan_reporting::term::{emit_into_string, Config};
 
 use common::ten_lines;
 
-/// A file whose lines are as they are given.
+/// A file whose lines have the given ranges.
 struct Lines {
     text: &'static str,
     lines: Vec<Range<usize>>,
@@ -57,13 +57,17 @@ impl<'a> Files<'a> for Lines {
     }
 }
 
-#[test]
-fn a_label_may_end_between_two_lines() {
-    // Lines end before their separator, which is two bytes long.
-    let files = Lines::new(
+/// Returns a file whose lines end before their separator, which is two bytes long.
+fn separated() -> Lines {
+    Lines::new(
         "ab; cd; ef; gh; ij",
         vec![0..2, 4..6, 8..10, 12..14, 16..18],
-    );
+    )
+}
+
+#[test]
+fn a_label_may_end_between_two_lines() {
+    let files = separated();
     let diagnostic = Diagnostic::error()
         .with_label(Label::primary((), 1..4).with_message("over two"))
         .with_label(Label::secondary((), 2..3).with_message("after"))
@@ -84,11 +88,15 @@ error:
 
 ";
     assert_eq!(output, shown);
+}
 
-    let apart = Diagnostic::error()
+#[test]
+fn an_empty_label_may_be_between_two_lines() {
+    let files = separated();
+    let diagnostic = Diagnostic::error()
         .with_label(Label::primary((), 3..3).with_message("x"))
         .with_label(Label::primary((), 17..17).with_message("y"));
-    let output = emit_into_string(&Config::default(), &files, &apart).unwrap();
+    let output = emit_into_string(&Config::default(), &files, &diagnostic).unwrap();
     let shown = "\
 error: 
   ┌─ f:1:3
@@ -225,7 +233,8 @@ fn a_line_that_is_no_part_of_the_source_is_an_error() {
     ));
 }
 
-/// A file that says of each byte that it is in the first line, but of the last one.
+/// A file whose `line_index` returns the last line for the end of the text, and the first line for
+/// any other byte.
 struct Misplaced(Lines);
 
 impl<'a> Files<'a> for Misplaced {

@@ -32,7 +32,7 @@ impl Recorded {
     fn record(&self, lookup: String) -> Result<(), Error> {
         let fails = lookup == self.failing;
         self.lookups.borrow_mut().push(lookup);
-        // A number that no lookup has of itself.
+        // An error that the lookups of `SimpleFile` do not return.
         if fails {
             Err(Error::IndexTooLarge { given: 77, max: 7 })
         } else {

@@ -1,8 +1,8 @@
 //! The groups of diagnostics of the original crate's test, in each of its configurations: each
 //! output is the one that the original rendered, byte by byte.
 //!
-//! The stored outputs, `tests/original/outputs`, are none of this crate's: `./test outputs` has the
-//! original write them. None of them shows what differs from the original.
+//! The stored outputs, `tests/original/outputs`, are not this crate's: `./test outputs` has the
+//! original write them. None of them shows a difference between the crates.
 
 use std::collections::BTreeMap;
 

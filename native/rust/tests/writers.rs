@@ -1,4 +1,4 @@
-//! Writers: what they receive, and errors of theirs.
+//! Writers: what they receive, and their errors.
 
 #![cfg(feature = "termcolor")]
 

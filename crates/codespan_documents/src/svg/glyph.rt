@@ -21,7 +21,8 @@ pub struct Glyph {
 }
 
 impl Glyph {
-    /// Returns the cells that it occupies: what `unicode_width` returns for its character, or 0.
+    /// Returns the number of cells that it occupies: the width that `unicode_width` returns for its
+    /// character, or 0 where it returns none.
     pub fn cells(self) -> usize
         ensures value { result ≡ cells_of self }
         ensures bound { result ≤ 3 }
@@ -51,7 +52,7 @@ impl Glyph {
     }
 }
 
-/// Returns whether a glyph belongs to the text of the one before it.
+/// Returns whether a glyph belongs to the text of the one before it, if there is one.
 pub(super) fn follows(before: Option<Glyph>, glyph: Glyph) -> bool
     ensures { result ≡ follows before glyph }
 {
@@ -71,7 +72,7 @@ pub(super) fn joins_next(glyph: Glyph, others: &[Glyph]) -> bool
     }
 }
 
-/// Returns the cells of the glyphs that belong to the text of the glyph before them.
+/// Returns the number of cells of the glyphs after `before` that belong to its text.
 pub(super) fn joined_cells(before: Glyph, others: &[Glyph]) -> u128
     ensures value { result ≡ joined_cells before others.now }
     ensures bound { result ≤ length others.now }

@@ -6,13 +6,13 @@ ghost use Rattle.codespan_base.specs.declared.term.config.styles.Styles.{Styles}
 ghost use Rattle.codespan_documents.specs.Glyphs.{glyphs_of, start};
 ghost use Rattle.codespan_documents.specs.Runs.{StyledRun};
 ghost use Rattle.codespan_documents.specs.Svg.{first_pen};
-ghost use Rattle.codespan_documents.specs.SvgReading.{cells_of_piece, pieces_from, shown_cells};
+ghost use Rattle.codespan_documents.specs.SvgReading.{piece_characters, pieces_from, characters_from};
 
 /// States that the texts of a document have each character but newlines once, in the order of the
 /// runs, in its ink, and, counted from where the text begins, in the cell that it has among all
 /// characters.
 pub fn characters_are_in_their_cells()
     ensures { (styles : Styles) (runs : List StyledRun) →
-        flat_map cells_of_piece (pieces_from first_pen (glyphs_of styles runs))
-        ≡ shown_cells start (glyphs_of styles runs) }
+        flat_map piece_characters (pieces_from first_pen (glyphs_of styles runs))
+        ≡ characters_from start (glyphs_of styles runs) }
 {}

@@ -1,4 +1,4 @@
--- Texts cut at newlines, and into lines that the test of them passes, make lawful files.
+-- Texts cut at newlines, and texts cut into lines for which `are_lines` holds, make lawful files.
 use Rattle.std.proofs.Common.{◌≡◌, ℕ, zero, suc, ◌+◌, ◌-◌, ◌^◌, ◌<◌, ◌≤◌, Bool, true, false, List, [], ◌∷◌, length, refl, arith, Option, eqb}
 use Rattle.std.specs.Prelude.{◌&&◌, nat_lt, nat_le, slice_index, Some}
 use Rattle.std.proofs.lemmas.Bool.Decides.{nat_tests}
@@ -29,7 +29,7 @@ newline_lawful name text first_line stated u fits =
     renumbered_lawful (simple_file (Some name) text) f.line_number f.column_number f.location
     (simple_lawful (Some name) text u fits)
 
--- the test finds only boundaries
+-- where `is_char_boundary` holds there is a boundary
 boundary : (text : List ℕ) (i : ℕ) → is_char_boundary text i ≡ true → IsCharBoundary text i
 boundary text i e = grind (arith, nat_tests, e)
 
@@ -47,7 +47,7 @@ module _ (text : List ℕ) (first : ℕ) where
     pub ends_before_next : (i : ℕ) → i + 1 < length (starts_of first ls)
         → slice_index (ends_of first ls) i ≤ slice_index (starts_of first ls) (i + 1)
 
-  -- what the test says of the first of some lines, and of those after it
+  -- what `follow` says of the first of some lines, and of those after it
   record Step (start end : ℕ) (l : RawLine) (ls : List RawLine) : Type 0 where
     pub later : start < l.start - first
     pub apart : end ≤ l.start - first
@@ -144,7 +144,7 @@ module _ (text : List ℕ) (first : ℕ) where
       ends_before_next (suc k) p =
           let q : suc k + 1 ≡ suc (k + 1) = omega arith in rw q (c.ends_before_next k (omega (arith, p)))
 
-  -- lines that the test passes are a chain
+  -- lines for which `follow` holds are a chain
   chain : (l : RawLine) (ls : List RawLine) → IsCharBoundary text (l.start - first)
       → IsCharBoundary text (l.end - first) → l.start - first ≤ l.end - first
       → follow text first (l.start - first) (l.end - first) ls ≡ true → Chain (l ∷ ls)
@@ -153,7 +153,7 @@ module _ (text : List ℕ) (first : ℕ) where
       let x = step (l.start - first) (l.end - first) m ms t in
       chain_more l m ms s e h x.later x.apart (chain m ms x.start_cut x.end_cut x.inside x.rest)
 
--- a text of lines that the test passes makes a lawful file
+-- a text cut into lines for which `are_lines` holds makes a lawful file
 pub stated_lawful : (name text : List ℕ) (first : ℕ) (lines : List RawLine)
     (stated : ℕ → Option Location) → IsUtf8 text → length text < 2 ^ 64
     → are_lines text first lines ≡ true

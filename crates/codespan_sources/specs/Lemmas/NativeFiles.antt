@@ -1,4 +1,4 @@
--- The files of C are lawful, and the range of a line fails past the last one.
+-- The files of `NativeFiles` are lawful, and the lookup of a line's range fails past the last line.
 use Rattle.std.proofs.lemmas.Str.{IsUtf8-had}
 use Rattle.std.specs.Prelude.{ℕ, List, length, slice_get, Option}
 use Rattle.codespan_base.specs.declared.files.Location.{Location}
@@ -35,9 +35,10 @@ database_is_lawful files id =
     database_lawful native_file_view native_file_model files.files.items id
     (λ f. text_is_lawful f.text (location_at f.first_byte f.locations.now))
 
--- the range of a line fails past the last one
-pub database_fails_past_end : (ss : List NativeFileView) (id i : ℕ)
-    → FailsPastEnd ((native_database ss).file id) i ((native_database ss).failure id (LineRange i))
-database_fails_past_end ss id i =
-    past_end_or native_file_model native_failure i (slice_get ss id)
-    (λ s there. past_end_is (length s.cut.starts) i)
+-- the lookup of a line's range fails past the last line
+pub database_fails_past_end : (views : List NativeFileView) (id i : ℕ)
+    → FailsPastEnd ((native_database views).file id) i
+    ((native_database views).failure id (LineRange i))
+database_fails_past_end views id i =
+    past_end_or native_file_model native_failure i (slice_get views id)
+    (λ view there. past_end_is (length view.cut.starts) i)

@@ -10,20 +10,21 @@ use codespan_base::files::{Error, Files, SimpleFile};
 use std::alloc::Global;
 use std::ops::Range;
 
-/// A text whose lines start after newlines, and whose line numbers count on from those of the lines
-/// before it.
+/// A text whose lines start after newlines. Their numbers count on from the lines of the file
+/// before it, up to [`usize::MAX`].
 #[derive(Drop)]
 pub struct NewlineText<'a> {
     /// The name, the text and its lines.
     file: SimpleFile<&'a str, &'a str>,
-    /// The number of lines of the file before the text.
+    /// The index in the file, from 0, of the first line of the text: the number of lines before it.
     first_line: usize,
 }
 
 impl<'a> NewlineText<'a> {
     ghost use Rattle.codespan_sources.specs.SourceModel.{newline_view};
 
-    /// Returns the text of a name and a source, which has so many lines before it.
+    /// Returns a source with a name, cut at newlines. `first_line` is the index in the file, from
+    /// 0, of its first line.
     ///
     /// # Errors
     ///
@@ -65,12 +66,12 @@ impl<'a> NewlineText<'a> {
     }
 
     /// Returns the index of the byte's line, from 0. The byte index counts from 0, in the source.
-    /// The lookup of a file of one text does not fail.
     pub fn line_index(&self, byte_index: usize) -> usize
         ensures { result ≡ line_of (newline_view self.now).starts byte_index }
     {
         match self.file.line_index((), byte_index) {
             Ok(line_index) => line_index,
+            // `SimpleFile::line_index` does not fail.
             Err(_) => 0,
         }
     }

@@ -11,12 +11,12 @@ use crate::raw::RawLine;
 use codespan_base::files::Error;
 use std::ops::Range;
 
-/// A text of lines that the caller states, which is a window of a file from a byte on.
+/// A text of lines that the caller states: a file, or a window of one from a byte on.
 #[derive(Drop)]
 pub struct StatedText<'a> {
     /// The name of the file.
     name: &'a str,
-    /// The text itself.
+    /// The text.
     source: &'a str,
     /// Byte index in the file, from 0, of the first byte of `source`.
     first_byte: usize,
@@ -30,12 +30,12 @@ pub struct StatedText<'a> {
 impl<'a> StatedText<'a> {
     ghost use Rattle.codespan_sources.specs.SourceModel.{stated_view};
 
-    /// Returns the text of a name and a source, cut into these lines.
+    /// Returns a source with a name, cut into these lines.
     ///
     /// # Requires
     ///
-    /// The lines start with the source, ascend without overlap and end inside it, at boundaries of
-    /// characters. A byte before `first_byte` counts as `first_byte`.
+    /// The lines start with the source, ascend without overlap and end inside it, at character
+    /// boundaries. A byte index before `first_byte` counts as `first_byte`.
     pub fn new(
         name: &'a str,
         source: &'a str,

@@ -1,4 +1,4 @@
-//! The characters of the output.
+//! Converts the characters of the output.
 
 ghost use Rattle.std.specs.Prelude.{◌≡◌};
 ghost use Rattle.std.specs.Char.{InScalarRange};
@@ -14,8 +14,8 @@ use codespan_base::term::{Chars, SnippetStart};
 ///
 /// # Requires
 ///
-/// [`first_invalid`](crate::validate::first_invalid) has found neither the choice of characters nor
-/// one of the caller's characters.
+/// The choice of characters is valid, and so are the caller's characters and their text before a
+/// locus, if they are chosen. [`first_invalid`](crate::validate::first_invalid) checks this.
 pub fn convert_chars<'a>(raw: &RawConfig<'a>) -> Chars<'a>
     requires { AreValidChars raw.now }
     ensures { IsEqualChars (converted_chars raw.now) result }

@@ -1,4 +1,4 @@
-//! The configuration.
+//! Converts the configuration.
 
 ghost use Rattle.std.specs.Prelude.{◌≡◌};
 ghost use Rattle.codespan_base.specs.ConfigEquality.{IsEqualConfig};
@@ -14,9 +14,9 @@ use codespan_base::term::{Config, DisplayStyle, Layout, Styles};
 /// How style marks are spelled.
 #[derive(Clone, Copy)]
 pub enum SpellingKind {
-    /// As nothing.
+    /// As no bytes.
     Plain,
-    /// As the escape sequences of these styles.
+    /// As the escape sequences of [`Ansi`](codespan_base::term::Ansi), in these styles.
     Ansi(Styles),
     /// In band, as the byte 255 and the number of the style mark.
     StyleMarks,
@@ -35,7 +35,8 @@ pub struct Settings<'a> {
 ///
 /// # Requires
 ///
-/// [`first_invalid`](crate::validate::first_invalid) has found nothing.
+/// The choice of characters is valid, and so are the caller's characters and their text before a
+/// locus, if they are chosen. [`first_invalid`](crate::validate::first_invalid) checks this.
 pub fn convert_config<'a>(raw: &RawConfig<'a>) -> Settings<'a>
     requires { AreValidChars raw.now }
     ensures config { IsEqualConfig (converted_config raw.now) result.config }
@@ -47,7 +48,7 @@ pub fn convert_config<'a>(raw: &RawConfig<'a>) -> Settings<'a>
     }
 }
 
-/// Returns the configuration itself.
+/// Returns the configuration alone.
 fn converted_config<'a>(raw: &RawConfig<'a>) -> Config<'a>
     requires { AreValidChars raw.now }
     ensures { IsEqualConfig (converted_config raw.now) result }

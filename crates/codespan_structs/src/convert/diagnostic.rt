@@ -1,4 +1,4 @@
-//! The diagnostic.
+//! Converts the diagnostic.
 
 ghost use Rattle.std.specs.Prelude.{◌≡◌, All, IfOk, map, string_bytes};
 ghost use Rattle.std.specs.Str.{IsUtf8};
@@ -14,7 +14,7 @@ use crate::raw::{RawDiagnostic, RawFile, RawLabel, RawText};
 use codespan_base::diagnostic::{Diagnostic, Label, LabelStyle, Severity};
 use std::alloc::{AllocError, Global};
 
-/// Returns a diagnostic over these files.
+/// Returns the diagnostic of a struct of C, whose labels are on these files.
 ///
 /// # Errors
 ///
@@ -22,7 +22,8 @@ use std::alloc::{AllocError, Global};
 ///
 /// # Requires
 ///
-/// [`first_invalid`](crate::validate::first_invalid) has found nothing.
+/// The code, the message, the labels' messages and the notes are UTF-8.
+/// [`first_invalid`](crate::validate::first_invalid) checks this.
 pub fn convert_diagnostic(
     alloc: Global,
     files: &[RawFile<'_>],
@@ -53,7 +54,7 @@ fn severity_of(number: u32) -> Severity
     }
 }
 
-/// Returns the code of these bytes; none where they are empty.
+/// Returns the bytes as a code; none where they are empty.
 fn code_of(alloc: Global, raw: &[u8]) -> Result<Option<String>, AllocError>
     requires { IsUtf8 raw.now }
     ensures { IfOk result (λ code. option_map string_bytes code ≡ code_of raw.now) }

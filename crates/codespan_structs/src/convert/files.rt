@@ -1,4 +1,4 @@
-//! The files.
+//! Converts the files.
 
 ghost use Rattle.std.specs.Prelude.{◌≡◌, All, IfOk, map};
 ghost use Rattle.codespan_structs.specs.Converted.{converted_file};
@@ -20,7 +20,8 @@ use std::alloc::Global;
 ///
 /// # Requires
 ///
-/// [`first_invalid`](crate::validate::first_invalid) has found nothing.
+/// The names, sources, lines and locations of the files are valid.
+/// [`first_invalid`](crate::validate::first_invalid) checks this.
 pub fn convert_files<'a>(alloc: Global, raw: &[RawFile<'a>]) -> Result<NativeFiles<'a>, OutOfMemory>
     requires { All IsValidFile raw.now }
     ensures { IfOk result (λ files. native_file_views files ≡ map converted_file raw.now) }

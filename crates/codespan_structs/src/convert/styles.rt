@@ -1,4 +1,4 @@
-//! The caller's styles.
+//! Converts the caller's styles.
 
 ghost use Rattle.std.specs.Prelude.{◌≡◌};
 ghost use Rattle.codespan_structs.specs.Converted.{color_of, color_spec_of, custom_styles};
@@ -6,7 +6,7 @@ ghost use Rattle.codespan_structs.specs.Converted.{color_of, color_spec_of, cust
 use crate::raw::{RawColorSpec, RawStyles};
 use codespan_base::term::{Color, ColorSpec, Styles};
 
-/// Returns the caller's styles.
+/// Returns the caller's styles. A number of a color above 8 counts as 8.
 pub fn convert_styles(raw: &RawStyles) -> Styles
     ensures { result ≡ custom_styles raw.now }
 {
@@ -41,7 +41,7 @@ fn color_spec_of(raw: &RawColorSpec) -> ColorSpec
     }
 }
 
-/// Returns the color of a number, none of 0. A number above 8 counts as 8.
+/// Returns the color of a number, or none for 0. A number above 8 counts as 8.
 fn color_of(number: u32) -> Option<Color>
     ensures { result ≡ color_of number }
 {

@@ -1,11 +1,11 @@
-//! Texts.
+//! Converts texts.
 
 ghost use Rattle.std.specs.Prelude.{◌≡◌, IfOk, string_bytes};
 ghost use Rattle.std.specs.Str.{IsUtf8};
 
 use std::alloc::{AllocError, Global};
 
-/// Returns the text of these bytes.
+/// Returns the bytes as a text.
 ///
 /// # Requires
 ///
@@ -18,7 +18,7 @@ pub fn str_of(bytes: &[u8]) -> &str
     unsafe { std::str::from_utf8_unchecked(bytes) }
 }
 
-/// Returns a copy of the text of these bytes.
+/// Returns a copy of the bytes as a text.
 ///
 /// # Errors
 ///

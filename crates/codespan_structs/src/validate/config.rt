@@ -1,4 +1,4 @@
-//! The configuration.
+//! Validates the configuration.
 
 ghost use Rattle.std.specs.Prelude.{◌≡◌, IsTrue, ◌↔◌};
 ghost use Rattle.std.specs.Char.{InScalarRange};
@@ -6,12 +6,12 @@ ghost use Rattle.std.specs.Str.{IsUtf8};
 ghost use Rattle.codespan_structs.specs.Validity.{code_points_of, color_specs_of, FindsInvalid, FindsWithout, HoldsIfAt, IsColorSpec};
 
 use crate::raw::{ABI, RawChars, RawColorSpec, RawConfig, RawStyles};
-use crate::validate::values::{is_character, is_color_spec, is_text};
+use crate::validate::values::{is_color_spec, is_scalar_value, is_utf8};
 
-/// The choice of the caller's characters.
+/// The number that chooses the caller's characters.
 const CUSTOM_CHARACTERS: u32 = 2;
 
-/// The spelling in the caller's styles.
+/// The number of the spelling as escape sequences, in the caller's styles.
 const CUSTOM_STYLES: u32 = 2;
 
 /// Returns whether the layouts of the structs are those of this library.
@@ -27,7 +27,7 @@ pub fn is_snippet_start_valid(config: &RawConfig<'_>) -> bool
     ensures { IsTrue result
         ↔ (config.now.characters ≡ 2 → IsUtf8 config.now.chars.snippet_start.now) }
 {
-    config.characters != CUSTOM_CHARACTERS || is_text(config.chars.snippet_start)
+    config.characters != CUSTOM_CHARACTERS || is_utf8(config.chars.snippet_start)
 }
 
 /// Returns the index of the first of the caller's characters that is invalid, where they are
@@ -54,11 +54,11 @@ pub fn color_index(config: &RawConfig<'_>) -> Option<usize>
     color_spec_index(&color_specs_of(&config.styles))
 }
 
-/// Returns the index of the first code point that is no Unicode scalar value.
+/// Returns the index of the first code point that is not a Unicode scalar value.
 fn code_point_index(codes: &[u32]) -> Option<usize>
     ensures { FindsWithout InScalarRange codes.now result }
 {
-    codes.iter().position(|code| !is_character(*code))
+    codes.iter().position(|code| !is_scalar_value(*code))
 }
 
 /// Returns the index of the first style with a color that is invalid.

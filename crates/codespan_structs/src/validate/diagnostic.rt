@@ -1,10 +1,10 @@
-//! The diagnostic.
+//! Validates the diagnostic.
 
 ghost use Rattle.std.specs.Prelude.{◌≤◌, length};
 ghost use Rattle.codespan_structs.specs.Validity.{FindsWithout, HasLabelStyle, HasTextMessage, HasLabelFile, IsValidText};
 
 use crate::raw::{RawFile, RawLabel, RawText};
-use crate::validate::values::is_text;
+use crate::validate::values::is_utf8;
 
 /// Returns the index of the first label whose style is invalid.
 pub fn label_style_index(labels: &[RawLabel<'_>]) -> Option<usize>
@@ -17,14 +17,14 @@ pub fn label_style_index(labels: &[RawLabel<'_>]) -> Option<usize>
 pub fn label_message_index(labels: &[RawLabel<'_>]) -> Option<usize>
     ensures { FindsWithout HasTextMessage labels.now result }
 {
-    labels.iter().position(|label| !is_text(label.message))
+    labels.iter().position(|label| !is_utf8(label.message))
 }
 
 /// Returns the index of the first note that is not UTF-8.
 pub fn note_index(notes: &[RawText<'_>]) -> Option<usize>
     ensures { FindsWithout IsValidText notes.now result }
 {
-    notes.iter().position(|note| !is_text(note.bytes))
+    notes.iter().position(|note| !is_utf8(note.bytes))
 }
 
 /// Returns the index of the first label whose file is not one of these.
@@ -34,7 +34,7 @@ pub fn label_file_index(files: &[RawFile<'_>], labels: &[RawLabel<'_>]) -> Optio
     index_past(files.len(), labels)
 }
 
-/// Returns the index of the first label whose file is not one of so many files.
+/// Returns the index of the first label whose file is not one of `count` files.
 fn index_past(count: usize, labels: &[RawLabel<'_>]) -> Option<usize>
     ensures { FindsWithout (HasLabelFile count) labels.now result }
 {

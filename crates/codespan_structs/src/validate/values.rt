@@ -1,4 +1,4 @@
-//! Tests of single values.
+//! Validates single values.
 
 ghost use Rattle.std.specs.Prelude.{◌≡◌, ◌-◌, IsTrue, ◌↔◌};
 ghost use Rattle.std.specs.Char.{InScalarRange};
@@ -8,14 +8,14 @@ ghost use Rattle.codespan_structs.specs.Validity.{IsColorSpec};
 use crate::raw::RawColorSpec;
 
 /// Returns whether the bytes are UTF-8.
-pub fn is_text(bytes: &[u8]) -> bool
+pub fn is_utf8(bytes: &[u8]) -> bool
     ensures { IsTrue result ↔ IsUtf8 bytes.now }
 {
     std::str::from_utf8(bytes).is_ok()
 }
 
 /// Returns whether a code point is a Unicode scalar value.
-pub fn is_character(code: u32) -> bool
+pub fn is_scalar_value(code: u32) -> bool
     ensures { IsTrue result ↔ InScalarRange code }
 {
     char::from_u32(code).is_some()

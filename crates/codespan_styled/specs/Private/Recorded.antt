@@ -1,6 +1,6 @@
--- Definitions that only the writer that keeps runs and proofs use: how this writer is seen by the
--- law of writers, which knows bytes alone. It holds, for each run, a number that is no byte and
--- stands for its style, and then the run's bytes.
+-- How the law of writers, which knows only bytes, sees a `Recorder`: as a writer that holds, for
+-- each run, a number above 255 that stands for its style, and then the run's bytes. Only contracts
+-- of `Recorder` and proofs use these definitions.
 use Rattle.std.specs.Prelude.{ℕ, ◌+◌, ◌<◌, Bool, List, [], ◌∷◌, ◌++◌, map, Some}
 use Rattle.std.specs.List.{AllByRecursion, flat_map}
 use Rattle.codespan_base.specs.declared.diagnostic.LabelStyle.TheVariants.{Primary, Secondary}
@@ -33,7 +33,7 @@ severity_offset Warning = 2
 severity_offset Note = 3
 severity_offset Help = 4
 
--- the number of a style, which is no byte
+-- the number of a style, above 255
 abbrev pub style_number : Style → ℕ
 style_number Plain = 256
 style_number HeaderMessage = 257

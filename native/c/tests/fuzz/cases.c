@@ -9,7 +9,7 @@ enum {
     TEXT_MAX = 1024
 };
 
-/* What makes a case. Where `may_be_invalid`, some arguments are invalid, most of the time. */
+/* What makes a case. Where `may_be_invalid`, most cases have invalid arguments. */
 struct maker {
     struct random random;
     struct pages *pages;
@@ -41,7 +41,7 @@ struct piece {
 #define PIECE(string)                                                                              \
     { string, sizeof string - 1 }
 
-/* Parts of texts; the first ones are newlines, and the last ones no UTF-8. */
+/* Parts of texts; the first ones are newlines, and the last ones are not UTF-8. */
 static const struct piece PIECES[] = {
     PIECE("\n"),
     PIECE("\r\n"),

@@ -26,8 +26,8 @@ struct worker {
     uint64_t first, step, cases; /* its cases: first, first + step, .. */
     double seconds;              /* how long it runs */
     struct pages pages;
-    uint8_t *rooms[SPELLINGS]; /* of OUT_CAPACITY bytes each */
-    uint8_t *expected;         /* of OUT_CAPACITY bytes */
+    uint8_t *buffers[SPELLINGS]; /* of OUT_CAPACITY bytes each */
+    uint8_t *expected;           /* of OUT_CAPACITY bytes */
     size_t counts[STATUSES];
     uint8_t signal_stack[1 << 16];
 };
@@ -47,15 +47,15 @@ static _Thread_local uint64_t current;
 
 /* Checks what a call may return, and what it may have written. */
 static void check_outcome(const struct fuzz_case *made, const struct call *call, const uint8_t *out,
-                          size_t room, const struct outcome *outcome) {
+                          size_t capacity, const struct outcome *outcome) {
     REQUIRE(outcome->status < STATUSES && outcome->status != CODESPAN_OUT_OF_MEMORY);
     bool has_output = outcome->status <= CODESPAN_TOO_SMALL;
     if (outcome->status == CODESPAN_OK) {
-        REQUIRE(outcome->written <= room);
-        REQUIRE(is_unwritten(out + outcome->written, room - outcome->written));
+        REQUIRE(outcome->written <= capacity);
+        REQUIRE(is_unwritten(out + outcome->written, capacity - outcome->written));
     } else {
-        REQUIRE(has_output ? outcome->written > room : outcome->written == 0);
-        REQUIRE(is_unwritten(out, room));
+        REQUIRE(has_output ? outcome->written > capacity : outcome->written == 0);
+        REQUIRE(is_unwritten(out, capacity));
     }
     REQUIRE(has_output == (outcome->detail.argument == CODESPAN_ARGUMENT_NONE));
     REQUIRE(!has_output || (outcome->detail.index == 0 && made->labels_without_file == 0));
@@ -72,14 +72,14 @@ static void check_outcome(const struct fuzz_case *made, const struct call *call,
         REQUIRE(has_output);
 }
 
-/* Makes a call with room for `room` bytes, at the end of a room. Returns the output's start. */
+/* Makes a call with the last `capacity` bytes of a buffer. Returns the start of the output. */
 static const uint8_t *try_call(struct worker *worker, const struct fuzz_case *made,
-                               uint32_t spelling, size_t room, struct outcome *outcome) {
+                               uint32_t spelling, size_t capacity, struct outcome *outcome) {
     const struct call *call = &made->calls[spelling];
-    uint8_t *out = worker->rooms[spelling] + OUT_CAPACITY - room;
-    memset(out, UNWRITTEN, room);
-    *outcome = emit(call, out, room);
-    check_outcome(made, call, out, room, outcome);
+    uint8_t *out = worker->buffers[spelling] + OUT_CAPACITY - capacity;
+    memset(out, UNWRITTEN, capacity);
+    *outcome = emit(call, out, capacity);
+    check_outcome(made, call, out, capacity, outcome);
     worker->counts[outcome->status]++;
     return out;
 }
@@ -115,10 +115,10 @@ static void check_spellings(struct worker *worker, const struct fuzz_case *made)
                  &outcomes[CODESPAN_ANSI_STYLES]);
 }
 
-/* Renders with some room, and where that is too small with exactly the room that is needed. */
-static void check_room(struct worker *worker, const struct fuzz_case *made, size_t room) {
+/* Renders with some capacity, and where that is too small with exactly the one that is needed. */
+static void check_capacity(struct worker *worker, const struct fuzz_case *made, size_t capacity) {
     struct outcome first, second;
-    try_call(worker, made, CODESPAN_PLAIN, room, &first);
+    try_call(worker, made, CODESPAN_PLAIN, capacity, &first);
     if (first.status != CODESPAN_TOO_SMALL || first.written > OUT_CAPACITY)
         return;
     try_call(worker, made, CODESPAN_PLAIN, first.written, &second);
@@ -149,7 +149,7 @@ static void run_case(struct worker *worker, uint64_t number) {
     current = number;
     struct fuzz_case made = make_case(number, &worker->pages);
     check_spellings(worker, &made);
-    check_room(worker, &made, number % 300);
+    check_capacity(worker, &made, number % 300);
     worker->cases++;
 }
 
@@ -178,8 +178,8 @@ static void prepare(struct worker *worker, uint64_t first, double seconds) {
     worker->seconds = seconds;
     worker->pages = new_pages();
     for (uint32_t spelling = 0; spelling < SPELLINGS; spelling++)
-        worker->rooms[spelling] = new_room(OUT_CAPACITY);
-    worker->expected = new_room(OUT_CAPACITY);
+        worker->buffers[spelling] = new_buffer(OUT_CAPACITY);
+    worker->expected = new_buffer(OUT_CAPACITY);
 }
 
 /* What all threads found. */

@@ -6,7 +6,8 @@
 #include <sys/mman.h>
 #include <unistd.h>
 
-/* A slot is some pages, and then one that can not be touched; so is the page before the first. */
+/* A slot is some pages, and then one that can not be accessed, as is the page before the first
+ * slot. */
 enum {
     PAGE = 4096,
     SLOT = 2 * PAGE,
@@ -15,7 +16,7 @@ enum {
     SIZE = PAGE + SLOTS * STRIDE
 };
 
-/* Ends the program unless a call of the system succeeded. */
+/* Ends the program unless a system call succeeded. */
 static void need(bool has_succeeded, const char *call) {
     if (has_succeeded)
         return;
@@ -57,7 +58,7 @@ const void *put(struct pages *pages, struct random *random, const void *data, si
     return pages->read + index;
 }
 
-uint8_t *new_room(size_t size) {
+uint8_t *new_buffer(size_t size) {
     uint8_t *view = map(size + 2 * PAGE, PROT_READ | PROT_WRITE, MAP_PRIVATE | MAP_ANONYMOUS, -1);
     close_page(view);
     close_page(view + PAGE + size);

@@ -1,6 +1,6 @@
-/* Memory of the arguments of a call, that can be read exactly where it was put.
+/* Memory for the arguments of a call, which the library can read only where data was put.
  *
- * Each piece of data begins or ends beside a page that can not be touched, and the library's view
+ * Each piece of data begins or ends beside a page that can not be accessed, and the library's view
  * of it can not be written. */
 #ifndef PAGES_H
 #define PAGES_H
@@ -20,12 +20,12 @@ struct pages new_pages(void);
 void clear_pages(struct pages *pages);
 
 /* Copies data to a free slot, and returns where the library can read it: before or after a page
- * that can not be touched. Of no bytes it returns the start of such a page. */
+ * that can not be accessed. For no bytes it returns the start of such a page. */
 const void *put(struct pages *pages, struct random *random, const void *data, size_t size,
                 size_t alignment);
 
-/* Maps `size` bytes, a multiple of the page size, that can be written, between two pages that can
- * not be touched. */
-uint8_t *new_room(size_t size);
+/* Maps a buffer of `size` bytes, a multiple of the page size, between two pages that can not be
+ * accessed. */
+uint8_t *new_buffer(size_t size);
 
 #endif

@@ -1,4 +1,4 @@
-//! The time of some diagnostics.
+//! How long each crate takes for some diagnostics.
 
 use std::hint::black_box;
 use std::time::Instant;

@@ -1,4 +1,4 @@
-//! This crate beside the original one.
+//! Compares this crate with the original one.
 //!
 //! `beside check SEED COUNT` renders random diagnostics by both, and fails where one differs that
 //! should not. `beside bench` prints the time that each takes for some diagnostics, and
@@ -47,7 +47,7 @@ fn usage() -> ExitCode {
     ExitCode::from(2)
 }
 
-/// What was compared.
+/// How many cases ended in an output, in an error, and in a panic of the original.
 #[derive(Default)]
 struct Counts {
     outputs: usize,

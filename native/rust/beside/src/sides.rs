@@ -9,7 +9,7 @@ pub struct Written {
     pub error: Option<String>,
 }
 
-/// What came of a case.
+/// What the calls return and write for a case.
 pub struct Outcome {
     /// By `emit_into_string`.
     pub plain: Result<String, String>,
@@ -35,8 +35,8 @@ impl fmt::Display for Outcome {
     }
 }
 
-/// Defines the module that renders by a crate. The text is one for both, since both have one
-/// interface.
+/// Defines the module that renders by a crate. Both crates have the same interface, so one macro
+/// serves both.
 macro_rules! side {
     ($name:ident) => {
         pub mod $name {

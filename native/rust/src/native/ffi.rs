@@ -17,7 +17,7 @@ pub(crate) enum EmitError {
     Invalid(Detail),
 }
 
-/// The bytes that an output is expected to have at most. A longer one takes a second call.
+/// The length in bytes that outputs are expected not to exceed. A longer one takes a second call.
 const EXPECTED_LENGTH: usize = 4096;
 
 extern "C" {

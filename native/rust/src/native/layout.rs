@@ -12,7 +12,7 @@ pub(crate) const ABI: u32 = 1;
 /// The layout of the original.
 pub(crate) const CLASSIC: u32 = 0;
 
-/// Characters that are passed, not one of the archive's own sets.
+/// The choice of the characters that are passed, not of one of the archive's sets.
 pub(crate) const OWN_CHARS: u32 = 2;
 
 /// The status of a call that has written the output.

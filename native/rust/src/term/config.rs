@@ -79,10 +79,10 @@ pub enum DisplayStyle {
     Short,
 }
 
-/// The characters of an output that are no letters.
+/// The characters of borders, carets, underlines, pointers and bullets.
 ///
-/// The defaults are those of [`Chars::box_drawing`]; where [`Chars::ascii`] has another one, it is
-/// given after them.
+/// Each field lists the default, that of [`Chars::box_drawing`], and then that of [`Chars::ascii`]
+/// where it is another one.
 #[derive(Clone, Debug)]
 pub struct Chars {
     /// The text before a snippet's location: `"┌─"`, or `"-->"`.

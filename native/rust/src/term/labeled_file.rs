@@ -26,8 +26,8 @@ pub(super) struct Position {
     pub(super) line_index: usize,
 }
 
-/// A label whose location may be shown. The least one's is: a primary one's before others, and of
-/// these the one's that starts first.
+/// A label whose location may be shown. That of the least one is: primary labels come before
+/// secondary ones, and among these an earlier start comes first.
 #[derive(PartialEq, PartialOrd)]
 struct LocationLabel {
     style: LabelStyle,
@@ -78,7 +78,7 @@ impl<FileId: Copy + PartialEq> LabeledFile<FileId> {
         })
     }
 
-    /// Looks up the location of another label, if it is to be shown rather than the one so far.
+    /// Looks up the location of another label, if it is to be shown in place of the one so far.
     pub(super) fn show_if_before<'files>(
         &mut self,
         label: &Label<FileId>,
@@ -195,6 +195,11 @@ impl<FileId: Copy + PartialEq> LabeledFile<FileId> {
     }
 
     /// Looks up each line that is alone between two known ones: it is shown in place of a break.
+    ///
+    /// # Errors
+    ///
+    /// That of a lookup, or the one at which the lines of context ended, if a later line was looked
+    /// up.
     pub(super) fn fill<'files>(
         &mut self,
         files: &'files (impl Files<'files, FileId = FileId> + ?Sized),

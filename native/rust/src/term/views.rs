@@ -1,4 +1,4 @@
-//! What the styles render of a diagnostic.
+//! The views: what each display style renders of a diagnostic.
 
 use alloc::string::{String, ToString};
 use alloc::vec::Vec;
@@ -52,7 +52,8 @@ where
     ///
     /// # Panics
     ///
-    /// Where the lines of a file overlap, or do not ascend, or a byte is before its line.
+    /// Where the lines of a file overlap or do not ascend, or `line_index` returns a line that
+    /// starts after the byte.
     pub fn render<'files>(
         &self,
         files: &'files (impl Files<'files, FileId = FileId> + ?Sized),
@@ -114,7 +115,7 @@ impl<'diagnostic, FileId> ShortDiagnostic<'diagnostic, FileId>
 where
     FileId: Copy + PartialEq,
 {
-    /// Returns the view of a diagnostic, with its notes or without.
+    /// Returns the view of a diagnostic, with its notes if `show_notes` is true.
     #[must_use]
     pub fn new(
         diagnostic: &'diagnostic Diagnostic<FileId>,
@@ -127,7 +128,7 @@ where
     }
 
     /// Renders a header for each primary label, or one without a location where there is none, and
-    /// the notes.
+    /// then the notes if they are shown.
     ///
     /// # Errors
     ///
@@ -218,7 +219,7 @@ where
     }
 }
 
-/// What a header shows of its label.
+/// What a header shows of its label: the file's name and a location.
 struct Header {
     name: String,
     location: native::Location,

@@ -1,6 +1,6 @@
 use Rattle.codespan_lsp.proofs.positions.byte_index_to_position.Goals as goal
 
--- what is said of UTF-16
+-- the clauses are those of the method for UTF-16
 pub returns-clause-value : goal.returns-clause-value
 returns-clause-value g c = c.byte_index_to_position.ensures.value
 

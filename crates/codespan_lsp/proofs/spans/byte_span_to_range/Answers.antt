@@ -1,6 +1,6 @@
 use Rattle.codespan_lsp.proofs.spans.byte_span_to_range.Goals as goal
 
--- what is said of UTF-16
+-- the clauses are those of the method for UTF-16
 pub returns-clause-value : goal.returns-clause-value
 returns-clause-value g c = c.byte_span_to_range.ensures.value
 

@@ -1,6 +1,6 @@
 use Rattle.codespan_lsp.proofs.spans.range_to_byte_span.Goals as goal
 
--- what is said of UTF-16
+-- the clauses are those of the method for UTF-16
 pub returns-clause-value : goal.returns-clause-value
 returns-clause-value g c = c.range_to_byte_span.ensures.value
 

@@ -7,14 +7,14 @@ use Rattle.codespan_lsp.proofs.encoding.PositionEncoding.code_units.Goals as goa
 pub loop-c-init : goal.loop-c-init
 loop-c-init c =
     let all : chars_rest c.into_iter-c-iterator.result ≡ c.args.text.now = cc in
-    rw all record { utf8 = c.utf8.text; room = omega arith; so_far = omega arith }
+    rw all record { utf8 = c.utf8.text; fits = omega arith; so_far = omega arith }
 
 pub overflow_add-units : goal.overflow_add-units
 overflow_add-units c =
     let step = c.in-Some.ensures.steps.0 in
     omega (
       arith,
-      c.loop-c.invariant.room,
+      c.loop-c.invariant.fits,
       ap length step,
       length-append {A = ℕ},
       length-encode,
@@ -28,9 +28,9 @@ loop-c-preserved c =
     let step = c.in-Some.ensures.steps.0 in
     record {
       utf8 = IsUtf8-past_char _ _ _ i.utf8 step;
-      room = omega (
+      fits = omega (
         arith,
-        i.room,
+        i.fits,
         ap length step,
         length-append {A = ℕ},
         length-encode,
@@ -44,4 +44,4 @@ pub returns : goal.returns
 returns c =
     let i = c.loop-c.invariant in
     let none = code_units-empty c.args.self _ c.in-None.ensures.steps.0.0 in
-    record { value = omega (arith, none, i.so_far); bound = omega (arith, i.room) }
+    record { value = omega (arith, none, i.so_far); bound = omega (arith, i.fits) }

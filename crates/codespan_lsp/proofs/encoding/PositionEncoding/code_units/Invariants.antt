@@ -7,6 +7,6 @@ use Rattle.codespan_lsp.proofs.encoding.PositionEncoding.code_units.Given as goa
 abbrev pub invariant-loop-c : goal.invariant-loop-c
 invariant-loop-c l = record {
   utf8 : IsUtf8 (chars_rest l.c-iterator);
-  room : l.units + length (chars_rest l.c-iterator) ≤ length l.text;
+  fits : l.units + length (chars_rest l.c-iterator) ≤ length l.text;
   so_far : l.units + code_units l.self (chars_rest l.c-iterator) ≡ code_units l.self l.text;
 }

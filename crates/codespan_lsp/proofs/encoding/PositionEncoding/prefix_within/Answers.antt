@@ -38,7 +38,7 @@ loop-c-preserved c =
     record {
       utf8 = IsUtf8-past_char _ _ _ i.utf8 step;
       within = omega (arith, i.within, c.if-more-max_units.false);
-      room = omega (arith, i.room, ap length step, length-append {A = ℕ}, length-encode, c.len_utf8-len.ensures.value);
+      lengths = omega (arith, i.lengths, ap length step, length-append {A = ℕ}, length-encode, c.len_utf8-len.ensures.value);
       bytes = omega (
         arith,
         i.bytes,

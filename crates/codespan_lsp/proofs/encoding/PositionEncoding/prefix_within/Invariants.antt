@@ -12,7 +12,7 @@ invariant-loop-c l =
     record {
       utf8 : IsUtf8 (chars_rest l.c-iterator);
       within : l.units ≤ l.max_units;
-      room : l.len + length (chars_rest l.c-iterator) ≡ length l.text;
+      lengths : l.len + length (chars_rest l.c-iterator) ≡ length l.text;
       bytes : l.len + length (encode_utf8_all rest) ≡ length (encode_utf8_all whole);
       units : l.units + total_units l.self rest ≡ total_units l.self whole;
     }

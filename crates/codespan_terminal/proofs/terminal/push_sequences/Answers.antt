@@ -2,7 +2,7 @@ use Rattle.std.proofs.Common.{◌≡◌, false, true, subst, sym}
 use Rattle.std.specs.Str.{IsUtf8}
 use Rattle.codespan_terminal.specs.Terminal.{style_mark_of}
 use Rattle.codespan_terminal.proofs.TerminalStates.{ReadsText-mark}
-use Rattle.codespan_terminal.proofs.terminal.push_sequence.Goals as goal
+use Rattle.codespan_terminal.proofs.terminal.push_sequences.Goals as goal
 
 pub unreachable-requires : goal.unreachable-requires
 unreachable-requires c =
