@@ -15,24 +15,30 @@ use Rattle.codespan_laws.proofs.ListElements.{all-append}
 
 -- ---- a file that is added where it is none of the others
 
-module _ {Id : Type 0} {same : Id → Id → Bool} (o : IsEquivalence same) (files : List (RustFile Id)) (id : Id) {index : ℕ} (is : index ≡ index_of_file same (ids_view files) id) where
+module _ {Id : Type 0} {same : Id → Id → Bool} (o : IsEquivalence same) (files : List (RustFile Id))
+    (id : Id) {index : ℕ} (is : index ≡ index_of_file same (ids_view files) id) where
   -- how many ids these are
   ids-length : length (ids_view files) ≡ length files
   ids-length = length-map files (λ (f : RustFile Id). f.file_id)
 
   -- where the index is that after the files, the list has one more element
-  pub file-added : index ≡ length files → {A : Type 0} (known : List A) (one : A) → known ++ one ∷ [] ≡ with_file same (ids_view files) id known one
+  pub file-added : index ≡ length files → {A : Type 0} (known : List A) (one : A)
+      → known ++ one ∷ [] ≡ with_file same (ids_view files) id known one
   file-added past known one =
-      by (has same o (ids_view files) id) (λ there. omega (arith, is, past, ids-length, has-index same o (ids_view files) id there))
+      by (has same o (ids_view files) id)
+      (λ there. omega (arith, is, past, ids-length, has-index same o (ids_view files) id there))
     where
-      by : (b : Bool) → (b ≡ true → ⊥) → known ++ one ∷ [] ≡ (if b then known else known ++ one ∷ [])
+      by : (b : Bool) → (b ≡ true → ⊥)
+          → known ++ one ∷ [] ≡ (if b then known else known ++ one ∷ [])
       by true none = absurd (none refl)
       by false none = refl
 
   -- where it is one of the files', the list is unchanged
-  pub file-unchanged : index ≢ length files → {A : Type 0} (known : List A) (one : A) → known ≡ with_file same (ids_view files) id known one
+  pub file-unchanged : index ≢ length files → {A : Type 0} (known : List A) (one : A)
+      → known ≡ with_file same (ids_view files) id known one
   file-unchanged inside known one =
-      by (has same o (ids_view files) id) (λ none. inside (is ∙ no-index same o (ids_view files) id none ∙ ids-length))
+      by (has same o (ids_view files) id)
+      (λ none. inside (is ∙ no-index same o (ids_view files) id none ∙ ids-length))
     where
       by : (b : Bool) → (b ≡ false → ⊥) → known ≡ (if b then known else known ++ one ∷ [])
       by true there = refl
@@ -51,28 +57,42 @@ module _ {Id : Type 0} where
       → length files ≤ k
       → length files ≡ index_of_file same (ids_view files) id
   index-nowhere {same} o files k id none past =
-      let all = subst (λ (fs : List (RustFile Id)). AllByRecursion (λ j. same j id ≡ false) (ids_view fs)) (take_all k files past) none in
-      let after = ap (λ js. index_of_file same js id) (sym (append-nil (ids_view files))) ∙ index-past same o (ids_view files) [] id all in
+      let all =
+      subst (λ (fs : List (RustFile Id)). AllByRecursion (λ j. same j id ≡ false) (ids_view fs))
+      (take_all k files past) none in
+      let after = ap (λ js. index_of_file same js id) (sym (append-nil (ids_view files)))
+      ∙ index-past same o (ids_view files) [] id all in
       let long = length-map files name in
       omega (arith, after, long)
 
   module _ {files : List (RustFile Id)} {k : ℕ} {f : RustFile Id} (at : IsElementAt files k f) where
     -- the file is not of the id either
-    pub none-more : (same : Id → Id → Bool) (id : Id) → AllByRecursion (λ j. same j id ≡ false) (ids_view (take k files)) → same f.file_id id ≡ false
+    pub none-more : (same : Id → Id → Bool) (id : Id)
+        → AllByRecursion (λ j. same j id ≡ false) (ids_view (take k files))
+        → same f.file_id id ≡ false
         → AllByRecursion (λ j. same j id ≡ false) (ids_view (take (k + 1) files))
     none-more same id none apart =
-        subst (λ (js : List Id). AllByRecursion (λ j. same j id ≡ false) js) (sym (ap ids_view (take-at at) ∙ map-append name (take k files) (f ∷ [])))
-        (all-append (λ j. same j id ≡ false) (ids_view (take k files)) (f.file_id ∷ []) none (apart, tt))
+        subst (λ (js : List Id). AllByRecursion (λ j. same j id ≡ false) js)
+        (sym (ap ids_view (take-at at) ∙ map-append name (take k files) (f ∷ [])))
+        (all-append (λ j. same j id ≡ false) (ids_view (take k files)) (f.file_id ∷ []) none
+        (apart, tt))
 
     -- it is the first one that is
-    pub index-first : {same : Id → Id → Bool} (o : IsEquivalence same) (id : Id) → AllByRecursion (λ j. same j id ≡ false) (ids_view (take k files)) → same f.file_id id ≡ true
+    pub index-first : {same : Id → Id → Bool} (o : IsEquivalence same) (id : Id)
+        → AllByRecursion (λ j. same j id ≡ false) (ids_view (take k files))
+        → same f.file_id id ≡ true
         → k ≡ index_of_file same (ids_view files) id
     index-first {same} o id none is =
         let rest = drop (k + 1) files in
         let inside = at.inside in
-        let whole : ids_view files ≡ ids_view (take k files) ++ ids_view (f ∷ rest) =
-        ap ids_view (sym (take-append-drop k files) ∙ ap (λ (gs : List (RustFile Id)). take k files ++ gs) (drop-one files k f at.inside at.is)) ∙ map-append name (take k files) (f ∷ rest) in
-        let after = ap (λ js. index_of_file same js id) whole ∙ index-past same o (ids_view (take k files)) (ids_view (f ∷ rest)) id none in
+        let whole : ids_view files ≡ ids_view (take k files) ++ ids_view (f ∷ rest) = ap ids_view
+        (sym (take-append-drop k files)
+        ∙ ap (λ (gs : List (RustFile Id)). take k files ++ gs)
+        (drop-one files k f at.inside at.is))
+        ∙ map-append name (take k files) (f ∷ rest) in
+        let after = ap (λ js. index_of_file same js id) whole
+        ∙ index-past same o (ids_view (take k files)) (ids_view (f ∷ rest)) id none in
         let here = index-here same o f.file_id (ids_view rest) id is in
-        let long = length-map (take k files) name ∙ length-take-le k files (omega (arith, inside)) in
+        let long =
+        length-map (take k files) name ∙ length-take-le k files (omega (arith, inside)) in
         omega (arith, after, here, long)

@@ -8,6 +8,12 @@ use Rattle.codespan_picture.specs.Arguments.{locus_view}
 use Rattle.codespan_annotations.specs.TextLoci.{IsTextLocus}
 
 -- a locus of a file's name and of a byte's location is the locus of that byte
-pub locus_located : (f : FileModel) (byte : ℕ) (locus : rust_locus.Locus) → IfSome f.name (λ bytes. string_bytes locus.name ≡ bytes) → locus.location ≡ f.location byte
+pub locus_located : (f : FileModel) (byte : ℕ) (locus : rust_locus.Locus)
+    → IfSome f.name (λ bytes. string_bytes locus.name ≡ bytes) → locus.location ≡ f.location byte
     → IsTextLocus (f, byte) (locus_view locus)
-locus_located f byte locus text at = record { is_locus = record { location = at; name = text }; is_utf8 = IsUtf8-string_bytes locus.name }
+locus_located f byte locus text at =
+    record {
+      is_locus =
+          record { location = at; name = text };
+      is_utf8 = IsUtf8-string_bytes locus.name;
+    }

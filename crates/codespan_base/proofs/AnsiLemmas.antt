@@ -11,7 +11,8 @@ unfolding ansi_color
 ansi_color-none plane b = refl
 
 -- a color that is not intense
-pub ansi_color-plain : (plane : ℕ) (c : Color) → ansi_color (plane ∷ []) false (Some c) ≡ 0x1b ∷ 91 ∷ plane ∷ (48 + color_number c) ∷ 109 ∷ []
+pub ansi_color-plain : (plane : ℕ) (c : Color)
+    → ansi_color (plane ∷ []) false (Some c) ≡ 0x1b ∷ 91 ∷ plane ∷ (48 + color_number c) ∷ 109 ∷ []
 unfolding ansi_color escape digits
 ansi_color-plain plane Black = refl
 ansi_color-plain plane Red = refl
@@ -23,7 +24,9 @@ ansi_color-plain plane Cyan = refl
 ansi_color-plain plane White = refl
 
 -- an intense color whose number plus 8 has one digit
-pub ansi_color-bright : (plane : ℕ) (c : Color) → color_number c < 2 → ansi_color (plane ∷ []) true (Some c) ≡ 0x1b ∷ 91 ∷ plane ∷ 56 ∷ 59 ∷ 53 ∷ 59 ∷ (56 + color_number c) ∷ 109 ∷ []
+pub ansi_color-bright : (plane : ℕ) (c : Color) → color_number c < 2
+    → ansi_color (plane ∷ []) true
+    (Some c) ≡ 0x1b ∷ 91 ∷ plane ∷ 56 ∷ 59 ∷ 53 ∷ 59 ∷ (56 + color_number c) ∷ 109 ∷ []
 unfolding ansi_color escape digits
 ansi_color-bright plane Black h = refl
 ansi_color-bright plane Red h = refl
@@ -35,7 +38,9 @@ ansi_color-bright plane Cyan h = absurd (omega arith)
 ansi_color-bright plane White h = absurd (omega arith)
 
 -- an intense color whose number plus 8 has two digits
-pub ansi_color-bright_two : (plane : ℕ) (c : Color) → 2 ≤ color_number c → ansi_color (plane ∷ []) true (Some c) ≡ 0x1b ∷ 91 ∷ plane ∷ 56 ∷ 59 ∷ 53 ∷ 59 ∷ 49 ∷ (48 + (color_number c - 2)) ∷ 109 ∷ []
+pub ansi_color-bright_two : (plane : ℕ) (c : Color) → 2 ≤ color_number c
+    → ansi_color (plane ∷ []) true
+    (Some c) ≡ 0x1b ∷ 91 ∷ plane ∷ 56 ∷ 59 ∷ 53 ∷ 59 ∷ 49 ∷ (48 + (color_number c - 2)) ∷ 109 ∷ []
 unfolding ansi_color escape digits
 ansi_color-bright_two plane Black h = absurd (omega arith)
 ansi_color-bright_two plane Red h = absurd (omega arith)
@@ -47,4 +52,5 @@ ansi_color-bright_two plane Cyan h = refl
 ansi_color-bright_two plane White h = refl
 
 -- the sequences of a color
-pub ruleset sequences = (ansi_color-none, ansi_color-plain, ansi_color-bright, ansi_color-bright_two)
+pub ruleset sequences =
+    (ansi_color-none, ansi_color-plain, ansi_color-bright, ansi_color-bright_two)

@@ -7,23 +7,31 @@ use Rattle.codespan_base.proofs.KnownBytes.{extended-nil}
 use Rattle.codespan_base.proofs.Writes.{spelled-bytes}
 
 -- a style mark that is spelled as no bytes changes nothing
-pub written_no_style_mark : (s : Sink) (m : StyleMark) → s.frame.spelling m ≡ [] → with_written s (style_mark m) ≡ s
+pub written_no_style_mark : (s : Sink) (m : StyleMark) → s.frame.spelling m ≡ []
+    → with_written s (style_mark m) ≡ s
 unfolding with_written style_mark
-written_no_style_mark s m e = rw e (ap (λ (o : Option (List ℕ)). record s { contents = o }) (extended-nil s.contents))
+written_no_style_mark s m e =
+    rw e (ap (λ (o : Option (List ℕ)). record s { contents = o }) (extended-nil s.contents))
 
 -- a style mark was written where the bytes that spell it were
-pub written_style_mark : (s : Sink) (m : StyleMark) → with_written s (style_mark m) ≡ with_written s (bytes (s.frame.spelling m))
+pub written_style_mark : (s : Sink) (m : StyleMark)
+    → with_written s (style_mark m) ≡ with_written s (bytes (s.frame.spelling m))
 unfolding with_written style_mark
 written_style_mark s m =
-    ap (λ (l : List ℕ). record s { contents = extended s.contents l }) (append-nil (s.frame.spelling m) ∙ sym (spelled-bytes s.frame.spelling (s.frame.spelling m)))
+    ap (λ (l : List ℕ). record s { contents = extended s.contents l })
+    (append-nil (s.frame.spelling m)
+    ∙ sym (spelled-bytes s.frame.spelling (s.frame.spelling m)))
 
 -- a prefix of a style mark was written where one of the bytes that spell it was
-pub prefix_style_mark : (s : Sink) (m : StyleMark) (t : Sink) → PrefixWritten s (bytes (s.frame.spelling m)) t → PrefixWritten s (style_mark m) t
+pub prefix_style_mark : (s : Sink) (m : StyleMark) (t : Sink)
+    → PrefixWritten s (bytes (s.frame.spelling m)) t → PrefixWritten s (style_mark m) t
 unfolding style_mark
 prefix_style_mark s m t p = record {
   prefix = p.prefix;
   rest = p.rest;
-  whole = p.whole ∙ spelled-bytes s.frame.spelling (s.frame.spelling m) ∙ sym (append-nil (s.frame.spelling m));
+  whole =
+      p.whole ∙ spelled-bytes s.frame.spelling (s.frame.spelling m)
+      ∙ sym (append-nil (s.frame.spelling m));
   contents = p.contents;
 }
 
@@ -31,13 +39,15 @@ prefix_style_mark s m t p = record {
 pub ruleset marking = (written_style_mark, prefix_style_mark)
 
 -- a call that writes the bytes that spell a style mark writes the style mark
-pub Writes-style_mark : {E : Type 0} (s : Sink) (m : StyleMark) (r : Result (Unit {0}) E) (t : Sink) → Writes s (bytes (s.frame.spelling m)) r t → Writes s (style_mark m) r t
+pub Writes-style_mark : {E : Type 0} (s : Sink) (m : StyleMark) (r : Result (Unit {0}) E) (t : Sink)
+    → Writes s (bytes (s.frame.spelling m)) r t → Writes s (style_mark m) r t
 Writes-style_mark s m (Ok x) t p = (p.0, λ known. p.1 known ∙ sym (written_style_mark s m))
 Writes-style_mark s m (Err e) t p = (p.0, λ known. prefix_style_mark s m t (p.1 known))
 
 -- ---- bytes that a writer of colors wrote
 
-pub sink-by : (s t : Sink) (f : Frame) (o : Option (List ℕ)) → t.frame ≡ f → t.contents ≡ o → t ≡ record { frame = f; contents = o }
+pub sink-by : (s t : Sink) (f : Frame) (o : Option (List ℕ)) → t.frame ≡ f → t.contents ≡ o
+    → t ≡ record { frame = f; contents = o }
 sink-by s t f o e h = rw (sym e, sym h) refl
 
 -- a writer's bytes are known where these are
@@ -46,10 +56,21 @@ unfolding is_known
 is_known_contents s h = h
 
 -- the bytes were written
-pub appended_written : (s t : Sink) (bs : List ℕ) → t.frame ≡ s.frame → t.contents ≡ extended s.contents bs → t ≡ with_written s (bytes bs)
+pub appended_written : (s t : Sink) (bs : List ℕ) → t.frame ≡ s.frame
+    → t.contents ≡ extended s.contents bs → t ≡ with_written s (bytes bs)
 unfolding with_written
-appended_written s t bs f e = sink-by s t _ _ f (e ∙ ap (extended s.contents) (sym (spelled-bytes s.frame.spelling bs)))
+appended_written s t bs f e =
+    sink-by s t _ _ f (e ∙ ap (extended s.contents) (sym (spelled-bytes s.frame.spelling bs)))
 
 -- a prefix of the bytes was written
-pub prefix_written : (s t : Sink) (bs : List ℕ) → PrefixAppended s.contents bs t.contents → PrefixWritten s (bytes bs) t
-prefix_written s t bs p = record { prefix = p.prefix; rest = p.rest; whole = p.whole ∙ sym (spelled-bytes s.frame.spelling bs); contents = p.contents }
+pub prefix_written : (s t : Sink) (bs : List ℕ) → PrefixAppended s.contents bs t.contents
+    → PrefixWritten s (bytes bs) t
+prefix_written s t bs p =
+    record {
+      prefix =
+          p.prefix;
+      rest =
+          p.rest;
+      whole = p.whole ∙ sym (spelled-bytes s.frame.spelling bs);
+      contents = p.contents;
+    }

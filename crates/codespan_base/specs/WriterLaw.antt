@@ -85,7 +85,8 @@ after_put f bs n = if n == 0 && nat_lt 0 (length bs) then failed_frame f else f
 -- `put` takes as many of its first bytes as it returns, and none where it fails
 abbrev pub Puts : {E : Type 0} → Sink → List ℕ → Result ℕ E → Sink → Type 0
 Puts old bs r new =
-    MatchResult r (λ n. new.frame ≡ after_put old.frame bs n) (λ _. new.frame ≡ failed_frame old.frame)
+    MatchResult r (λ n. new.frame ≡ after_put old.frame bs n)
+    (λ _. new.frame ≡ failed_frame old.frame)
     × (is_known old ≡ true → MatchResult r
     (λ n. new.contents ≡ append_known old.contents (take n bs)) (λ _. new.contents ≡ old.contents))
 

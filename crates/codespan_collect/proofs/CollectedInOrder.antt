@@ -17,13 +17,24 @@ use Rattle.codespan_collect.proofs.Collecting.{collected-each, collected-kind, c
 pub collected-in_order : {Id : Type 0} {database : FileDatabase Id} {config : Config}
     {xs : List (InFile Id)} {was : Collected Id} (annotations : Vec (RustAnnotation Id) Global)
     → IsCollectedInTurn database config xs was
-    → IsPermutation was.annotations.items annotations.items → IsSortedBy is_before (map annotation_view annotations.items) → IsCollected database config xs (record was { annotations = annotations })
+    → IsPermutation was.annotations.items annotations.items
+    → IsSortedBy is_before (map annotation_view annotations.items)
+    → IsCollected database config xs (record was { annotations = annotations })
 collected-in_order {Id} {database} {config} {xs} {was} annotations g perm up =
     let of_files = IsOfFiles database.file (ids_view was.files.items) in
     let of_all_labels = all_annotations database.same database.file config xs in
     record {
-      files = record { ids_are = g.files.ids_are; labels_are = g.files.labels_are; padding_is = g.files.padding_is };
+      files =
+          record {
+            ids_are =
+                g.files.ids_are;
+            labels_are = g.files.labels_are;
+            padding_is = g.files.padding_is;
+          };
       sorted = up;
-      permutation = collected-sorted of_all_labels was.annotations.items annotations.items (collected-kind of_files was.annotations.items of_all_labels g.adds) perm;
-      lines = collected-each of_files was.annotations.items annotations.items of_all_labels g.adds perm;
+      permutation =
+          collected-sorted of_all_labels was.annotations.items annotations.items
+          (collected-kind of_files was.annotations.items of_all_labels g.adds) perm;
+      lines =
+          collected-each of_files was.annotations.items annotations.items of_all_labels g.adds perm;
     }

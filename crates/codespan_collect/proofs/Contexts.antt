@@ -96,7 +96,8 @@ module _ {Id : Type 0} (x : CollectedLabel Id) where
 
 module _ {Id : Type 0} {x : CollectedLabel Id} where
   -- no line below the first context line is looked up
-  pub collected-start : {xs : FoundAnnotations Id} {n : ℕ} → HasEnds x → n ≤ last_line x.file x.label → n ≤ first_line x.file x.label - x.config.before_label_lines
+  pub collected-start : {xs : FoundAnnotations Id} {n : ℕ} → HasEnds x
+      → n ≤ last_line x.file x.label → n ≤ first_line x.file x.label - x.config.before_label_lines
       → CollectsLines x xs xs n
   collected-start {xs} {n} there low far = record {
     within = omega (arith, there.last);
@@ -147,8 +148,10 @@ module _ {Id : Type 0} {x : CollectedLabel Id} where
     )
 
     -- the lines that are done with are all
-    collected-up : annotations_of x.config x.file x.indices x.label ≡ annotations_below x n → flat_map line_lookups (looked_up_lines x.config x.file x.label) ≡ lookups_below x n
-        → label_digits x.file x.label ≡ digits_below x n → lookup_past_end x.config x.file (x.failure x.file_id) x.label ≡ [] → CollectsLabel x xs ys
+    collected-up : annotations_of x.config x.file x.indices x.label ≡ annotations_below x n
+        → flat_map line_lookups (looked_up_lines x.config x.file x.label) ≡ lookups_below x n
+        → label_digits x.file x.label ≡ digits_below x n
+        → lookup_past_end x.config x.file (x.failure x.file_id) x.label ≡ [] → CollectsLabel x xs ys
     collected-up annotations_are looked_up digits no_lookup_past_end = record {
       added = Adds-as annotations_are g.added;
       counted = g.counted ∙ sym (ap (fold max xs.padding.digits) digits);
@@ -209,7 +212,8 @@ module _ {Id : Type 0} {x : CollectedLabel Id} where
             absurd (omega (arith, none, all, g.within, lines_within_text x.file law))
 
     -- the end of the context, or of all indices
-    pub collected-reach : first_line x.file x.label < n → min (last_line x.file x.label + x.config.after_label_lines + 1) (2 ^ 64) ≤ n → n ≤ 2 ^ 64
+    pub collected-reach : first_line x.file x.label < n
+        → min (last_line x.file x.label + x.config.after_label_lines + 1) (2 ^ 64) ≤ n → n ≤ 2 ^ 64
         → IsLawful x.file → FailsPastEnd x.file n (x.failure x.file_id (LineRange n)) → CollectsLabel x xs ys
     collected-reach first far below law past_end =
         ⊎_elim (λ (h : last_line x.file x.label + x.config.after_label_lines < n). collected-end first h)
@@ -254,7 +258,8 @@ module _ {Id : Type 0} {x : CollectedLabel Id} where
             (ap (failed x) whole ∙ failed_then x (lookups_below x (n + 1)) _ e upto)
 
         -- the range alone, where the line is past the last one
-        by_range : (after ends inside : Bool) (o p : Option Error) → after ≡ true → inside ≡ false → (if after && ends then None else or_failure o (if inside then p else None)) ≡ Some e
+        by_range : (after ends inside : Bool) (o p : Option Error) → after ≡ true → inside ≡ false
+            → (if after && ends then None else or_failure o (if inside then p else None)) ≡ Some e
             → (ends ≡ false) × (or_failure o None ≡ Some e)
         by_range true true inside o p t u h = cc
         by_range true false true o p t u h = cc

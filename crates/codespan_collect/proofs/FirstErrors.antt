@@ -14,7 +14,8 @@ or_failure-none None = refl
 or_failure-none (Some e) = refl
 
 -- three in a row
-pub or_failure_assoc : (o p q : Option Error) → or_failure (or_failure o p) q ≡ or_failure o (or_failure p q)
+pub or_failure_assoc : (o p q : Option Error)
+    → or_failure (or_failure o p) q ≡ or_failure o (or_failure p q)
 or_failure_assoc None p q = refl
 or_failure_assoc (Some e) p q = refl
 
@@ -28,22 +29,26 @@ or_failure-succeeded o p h = ap (λ (x : Option Error). or_failure x p) h
 
 module _ {Id : Type 0} (failure : Failures Id) where
   -- an error of some lookups is also that of these with more after them
-  pub first_error-some : (ls ms : List (Id × Lookup)) (e : Error) → first_error failure ls ≡ Some e → first_error failure (ls ++ ms) ≡ Some e
+  pub first_error-some : (ls ms : List (Id × Lookup)) (e : Error) → first_error failure ls ≡ Some e
+      → first_error failure (ls ++ ms) ≡ Some e
   first_error-some [] ms e h = cc
   first_error-some (l ∷ ls) ms e h = by_first (failure l.0 l.1) h (first_error-some ls ms e)
     where
       by_first : (o : Option Error) → or_failure o (first_error failure ls) ≡ Some e
-          → (first_error failure ls ≡ Some e → first_error failure (ls ++ ms) ≡ Some e) → or_failure o (first_error failure (ls ++ ms)) ≡ Some e
+          → (first_error failure ls ≡ Some e → first_error failure (ls ++ ms) ≡ Some e)
+          → or_failure o (first_error failure (ls ++ ms)) ≡ Some e
       by_first None h later = later h
       by_first (Some x) h later = h
 
   -- where some lookups succeed, those after them decide what all fail with
-  pub first_error-none : (ls ms : List (Id × Lookup)) → first_error failure ls ≡ None → first_error failure (ls ++ ms) ≡ first_error failure ms
+  pub first_error-none : (ls ms : List (Id × Lookup)) → first_error failure ls ≡ None
+      → first_error failure (ls ++ ms) ≡ first_error failure ms
   first_error-none [] ms h = refl
   first_error-none (l ∷ ls) ms h = by_first (failure l.0 l.1) h (first_error-none ls ms)
     where
       by_first : (o : Option Error) → or_failure o (first_error failure ls) ≡ None
-          → (first_error failure ls ≡ None → first_error failure (ls ++ ms) ≡ first_error failure ms)
+          → (first_error failure ls ≡ None
+          → first_error failure (ls ++ ms) ≡ first_error failure ms)
           → or_failure o (first_error failure (ls ++ ms)) ≡ first_error failure ms
       by_first None h later = later h
       by_first (Some x) h later = cc
@@ -53,13 +58,18 @@ module _ {Id : Type 0} (failure : Failures Id) where
   first_succeeded (Some x) p h = cc
 
   -- where nothing fails, each lookup succeeds
-  pub all_succeed : (ls : List (Id × Lookup)) → first_error failure ls ≡ None → AllSucceed failure ls
+  pub all_succeed : (ls : List (Id × Lookup)) → first_error failure ls ≡ None
+      → AllSucceed failure ls
   all_succeed [] h id lookup (k, low, same) = absurd (omega arith)
-  all_succeed (l ∷ ls) h id lookup (zero, low, same) = ap (λ (m : Id × Lookup). failure m.0 m.1) (sym same) ∙ (first_succeeded _ _ h).0
-  all_succeed (l ∷ ls) h id lookup (suc k, low, same) = all_succeed ls (first_succeeded _ _ h).1 id lookup (k, omega arith, same)
+  all_succeed (l ∷ ls) h id lookup (zero, low, same) =
+      ap (λ (m : Id × Lookup). failure m.0 m.1) (sym same) ∙ (first_succeeded _ _ h).0
+  all_succeed (l ∷ ls) h id lookup (suc k, low, same) =
+      all_succeed ls (first_succeeded _ _ h).1 id lookup (k, omega arith, same)
 
   -- the first error of some lookups and of others after them
-  pub first_error-append : (ls ms : List (Id × Lookup)) → first_error failure (ls ++ ms) ≡ or_failure (first_error failure ls) (first_error failure ms)
+  pub first_error-append : (ls ms : List (Id × Lookup))
+      → first_error failure (ls ++ ms) ≡ or_failure (first_error failure ls)
+      (first_error failure ms)
   first_error-append [] ms = refl
   first_error-append (l ∷ ls) ms =
       ap (or_failure (failure l.0 l.1)) (first_error-append ls ms)
@@ -67,6 +77,8 @@ module _ {Id : Type 0} (failure : Failures Id) where
 
   -- the same of lookups of one file
   pub first_error-lookups : (id : Id) (ls ms : List Lookup)
-      → first_error failure (lookups_of_file id (ls ++ ms)) ≡ or_failure (first_error failure (lookups_of_file id ls)) (first_error failure (lookups_of_file id ms))
+      → first_error failure (lookups_of_file id (ls ++ ms)) ≡ or_failure
+      (first_error failure (lookups_of_file id ls)) (first_error failure (lookups_of_file id ms))
   first_error-lookups id ls ms =
-      ap (first_error failure) (map-append (λ (l : Lookup). (id, l)) ls ms) ∙ first_error-append (lookups_of_file id ls) (lookups_of_file id ms)
+      ap (first_error failure) (map-append (λ (l : Lookup). (id, l)) ls ms)
+      ∙ first_error-append (lookups_of_file id ls) (lookups_of_file id ms)

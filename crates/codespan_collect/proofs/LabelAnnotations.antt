@@ -1,130 +1,23 @@
 -- The annotations of one label on one line, for the clause `collected` of `collect_in_turn`.
-use Rattle.std.proofs.Common.{◌≡◌, ◌≢◌, ℕ, zero, suc, ◌+◌, ◌<◌, Bool, true, false, cond, ◌==◌, nat_lt, nat_le, ◌&&◌, ◌||◌, List, [], ◌∷◌, ◌++◌, filter, flat_map, Some, None, ⊎_elim, refl, sym, ◌∙◌, ap, arith}
+use Rattle.std.proofs.Common.{◌≡◌, ℕ, ◌+◌, ◌<◌, Bool, true, false, cond, ◌==◌, nat_lt, ◌&&◌, List, [], ◌∷◌, ◌++◌, filter, Some, None, ⊎_elim, refl, sym, ◌∙◌, ap, arith}
 use Rattle.std.specs.Prelude.{Option}
 use Rattle.std.specs.Option.{option_map}
-use Rattle.std.specs.List.{list_any, range_with_len, AllByRecursion}
-use Rattle.std.proofs.lemmas.Bool.{cases_Bool, cases_eq, cond_both, eq-eqb, ne_eqb}
-use Rattle.std.proofs.lemmas.Bool.Decides.{nat_tests}
+use Rattle.std.specs.List.{list_any, AllByRecursion}
+use Rattle.std.proofs.lemmas.Bool.{cases_Bool}
 use Rattle.std.proofs.Math.Bool.{and-false}
 use Rattle.std.proofs.lemmas.List.{append-nil}
 use Rattle.std.proofs.lemmas.List.Elements.{filter-append}
 use Rattle.std.proofs.lemmas.List.Folds.{list_any-append}
 use Rattle.codespan_base.specs.declared.term.config.Config.{Config}
 use Rattle.codespan_base.specs.FileModel.{FileModel, line_count, line_start}
-use Rattle.codespan_base.specs.Labels.{LaneMark, LabelModel, first_line, last_line, is_single, drawn_label, lane_mark_of, multi_label_at, multi_label_on}
+use Rattle.codespan_base.specs.Labels.{LaneMark, LabelModel, first_line, last_line, is_single, drawn_label, lane_mark_of, multi_label_on}
 use Rattle.codespan_collect.specs.declared.label_annotations.LabelIndices.{LabelIndices}
-use Rattle.codespan_annotations.specs.Annotations.{Annotation, AnnotationKind, Shown, Single, Multi, rank_of, is_on_line, annotation_if_any, shows_line}
+use Rattle.codespan_annotations.specs.Annotations.{Annotation, AnnotationKind, Shown, Single, Multi, is_on_line, annotation_if_any, shows_line}
 use Rattle.codespan_collect.specs.LabelAnnotations.{line_annotations, annotations_of}
 use Rattle.codespan_picture.specs.Lines.{shows}
-use Rattle.codespan_picture.specs.Lookups.{is_around, is_looked_up}
-use Rattle.codespan_laws.proofs.ListElements.{all-append, filter-whole, filter-nothing, all-weaker}
-
--- the annotation is of this kind
-abbrev pub is_kind : ℕ → Annotation → Bool
-is_kind k e = rank_of e.kind == k
-
--- ---- lines of a range
-
--- the line is among these
-abbrev is_among : ℕ → ℕ → ℕ → Bool
-is_among a n l = nat_le a l && nat_lt l (a + n)
-
--- it is among none
-among-none : (a l : ℕ) → is_among a 0 l ≡ false
-among-none a l = grind (arith, nat_tests)
-
--- the first is among them
-among-first : (a n : ℕ) → is_among a (suc n) a ≡ true
-among-first a n = grind (arith, nat_tests)
-
--- it is not among later ones
-among-later : (a n : ℕ) → is_among (a + 1) n a ≡ false
-among-later a n = grind (arith, nat_tests)
-
--- another one is among the others
-among-next : (a n l : ℕ) → a ≢ l → is_among (a + 1) n l ≡ is_among a (suc n) l
-among-next a n l ne = let e : a + 1 + n ≡ a + suc n = omega arith in grind (arith, nat_tests)
-
--- from the first line on
-among-below : (n l : ℕ) → is_among 0 n l ≡ nat_lt l n
-among-below n l = let e : 0 + n ≡ n = omega arith in grind (arith, nat_tests)
-
--- what holds of the elements of each line of a range holds of all
-all-range : (P : Annotation → Type 0) (g : ℕ → List Annotation) (p : ℕ → Bool) (n a : ℕ) → ((l : ℕ) → l < a + n → AllByRecursion P (g l))
-    → AllByRecursion P (flat_map g (filter p (range_with_len a n)))
-all-range P g p zero a h = tt
-all-range P g p (suc n) a h =
-    let rest = all-range P g p n (a + 1) (λ l k. h l (omega arith)) in
-    cond_both (p a) (a ∷ filter p (range_with_len (a + 1) n)) (filter p (range_with_len (a + 1) n)) (λ ls. AllByRecursion P (flat_map g ls))
-    (λ _. all-append P (g a) (flat_map g (filter p (range_with_len (a + 1) n))) (h a (omega arith)) rest)
-    (λ _. rest)
-
-module _ (g : ℕ → List Annotation) (own : (l : ℕ) → AllByRecursion (λ e. e.line ≡ l) (g l)) (p : ℕ → Bool) where
-  -- the elements of a line are kept for it
-  keeps-own : (l : ℕ) → filter (is_on_line l) (g l) ≡ g l
-  keeps-own l = filter-whole (is_on_line l) (g l) (all-weaker (λ e. e.line ≡ l) (λ e. is_on_line l e ≡ true) (λ e h. eq-eqb e.line l h) (g l) (own l))
-
-  -- those of another line are not
-  keeps-other : (a l : ℕ) → a ≢ l → filter (is_on_line l) (g a) ≡ []
-  keeps-other a l ne =
-      filter-nothing (is_on_line l) (g a) (all-weaker (λ e. e.line ≡ a) (λ e. is_on_line l e ≡ false) (λ e h. ne_eqb e.line l (λ k. ne (sym h ∙ k))) (g a) (own a))
-
-  -- a line has its elements, where it is one of the lines
-  on-line : (l n a : ℕ) → filter (is_on_line l) (flat_map g (filter p (range_with_len a n))) ≡ cond (is_among a n l && p l) (g l) []
-  on-line l zero a = sym (ap (λ b. cond (b && p l) (g l) []) (among-none a l))
-  on-line l (suc n) a = ⊎_elim (λ e. first e (on-line l n (a + 1))) (λ ne. later ne (on-line l n (a + 1))) (cases_eq a l)
-    where
-      rest_lines : List ℕ
-      rest_lines = filter p (range_with_len (a + 1) n)
-
-      first : a ≡ l → filter (is_on_line l) (flat_map g rest_lines) ≡ cond (is_among (a + 1) n l && p l) (g l) []
-          → filter (is_on_line l) (flat_map g (filter p (range_with_len a (suc n)))) ≡ cond (is_among a (suc n) l && p l) (g l) []
-      first e rest =
-          let none : filter (is_on_line l) (flat_map g rest_lines) ≡ [] =
-          rest ∙ ap (λ b. cond (b && p l) (g l) []) (ap (is_among (a + 1) n) (sym e) ∙ among-later a n) in
-          let here : is_among a (suc n) l ≡ true = ap (is_among a (suc n)) (sym e) ∙ among-first a n in
-          by_test none (p a) ∙ ap (λ k. cond (p k) (g k) []) e ∙ sym (ap (λ b. cond (b && p l) (g l) []) here)
-        where
-          by_test : filter (is_on_line l) (flat_map g rest_lines) ≡ [] → (b : Bool) → filter (is_on_line l) (flat_map g (cond b (a ∷ rest_lines) rest_lines)) ≡ cond b (g a) []
-          by_test none true =
-              filter-append (is_on_line l) (g a) (flat_map g rest_lines) ∙ ap (λ (r : List Annotation). filter (is_on_line l) (g a) ++ r) none ∙ append-nil (filter (is_on_line l) (g a))
-              ∙ ap (λ k. filter (is_on_line k) (g a)) (sym e) ∙ keeps-own a
-          by_test none false = none
-
-      later : a ≢ l → filter (is_on_line l) (flat_map g rest_lines) ≡ cond (is_among (a + 1) n l && p l) (g l) []
-          → filter (is_on_line l) (flat_map g (filter p (range_with_len a (suc n)))) ≡ cond (is_among a (suc n) l && p l) (g l) []
-      later ne rest = by_test (p a) ∙ rest ∙ ap (λ b. cond (b && p l) (g l) []) (among-next a n l ne)
-        where
-          by_test : (b : Bool) → filter (is_on_line l) (flat_map g (cond b (a ∷ rest_lines) rest_lines)) ≡ filter (is_on_line l) (flat_map g rest_lines)
-          by_test true = filter-append (is_on_line l) (g a) (flat_map g rest_lines) ∙ ap (λ (r : List Annotation). r ++ filter (is_on_line l) (flat_map g rest_lines)) (keeps-other a l ne)
-          by_test false = refl
-
--- ---- lines that are not looked up for a label
-
-module _ (config : Config) where
-  -- line l is looked up for a label from line s to line e
-  abbrev looks_up : ℕ → ℕ → ℕ → Bool
-  looks_up s e l = ((l == s) || (l == e) || (nat_le s l && nat_le l e)) || is_around config s e l
-
-  -- it shows no other line
-  not_shown : (s e l : ℕ) → looks_up s e l ≡ false → shows config s e l ≡ false
-  not_shown s e l h = grind (arith, nat_tests)
-
-  -- it does not start on another one
-  not_first : (s e l : ℕ) → looks_up s e l ≡ false → (s == l) ≡ false
-  not_first s e l h = grind (arith, nat_tests)
-
-  -- it has no multi-line label mark on another one
-  no_multi_label : (s e l start : ℕ) (x : LabelModel) → looks_up s e l ≡ false → multi_label_at s e l start x ≡ None
-  no_multi_label s e l start x h =
-      let a : (s == l) ≡ false = grind (arith, nat_tests) in
-      let b : (e == l) ≡ false = grind (arith, nat_tests) in
-      let c : (nat_lt s l && nat_lt l e) ≡ false = grind (arith, nat_tests) in
-      rw (a, b, c) refl
-
-  -- it shows the line that it starts on
-  own_shown : (s e l : ℕ) → (s == l) ≡ true → shows config s e l ≡ true
-  own_shown s e l h = grind (arith, nat_tests)
+use Rattle.codespan_picture.specs.Lookups.{is_looked_up}
+use Rattle.codespan_laws.proofs.ListElements.{all-append}
+use Rattle.codespan_collect.proofs.LinesOfLabels.{is_kind, among-below, all-range, on-line, not_shown, not_first, no_multi_label, own_shown}
 
 -- ---- the annotations of a label
 
@@ -139,27 +32,38 @@ module _ (config : Config) (f : FileModel) (indices : LabelIndices) (x : LabelMo
 
   -- its annotations on a line, where it is inside the line and where it shows it
   abbrev kind_annotations_where : ℕ → Bool → Bool → List Annotation
-  kind_annotations_where l a b = annotation_if_any indices.file l (cond a (Some (Single indices.index (drawn_label f x))) (cond b (Some Shown) None))
+  kind_annotations_where l a b =
+      annotation_if_any indices.file l
+      (cond a (Some (Single indices.index (drawn_label f x))) (cond b (Some Shown) None))
 
   -- its multi-line label mark on a line, where it has one
   abbrev pub multi_annotations_where : ℕ → Bool → Option LaneMark → List Annotation
-  multi_annotations_where l a o = annotation_if_any indices.file l (cond a None (option_map Multi o))
+  multi_annotations_where l a o =
+      annotation_if_any indices.file l (cond a None (option_map Multi o))
 
   -- its multi-line label mark on a line
   abbrev pub multi_annotations_on : ℕ → List Annotation
-  multi_annotations_on l = multi_annotations_where l (is_single f x) (lane_mark_of indices.lane x (multi_label_on f l x))
+  multi_annotations_on l =
+      multi_annotations_where l (is_single f x) (lane_mark_of indices.lane x (multi_label_on f l x))
 
   -- its own annotations on a line
   abbrev kind_annotations_on : ℕ → List Annotation
-  kind_annotations_on l = kind_annotations_where l (is_single f x && (first_line f x == l)) (shows config (first_line f x) (last_line f x) l)
+  kind_annotations_on l =
+      kind_annotations_where l (is_single f x && (first_line f x == l))
+      (shows config (first_line f x) (last_line f x) l)
 
   -- what holds of each annotation that it can have on a line
-  each-line_annotations : (P : Annotation → Type 0) (l : ℕ) → ((s : AnnotationKind) → P (annotation_on l s)) → AllByRecursion P (line_annotations config f indices x l)
+  each-line_annotations : (P : Annotation → Type 0) (l : ℕ)
+      → ((s : AnnotationKind) → P (annotation_on l s))
+      → AllByRecursion P (line_annotations config f indices x l)
   each-line_annotations P l h =
-      all-append P (kind_annotations_on l) (multi_annotations_on l) (by_tests (is_single f x && (first_line f x == l)) (shows config (first_line f x) (last_line f x) l))
+      all-append P (kind_annotations_on l) (multi_annotations_on l)
+      (by_tests (is_single f x && (first_line f x == l))
+      (shows config (first_line f x) (last_line f x) l))
       (by_lane_mark (is_single f x) (lane_mark_of indices.lane x (multi_label_on f l x)))
     where
-      by_lane_mark : (a : Bool) (o : Option LaneMark) → AllByRecursion P (multi_annotations_where l a o)
+      by_lane_mark : (a : Bool) (o : Option LaneMark)
+          → AllByRecursion P (multi_annotations_where l a o)
       by_lane_mark true o = tt
       by_lane_mark false None = tt
       by_lane_mark false (Some m) = (h (Multi m), tt)
@@ -171,72 +75,106 @@ module _ (config : Config) (f : FileModel) (indices : LabelIndices) (x : LabelMo
 
   -- its annotations are of its file
   pub all-of_file : AllByRecursion (λ e. e.file ≡ indices.file) (annotations_of config f indices x)
-  all-of_file = all-range (λ e. e.file ≡ indices.file) (line_annotations config f indices x) (is_looked_up config f x) (line_count f) 0
+  all-of_file =
+      all-range (λ e. e.file ≡ indices.file) (line_annotations config f indices x)
+      (is_looked_up config f x) (line_count f) 0
       (λ l k. each-line_annotations (λ e. e.file ≡ indices.file) l (λ s. refl))
 
   -- they are of lines that the file has
   pub all-below : AllByRecursion (λ e. e.line < line_count f) (annotations_of config f indices x)
-  all-below = all-range (λ e. e.line < line_count f) (line_annotations config f indices x) (is_looked_up config f x) (line_count f) 0
+  all-below =
+      all-range (λ e. e.line < line_count f) (line_annotations config f indices x)
+      (is_looked_up config f x) (line_count f) 0
       (λ l k. each-line_annotations (λ e. e.line < line_count f) l (λ s. omega arith))
 
   -- it has no annotation on a line that is not looked up for it
-  not_looked_up : (l : ℕ) → is_looked_up config f x l ≡ false → line_annotations config f indices x l ≡ []
+  not_looked_up : (l : ℕ) → is_looked_up config f x l ≡ false
+      → line_annotations config f indices x l ≡ []
   not_looked_up l h =
-      let a : shows config (first_line f x) (last_line f x) l ≡ false = not_shown config (first_line f x) (last_line f x) l h in
-      let b : (first_line f x == l) ≡ false = not_first config (first_line f x) (last_line f x) l h in
-      let c : multi_label_on f l x ≡ None = no_multi_label config (first_line f x) (last_line f x) l (line_start f l) x h in
-      (λ i. kind_annotations_where l (is_single f x && b i) (a i) ++ multi_annotations_where l (is_single f x) (lane_mark_of indices.lane x (c i)))
-      ∙ ap (λ t. kind_annotations_where l t false ++ multi_annotations_where l (is_single f x) None) (and-false (is_single f x)) ∙ without_multi_label (is_single f x)
+      let a : shows config (first_line f x) (last_line f x) l ≡ false =
+      not_shown config (first_line f x) (last_line f x) l h in
+      let b : (first_line f x == l) ≡ false =
+      not_first config (first_line f x) (last_line f x) l h in
+      let c : multi_label_on f l x ≡ None =
+      no_multi_label config (first_line f x) (last_line f x) l (line_start f l) x h in
+      (λ i. kind_annotations_where l (is_single f x && b i) (a i)
+      ++ multi_annotations_where l (is_single f x) (lane_mark_of indices.lane x (c i)))
+      ∙ ap (λ t. kind_annotations_where l t false ++ multi_annotations_where l (is_single f x) None)
+      (and-false (is_single f x))
+      ∙ without_multi_label (is_single f x)
     where
-      without_multi_label : (a : Bool) → kind_annotations_where l false false ++ multi_annotations_where l a None ≡ []
+      without_multi_label : (a : Bool)
+          → kind_annotations_where l false false ++ multi_annotations_where l a None ≡ []
       without_multi_label true = refl
       without_multi_label false = refl
 
   -- on a line that the file has these are its annotations
-  pub annotations-on_line : (l : ℕ) → filter (is_on_line l) (annotations_of config f indices x) ≡ cond (nat_lt l (line_count f)) (line_annotations config f indices x l) []
+  pub annotations-on_line : (l : ℕ)
+      → filter (is_on_line l) (annotations_of config f indices x) ≡ cond (nat_lt l (line_count f))
+      (line_annotations config f indices x l) []
   annotations-on_line l =
-      on-line (line_annotations config f indices x) (λ k. each-line_annotations (λ e. e.line ≡ k) k (λ s. refl)) (is_looked_up config f x) l (line_count f) 0
-      ∙ ap (λ b. cond (b && is_looked_up config f x l) (line_annotations config f indices x l) []) (among-below (line_count f) l)
+      on-line (line_annotations config f indices x)
+      (λ k. each-line_annotations (λ e. e.line ≡ k) k (λ s. refl)) (is_looked_up config f x) l
+      (line_count f) 0
+      ∙ ap (λ b. cond (b && is_looked_up config f x l) (line_annotations config f indices x l) [])
+      (among-below (line_count f) l)
       ∙ ⊎_elim
-      (λ (t : is_looked_up config f x l ≡ true). ap (λ b. cond (nat_lt l (line_count f) && b) (line_annotations config f indices x l) []) t ∙ both (nat_lt l (line_count f)))
-      (λ (t : is_looked_up config f x l ≡ false). ap (λ b. cond (nat_lt l (line_count f) && b) (line_annotations config f indices x l) []) t
-      ∙ none (nat_lt l (line_count f)) ∙ ap (λ (r : List Annotation). cond (nat_lt l (line_count f)) r []) (sym (not_looked_up l t)))
+      (λ (t : is_looked_up config f x l ≡ true). ap
+      (λ b. cond (nat_lt l (line_count f) && b) (line_annotations config f indices x l) []) t
+      ∙ both (nat_lt l (line_count f)))
+      (λ (t : is_looked_up config f x l ≡ false). ap
+      (λ b. cond (nat_lt l (line_count f) && b) (line_annotations config f indices x l) []) t
+      ∙ none (nat_lt l (line_count f))
+      ∙ ap (λ (r : List Annotation). cond (nat_lt l (line_count f)) r []) (sym (not_looked_up l t)))
       (cases_Bool (is_looked_up config f x l))
     where
-      both : (b : Bool) → cond (b && true) (line_annotations config f indices x l) [] ≡ cond b (line_annotations config f indices x l) []
+      both : (b : Bool)
+          → cond (b && true) (line_annotations config f indices x l) [] ≡ cond b
+          (line_annotations config f indices x l) []
       both true = refl
       both false = refl
 
-      none : (b : Bool) → cond (b && false) (line_annotations config f indices x l) [] ≡ cond b [] []
+      none : (b : Bool)
+          → cond (b && false) (line_annotations config f indices x l) [] ≡ cond b [] []
       none true = refl
       none false = refl
 
   -- ---- the kinds of its annotations of a line
 
   -- those of a label inside the line
-  pub single_labels-on_line : (l : ℕ) → filter (is_kind 1) (line_annotations config f indices x l) ≡ cond (is_single f x && (first_line f x == l)) (carets l ∷ []) []
+  pub single_labels-on_line : (l : ℕ)
+      → filter (is_kind 1) (line_annotations config f indices x l) ≡ cond
+      (is_single f x && (first_line f x == l)) (carets l ∷ []) []
   single_labels-on_line l =
       filter-append (is_kind 1) (kind_annotations_on l) (multi_annotations_on l)
-      ∙ (λ i. by_tests (is_single f x && (first_line f x == l)) (shows config (first_line f x) (last_line f x) l) i ++ by_lane_mark (is_single f x) (lane_mark_of indices.lane x (multi_label_on f l x)) i)
+      ∙ (λ i. by_tests (is_single f x && (first_line f x == l))
+      (shows config (first_line f x) (last_line f x) l) i
+      ++ by_lane_mark (is_single f x) (lane_mark_of indices.lane x (multi_label_on f l x)) i)
       ∙ append-nil (cond (is_single f x && (first_line f x == l)) (carets l ∷ []) [])
     where
-      by_lane_mark : (a : Bool) (o : Option LaneMark) → filter (is_kind 1) (multi_annotations_where l a o) ≡ []
+      by_lane_mark : (a : Bool) (o : Option LaneMark)
+          → filter (is_kind 1) (multi_annotations_where l a o) ≡ []
       by_lane_mark true o = refl
       by_lane_mark false None = refl
       by_lane_mark false (Some m) = refl
 
-      by_tests : (a b : Bool) → filter (is_kind 1) (kind_annotations_where l a b) ≡ cond a (carets l ∷ []) []
+      by_tests : (a b : Bool)
+          → filter (is_kind 1) (kind_annotations_where l a b) ≡ cond a (carets l ∷ []) []
       by_tests true b = refl
       by_tests false true = refl
       by_tests false false = refl
 
   -- its multi-line label mark
-  pub lane_marks-on_line : (l : ℕ) → filter (is_kind 2) (line_annotations config f indices x l) ≡ multi_annotations_on l
+  pub lane_marks-on_line : (l : ℕ)
+      → filter (is_kind 2) (line_annotations config f indices x l) ≡ multi_annotations_on l
   lane_marks-on_line l =
       filter-append (is_kind 2) (kind_annotations_on l) (multi_annotations_on l)
-      ∙ (λ i. by_tests (is_single f x && (first_line f x == l)) (shows config (first_line f x) (last_line f x) l) i ++ by_lane_mark (is_single f x) (lane_mark_of indices.lane x (multi_label_on f l x)) i)
+      ∙ (λ i. by_tests (is_single f x && (first_line f x == l))
+      (shows config (first_line f x) (last_line f x) l) i
+      ++ by_lane_mark (is_single f x) (lane_mark_of indices.lane x (multi_label_on f l x)) i)
     where
-      by_lane_mark : (a : Bool) (o : Option LaneMark) → filter (is_kind 2) (multi_annotations_where l a o) ≡ multi_annotations_where l a o
+      by_lane_mark : (a : Bool) (o : Option LaneMark)
+          → filter (is_kind 2) (multi_annotations_where l a o) ≡ multi_annotations_where l a o
       by_lane_mark true o = refl
       by_lane_mark false None = refl
       by_lane_mark false (Some m) = refl
@@ -247,10 +185,14 @@ module _ (config : Config) (f : FileModel) (indices : LabelIndices) (x : LabelMo
       by_tests false false = refl
 
   -- its annotations make the lines shown that it shows: a label inside a line shows that line
-  pub shown-on_line : (l : ℕ) → list_any shows_line (line_annotations config f indices x l) ≡ shows config (first_line f x) (last_line f x) l
+  pub shown-on_line : (l : ℕ)
+      → list_any shows_line (line_annotations config f indices x l) ≡ shows config (first_line f x)
+      (last_line f x) l
   shown-on_line l =
       list_any-append shows_line (kind_annotations_on l) (multi_annotations_on l)
-      ∙ (λ i. by_tests (is_single f x) (first_line f x == l) (shows config (first_line f x) (last_line f x) l) (own_shown config (first_line f x) (last_line f x) l) i
+      ∙ (λ i. by_tests (is_single f x) (first_line f x == l)
+      (shows config (first_line f x) (last_line f x) l)
+      (own_shown config (first_line f x) (last_line f x) l) i
       || by_lane_mark (is_single f x) (lane_mark_of indices.lane x (multi_label_on f l x)) i)
       ∙ or-none (shows config (first_line f x) (last_line f x) l)
     where
@@ -258,12 +200,14 @@ module _ (config : Config) (f : FileModel) (indices : LabelIndices) (x : LabelMo
       or-none true = refl
       or-none false = refl
 
-      by_lane_mark : (a : Bool) (o : Option LaneMark) → list_any shows_line (multi_annotations_where l a o) ≡ false
+      by_lane_mark : (a : Bool) (o : Option LaneMark)
+          → list_any shows_line (multi_annotations_where l a o) ≡ false
       by_lane_mark true o = refl
       by_lane_mark false None = refl
       by_lane_mark false (Some m) = refl
 
-      by_tests : (a b c : Bool) → (b ≡ true → c ≡ true) → list_any shows_line (kind_annotations_where l (a && b) c) ≡ c
+      by_tests : (a b c : Bool) → (b ≡ true → c ≡ true)
+          → list_any shows_line (kind_annotations_where l (a && b) c) ≡ c
       by_tests true true c own = sym (own refl)
       by_tests true false true own = refl
       by_tests true false false own = refl

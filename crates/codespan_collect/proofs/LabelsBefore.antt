@@ -15,10 +15,12 @@ use Rattle.codespan_annotations.proofs.IndexedElements.{IsElementAt, take-at}
 abbrev pub before : {Id : Type 0} → List (Label Id) → ℕ → List (InFile Id)
 before labels index = map label_of (take index labels)
 
-module _ {Id : Type 0} {labels : List (Label Id)} {index : ℕ} {label : Label Id} (turn : IsElementAt labels index label) where
+module _ {Id : Type 0} {labels : List (Label Id)} {index : ℕ} {label : Label Id}
+    (turn : IsElementAt labels index label) where
   -- the labels before the next index
   pub before-more : before labels (index + 1) ≡ before labels index ++ label_of label ∷ []
-  before-more = ap (map label_of) (take-at turn) ∙ map-append label_of (take index labels) (label ∷ [])
+  before-more =
+      ap (map label_of) (take-at turn) ∙ map-append label_of (take index labels) (label ∷ [])
 
   module _ {same : Id → Id → Bool} (o : IsEquivalence same) where
     -- the files of the labels up to this one
@@ -29,12 +31,15 @@ module _ {Id : Type 0} {labels : List (Label Id)} {index : ℕ} {label : Label I
     pub has-file : has same o ids label.file_id ≡ true
     has-file =
         let inside = turn.inside in
-        let long : length (take (index + 1) labels) ≡ index + 1 = length-take-le (index + 1) labels (omega (arith, inside)) in
+        let long : length (take (index + 1) labels) ≡ index + 1 =
+        length-take-le (index + 1) labels (omega (arith, inside)) in
         let last : get_or (before labels (index + 1)) index (label_of label) ≡ label_of label =
-        get_or-map label_of (take (index + 1) labels) index label (label_of label) (omega (arith, long))
+        get_or-map label_of (take (index + 1) labels) index label (label_of label)
+        (omega (arith, long))
         ∙ ap label_of (get_or-take (index + 1) labels index label (omega arith) ∙ sym turn.is) in
         ap (λ (x : InFile Id). has same o ids x.file_id) (sym last)
-        ∙ file_ids-has same o (before labels (index + 1)) index (label_of label) (omega (arith, long, length-map (take (index + 1) labels) label_of))
+        ∙ file_ids-has same o (before labels (index + 1)) index (label_of label)
+        (omega (arith, long, length-map (take (index + 1) labels) label_of))
 
     -- its index is below their number
     pub file-inside : index_of_file same ids label.file_id < length ids
@@ -42,4 +47,5 @@ module _ {Id : Type 0} {labels : List (Label Id)} {index : ℕ} {label : Label I
 
     -- no two of the ids are the same
     pub ids-differ : Differ same o ids
-    ids-differ = first_seen-differ same o (map (λ (x : InFile Id). x.file_id) (before labels (index + 1)))
+    ids-differ =
+        first_seen-differ same o (map (λ (x : InFile Id). x.file_id) (before labels (index + 1)))

@@ -172,7 +172,10 @@ module _ {Id : Type 0} {database : FileDatabase Id} (lawful : AreFiles database)
         ∙ ap (λ xs. fold max 0 (all_digits file xs)) (sym (before-more turn))
 
     -- the label's file has its lane too, and no other file's lanes change
-    lanes-next : (next : List (RustFile Id)) → lane_counts next ≡ lanes_with_label (lane_counts files) (index_of_file same ids label.file_id) (label_lanes (file label.file_id) (label_of label).label)
+    lanes-next : (next : List (RustFile Id))
+        → lane_counts next ≡ lanes_with_label (lane_counts files)
+        (index_of_file same ids label.file_id)
+        (label_lanes (file label.file_id) (label_of label).label)
         → lane_counts next ≡ map (num_multi_labels_of same file (before labels (index + 1))) ids
     lanes-next next changed =
         changed ∙ (λ i. set (g.lanes_are i) (index_of_file same ids label.file_id) (lanes-unchanged i + label_lanes (file label.file_id) (label_of label).label))
@@ -211,8 +214,7 @@ module _ {Id : Type 0} {database : FileDatabase Id} (lawful : AreFiles database)
         ids_are = known.ids ∙ g.ids_are;
         starts_are = starts-set turn o g.starts_are (known.starts ∙ ap (λ k. starts_with_label (starts_view files) k (label_of label).label) index-found);
         lanes_are = lanes-next next (known.lanes ∙ ap (λ k. lanes_with_label (lane_counts files) k (label_lanes (file label.file_id) (label_of label).label)) index-found);
-        added = added-more more
-            (subst₂ (λ k n. AddsOf (file label.file_id) found.annotations.items
+        added = added-more more (subst₂ (λ k n. AddsOf (file label.file_id) found.annotations.items
             more.annotations.items (annotations_of config (file label.file_id)
             (record { file = k; index = index; lane = n }) (label_of label).label)) index-found
             lane-found own.added);

@@ -3,6 +3,7 @@ pub mod FirstErrors
 pub mod LabelIndexing
 pub mod LabelsBefore
 pub mod LabelAnnotations
+pub mod LinesOfLabels
 pub mod LabelFiles
 pub mod LocusStarts
 pub mod NearLines

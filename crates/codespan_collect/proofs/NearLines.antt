@@ -5,12 +5,15 @@ use Rattle.std.proofs.lemmas.Grind.{common_steps}
 use Rattle.codespan_annotations.specs.LabelSpans.{spans_line}
 
 -- the images of the elements that pass a test
-pub flat_map_filtered : {X : Type 0} (h : ℕ → List X) (p : ℕ → Bool) (ls : List ℕ) → flat_map h (filter p ls) ≡ flat_map (λ l. if p l then h l else []) ls
+pub flat_map_filtered : {X : Type 0} (h : ℕ → List X) (p : ℕ → Bool) (ls : List ℕ)
+    → flat_map h (filter p ls) ≡ flat_map (λ l. if p l then h l else []) ls
 flat_map_filtered h p [] = refl
 flat_map_filtered {X} h p (l ∷ ls) = by (p l) (flat_map_filtered h p ls)
   where
     by : (b : Bool) → flat_map h (filter p ls) ≡ flat_map (λ l. if p l then h l else []) ls
-        → flat_map h (if b then l ∷ filter p ls else filter p ls) ≡ (if b then h l else []) ++ flat_map (λ l. if p l then h l else []) ls
+        → flat_map h
+        (if b then l ∷ filter p ls else filter p ls) ≡ (if b then h l else [])
+        ++ flat_map (λ l. if p l then h l else []) ls
     by true rest = ap (λ (xs : List X). h l ++ xs) rest
     by false rest = rest
 
@@ -18,7 +21,8 @@ flat_map_filtered {X} h p (l ∷ ls) = by (p l) (flat_map_filtered h p ls)
 
 -- a line is one of those
 abbrev pub is_near : ℕ → ℕ → ℕ → ℕ → ℕ → Bool
-is_near s e b a l = spans_line s e l || ((nat_lt l s && nat_le s (l + b)) || (nat_lt e l && nat_le l (e + a)))
+is_near s e b a l =
+    spans_line s e l || ((nat_lt l s && nat_le s (l + b)) || (nat_lt e l && nat_le l (e + a)))
 
 pub after_both : (s e b a l : ℕ) → s < l → e < l → l ≤ e + a → is_near s e b a l ≡ true
 after_both s e b a l low high reach = grind (arith, common_steps)

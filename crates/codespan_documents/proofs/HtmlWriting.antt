@@ -10,24 +10,33 @@ use Rattle.codespan_documents.specs.Html.{html_character, html_element, html_run
 use Rattle.codespan_documents.specs.Runs.{is_plain, run_view}
 
 -- a character of the text that is left
-pub text-more : (front next whole rest more : List ℕ) (c : ℕ) → IsUtf8 rest → rest ≡ encode_utf8 c ++ more → next ≡ front ++ html_character c → front ++ html_text rest ≡ whole
+pub text-more : (front next whole rest more : List ℕ) (c : ℕ) → IsUtf8 rest
+    → rest ≡ encode_utf8 c ++ more → next ≡ front ++ html_character c
+    → front ++ html_text rest ≡ whole
     → next ++ html_text more ≡ whole
 text-more front next whole rest more c u e is before =
     ap (λ f. f ++ html_text more) is ∙ append_assoc front (html_character c) (html_text more)
-    ∙ ap (λ cs. front ++ flat_map html_character cs) (sym (chars_past_char rest more c u e)) ∙ before
+    ∙ ap (λ cs. front ++ flat_map html_character cs) (sym (chars_past_char rest more c u e))
+    ∙ before
 
 -- no text is left
-pub text-end : (front whole rest : List ℕ) → length rest ≡ 0 → front ++ html_text rest ≡ whole → front ≡ whole
+pub text-end : (front whole rest : List ℕ) → length rest ≡ 0 → front ++ html_text rest ≡ whole
+    → front ≡ whole
 text-end front whole [] none before =
     sym (append-nil front) ∙ ap (λ cs. front ++ flat_map html_character cs) (sym chars-nil) ∙ before
 text-end front whole (b ∷ rest) none before = absurd (omega arith)
 
 -- a run between its tags
-pub run-written : (run : Run) (front b1 b2 b3 b4 b5 class : List ℕ) → is_plain run.style ≡ false → b1 ≡ front ++ codes "<span class=\"" → class ≡ style_class run.style → b2 ≡ b1 ++ class
-    → b3 ≡ b2 ++ codes "\">" → b4 ≡ b3 ++ html_text (string_bytes run.text) → b5 ≡ b4 ++ codes "</span>" → b5 ≡ front ++ html_run (run_view run)
-run-written run front b1 b2 b3 b4 b5 class styled e1 named e2 e3 e4 e5 = rw (e5, e4, e3, e2, named, e1, styled) (simp append_assoc)
+pub run-written : (run : Run) (front b1 b2 b3 b4 b5 class : List ℕ) → is_plain run.style ≡ false
+    → b1 ≡ front ++ codes "<span class=\"" → class ≡ style_class run.style → b2 ≡ b1 ++ class
+    → b3 ≡ b2 ++ codes "\">" → b4 ≡ b3 ++ html_text (string_bytes run.text)
+    → b5 ≡ b4 ++ codes "</span>" → b5 ≡ front ++ html_run (run_view run)
+run-written run front b1 b2 b3 b4 b5 class styled e1 named e2 e3 e4 e5 =
+    rw (e5, e4, e3, e2, named, e1, styled) (simp append_assoc)
 
 -- the whole element
-pub element-written : (runs slice : List Run) (b0 b1 b2 b3 : List ℕ) → b0 ≡ [] → b1 ≡ b0 ++ codes "<pre class=\"diagnostic\">\n" → slice ≡ runs → b2 ≡ b1 ++ flat_map html_run (map run_view slice)
+pub element-written : (runs slice : List Run) (b0 b1 b2 b3 : List ℕ) → b0 ≡ []
+    → b1 ≡ b0 ++ codes "<pre class=\"diagnostic\">\n" → slice ≡ runs
+    → b2 ≡ b1 ++ flat_map html_run (map run_view slice)
     → b3 ≡ b2 ++ codes "</pre>" → b3 ≡ html_element (map run_view runs)
 element-written runs slice b0 b1 b2 b3 e0 e1 same e2 e3 = rw (e3, e2, same, e1, e0) refl

@@ -4,4 +4,6 @@ pub mod HtmlReading
 pub mod StyleSheets
 pub mod Glyphs
 pub mod SvgPieces
+pub mod SvgCells
 pub mod SvgReading
+pub mod SvgElements

@@ -1,21 +1,16 @@
 -- The tokens of glyphs are those of their pieces, and each character has its cell: for the clause
 -- `tokens` of `to_svg`, and for `svg::laws`.
 use Rattle.std.proofs.Common.{◌≡◌, ℕ, ◌+◌, true, false, List, [], ◌∷◌, ◌++◌, map, codes, refl, sym, ap, ◌∙◌, append_assoc, None, Some, Option}
-use Rattle.std.specs.Prelude.{Bool, ◌==◌, ◌&&◌, not, nat_le, if◌then◌else◌}
+use Rattle.std.specs.Prelude.{Bool, ◌&&◌, not, nat_le, if◌then◌else◌}
 use Rattle.std.specs.List.{flat_map}
 use Rattle.std.proofs.lemmas.List.{map-append}
-use Rattle.codespan_base.specs.declared.term.config.color.Color.{Color}
-use Rattle.codespan_base.specs.declared.term.config.color.Color.TheVariants.{Black, Red, Green, Yellow, Blue, Magenta, Cyan, White}
 use Rattle.codespan_documents.specs.declared.svg.glyph.Glyph.{Glyph}
-use Rattle.codespan_documents.specs.declared.svg.ink.Ink.{Ink}
-use Rattle.codespan_documents.specs.declared.svg.position.CellPosition.{CellPosition}
 use Rattle.codespan_documents.specs.declared.svg.Pen.{Pen}
-use Rattle.codespan_documents.specs.Glyphs.{cells_of, follows, joins_next, is_narrow, is_newline_glyph, joined_cells, joins, start}
+use Rattle.codespan_documents.specs.Glyphs.{cells_of, follows, joins_next, is_narrow, is_newline_glyph, joined_cells, joins}
 use Rattle.codespan_documents.specs.HtmlReading.{Token, Tag, TextByte}
-use Rattle.codespan_documents.specs.Inks.{optional_color_number, same_ink}
+use Rattle.codespan_documents.specs.Inks.{same_ink}
 use Rattle.codespan_documents.specs.Svg.{first_pen, next_pen, text_tag_content}
-use Rattle.codespan_documents.specs.SvgReading.{InCell, Piece, RowEnd, Text, text_characters, piece_characters, joined_glyphs, piece_tokens, pieces_from, characters_from, shown_glyphs, svg_shown, text_width}
-use Rattle.codespan_documents.proofs.HtmlReading.{and_true, is_code}
+use Rattle.codespan_documents.specs.SvgReading.{Piece, RowEnd, Text, joined_glyphs, piece_tokens, pieces_from, shown_glyphs, svg_shown, text_width}
 
 -- ---- glyph by glyph
 
@@ -27,21 +22,27 @@ end_tag = Tag (codes "/text") ∷ []
 abbrev pub glyph_tokens : Pen → Glyph → List Glyph → List Token
 glyph_tokens pen glyph others =
     if is_newline_glyph glyph then TextByte 10 ∷ []
-    else (if follows pen.before glyph then [] else Tag (text_tag_content pen.position (cells_of glyph + joined_cells glyph others) glyph.ink) ∷ [])
+    else (if follows pen.before glyph then []
+    else Tag
+    (text_tag_content pen.position (cells_of glyph + joined_cells glyph others) glyph.ink)
+    ∷ [])
     ++ map TextByte (svg_shown glyph.character) ++ (if joins_next glyph others then [] else end_tag)
 
 -- the tokens of glyphs
 abbrev pub tokens_of_glyphs : Pen → List Glyph → List Token
 tokens_of_glyphs pen [] = []
-tokens_of_glyphs pen (glyph ∷ glyphs) = glyph_tokens pen glyph glyphs ++ tokens_of_glyphs (next_pen pen glyph) glyphs
+tokens_of_glyphs pen (glyph ∷ glyphs) =
+    glyph_tokens pen glyph glyphs ++ tokens_of_glyphs (next_pen pen glyph) glyphs
 
 -- ---- cases
 
-pub two_ifs : {A B : Type 0} (b : Bool) (x y : A) (u v : B) (P : A → B → Type 0) → (b ≡ true → P x u) → (b ≡ false → P y v) → P (if b then x else y) (if b then u else v)
+pub two_ifs : {A B : Type 0} (b : Bool) (x y : A) (u v : B) (P : A → B → Type 0)
+    → (b ≡ true → P x u) → (b ≡ false → P y v) → P (if b then x else y) (if b then u else v)
 two_ifs true x y u v P t f = t refl
 two_ifs false x y u v P t f = f refl
 
-three_ifs : {A B C : Type 0} (b : Bool) (x y : A) (u v : B) (k l : C) (P : A → B → C → Type 0) → (b ≡ true → P x u k) → (b ≡ false → P y v l)
+three_ifs : {A B C : Type 0} (b : Bool) (x y : A) (u v : B) (k l : C) (P : A → B → C → Type 0)
+    → (b ≡ true → P x u k) → (b ≡ false → P y v l)
     → P (if b then x else y) (if b then u else v) (if b then k else l)
 three_ifs true x y u v k l P t f = t refl
 three_ifs false x y u v k l P t f = f refl
@@ -49,8 +50,10 @@ three_ifs false x y u v k l P t f = f refl
 -- ---- joined glyphs
 
 -- a newline joins nothing
-newline_joins : (glyph next : Glyph) → is_newline_glyph glyph ≡ true → joins glyph next ≡ false
-newline_joins glyph next e = ap (λ t. (not t && nat_le (cells_of glyph) 1) && is_narrow next && same_ink glyph.ink next.ink) e
+pub newline_joins : (glyph next : Glyph) → is_newline_glyph glyph ≡ true → joins glyph next ≡ false
+newline_joins glyph next e =
+    ap (λ t. (not t && nat_le (cells_of glyph) 1) && is_narrow next
+    && same_ink glyph.ink next.ink) e
 
 -- and follows nothing
 joins_newline : (glyph next : Glyph) → is_newline_glyph next ≡ true → joins glyph next ≡ false
@@ -60,15 +63,18 @@ joins_newline glyph next e = at (is_narrow glyph)
     at true = ap (λ t. (not t && nat_le (cells_of next) 1) && same_ink glyph.ink next.ink) e
     at false = refl
 
-follows_newline : (before : Option Glyph) (glyph : Glyph) → is_newline_glyph glyph ≡ true → follows before glyph ≡ false
+pub follows_newline : (before : Option Glyph) (glyph : Glyph) → is_newline_glyph glyph ≡ true
+    → follows before glyph ≡ false
 follows_newline None glyph e = refl
 follows_newline (Some before) glyph e = joins_newline before glyph e
 
 -- the cells of the glyphs that follow
-joined_width : (glyph : Glyph) (others : List Glyph) → joined_cells glyph others ≡ text_width (joined_glyphs glyph others)
+joined_width : (glyph : Glyph) (others : List Glyph)
+    → joined_cells glyph others ≡ text_width (joined_glyphs glyph others)
 joined_width glyph [] = refl
 joined_width glyph (next ∷ others) =
-    two_ifs (joins glyph next) (cells_of next + joined_cells next others) 0 (next ∷ joined_glyphs next others) [] (λ cells glyphs. cells ≡ text_width glyphs)
+    two_ifs (joins glyph next) (cells_of next + joined_cells next others) 0
+    (next ∷ joined_glyphs next others) [] (λ cells glyphs. cells ≡ text_width glyphs)
     (λ _. ap (λ n. cells_of next + n) (joined_width next others)) (λ _. refl)
 
 -- ---- tokens
@@ -80,24 +86,34 @@ text_tokens glyph others = map TextByte (shown_glyphs (glyph ∷ others)) ++ end
 -- the tokens of the text that goes on, if one does
 abbrev tokens_left : Option Glyph → List Glyph → List Token
 tokens_left before [] = []
-tokens_left before (glyph ∷ glyphs) = if follows before glyph then text_tokens glyph (joined_glyphs glyph glyphs) else []
+tokens_left before (glyph ∷ glyphs) =
+    if follows before glyph then text_tokens glyph (joined_glyphs glyph glyphs) else []
 
 -- a text ends, or goes on
-ended_tokens : (glyph : Glyph) (others : List Glyph) → (if joins_next glyph others then [] else end_tag) ++ tokens_left (Some glyph) others ≡ map TextByte (shown_glyphs (joined_glyphs glyph others)) ++ end_tag
+ended_tokens : (glyph : Glyph) (others : List Glyph)
+    → (if joins_next glyph others then [] else end_tag) ++ tokens_left (Some glyph) others ≡ map
+    TextByte (shown_glyphs (joined_glyphs glyph others)) ++ end_tag
 ended_tokens glyph [] = refl
 ended_tokens glyph (next ∷ others) =
-    three_ifs (joins glyph next) [] end_tag (text_tokens next (joined_glyphs next others)) [] (next ∷ joined_glyphs next others) []
-    (λ (end text : List Token) (glyphs : List Glyph). end ++ text ≡ map TextByte (shown_glyphs glyphs) ++ end_tag)
+    three_ifs (joins glyph next) [] end_tag (text_tokens next (joined_glyphs next others)) []
+    (next ∷ joined_glyphs next others) []
+    (λ (end text : List Token) (glyphs : List Glyph). end ++ text
+    ≡ map TextByte (shown_glyphs glyphs) ++ end_tag)
     (λ _. refl) (λ _. refl)
 
-regrouped : (shown ended left joined rest : List Token) → ended ++ left ≡ joined ++ end_tag → (shown ++ ended) ++ (left ++ rest) ≡ ((shown ++ joined) ++ end_tag) ++ rest
+regrouped : (shown ended left joined rest : List Token) → ended ++ left ≡ joined ++ end_tag
+    → (shown ++ ended) ++ (left ++ rest) ≡ ((shown ++ joined) ++ end_tag) ++ rest
 regrouped shown ended left joined rest e =
     append_assoc shown ended (left ++ rest)
-    ∙ ap (λ (tokens : List Token). shown ++ tokens) (sym (append_assoc ended left rest) ∙ ap (λ (tokens : List Token). tokens ++ rest) e)
-    ∙ sym (append_assoc shown (joined ++ end_tag) rest) ∙ ap (λ (tokens : List Token). tokens ++ rest) (sym (append_assoc shown joined end_tag))
+    ∙ ap (λ (tokens : List Token). shown ++ tokens)
+    (sym (append_assoc ended left rest) ∙ ap (λ (tokens : List Token). tokens ++ rest) e)
+    ∙ sym (append_assoc shown (joined ++ end_tag) rest)
+    ∙ ap (λ (tokens : List Token). tokens ++ rest) (sym (append_assoc shown joined end_tag))
 
 -- glyphs are read as the rest of a text, and then as their pieces
-tokens_by_pieces : (pen : Pen) (glyphs : List Glyph) → tokens_of_glyphs pen glyphs ≡ tokens_left pen.before glyphs ++ flat_map piece_tokens (pieces_from pen glyphs)
+tokens_by_pieces : (pen : Pen) (glyphs : List Glyph)
+    → tokens_of_glyphs pen glyphs ≡ tokens_left pen.before glyphs ++ flat_map piece_tokens
+    (pieces_from pen glyphs)
 tokens_by_pieces pen [] = refl
 tokens_by_pieces pen (glyph ∷ glyphs) = all (tokens_by_pieces (next_pen pen glyph) glyphs)
   where
@@ -129,39 +145,73 @@ tokens_by_pieces pen (glyph ∷ glyphs) = all (tokens_by_pieces (next_pen pen gl
     left = tokens_left (Some glyph) glyphs
 
     Goal : List Token → List Token → List Piece → Type 0
-    Goal first prefix pieces = first ++ tokens_of_glyphs next glyphs ≡ prefix ++ flat_map piece_tokens pieces
+    Goal first prefix pieces =
+        first ++ tokens_of_glyphs next glyphs ≡ prefix ++ flat_map piece_tokens pieces
 
     Rest : Type 0
     Rest = tokens_of_glyphs next glyphs ≡ left ++ tokens
 
-    whole : Rest → (shown ++ ended) ++ tokens_of_glyphs next glyphs ≡ text_tokens glyph (joined_glyphs glyph glyphs) ++ tokens
-    whole is = ap (λ (ps : List Token). (shown ++ ended) ++ ps) is ∙ regrouped shown ended left joined tokens (ended_tokens glyph glyphs)
-        ∙ ap (λ (ps : List Token). (ps ++ end_tag) ++ tokens) (sym (map-append TextByte (svg_shown glyph.character) (shown_glyphs (joined_glyphs glyph glyphs))))
+    whole : Rest
+        → (shown ++ ended) ++ tokens_of_glyphs next glyphs ≡ text_tokens glyph
+        (joined_glyphs glyph glyphs) ++ tokens
+    whole is =
+        ap (λ (ps : List Token). (shown ++ ended) ++ ps) is
+        ∙ regrouped shown ended left joined tokens (ended_tokens glyph glyphs)
+        ∙ ap (λ (ps : List Token). (ps ++ end_tag) ++ tokens)
+        (sym
+        (map-append TextByte (svg_shown glyph.character)
+        (shown_glyphs (joined_glyphs glyph glyphs))))
 
-    character : Rest → Goal ((if follows pen.before glyph then [] else tag (cells_of glyph + joined_cells glyph glyphs)) ++ shown ++ ended)
-        (if follows pen.before glyph then text_tokens glyph (joined_glyphs glyph glyphs) else []) (if follows pen.before glyph then rest else piece ∷ rest)
+    character : Rest
+        → Goal
+        ((if follows pen.before glyph then [] else tag (cells_of glyph + joined_cells glyph glyphs))
+        ++ shown ++ ended)
+        (if follows pen.before glyph then text_tokens glyph (joined_glyphs glyph glyphs) else [])
+        (if follows pen.before glyph then rest else piece ∷ rest)
     character is =
-        three_ifs (follows pen.before glyph) [] (tag (cells_of glyph + joined_cells glyph glyphs)) (text_tokens glyph (joined_glyphs glyph glyphs)) [] rest (piece ∷ rest)
-        (λ (prefix left : List Token) (pieces : List Piece). Goal (prefix ++ shown ++ ended) left pieces)
+        three_ifs (follows pen.before glyph) [] (tag (cells_of glyph + joined_cells glyph glyphs))
+        (text_tokens glyph (joined_glyphs glyph glyphs)) [] rest (piece ∷ rest)
+        (λ (prefix left : List Token) (pieces : List Piece). Goal (prefix ++ shown ++ ended) left
+        pieces)
         (λ _. whole is)
-        (λ _. ap (λ (ps : List Token). tag (cells_of glyph + joined_cells glyph glyphs) ++ ps) (whole is)
-        ∙ ap (λ cells. tag (cells_of glyph + cells) ++ (text_tokens glyph (joined_glyphs glyph glyphs) ++ tokens)) (joined_width glyph glyphs))
+        (λ _. ap (λ (ps : List Token). tag (cells_of glyph + joined_cells glyph glyphs) ++ ps)
+        (whole is)
+        ∙ ap
+        (λ cells. tag (cells_of glyph + cells)
+        ++ (text_tokens glyph (joined_glyphs glyph glyphs) ++ tokens))
+        (joined_width glyph glyphs))
 
-    none_left : (others : List Glyph) → is_newline_glyph glyph ≡ true → tokens_left (Some glyph) others ≡ []
+    none_left : (others : List Glyph) → is_newline_glyph glyph ≡ true
+        → tokens_left (Some glyph) others ≡ []
     none_left [] e = refl
-    none_left (other ∷ others) e = ap (λ t. if t then text_tokens other (joined_glyphs other others) else []) (newline_joins glyph other e)
+    none_left (other ∷ others) e =
+        ap (λ t. if t then text_tokens other (joined_glyphs other others) else [])
+        (newline_joins glyph other e)
 
-    newline : Rest → is_newline_glyph glyph ≡ true → Goal (TextByte 10 ∷ []) (if follows pen.before glyph then text_tokens glyph (joined_glyphs glyph glyphs) else []) (RowEnd ∷ rest)
+    newline : Rest → is_newline_glyph glyph ≡ true
+        → Goal (TextByte 10 ∷ [])
+        (if follows pen.before glyph then text_tokens glyph (joined_glyphs glyph glyphs) else [])
+        (RowEnd ∷ rest)
     newline is e =
-        ap (λ (ps : List Token). TextByte 10 ∷ ps) (is ∙ ap (λ (ps : List Token). ps ++ tokens) (none_left glyphs e))
-        ∙ ap (λ t. (if t then text_tokens glyph (joined_glyphs glyph glyphs) else []) ++ (TextByte 10 ∷ tokens)) (sym (follows_newline pen.before glyph e))
+        ap (λ (ps : List Token). TextByte 10 ∷ ps)
+        (is ∙ ap (λ (ps : List Token). ps ++ tokens) (none_left glyphs e))
+        ∙ ap
+        (λ t. (if t then text_tokens glyph (joined_glyphs glyph glyphs) else [])
+        ++ (TextByte 10 ∷ tokens))
+        (sym (follows_newline pen.before glyph e))
 
-    all : Rest → tokens_of_glyphs pen (glyph ∷ glyphs) ≡ tokens_left pen.before (glyph ∷ glyphs) ++ flat_map piece_tokens (pieces_from pen (glyph ∷ glyphs))
+    all : Rest
+        → tokens_of_glyphs pen (glyph ∷ glyphs) ≡ tokens_left pen.before
+        (glyph ∷ glyphs) ++ flat_map piece_tokens (pieces_from pen (glyph ∷ glyphs))
     all is =
         two_ifs (is_newline_glyph glyph) (TextByte 10 ∷ [])
-        ((if follows pen.before glyph then [] else tag (cells_of glyph + joined_cells glyph glyphs)) ++ shown ++ ended)
+        ((if follows pen.before glyph then [] else tag (cells_of glyph + joined_cells glyph glyphs))
+        ++ shown ++ ended)
         (RowEnd ∷ rest) (if follows pen.before glyph then rest else piece ∷ rest)
-        (λ (first : List Token) (pieces : List Piece). Goal first (if follows pen.before glyph then text_tokens glyph (joined_glyphs glyph glyphs) else []) pieces)
+        (λ (first : List Token) (pieces : List Piece). Goal first
+        (if follows pen.before glyph then text_tokens glyph (joined_glyphs glyph glyphs)
+        else [])
+        pieces)
         (newline is) (λ _. character is)
 
 none_before : (glyphs : List Glyph) → tokens_left None glyphs ≡ []
@@ -169,122 +219,9 @@ none_before [] = refl
 none_before (glyph ∷ glyphs) = refl
 
 -- all glyphs
-pub tokens_of_pieces : (glyphs : List Glyph) → tokens_of_glyphs first_pen glyphs ≡ flat_map piece_tokens (pieces_from first_pen glyphs)
+pub tokens_of_pieces : (glyphs : List Glyph)
+    → tokens_of_glyphs first_pen glyphs ≡ flat_map piece_tokens (pieces_from first_pen glyphs)
 tokens_of_pieces glyphs =
-    tokens_by_pieces first_pen glyphs ∙ ap (λ (ps : List Token). ps ++ flat_map piece_tokens (pieces_from first_pen glyphs)) (none_before glyphs)
-
--- ---- inks by their numbers
-
--- the color of a number
-abbrev color_of : ℕ → Option Color
-color_of n =
-    if n == 0 then Some Black else if n == 1 then Some Red else if n == 2 then Some Green else if n == 3 then Some Yellow
-    else if n == 4 then Some Blue else if n == 5 then Some Magenta else if n == 6 then Some Cyan else if n == 7 then Some White else None
-
-color_is : (color : Option Color) → color_of (optional_color_number color) ≡ color
-color_is None = refl
-color_is (Some Black) = refl
-color_is (Some Red) = refl
-color_is (Some Green) = refl
-color_is (Some Yellow) = refl
-color_is (Some Blue) = refl
-color_is (Some Magenta) = refl
-color_is (Some Cyan) = refl
-color_is (Some White) = refl
-
--- colors of one number are one color
-one_color : (x y : Option Color) → optional_color_number x == optional_color_number y ≡ true → y ≡ x
-one_color x y e = sym (color_is y) ∙ ap color_of (sym (is_code _ _ e)) ∙ color_is x
-
-one_weight : (x y : Bool) → (if x then y else not y) ≡ true → y ≡ x
-one_weight true y e = e
-one_weight false true e = absurd (cc)
-one_weight false false e = refl
-
-abbrev inked : Option Color → Bool → Ink
-inked color bold = record { color = color; bold = bold }
-
--- inks that are the same are one ink
-one_ink : (x y : Ink) → same_ink x y ≡ true → y ≡ x
-one_ink x y e =
-    let same = and_true (optional_color_number x.color == optional_color_number y.color) (if x.bold then y.bold else not y.bold) e in
-    ap (λ (color : Option Color). inked color y.bold) (one_color x.color y.color same.0)
-    ∙ ap (λ (bold : Bool). inked x.color bold) (one_weight x.bold y.bold same.1)
-
--- glyphs of one text have one ink
-joined_inks : (glyph next : Glyph) → joins glyph next ≡ true → next.ink ≡ glyph.ink
-joined_inks glyph next e = one_ink glyph.ink next.ink (and_true (is_narrow glyph && is_narrow next) (same_ink glyph.ink next.ink) e).1
-
--- ---- cells
-
--- the cells of the text that goes on, if one does
-abbrev cells_left : Option Glyph → CellPosition → List Glyph → List InCell
-cells_left before position [] = []
-cells_left before position (glyph ∷ glyphs) = if follows before glyph then text_characters glyph.ink position (glyph ∷ joined_glyphs glyph glyphs) else []
-
--- of the text of this glyph
-left_in : (glyph : Glyph) (position : CellPosition) (others : List Glyph) → cells_left (Some glyph) position others ≡ text_characters glyph.ink position (joined_glyphs glyph others)
-left_in glyph position [] = refl
-left_in glyph position (next ∷ others) =
-    two_ifs (joins glyph next) (text_characters next.ink position (next ∷ joined_glyphs next others)) [] (next ∷ joined_glyphs next others) []
-    (λ cells glyphs. cells ≡ text_characters glyph.ink position glyphs)
-    (λ e. ap (λ ink. text_characters ink position (next ∷ joined_glyphs next others)) (joined_inks glyph next e)) (λ _. refl)
-
-cells_by_pieces : (pen : Pen) (glyphs : List Glyph) → characters_from pen.position glyphs ≡ cells_left pen.before pen.position glyphs ++ flat_map piece_characters (pieces_from pen glyphs)
-cells_by_pieces pen [] = refl
-cells_by_pieces pen (glyph ∷ glyphs) = all (cells_by_pieces (next_pen pen glyph) glyphs)
-  where
-    next : Pen
-    next = next_pen pen glyph
-
-    rest : List Piece
-    rest = pieces_from next glyphs
-
-    cells : List InCell
-    cells = flat_map piece_characters rest
-
-    own : List InCell
-    own = text_characters glyph.ink pen.position (glyph ∷ joined_glyphs glyph glyphs)
-
-    first : InCell
-    first = record { character = glyph.character; ink = glyph.ink; position = pen.position }
-
-    piece : Piece
-    piece = Text pen.position glyph (joined_glyphs glyph glyphs)
-
-    Rest : Type 0
-    Rest = characters_from next.position glyphs ≡ cells_left (Some glyph) next.position glyphs ++ cells
-
-    whole : Rest → first ∷ characters_from next.position glyphs ≡ own ++ cells
-    whole is =
-        ap (λ (cs : List InCell). first ∷ cs) (is ∙ ap (λ (cs : List InCell). cs ++ cells) (left_in glyph next.position glyphs))
-
-    character : Rest → first ∷ characters_from next.position glyphs ≡ (if follows pen.before glyph then own else []) ++ flat_map piece_characters (if follows pen.before glyph then rest else piece ∷ rest)
-    character is =
-        two_ifs (follows pen.before glyph) own [] rest (piece ∷ rest) (λ (left : List InCell) (pieces : List Piece). first ∷ characters_from next.position glyphs ≡ left ++ flat_map piece_characters pieces)
-        (λ _. whole is) (λ _. whole is)
-
-    none_left : (others : List Glyph) → is_newline_glyph glyph ≡ true → cells_left (Some glyph) next.position others ≡ []
-    none_left [] e = refl
-    none_left (other ∷ others) e = ap (λ t. if t then text_characters other.ink next.position (other ∷ joined_glyphs other others) else []) (newline_joins glyph other e)
-
-    newline : Rest → is_newline_glyph glyph ≡ true → characters_from next.position glyphs ≡ (if follows pen.before glyph then own else []) ++ cells
-    newline is e =
-        is ∙ ap (λ (cs : List InCell). cs ++ cells) (none_left glyphs e)
-        ∙ ap (λ t. (if t then own else []) ++ cells) (sym (follows_newline pen.before glyph e))
-
-    all : Rest → characters_from pen.position (glyph ∷ glyphs) ≡ cells_left pen.before pen.position (glyph ∷ glyphs) ++ flat_map piece_characters (pieces_from pen (glyph ∷ glyphs))
-    all is =
-        two_ifs (is_newline_glyph glyph) (characters_from next.position glyphs) (first ∷ characters_from next.position glyphs)
-        (RowEnd ∷ rest) (if follows pen.before glyph then rest else piece ∷ rest)
-        (λ (cs : List InCell) (pieces : List Piece). cs ≡ (if follows pen.before glyph then own else []) ++ flat_map piece_characters pieces)
-        (newline is) (λ _. character is)
-
-no_cells_before : (glyphs : List Glyph) → cells_left None start glyphs ≡ []
-no_cells_before [] = refl
-no_cells_before (glyph ∷ glyphs) = refl
-
--- all glyphs
-pub cells_of_pieces : (glyphs : List Glyph) → flat_map piece_characters (pieces_from first_pen glyphs) ≡ characters_from start glyphs
-cells_of_pieces glyphs =
-    sym (cells_by_pieces first_pen glyphs ∙ ap (λ (cs : List InCell). cs ++ flat_map piece_characters (pieces_from first_pen glyphs)) (no_cells_before glyphs))
+    tokens_by_pieces first_pen glyphs
+    ∙ ap (λ (ps : List Token). ps ++ flat_map piece_tokens (pieces_from first_pen glyphs))
+    (none_before glyphs)

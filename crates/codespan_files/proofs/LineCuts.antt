@@ -13,14 +13,18 @@ use Rattle.codespan_files.specs.Lemmas.Simple.{ascending, end_before_last, end_o
 use Rattle.codespan_files.specs.FileLaws.{LinesJoin, ColumnsRise}
 
 -- a range and the rest of the list after it
-touching : {X : Type 0} (a b : ℕ) (xs : List X) → a ≤ b → slice_range xs a b ++ drop b xs ≡ drop a xs
+touching : {X : Type 0} (a b : ℕ) (xs : List X) → a ≤ b
+    → slice_range xs a b ++ drop b xs ≡ drop a xs
 touching a b xs h =
     let e : a + (b - a) ≡ b = omega arith in
-    ap (λ ys. slice_range xs a b ++ ys) (sym (drop-drop (b - a) a xs ∙ ap (λ n. drop n xs) e)) ∙ take-append-drop (b - a) (drop a xs)
+    ap (λ ys. slice_range xs a b ++ ys) (sym (drop-drop (b - a) a xs ∙ ap (λ n. drop n xs) e))
+    ∙ take-append-drop (b - a) (drop a xs)
 
 -- the lines from one on are the rest of the text
-joined-from : (name : Option (List ℕ)) (text : List ℕ) → IsUtf8 text → (n i : ℕ) → i + suc n ≡ length (line_starts_of text)
-    → flat_map (line_text (simple_file name text)) (range_with_len i (suc n)) ≡ drop (get_or (line_starts_of text) i 0) text
+joined-from : (name : Option (List ℕ)) (text : List ℕ) → IsUtf8 text → (n i : ℕ)
+    → i + suc n ≡ length (line_starts_of text)
+    → flat_map (line_text (simple_file name text)) (range_with_len i (suc n)) ≡ drop
+    (get_or (line_starts_of text) i 0) text
 joined-from name text u zero i h =
     let at : ℕ = get_or (line_starts_of text) i 0 in
     let e : get_or (line_ends text) i 0 ≡ length text = end_of_last text i (omega arith) in
@@ -37,7 +41,8 @@ joined-from name text u (suc n) i h =
     ∙ touching at next text (omega (arith, ascending text i (omega arith)))
 
 -- the lines of the file of a text join to it
-pub lines_join : (name : Option (List ℕ)) (text : List ℕ) → IsUtf8 text → LinesJoin (simple_file name text)
+pub lines_join : (name : Option (List ℕ)) (text : List ℕ) → IsUtf8 text
+    → LinesJoin (simple_file name text)
 lines_join name text u = record {
   from_start = refl;
   follow = λ i h. end_before_last text i h;
@@ -46,7 +51,8 @@ lines_join name text u = record {
 }
 
 -- a longer range counts no fewer numbers
-counts-rise : (p : ℕ → Bool) (a m n : ℕ) → m ≤ n → count_by p (range_with_len a m) ≤ count_by p (range_with_len a n)
+counts-rise : (p : ℕ → Bool) (a m n : ℕ) → m ≤ n
+    → count_by p (range_with_len a m) ≤ count_by p (range_with_len a n)
 counts-rise p a zero n h = omega arith
 counts-rise p a (suc m) zero h = absurd (omega arith)
 counts-rise p a (suc m) (suc n) h =
@@ -60,4 +66,5 @@ counts-rise p a (suc m) (suc n) h =
 -- columns never decrease along a line
 pub columns_rise : ColumnsRise
 columns_rise text start end byte later h =
-    counts-rise (is_char_boundary text) (start + 1) (min byte (min end (length text)) - start) (min later (min end (length text)) - start) (omega arith)
+    counts-rise (is_char_boundary text) (start + 1) (min byte (min end (length text)) - start)
+    (min later (min end (length text)) - start) (omega arith)

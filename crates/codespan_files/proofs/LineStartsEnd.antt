@@ -8,6 +8,9 @@ use Rattle.codespan_files.specs.LineStarts.{starts_left}
 use Rattle.codespan_files.specs.declared.files.starts.LineStarts.{LineStarts}
 
 -- at its end it has returned the starts that were left
-pub drained : (starts : LineStarts) (items : List ℕ) → Drains (YieldsFirst starts_left) starts items → items ≡ starts_left starts
+pub drained : (starts : LineStarts) (items : List ℕ) → Drains (YieldsFirst starts_left) starts items
+    → items ≡ starts_left starts
 drained starts items run =
-    sym (map-id items) ∙ items_from_drains items (run.1.0, run.1.1, λ _. (run.0, run.1.2)) (YieldsList-from_first (λ x. x) starts_left (starts_left starts) refl)
+    sym (map-id items)
+    ∙ items_from_drains items (run.1.0, run.1.1, λ _. (run.0, run.1.2))
+    (YieldsList-from_first (λ x. x) starts_left (starts_left starts) refl)

@@ -11,27 +11,33 @@ use Rattle.codespan_files.specs.Lemmas.Lines.{line_of_below}
 use Rattle.codespan_files.specs.SimpleModel.{past_end_failure}
 
 -- a line that is not below the number of starts fails, with the index of the last line
-pub past_end_failure_late : (text starts : List ℕ) (i n : ℕ) → starts ≡ line_starts_of text → n ≡ length starts → n ≤ i → past_end_failure text i ≡ Some (LineTooLarge i (n - 1))
+pub past_end_failure_late : (text starts : List ℕ) (i n : ℕ) → starts ≡ line_starts_of text
+    → n ≡ length starts → n ≤ i → past_end_failure text i ≡ Some (LineTooLarge i (n - 1))
 past_end_failure_late text starts i n same count late =
     let e : n ≡ length (line_starts_of text) = count ∙ ap length same in
     rw e (rw (lt-leb (suc i) (length (line_starts_of text)) (omega arith)) refl)
 
 -- a line that is below the number of starts does not fail
-pub past_end_failure_early : (text starts : List ℕ) (i : ℕ) → starts ≡ line_starts_of text → i < length starts → past_end_failure text i ≡ None
+pub past_end_failure_early : (text starts : List ℕ) (i : ℕ) → starts ≡ line_starts_of text
+    → i < length starts → past_end_failure text i ≡ None
 past_end_failure_early text starts i same early =
     let e : length starts ≡ length (line_starts_of text) = ap length same in
     rw (le-leb (suc i) (length (line_starts_of text)) (omega arith)) refl
 
 -- the line of a byte exists
-byte_line_below : (text : List ℕ) (byte i : ℕ) → i ≡ line_of (line_starts_of text) byte → i < length (line_starts_of text)
+byte_line_below : (text : List ℕ) (byte i : ℕ) → i ≡ line_of (line_starts_of text) byte
+    → i < length (line_starts_of text)
 byte_line_below text byte i line = rw line (line_of_below (line_starts_of text) byte (omega arith))
 
 -- so a lookup of it does not fail
-pub byte_line_exists : (text : List ℕ) (byte i : ℕ) → i ≡ line_of (line_starts_of text) byte → past_end_failure text i ≡ None
-byte_line_exists text byte i line = past_end_failure_early text (line_starts_of text) i refl (byte_line_below text byte i line)
+pub byte_line_exists : (text : List ℕ) (byte i : ℕ) → i ≡ line_of (line_starts_of text) byte
+    → past_end_failure text i ≡ None
+byte_line_exists text byte i line =
+    past_end_failure_early text (line_starts_of text) i refl (byte_line_below text byte i line)
 
 -- and has a number, where there are fewer than 2^64 starts
-pub byte_line_numbered : (text starts : List ℕ) (byte i : ℕ) → starts ≡ line_starts_of text → length starts < 2 ^ 64 → i ≡ line_of (line_starts_of text) byte
+pub byte_line_numbered : (text starts : List ℕ) (byte i : ℕ) → starts ≡ line_starts_of text
+    → length starts < 2 ^ 64 → i ≡ line_of (line_starts_of text) byte
     → line_number_failure i ≡ None
 byte_line_numbered text starts byte i same fits line =
     let below = byte_line_below text byte i line in
@@ -39,7 +45,8 @@ byte_line_numbered text starts byte i same fits line =
     rw (ne_eqb i (2 ^ 64 - 1) (λ e. omega (arith, e))) refl
 
 -- a call that has no such failure does not fail
-pub never : {P : Type 0} (failure : Option Error) (e : Error) → failure ≡ None → (e ≢ OutOfMemory → failure ≡ Some e) → e ≢ OutOfMemory → P
+pub never : {P : Type 0} (failure : Option Error) (e : Error) → failure ≡ None
+    → (e ≢ OutOfMemory → failure ≡ Some e) → e ≢ OutOfMemory → P
 never failure e none failed memory =
     let some : failure ≡ Some e = failed memory in
     absurd (cc)

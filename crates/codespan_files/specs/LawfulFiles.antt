@@ -37,10 +37,13 @@ pub record IsLawful (f : FileModel) : Type 0 where
   pub ascending : (i : ℕ) → i + 1 < length f.starts
       → slice_index f.starts i < slice_index f.starts (i + 1)
   -- starts and ends are character boundaries
-  pub starts_on_boundaries : (i : ℕ) → i < length f.starts → IsCharBoundary f.text (slice_index f.starts i)
-  pub ends_on_boundaries : (i : ℕ) → i < length f.starts → IsCharBoundary f.text (slice_index f.ends i)
+  pub starts_on_boundaries : (i : ℕ) → i < length f.starts
+      → IsCharBoundary f.text (slice_index f.starts i)
+  pub ends_on_boundaries : (i : ℕ) → i < length f.starts
+      → IsCharBoundary f.text (slice_index f.ends i)
   -- each line ends at its start or after it, and not after the next line's start
-  pub ends_after_start : (i : ℕ) → i < length f.starts → slice_index f.starts i ≤ slice_index f.ends i
+  pub ends_after_start : (i : ℕ) → i < length f.starts
+      → slice_index f.starts i ≤ slice_index f.ends i
   pub ends_before_next : (i : ℕ) → i + 1 < length f.starts
       → slice_index f.ends i ≤ slice_index f.starts (i + 1)
   -- there are as many ends as starts

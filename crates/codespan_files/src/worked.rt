@@ -45,7 +45,8 @@ fn greatest_indices()
 
 /// Computes the numbers after a set number so great that the next line's number does not fit.
 fn mapped_overflow()
-    ensures greatest { number_from (nearest_set (with_set_number 1 (2 ^ 64 - 1) []) 1) 1 ≡ 2 ^ 64 - 1 }
+    ensures greatest { let set_numbers = with_set_number 1 (2 ^ 64 - 1) [] in
+        number_from (nearest_set set_numbers 1) 1 ≡ 2 ^ 64 - 1 }
     ensures succeeds { let set_numbers = with_set_number 1 (2 ^ 64 - 1) [] in
         mapped_failure (codes "a\nb\nc\nd") set_numbers (LineNumber 1) ≡ None }
     ensures failed { let set_numbers = with_set_number 1 (2 ^ 64 - 1) [] in
@@ -55,5 +56,6 @@ fn mapped_overflow()
 
 /// Computes the set numbers after a number is set again: the later one replaces the earlier one.
 fn set_again()
-    ensures { with_set_number 2 7 (with_set_number 1 5 (with_set_number 2 100 [])) ≡ (1, 5) ∷ (2, 7) ∷ [] }
+    ensures { with_set_number 2 7 (with_set_number 1 5 (with_set_number 2 100 []))
+        ≡ (1, 5) ∷ (2, 7) ∷ [] }
 {}

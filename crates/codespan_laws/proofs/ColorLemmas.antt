@@ -20,11 +20,14 @@ style_mark_bytes [] = refl
 style_mark_bytes (b ∷ bs) = ap (λ (l : List ℕ). b ∷ l) (style_mark_bytes bs)
 
 -- and none of them is text
-no_text : (bs : List ℕ) (rest : List WrittenByte) → filter (λ (x : WrittenByte). x.is_text) (map of_style_mark bs ++ rest) ≡ filter (λ (x : WrittenByte). x.is_text) rest
+no_text : (bs : List ℕ) (rest : List WrittenByte)
+    → filter (λ (x : WrittenByte). x.is_text) (map of_style_mark bs ++ rest) ≡ filter
+    (λ (x : WrittenByte). x.is_text) rest
 no_text [] rest = refl
 no_text (b ∷ bs) rest = no_text bs rest
 
-all_written : (spelling : Spelling) (s : Stream) → map byte_of (written_bytes spelling s) ≡ spelled spelling s
+all_written : (spelling : Spelling) (s : Stream)
+    → map byte_of (written_bytes spelling s) ≡ spelled spelling s
 all_written spelling [] = refl
 all_written spelling (Byte b ∷ s) = ap (λ (l : List ℕ). b ∷ l) (all_written spelling s)
 all_written spelling (Mark m ∷ s) =
@@ -32,14 +35,17 @@ all_written spelling (Mark m ∷ s) =
     ∙ ap₂ (λ (k l : List ℕ). k ++ l) (style_mark_bytes (spelling m)) (all_written spelling s)
 all_written spelling (Slot k ∷ s) = all_written spelling s
 
-text_written : (spelling : Spelling) (s : Stream) → map byte_of (filter (λ (x : WrittenByte). x.is_text) (written_bytes spelling s)) ≡ text_of s
+text_written : (spelling : Spelling) (s : Stream)
+    → map byte_of (filter (λ (x : WrittenByte). x.is_text) (written_bytes spelling s)) ≡ text_of s
 text_written spelling [] = refl
 text_written spelling (Byte b ∷ s) = ap (λ (l : List ℕ). b ∷ l) (text_written spelling s)
-text_written spelling (Mark m ∷ s) = ap (map byte_of) (no_text (spelling m) (written_bytes spelling s)) ∙ text_written spelling s
+text_written spelling (Mark m ∷ s) =
+    ap (map byte_of) (no_text (spelling m) (written_bytes spelling s)) ∙ text_written spelling s
 text_written spelling (Slot k ∷ s) = text_written spelling s
 
 pub colors_change_no_text : (spelling : Spelling) (s : Stream) → ColorsChangeNoText spelling s
-colors_change_no_text spelling s = record { all = all_written spelling s; text = text_written spelling s }
+colors_change_no_text spelling s =
+    record { all = all_written spelling s; text = text_written spelling s }
 
 -- a writer without colors spells each style mark as nothing
 nothing : (styles : Styles) (m : StyleMark) → spelling_by styles (λ spec. []) [] m ≡ []
@@ -54,5 +60,7 @@ nothing styles Reset = refl
 pub no_color_is_plain : (styles : Styles) (s : Stream) → NoColorIsPlain styles s
 no_color_is_plain styles [] = refl
 no_color_is_plain styles (Byte b ∷ s) = ap (λ (l : List ℕ). b ∷ l) (no_color_is_plain styles s)
-no_color_is_plain styles (Mark m ∷ s) = ap (λ (l : List ℕ). l ++ spelled (spelling_by styles (λ spec. []) []) s) (nothing styles m) ∙ no_color_is_plain styles s
+no_color_is_plain styles (Mark m ∷ s) =
+    ap (λ (l : List ℕ). l ++ spelled (spelling_by styles (λ spec. []) []) s) (nothing styles m)
+    ∙ no_color_is_plain styles s
 no_color_is_plain styles (Slot k ∷ s) = no_color_is_plain styles s

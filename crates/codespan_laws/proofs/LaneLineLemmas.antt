@@ -21,45 +21,54 @@ each_all P [] h = tt
 each_all P (x ∷ xs) h = (h x, each_all P xs h)
 
 -- what holds of the image of each element holds of each element of the images
-pub each_map : {X Y : Type 0} (P : Y → Type 0) (f : X → Y) (xs : List X) → AllByRecursion (λ x. P (f x)) xs → AllByRecursion P (map f xs)
+pub each_map : {X Y : Type 0} (P : Y → Type 0) (f : X → Y) (xs : List X)
+    → AllByRecursion (λ x. P (f x)) xs → AllByRecursion P (map f xs)
 each_map P f [] a = tt
 each_map P f (x ∷ xs) a = (a.0, each_map P f xs a.1)
 
 -- the element at an index, and what holds of it
-pub each_at : {X : Type 0} (P : X → Type 0) (xs : List X) (k : ℕ) → AllByRecursion P xs → k < length xs → (x : X) × ((slice_get xs k ≡ Some x) × P x)
+pub each_at : {X : Type 0} (P : X → Type 0) (xs : List X) (k : ℕ) → AllByRecursion P xs
+    → k < length xs → (x : X) × ((slice_get xs k ≡ Some x) × P x)
 each_at P [] k a h = absurd (omega arith)
 each_at P (x ∷ xs) zero a h = (x, (refl, a.0))
 each_at P (x ∷ xs) (suc k) a h = each_at P xs k a.1 (omega arith)
 
-pub get_left : {X : Type 0} (xs ys : List X) (k : ℕ) → k < length xs → slice_get (xs ++ ys) k ≡ slice_get xs k
+pub get_left : {X : Type 0} (xs ys : List X) (k : ℕ) → k < length xs
+    → slice_get (xs ++ ys) k ≡ slice_get xs k
 get_left [] ys k h = absurd (omega arith)
 get_left (x ∷ xs) ys zero h = refl
 get_left (x ∷ xs) ys (suc k) h = get_left xs ys k (omega arith)
 
-pub get_right : {X : Type 0} (xs ys : List X) (j k : ℕ) → length xs + k ≡ j → slice_get (xs ++ ys) j ≡ slice_get ys k
+pub get_right : {X : Type 0} (xs ys : List X) (j k : ℕ) → length xs + k ≡ j
+    → slice_get (xs ++ ys) j ≡ slice_get ys k
 get_right [] ys j k e = let same : j ≡ k = omega arith in ap (slice_get ys) same
 get_right (x ∷ xs) ys zero k e = absurd (omega arith)
 get_right (x ∷ xs) ys (suc j) k e = get_right xs ys j k (omega arith)
 
 -- a filtered and mapped list, where the filter keeps an element
-pub split_at : {X Y : Type 0} (f : X → Y) (p : X → Bool) (low : List X) (m : X) (high : List X) → p m ≡ true
+pub split_at : {X Y : Type 0} (f : X → Y) (p : X → Bool) (low : List X) (m : X) (high : List X)
+    → p m ≡ true
     → map f (filter p (low ++ (m ∷ high))) ≡ map f (filter p low) ++ (f m ∷ map f (filter p high))
 split_at f p [] m high h = ap (λ b. map f (cond b (m ∷ filter p high) (filter p high))) h
 split_at {X} {Y} f p (y ∷ low) m high h = by_test (split_at f p low m high h) (p y)
   where
-    by_test : map f (filter p (low ++ (m ∷ high))) ≡ map f (filter p low) ++ (f m ∷ map f (filter p high)) → (b : Bool)
+    by_test : map f (filter p (low ++ (m ∷ high))) ≡ map f
+        (filter p low) ++ (f m ∷ map f (filter p high))
+        → (b : Bool)
         → map f (cond b (y ∷ filter p (low ++ (m ∷ high))) (filter p (low ++ (m ∷ high))))
         ≡ map f (cond b (y ∷ filter p low) (filter p low)) ++ (f m ∷ map f (filter p high))
     by_test rest true = ap (λ r. f y ∷ r) rest
     by_test rest false = rest
 
 -- the same where the filter drops it
-pub split_off : {X Y : Type 0} (f : X → Y) (p : X → Bool) (low : List X) (m : X) (high : List X) → p m ≡ false
+pub split_off : {X Y : Type 0} (f : X → Y) (p : X → Bool) (low : List X) (m : X) (high : List X)
+    → p m ≡ false
     → map f (filter p (low ++ (m ∷ high))) ≡ map f (filter p low) ++ map f (filter p high)
 split_off f p [] m high h = ap (λ b. map f (cond b (m ∷ filter p high) (filter p high))) h
 split_off {X} {Y} f p (y ∷ low) m high h = by_test (split_off f p low m high h) (p y)
   where
-    by_test : map f (filter p (low ++ (m ∷ high))) ≡ map f (filter p low) ++ map f (filter p high) → (b : Bool)
+    by_test : map f (filter p (low ++ (m ∷ high))) ≡ map f (filter p low) ++ map f (filter p high)
+        → (b : Bool)
         → map f (cond b (y ∷ filter p (low ++ (m ∷ high))) (filter p (low ++ (m ∷ high))))
         ≡ map f (cond b (y ∷ filter p low) (filter p low)) ++ map f (filter p high)
     by_test rest true = ap (λ r. f y ∷ r) rest
@@ -116,7 +125,9 @@ pub record Whole (layout : Layout) (lane : ℕ) (line : Line) (rows : List Row) 
   pub bottom_corner : Shows layout lane BottomCorner bottom
   pub gaps_after : AllByRecursion (Shows layout lane Space) after
 
-pub finishes_later : (layout : Layout) (lane : ℕ) (xs ys : List Row) → AllByRecursion (Shows layout lane Bar) xs → Finishes layout lane ys → Finishes layout lane (xs ++ ys)
+pub finishes_later : (layout : Layout) (lane : ℕ) (xs ys : List Row)
+    → AllByRecursion (Shows layout lane Bar) xs → Finishes layout lane ys
+    → Finishes layout lane (xs ++ ys)
 finishes_later layout lane xs ys bars r = record {
   before = xs ++ r.before;
   bottom = r.bottom;
@@ -127,7 +138,8 @@ finishes_later layout lane xs ys bars r = record {
   gaps = r.gaps;
 }
 
-pub finishes_before : (layout : Layout) (lane : ℕ) (xs ys : List Row) → Finishes layout lane xs → AllByRecursion (Shows layout lane Space) ys → Finishes layout lane (xs ++ ys)
+pub finishes_before : (layout : Layout) (lane : ℕ) (xs ys : List Row) → Finishes layout lane xs
+    → AllByRecursion (Shows layout lane Space) ys → Finishes layout lane (xs ++ ys)
 finishes_before layout lane xs ys r gaps = record {
   before = r.before;
   bottom = r.bottom;
@@ -138,14 +150,18 @@ finishes_before layout lane xs ys r gaps = record {
   gaps = all-append (Shows layout lane Space) r.after ys r.gaps gaps;
 }
 
-pub whole_later : (layout : Layout) (lane : ℕ) (line : Line) (xs ys : List Row) → AllByRecursion (Shows layout lane Space) xs → Whole layout lane line ys → Whole layout lane line (xs ++ ys)
+pub whole_later : (layout : Layout) (lane : ℕ) (line : Line) (xs ys : List Row)
+    → AllByRecursion (Shows layout lane Space) xs → Whole layout lane line ys
+    → Whole layout lane line (xs ++ ys)
 whole_later layout lane line xs ys gaps r = record {
   before = xs ++ r.before;
   top = r.top;
   middle = r.middle;
   bottom = r.bottom;
   after = r.after;
-  rows_are = ap (λ t. xs ++ t) r.rows_are ∙ sym (append_assoc xs r.before (r.top ∷ (r.middle ++ (r.bottom ∷ r.after))));
+  rows_are =
+      ap (λ t. xs ++ t) r.rows_are
+      ∙ sym (append_assoc xs r.before (r.top ∷ (r.middle ++ (r.bottom ∷ r.after))));
   gaps_before = all-append (Shows layout lane Space) xs r.before gaps r.gaps_before;
   top_corner = r.top_corner;
   goes_on = r.goes_on;
@@ -153,7 +169,9 @@ whole_later layout lane line xs ys gaps r = record {
   gaps_after = r.gaps_after;
 }
 
-pub whole_before : (layout : Layout) (lane : ℕ) (line : Line) (xs ys : List Row) → Whole layout lane line xs → AllByRecursion (Shows layout lane Space) ys → Whole layout lane line (xs ++ ys)
+pub whole_before : (layout : Layout) (lane : ℕ) (line : Line) (xs ys : List Row)
+    → Whole layout lane line xs → AllByRecursion (Shows layout lane Space) ys
+    → Whole layout lane line (xs ++ ys)
 whole_before layout lane line xs ys r gaps = record {
   before = r.before;
   top = r.top;
@@ -169,14 +187,17 @@ whole_before layout lane line xs ys r gaps = record {
   gaps_after = all-append (Shows layout lane Space) r.after ys r.gaps_after gaps;
 }
 
-pub whole_joined : (layout : Layout) (lane : ℕ) (line : Line) (xs ys : List Row) → Begins layout lane line xs → Finishes layout lane ys → Whole layout lane line (xs ++ ys)
+pub whole_joined : (layout : Layout) (lane : ℕ) (line : Line) (xs ys : List Row)
+    → Begins layout lane line xs → Finishes layout lane ys → Whole layout lane line (xs ++ ys)
 whole_joined layout lane line xs ys b r = record {
   before = b.before;
   top = b.top;
   middle = b.more ++ r.before;
   bottom = r.bottom;
   after = r.after;
-  rows_are = ap₂ (λ s t. s ++ t) b.rows_are r.rows_are ∙ append_assoc b.before (b.top ∷ b.more) (r.before ++ (r.bottom ∷ r.after))
+  rows_are =
+      ap₂ (λ s t. s ++ t) b.rows_are r.rows_are
+      ∙ append_assoc b.before (b.top ∷ b.more) (r.before ++ (r.bottom ∷ r.after))
       ∙ ap (λ t. b.before ++ (b.top ∷ t)) (sym (append_assoc b.more r.before (r.bottom ∷ r.after)));
   gaps_before = b.gaps;
   top_corner = b.top_corner;
@@ -188,8 +209,10 @@ whole_joined layout lane line xs ys b r = record {
 
 -- ---- the same by indices
 
-pub one_line : (layout : Layout) (s : LabeledFileModel) (rows : List Row) (lane : ℕ) (x : LabelModel)
-    → Whole layout lane (line_at s (first_line s.file x)) rows → IsCornerToCorner layout s rows lane x
+pub one_line : (layout : Layout) (s : LabeledFileModel) (rows : List Row) (lane : ℕ)
+    (x : LabelModel)
+    → Whole layout lane (line_at s (first_line s.file x)) rows
+    → IsCornerToCorner layout s rows lane x
 one_line layout s rows lane x w = record {
   top = at_top;
   bottom = at_bottom;
@@ -199,18 +222,20 @@ one_line layout s rows lane x w = record {
   between = λ k low high.
       let j : ℕ = k - at_top - 1 in
       let r = each_at (GoesOn layout lane line w.top) w.middle j w.goes_on (omega arith) in
-      let is : slice_get rows k ≡ Some r.0 =
-      ap (λ t. slice_get t k) w.rows_are ∙ get_right w.before (w.top ∷ below) k (suc j) (omega arith) ∙ get_left w.middle (w.bottom ∷ w.after) j (omega arith) ∙ r.1.0
+      let is : slice_get rows k ≡ Some r.0 = ap (λ t. slice_get t k) w.rows_are
+      ∙ get_right w.before (w.top ∷ below) k (suc j) (omega arith)
+      ∙ get_left w.middle (w.bottom ∷ w.after) j (omega arith) ∙ r.1.0
       in
       by_kind k r.0 is r.1.1;
   before = λ k low.
       let r = each_at (Shows layout lane Space) w.before k w.gaps_before low in
-      ap (λ t. show (slice_get t k)) w.rows_are ∙ ap show (get_left w.before (w.top ∷ below) k low ∙ r.1.0) ∙ ap Some r.1.1;
+      ap (λ t. show (slice_get t k)) w.rows_are
+      ∙ ap show (get_left w.before (w.top ∷ below) k low ∙ r.1.0) ∙ ap Some r.1.1;
   after = λ k low high.
       let j : ℕ = k - at_bottom - 1 in
       let r = each_at (Shows layout lane Space) w.after j w.gaps_after (omega (arith, long)) in
-      let is : slice_get rows k ≡ Some r.0 =
-      ap (λ t. slice_get t k) w.rows_are ∙ get_right w.before (w.top ∷ below) k (suc (length w.middle + suc j)) (omega arith)
+      let is : slice_get rows k ≡ Some r.0 = ap (λ t. slice_get t k) w.rows_are
+      ∙ get_right w.before (w.top ∷ below) k (suc (length w.middle + suc j)) (omega arith)
       ∙ get_right w.middle (w.bottom ∷ w.after) (length w.middle + suc j) (suc j) refl ∙ r.1.0
       in
       ap show is ∙ ap Some r.1.1;
@@ -236,7 +261,8 @@ one_line layout s rows lane x w = record {
 
     bottom_is : slice_get rows at_bottom ≡ Some w.bottom
     bottom_is =
-        ap (λ t. slice_get t at_bottom) w.rows_are ∙ get_right w.before (w.top ∷ below) at_bottom (suc (length w.middle)) refl
+        ap (λ t. slice_get t at_bottom) w.rows_are
+        ∙ get_right w.before (w.top ∷ below) at_bottom (suc (length w.middle)) refl
         ∙ get_right w.middle (w.bottom ∷ w.after) (length w.middle) 0 (omega arith)
 
     long : length rows ≡ at_bottom + suc (length w.after)
@@ -251,5 +277,6 @@ one_line layout s rows lane x w = record {
       is_classic = out.is_classic;
       is_gap = ap show is ∙ ap Some out.is_gap;
       begins_in_source_row = top_is ∙ ap Some out.begins_in_source_row;
-      is_of_line = λ other other_is. let same : row ≡ other = cc in ap line_of_row (sym same) ∙ out.is_of_line;
+      is_of_line = λ other other_is. let same : row ≡ other = cc in
+          ap line_of_row (sym same) ∙ out.is_of_line;
     })

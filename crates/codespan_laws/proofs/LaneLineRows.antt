@@ -1,62 +1,71 @@
 -- For `lanes_are_lines`: what a lane shows in the rows of one line.
-use Rattle.std.proofs.Common.{◌≡◌, ℕ, ◌<◌, Bool, true, false, not, cond, ◌&&◌, ◌==◌, nat_lt, inl, inr, List, [], ◌∷◌, ◌++◌, map, filter, reverse, Some, None, refl, sym, ap, ◌∙◌, arith, append_assoc}
-use Rattle.std.proofs.lemmas.Bool.Decides.{nat_tests}
+use Rattle.std.proofs.Common.{◌≡◌, ℕ, Bool, List, [], ◌∷◌, ◌++◌, map, filter, reverse, Some, None, ap}
 use Rattle.std.specs.List.{AllByRecursion}
-use Rattle.std.proofs.Math.Bool.{and-false}
 use Rattle.codespan_base.specs.declared.term.config.Layout.{Layout}
-use Rattle.codespan_base.specs.declared.term.config.Layout.TheVariants.{Classic, Unbroken}
 use Rattle.codespan_base.specs.declared.diagnostic.LabelStyle.{LabelStyle}
-use Rattle.codespan_base.specs.Streams.{Stream}
-use Rattle.codespan_base.specs.Labels.{LabelModel, LaneMark, MultiLabel, Top, Left, Bottom}
-use Rattle.codespan_picture.specs.declared.lanes.Shape.{Shape}
-use Rattle.codespan_picture.specs.declared.lanes.Shape.TheVariants.{Space, Bar, TopCorner, BottomCorner}
-use Rattle.codespan_picture.specs.Lanes.{source_shape, single_labels_shape, underline_shape, lane_mark_in, is_unbroken, begins_in_source_row, shape_of}
-use Rattle.codespan_laws.specs.LaneLaws.{shape_in}
-use Rattle.codespan_picture.specs.Rows.{Line, Row, SourceRow, CaretRow, PointerRow, HangingRow, UnderlineRow, caret_rows, hanging_rows, hanging_labels, underline_rows, rows_of, has_underline}
+use Rattle.codespan_base.specs.Labels.{LabelModel, LaneMark, MultiLabel, Left}
+use Rattle.codespan_picture.specs.declared.lanes.Shape.TheVariants.{Space, Bar}
+use Rattle.codespan_picture.specs.Lanes.{source_shape, single_labels_shape, underline_shape, lane_mark_in, shape_of}
+use Rattle.codespan_picture.specs.Rows.{Line, Row, CaretRow, PointerRow, HangingRow, UnderlineRow, caret_rows, hanging_rows, hanging_labels, underline_rows, rows_of, has_underline}
 use Rattle.codespan_picture.specs.RowParts.{leading_of}
-use Rattle.codespan_laws.proofs.LaneLineLemmas.{each_all, each_map, split_at, split_off, Shows, GoesOn, Begins, Finishes}
-use Rattle.codespan_laws.proofs.ListElements.{all-append, all-filter, all-weaker}
+use Rattle.codespan_laws.proofs.LaneLineLemmas.{each_all, each_map, Shows}
+use Rattle.codespan_laws.proofs.ListElements.{all-append, all-filter}
 
 -- ---- the rows of a line
 
-each_caret : (P : Row → Type 0) (line : Line) (labels : List LabelModel) → P (CaretRow line) → AllByRecursion P (caret_rows line labels)
+each_caret : (P : Row → Type 0) (line : Line) (labels : List LabelModel) → P (CaretRow line)
+    → AllByRecursion P (caret_rows line labels)
 each_caret P line [] a = tt
 each_caret P line (x ∷ xs) a = (a, tt)
 
-each_hanging : (P : Row → Type 0) (line : Line) (labels : List LabelModel) → P (PointerRow line) → ((y : LabelModel) → P (HangingRow line y))
+each_hanging : (P : Row → Type 0) (line : Line) (labels : List LabelModel) → P (PointerRow line)
+    → ((y : LabelModel) → P (HangingRow line y))
     → AllByRecursion P (hanging_rows line labels)
 each_hanging P line [] a b = tt
-each_hanging P line (x ∷ xs) a b =
-    (a, each_map P (HangingRow line) (reverse (x ∷ xs)) (each_all (λ y. P (HangingRow line y)) (reverse (x ∷ xs)) b))
+each_hanging P line (x ∷ xs) a b = (
+  a,
+  each_map P (HangingRow line) (reverse (x ∷ xs))
+      (each_all (λ y. P (HangingRow line y)) (reverse (x ∷ xs)) b),
+)
 
-abbrev below_rows : Line → List Row
+abbrev pub below_rows : Line → List Row
 below_rows line = caret_rows line line.labels ++ hanging_rows line (hanging_labels line.labels)
 
-each_below : (P : Row → Type 0) (line : Line) → P (CaretRow line) → P (PointerRow line) → ((y : LabelModel) → P (HangingRow line y)) → AllByRecursion P (below_rows line)
+pub each_below : (P : Row → Type 0) (line : Line) → P (CaretRow line) → P (PointerRow line)
+    → ((y : LabelModel) → P (HangingRow line y)) → AllByRecursion P (below_rows line)
 each_below P line a b d =
-    all-append P (caret_rows line line.labels) (hanging_rows line (hanging_labels line.labels)) (each_caret P line line.labels a)
+    all-append P (caret_rows line line.labels) (hanging_rows line (hanging_labels line.labels))
+    (each_caret P line line.labels a)
     (each_hanging P line (hanging_labels line.labels) b d)
 
-abbrev is_underlined : Line → LaneMark → Bool
+abbrev pub is_underlined : Line → LaneMark → Bool
 is_underlined line m = has_underline (leading_of line) m.multi_label
 
-each_under : (P : Row → Type 0) (line : Line) (lane_marks : List LaneMark) → AllByRecursion (λ m. P (UnderlineRow line m)) lane_marks
+pub each_under : (P : Row → Type 0) (line : Line) (lane_marks : List LaneMark)
+    → AllByRecursion (λ m. P (UnderlineRow line m)) lane_marks
     → AllByRecursion P (map (UnderlineRow line) (filter (is_underlined line) lane_marks))
 each_under P line lane_marks a =
-    each_map P (UnderlineRow line) (filter (is_underlined line) lane_marks) (all-filter (λ m. P (UnderlineRow line m)) (is_underlined line) lane_marks a)
+    each_map P (UnderlineRow line) (filter (is_underlined line) lane_marks)
+    (all-filter (λ m. P (UnderlineRow line m)) (is_underlined line) lane_marks a)
 
-each_after_source : (P : Row → Type 0) (line : Line) → P (CaretRow line) → P (PointerRow line) → ((y : LabelModel) → P (HangingRow line y))
-    → ((m : LaneMark) → P (UnderlineRow line m)) → AllByRecursion P (below_rows line ++ underline_rows line)
+pub each_after_source : (P : Row → Type 0) (line : Line) → P (CaretRow line) → P (PointerRow line)
+    → ((y : LabelModel) → P (HangingRow line y))
+    → ((m : LaneMark) → P (UnderlineRow line m))
+    → AllByRecursion P (below_rows line ++ underline_rows line)
 each_after_source P line a b d e =
     all-append P (below_rows line) (underline_rows line) (each_below P line a b d)
-    (each_under P line line.lanes.lane_marks (each_all (λ m. P (UnderlineRow line m)) line.lanes.lane_marks e))
+    (each_under P line line.lanes.lane_marks
+    (each_all (λ m. P (UnderlineRow line m)) line.lanes.lane_marks e))
 
 -- ---- a line on which the label neither begins nor ends
 
 abbrev pub lane_mark_with : ℕ → LabelStyle → MultiLabel → LaneMark
-lane_mark_with lane style multi_label = record { lane = lane; style = style; multi_label = multi_label }
+lane_mark_with lane style multi_label =
+    record { lane = lane; style = style; multi_label = multi_label }
 
-pub no_lane_mark : (layout : Layout) (lane : ℕ) (line : Line) → lane_mark_in line.lanes.lane_marks lane ≡ None → AllByRecursion (Shows layout lane Space) (rows_of line)
+pub no_lane_mark : (layout : Layout) (lane : ℕ) (line : Line)
+    → lane_mark_in line.lanes.lane_marks lane ≡ None
+    → AllByRecursion (Shows layout lane Space) (rows_of line)
 no_lane_mark layout lane line none = (
   ap (shape_of (source_shape (leading_of line))) none,
   each_after_source (Shows layout lane Space) line
@@ -66,7 +75,8 @@ no_lane_mark layout lane line none = (
       (λ m. ap (shape_of (underline_shape layout (leading_of line) m.lane lane)) none),
 )
 
-pub left_lane_mark : (layout : Layout) (lane : ℕ) (line : Line) (style : LabelStyle) → lane_mark_in line.lanes.lane_marks lane ≡ Some (lane_mark_with lane style Left)
+pub left_lane_mark : (layout : Layout) (lane : ℕ) (line : Line) (style : LabelStyle)
+    → lane_mark_in line.lanes.lane_marks lane ≡ Some (lane_mark_with lane style Left)
     → AllByRecursion (Shows layout lane Bar) (rows_of line)
 left_lane_mark layout lane line style is = (
   ap (shape_of (source_shape (leading_of line))) is,
@@ -76,206 +86,3 @@ left_lane_mark layout lane line style is = (
       (λ y. ap (shape_of (single_labels_shape layout (leading_of line))) is)
       (λ m. ap (shape_of (underline_shape layout (leading_of line) m.lane lane)) is),
 )
-
--- ---- a line with an end of the label
-
--- the lane's multi-line label mark among those of the line
-pub record Split (lane : ℕ) (m : LaneMark) (lane_marks : List LaneMark) : Type 0 where
-  pub low : List LaneMark
-  pub high : List LaneMark
-  pub is : lane_marks ≡ low ++ (m ∷ high)
-  pub below : AllByRecursion (λ (o : LaneMark). o.lane < lane) low
-  pub above : AllByRecursion (λ (o : LaneMark). lane < o.lane) high
-
--- the rows of the line, where the lane has an underline of its own
-rows_split : (lane : ℕ) (line : Line) (m : LaneMark) (r : Split lane m line.lanes.lane_marks) → is_underlined line m ≡ true
-    → rows_of line
-    ≡ (SourceRow line ∷ (below_rows line ++ map (UnderlineRow line) (filter (is_underlined line) r.low)))
-    ++ (UnderlineRow line m ∷ map (UnderlineRow line) (filter (is_underlined line) r.high))
-rows_split lane line m r h =
-    ap (λ t. SourceRow line ∷ (below_rows line ++ map (UnderlineRow line) (filter (is_underlined line) t))) r.is
-    ∙ ap (λ t. SourceRow line ∷ (below_rows line ++ t)) (split_at (UnderlineRow line) (is_underlined line) r.low m r.high h)
-    ∙ ap (λ t. SourceRow line ∷ t) (sym (append_assoc (below_rows line) (map (UnderlineRow line) (filter (is_underlined line) r.low)) (UnderlineRow line m ∷ map (UnderlineRow line) (filter (is_underlined line) r.high))))
-
-pub bottom_lane_mark : (layout : Layout) (lane : ℕ) (line : Line) (style : LabelStyle) (end : ℕ) (message : Stream)
-    → lane_mark_in line.lanes.lane_marks lane ≡ Some (lane_mark_with lane style (Bottom end message))
-    → Split lane (lane_mark_with lane style (Bottom end message)) line.lanes.lane_marks
-    → Finishes layout lane (rows_of line)
-bottom_lane_mark layout lane line style end message is r = record {
-  before = SourceRow line ∷ (below_rows line ++ map (UnderlineRow line) (filter (is_underlined line) r.low));
-  bottom = UnderlineRow line m;
-  after = map (UnderlineRow line) (filter (is_underlined line) r.high);
-  rows_are = rows_split lane line m r refl;
-  bars = (
-    ap (shape_of (source_shape (leading_of line))) is,
-    all-append (Shows layout lane Bar) (below_rows line) (map (UnderlineRow line) (filter (is_underlined line) r.low))
-        (each_below (Shows layout lane Bar) line
-        (ap (shape_of (single_labels_shape layout (leading_of line))) is)
-        (ap (shape_of (single_labels_shape layout (leading_of line))) is)
-        (λ y. ap (shape_of (single_labels_shape layout (leading_of line))) is))
-        (each_under (Shows layout lane Bar) line r.low
-        (all-weaker (λ (o : LaneMark). o.lane < lane) (λ o. Shows layout lane Bar (UnderlineRow line o)) on_low r.low r.below)),
-  );
-  bottom_corner =
-      let same : (lane == lane) ≡ true = grind (arith, nat_tests) in
-      shown m ∙ ap (λ b. cond b BottomCorner (cond (nat_lt lane lane) Space Bar)) same;
-  gaps = each_under (Shows layout lane Space) line r.high
-      (all-weaker (λ (o : LaneMark). lane < o.lane) (λ o. Shows layout lane Space (UnderlineRow line o)) on_high r.high r.above);
-}
-  where
-    m : LaneMark
-    m = lane_mark_with lane style (Bottom end message)
-
-    shown : (o : LaneMark) → shape_in layout (UnderlineRow line o) lane ≡ underline_shape layout (leading_of line) o.lane lane (Bottom end message)
-    shown o = ap (shape_of (underline_shape layout (leading_of line) o.lane lane)) is
-
-    on_low : (o : LaneMark) → o.lane < lane → Shows layout lane Bar (UnderlineRow line o)
-    on_low o h = bottom_low layout lane (leading_of line) o.lane end message h (shown o)
-      where
-        bottom_low : (layout : Layout) (lane leading corner_lane end : ℕ) (message : Stream) {v : Shape} → corner_lane < lane
-            → v ≡ underline_shape layout leading corner_lane lane (Bottom end message) → v ≡ Bar
-        bottom_low layout lane leading corner_lane end message h e =
-            let other : (lane == corner_lane) ≡ false = grind (arith, nat_tests) in
-            let later : nat_lt lane corner_lane ≡ false = grind (arith, nat_tests) in
-            e ∙ simp (other, later)
-
-    on_high : (o : LaneMark) → lane < o.lane → Shows layout lane Space (UnderlineRow line o)
-    on_high o h = bottom_high layout lane (leading_of line) o.lane end message h (shown o)
-      where
-        bottom_high : (layout : Layout) (lane leading corner_lane end : ℕ) (message : Stream) {v : Shape} → lane < corner_lane
-            → v ≡ underline_shape layout leading corner_lane lane (Bottom end message) → v ≡ Space
-        bottom_high layout lane leading corner_lane end message h e =
-            let other : (lane == corner_lane) ≡ false = grind (arith, nat_tests) in
-            let later : nat_lt lane corner_lane ≡ true = grind (arith, nat_tests) in
-            e ∙ simp (other, later)
-
--- a top, in the underline row of a lane to its left or to its right
-top_low : (lane corner_lane : ℕ) {v : Shape} → corner_lane < lane → v ≡ cond (lane == corner_lane) TopCorner (cond (nat_lt lane corner_lane) Bar Space) → v ≡ Space
-top_low lane corner_lane h e =
-    let other : (lane == corner_lane) ≡ false = grind (arith, nat_tests) in
-    let later : nat_lt lane corner_lane ≡ false = grind (arith, nat_tests) in
-    e ∙ simp (other, later)
-
-top_high : (lane corner_lane : ℕ) {v : Shape} → lane < corner_lane → v ≡ cond (lane == corner_lane) TopCorner (cond (nat_lt lane corner_lane) Bar Space) → v ≡ Bar
-top_high lane corner_lane h e =
-    let other : (lane == corner_lane) ≡ false = grind (arith, nat_tests) in
-    let later : nat_lt lane corner_lane ≡ true = grind (arith, nat_tests) in
-    e ∙ simp (other, later)
-
--- a corner in the source row
-top_early : (layout : Layout) (lane : ℕ) (line : Line) (style : LabelStyle) (start : ℕ)
-    → lane_mark_in line.lanes.lane_marks lane ≡ Some (lane_mark_with lane style (Top start))
-    → Split lane (lane_mark_with lane style (Top start)) line.lanes.lane_marks → begins_in_source_row (leading_of line) start ≡ true
-    → Begins layout lane line (rows_of line)
-top_early layout lane line style start is r early = record {
-  before = [];
-  top = SourceRow line;
-  more = below_rows line ++ underline_rows line;
-  rows_are = refl;
-  gaps = tt;
-  top_corner = ap (shape_of (source_shape (leading_of line))) is ∙ ap (λ b. cond b TopCorner Space) early;
-  goes_on = by_layout layout;
-}
-  where
-    m : LaneMark
-    m = lane_mark_with lane style (Top start)
-
-    -- the underline rows without the lane's own
-    without : underline_rows line
-        ≡ map (UnderlineRow line) (filter (is_underlined line) r.low) ++ map (UnderlineRow line) (filter (is_underlined line) r.high)
-    without =
-        ap (λ t. map (UnderlineRow line) (filter (is_underlined line) t)) r.is
-        ∙ split_off (UnderlineRow line) (is_underlined line) r.low m r.high (ap not early)
-
-    gap : shape_of (single_labels_shape Classic (leading_of line)) (lane_mark_in line.lanes.lane_marks lane) ≡ Space
-    gap = ap (shape_of (single_labels_shape Classic (leading_of line))) is
-
-    shown : (o : LaneMark) → shape_in Classic (UnderlineRow line o) lane ≡ cond (lane == o.lane) TopCorner (cond (nat_lt lane o.lane) Bar Space)
-    shown o = ap (shape_of (underline_shape Classic (leading_of line) o.lane lane)) is
-
-    on_low : (o : LaneMark) → o.lane < lane → GoesOn Classic lane line (SourceRow line) (UnderlineRow line o)
-    on_low o h = inr (record { is_gap = top_low lane o.lane h (shown o); is_classic = refl; begins_in_source_row = refl; is_of_line = refl })
-
-    on_high : (o : LaneMark) → lane < o.lane → GoesOn Classic lane line (SourceRow line) (UnderlineRow line o)
-    on_high o h = inl (top_high lane o.lane h (shown o))
-
-    by_layout : (layout : Layout) → AllByRecursion (GoesOn layout lane line (SourceRow line)) (below_rows line ++ underline_rows line)
-    by_layout Classic =
-        all-append (GoesOn Classic lane line (SourceRow line)) (below_rows line) (underline_rows line)
-        (each_below (GoesOn Classic lane line (SourceRow line)) line
-        (inr (record { is_gap = gap; is_classic = refl; begins_in_source_row = refl; is_of_line = refl }))
-        (inr (record { is_gap = gap; is_classic = refl; begins_in_source_row = refl; is_of_line = refl }))
-        (λ y. inr (record { is_gap = gap; is_classic = refl; begins_in_source_row = refl; is_of_line = refl })))
-        (rw without (all-append (GoesOn Classic lane line (SourceRow line)) (map (UnderlineRow line) (filter (is_underlined line) r.low)) (map (UnderlineRow line) (filter (is_underlined line) r.high))
-        (each_under (GoesOn Classic lane line (SourceRow line)) line r.low
-        (all-weaker (λ (o : LaneMark). o.lane < lane) (λ o. GoesOn Classic lane line (SourceRow line) (UnderlineRow line o)) on_low r.low r.below))
-        (each_under (GoesOn Classic lane line (SourceRow line)) line r.high
-        (all-weaker (λ (o : LaneMark). lane < o.lane) (λ o. GoesOn Classic lane line (SourceRow line) (UnderlineRow line o)) on_high r.high r.above))))
-    by_layout Unbroken =
-        each_after_source (GoesOn Unbroken lane line (SourceRow line)) line
-        (inl (ap (shape_of (single_labels_shape Unbroken (leading_of line))) is ∙ ap (λ b. cond b Bar Space) early))
-        (inl (ap (shape_of (single_labels_shape Unbroken (leading_of line))) is ∙ ap (λ b. cond b Bar Space) early))
-        (λ y. inl (ap (shape_of (single_labels_shape Unbroken (leading_of line))) is ∙ ap (λ b. cond b Bar Space) early))
-        (λ m. inl (ap (shape_of (underline_shape Unbroken (leading_of line) m.lane lane)) is
-        ∙ ap (λ b. cond b Bar (cond (lane == m.lane) TopCorner (cond (nat_lt lane m.lane) Bar Space))) early))
-
--- a lane whose corner is not in the source row does not continue below that row
-late : (layout : Layout) (leading start : ℕ) → begins_in_source_row leading start ≡ false → (is_unbroken layout && begins_in_source_row leading start) ≡ false
-late layout leading start h = ap (λ b. is_unbroken layout && b) h ∙ and-false (is_unbroken layout)
-
-late_below : (layout : Layout) (leading start : ℕ) → begins_in_source_row leading start ≡ false → single_labels_shape layout leading (Top start) ≡ Space
-late_below layout leading start h = ap (λ b. cond b Bar Space) (late layout leading start h)
-
-late_underline : (layout : Layout) (leading corner_lane lane start : ℕ) → begins_in_source_row leading start ≡ false
-    → underline_shape layout leading corner_lane lane (Top start) ≡ cond (lane == corner_lane) TopCorner (cond (nat_lt lane corner_lane) Bar Space)
-late_underline layout leading corner_lane lane start h =
-    ap (λ b. cond b Bar (cond (lane == corner_lane) TopCorner (cond (nat_lt lane corner_lane) Bar Space))) (late layout leading start h)
-
--- a corner in a row of its own
-top_late : (layout : Layout) (lane : ℕ) (line : Line) (style : LabelStyle) (start : ℕ)
-    → lane_mark_in line.lanes.lane_marks lane ≡ Some (lane_mark_with lane style (Top start))
-    → Split lane (lane_mark_with lane style (Top start)) line.lanes.lane_marks → begins_in_source_row (leading_of line) start ≡ false
-    → Begins layout lane line (rows_of line)
-top_late layout lane line style start is r early = record {
-  before = SourceRow line ∷ (below_rows line ++ map (UnderlineRow line) (filter (is_underlined line) r.low));
-  top = UnderlineRow line m;
-  more = map (UnderlineRow line) (filter (is_underlined line) r.high);
-  rows_are = rows_split lane line m r (ap not early);
-  gaps = (
-    ap (shape_of (source_shape (leading_of line))) is ∙ ap (λ b. cond b TopCorner Space) early,
-    all-append (Shows layout lane Space) (below_rows line) (map (UnderlineRow line) (filter (is_underlined line) r.low))
-        (each_below (Shows layout lane Space) line under under (λ y. under))
-        (each_under (Shows layout lane Space) line r.low
-        (all-weaker (λ (o : LaneMark). o.lane < lane) (λ o. Shows layout lane Space (UnderlineRow line o)) on_low r.low r.below)),
-  );
-  top_corner =
-      let same : (lane == lane) ≡ true = grind (arith, nat_tests) in
-      shown m ∙ ap (λ b. cond b TopCorner (cond (nat_lt lane lane) Bar Space)) same;
-  goes_on = each_under (GoesOn layout lane line (UnderlineRow line m)) line r.high
-      (all-weaker (λ (o : LaneMark). lane < o.lane) (λ o. GoesOn layout lane line (UnderlineRow line m) (UnderlineRow line o)) (λ o h. inl (on_high o h)) r.high r.above);
-}
-  where
-    m : LaneMark
-    m = lane_mark_with lane style (Top start)
-
-    under : shape_of (single_labels_shape layout (leading_of line)) (lane_mark_in line.lanes.lane_marks lane) ≡ Space
-    under = ap (shape_of (single_labels_shape layout (leading_of line))) is ∙ late_below layout (leading_of line) start early
-
-    shown : (o : LaneMark) → shape_in layout (UnderlineRow line o) lane ≡ cond (lane == o.lane) TopCorner (cond (nat_lt lane o.lane) Bar Space)
-    shown o = ap (shape_of (underline_shape layout (leading_of line) o.lane lane)) is ∙ late_underline layout (leading_of line) o.lane lane start early
-
-    on_low : (o : LaneMark) → o.lane < lane → Shows layout lane Space (UnderlineRow line o)
-    on_low o h = top_low lane o.lane h (shown o)
-
-    on_high : (o : LaneMark) → lane < o.lane → Shows layout lane Bar (UnderlineRow line o)
-    on_high o h = top_high lane o.lane h (shown o)
-
-pub top_lane_mark : (layout : Layout) (lane : ℕ) (line : Line) (style : LabelStyle) (start : ℕ)
-    → lane_mark_in line.lanes.lane_marks lane ≡ Some (lane_mark_with lane style (Top start))
-    → Split lane (lane_mark_with lane style (Top start)) line.lanes.lane_marks
-    → Begins layout lane line (rows_of line)
-top_lane_mark layout lane line style start is r = by_test (begins_in_source_row (leading_of line) start) refl
-  where
-    by_test : (b : Bool) → begins_in_source_row (leading_of line) start ≡ b → Begins layout lane line (rows_of line)
-    by_test true early = top_early layout lane line style start is r early
-    by_test false early = top_late layout lane line style start is r early

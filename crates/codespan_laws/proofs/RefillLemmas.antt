@@ -85,7 +85,8 @@ module _ (φ : Stream → Stream) (keeps : (s : Stream) → is_empty_stream (φ 
   around end (x ∷ xs) = by_rest (around_with_end end xs) (x.end == end) (around end xs)
     where
       by_rest : (rest : Option Around) (b : Bool) → around_with_end end (map (re φ) xs) ≡ option_map (re_around φ) rest
-          → behind (re φ x) (around_with_end end (map (re φ) xs)) (if b then Some (record { before = []; here = re φ x; after = map (re φ) xs }) else None)
+          → behind (re φ x) (around_with_end end (map (re φ) xs))
+          (if b then Some (record { before = []; here = re φ x; after = map (re φ) xs }) else None)
           ≡ option_map (re_around φ) (behind x rest (if b then Some (record { before = []; here = x; after = xs }) else None))
       by_rest None true e = rw e refl
       by_rest None false e = rw e refl
@@ -133,7 +134,9 @@ module _ (φ : Stream → Stream) (keeps : (s : Stream) → is_empty_stream (φ 
       by_around (Some a) =
           ap₂ (λ b xs. filter has_message (if b then xs else map (re φ) labels)) (trails a) (others-re a) ∙ by_test (around_trails a)
         where
-          by_test : (b : Bool) → filter has_message (if b then map (re φ) (others a) else map (re φ) labels) ≡ map (re φ) (filter has_message (if b then others a else labels))
+          by_test : (b : Bool)
+              → filter has_message (if b then map (re φ) (others a) else map (re φ) labels) ≡ map
+              (re φ) (filter has_message (if b then others a else labels))
           by_test true = with_message (others a)
           by_test false = with_message labels
 
@@ -144,7 +147,9 @@ module _ (φ : Stream → Stream) (keeps : (s : Stream) → is_empty_stream (φ 
   corner chars Left = refl
   corner chars (Bottom end message) = refl
 
-  pub crossing_cells-re : (severity : _) (chars : _) (m : Option LaneMark) (n : ℕ) → crossing_cells severity chars (option_map (re_lane_mark φ) m) n ≡ crossing_cells severity chars m n
+  pub crossing_cells-re : (severity : _) (chars : _) (m : Option LaneMark) (n : ℕ)
+      → crossing_cells severity chars (option_map (re_lane_mark φ) m) n ≡ crossing_cells severity
+      chars m n
   unfolding crossing_cells
   crossing_cells-re severity chars None n = refl
   crossing_cells-re severity chars (Some m) n = simp (corner chars m.multi_label)
@@ -157,7 +162,8 @@ module _ (φ : Stream → Stream) (keeps : (s : Stream) → is_empty_stream (φ 
   char_metrics-re severity chars m style TopCorner = simp (crossing_cells-re severity chars m 1)
   char_metrics-re severity chars m style BottomCorner = simp (crossing_cells-re severity chars m 1)
 
-  lane-re : (context : RowContext) (c m : Option LaneMark) (shape : MultiLabel → Shape) → ((multi_label : MultiLabel) → shape (re_multi_label φ multi_label) ≡ shape multi_label)
+  lane-re : (context : RowContext) (c m : Option LaneMark) (shape : MultiLabel → Shape)
+      → ((multi_label : MultiLabel) → shape (re_multi_label φ multi_label) ≡ shape multi_label)
       → inner_gutter_column context (option_map (re_lane_mark φ) c) shape (option_map (re_lane_mark φ) m) ≡ inner_gutter_column context c shape m
   unfolding inner_gutter_column
   lane-re context c None shape h = char_metrics-re context.severity context.chars c Primary _
@@ -170,7 +176,11 @@ module _ (φ : Stream → Stream) (keeps : (s : Stream) → is_empty_stream (φ 
   lanes-re context crossing crossing' shape lanes h same =
       ap (λ f. flat_map f (range_with_len 0 lanes.count)) (fun_ext each)
     where
-      each : (lane : ℕ) → inner_gutter_column context (crossing' lane) (shape lane) (lane_mark_in (map (re_lane_mark φ) lanes.lane_marks) lane) ≡ inner_gutter_column context (crossing lane) (shape lane) (lane_mark_in lanes.lane_marks lane)
+      each : (lane : ℕ)
+          → inner_gutter_column context (crossing' lane) (shape lane)
+          (lane_mark_in (map (re_lane_mark φ) lanes.lane_marks) lane)
+          ≡ inner_gutter_column context (crossing lane) (shape lane)
+          (lane_mark_in lanes.lane_marks lane)
       each lane =
           ap₂ (λ c m. inner_gutter_column context c (shape lane) m) (h lane) (find-map (λ (m : LaneMark). m.lane == lane) (re_lane_mark φ) lanes.lane_marks)
           ∙ lane-re context (crossing lane) (lane_mark_in lanes.lane_marks lane) (shape lane) (same lane)
@@ -185,7 +195,9 @@ module _ (φ : Stream → Stream) (keeps : (s : Stream) → is_empty_stream (φ 
   empty_shape-re Left = refl
   empty_shape-re (Bottom end message) = refl
 
-  single_labels_shape-re : (layout : _) (leading : ℕ) (multi_label : MultiLabel) → single_labels_shape layout leading (re_multi_label φ multi_label) ≡ single_labels_shape layout leading multi_label
+  single_labels_shape-re : (layout : _) (leading : ℕ) (multi_label : MultiLabel)
+      → single_labels_shape layout leading (re_multi_label φ multi_label) ≡ single_labels_shape
+      layout leading multi_label
   single_labels_shape-re layout leading (Top start) = refl
   single_labels_shape-re layout leading Left = refl
   single_labels_shape-re layout leading (Bottom end message) = refl
@@ -196,7 +208,9 @@ module _ (φ : Stream → Stream) (keeps : (s : Stream) → is_empty_stream (φ 
   underline_shape-re layout leading corner_lane lane Left = refl
   underline_shape-re layout leading corner_lane lane (Bottom end message) = refl
 
-  pub source_lanes-re : (context : RowContext) (leading : ℕ) (lanes : Lanes) → inner_gutter context leading Source (re_lanes φ lanes) ≡ inner_gutter context leading Source lanes
+  pub source_lanes-re : (context : RowContext) (leading : ℕ) (lanes : Lanes)
+      → inner_gutter context leading Source (re_lanes φ lanes) ≡ inner_gutter context leading Source
+      lanes
   unfolding inner_gutter
   source_lanes-re context leading lanes = lanes-re context (λ _. None) (λ _. None) (λ _. source_shape leading) lanes (λ _. refl) (λ _. source_shape-re leading)
 
@@ -204,7 +218,9 @@ module _ (φ : Stream → Stream) (keeps : (s : Stream) → is_empty_stream (φ 
   unfolding inner_gutter
   plain_lanes-re context lanes = lanes-re context (λ _. None) (λ _. None) (λ _. empty_shape) lanes (λ _. refl) (λ _. empty_shape-re)
 
-  pub below_lanes-re : (context : RowContext) (leading : ℕ) (lanes : Lanes) → inner_gutter context leading SingleLabels (re_lanes φ lanes) ≡ inner_gutter context leading SingleLabels lanes
+  pub below_lanes-re : (context : RowContext) (leading : ℕ) (lanes : Lanes)
+      → inner_gutter context leading SingleLabels (re_lanes φ lanes) ≡ inner_gutter context leading
+      SingleLabels lanes
   unfolding inner_gutter
   below_lanes-re context leading lanes = lanes-re context (λ _. None) (λ _. None) (λ _. single_labels_shape context.layout leading) lanes (λ _. refl) (λ _. single_labels_shape-re context.layout leading)
 
@@ -254,11 +270,14 @@ module _ (φ : Stream → Stream) (keeps : (s : Stream) → is_empty_stream (φ 
   pointer_style-re : (labels : List LabelModel) (c : Metrics) → pointer_style (map (re φ) labels) c ≡ pointer_style labels c
   pointer_style-re labels c = ap (λ b. if b then Primary else Secondary) (any-map (λ x. is_primary x && starts_in c x) (re φ) labels)
 
-  pointer_at-re : (context : RowContext) (labels hangs : List LabelModel) (c : Metrics) → pointer_at context (map (re φ) labels) (map (re φ) hangs) c ≡ pointer_at context labels hangs c
+  pointer_at-re : (context : RowContext) (labels hangs : List LabelModel) (c : Metrics)
+      → pointer_at context (map (re φ) labels) (map (re φ) hangs) c ≡ pointer_at context labels
+      hangs c
   unfolding pointer_at
   pointer_at-re context labels hangs c = rw (any-map (starts_in c) (re φ) hangs, pointer_style-re hangs c, max_label_start-re labels)
 
-  pub pointers-re : (context : RowContext) (labels : List LabelModel) (cs : List Metrics) → pointers context (map (re φ) labels) cs ≡ pointers context labels cs
+  pub pointers-re : (context : RowContext) (labels : List LabelModel) (cs : List Metrics)
+      → pointers context (map (re φ) labels) cs ≡ pointers context labels cs
   unfolding pointers
   pointers-re context labels cs =
       ap (λ hangs. flat_map (pointer_at context (map (re φ) labels) hangs) cs) (hanging_labels-re labels)

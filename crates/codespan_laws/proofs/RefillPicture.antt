@@ -54,7 +54,9 @@ module _ (φ : Stream → Stream) (keeps : (s : Stream) → is_empty_stream (φ 
   caret-rows line [] = refl
   caret-rows line (x ∷ xs) = refl
 
-  hanging_labels-rows : (line : Line) (labels : List LabelModel) → map (re_row φ) (hanging_rows line labels) ≡ hanging_rows (re_line φ line) (map (re φ) labels)
+  hanging_labels-rows : (line : Line) (labels : List LabelModel)
+      → map (re_row φ) (hanging_rows line labels) ≡ hanging_rows (re_line φ line)
+      (map (re φ) labels)
   hanging_labels-rows line [] = refl
   hanging_labels-rows line (x ∷ xs) =
       ap (λ rows. PointerRow (re_line φ line) ∷ rows)
@@ -91,7 +93,10 @@ module _ (φ : Stream → Stream) (keeps : (s : Stream) → is_empty_stream (φ 
   put-in x (y ∷ ys) = by_test (put-in x ys) (range_precedes y x)
     where
       by_test : insert_sorted (re φ x) (map (re φ) ys) ≡ map (re φ) (insert_sorted x ys) → (b : Bool)
-          → (if b then re φ y ∷ insert_sorted (re φ x) (map (re φ) ys) else re φ x ∷ re φ y ∷ map (re φ) ys) ≡ map (re φ) (if b then y ∷ insert_sorted x ys else x ∷ y ∷ ys)
+          → (if b then re φ y ∷ insert_sorted (re φ x) (map (re φ) ys) else re φ x ∷ re φ y ∷ map
+          (re φ) ys)
+          ≡ map
+          (re φ) (if b then y ∷ insert_sorted x ys else x ∷ y ∷ ys)
       by_test rest true = ap (λ zs. re φ y ∷ zs) rest
       by_test rest false = refl
 
@@ -114,7 +119,8 @@ module _ (φ : Stream → Stream) (keeps : (s : Stream) → is_empty_stream (φ 
   multi_label-on f l x = by_tests (first_line f x == l) (last_line f x == l) (nat_lt (first_line f x) l && nat_lt l (last_line f x))
     where
       by_tests : (a b c : Bool)
-          → (if a then Some (Top (x.start - line_start f l)) else if b then Some (Bottom (x.end - line_start f l) (φ x.message)) else if c then Some Left else None)
+          → (if a then Some (Top (x.start - line_start f l)) else if b then Some
+          (Bottom (x.end - line_start f l) (φ x.message)) else if c then Some Left else None)
           ≡ option_map (re_multi_label φ) (if a then Some (Top (x.start - line_start f l)) else if b then Some (Bottom (x.end - line_start f l) x.message) else if c then Some Left else None)
       by_tests true b c = refl
       by_tests false true c = refl
@@ -122,7 +128,9 @@ module _ (φ : Stream → Stream) (keeps : (s : Stream) → is_empty_stream (φ 
       by_tests false false false = refl
 
   cons-lane_mark : (n : ℕ) (x : LabelModel) (multi_label : Option MultiLabel) (ms : List LaneMark)
-      → cons_option (lane_mark_of n (re φ x) (option_map (re_multi_label φ) multi_label)) (map (re_lane_mark φ) ms) ≡ map (re_lane_mark φ) (cons_option (lane_mark_of n x multi_label) ms)
+      → cons_option (lane_mark_of n (re φ x) (option_map (re_multi_label φ) multi_label))
+      (map (re_lane_mark φ) ms)
+      ≡ map (re_lane_mark φ) (cons_option (lane_mark_of n x multi_label) ms)
   cons-lane_mark n x None ms = refl
   cons-lane_mark n x (Some multi_label) ms = refl
 
@@ -155,15 +163,20 @@ module _ (φ : Stream → Stream) (keeps : (s : Stream) → is_empty_stream (φ 
 
   -- ---- a file
 
-  break-re : (s : LabeledFileModel) (previous : Option ℕ) (l : ℕ) → map (re_row φ) (breaks_before s previous l) ≡ breaks_before (re_file φ s) previous l
+  break-re : (s : LabeledFileModel) (previous : Option ℕ) (l : ℕ)
+      → map (re_row φ) (breaks_before s previous l) ≡ breaks_before (re_file φ s) previous l
   break-re s None l = refl
   break-re s (Some c) l = by_test (has_break_between c l)
     where
-      by_test : (b : Bool) → map (re_row φ) (if b then BreakRow (line_at s l).lanes ∷ [] else []) ≡ (if b then BreakRow (line_at (re_file φ s) l).lanes ∷ [] else [])
+      by_test : (b : Bool)
+          → map (re_row φ)
+          (if b then BreakRow (line_at s l).lanes ∷ [] else [])
+          ≡ (if b then BreakRow (line_at (re_file φ s) l).lanes ∷ [] else [])
       by_test true = ap (λ lanes. BreakRow lanes ∷ []) (lanes-at s l)
       by_test false = refl
 
-  after-re : (s : LabeledFileModel) (previous : Option ℕ) (ls : List ℕ) → map (re_row φ) (rows_after s previous ls) ≡ rows_after (re_file φ s) previous ls
+  after-re : (s : LabeledFileModel) (previous : Option ℕ) (ls : List ℕ)
+      → map (re_row φ) (rows_after s previous ls) ≡ rows_after (re_file φ s) previous ls
   after-re s previous [] = refl
   after-re s previous (l ∷ ls) =
       map-append' (re_row φ) (breaks_before s previous l ++ rows_of (line_at s l)) (rows_after s (Some l) ls)
@@ -239,7 +252,9 @@ module _ (φ : Stream → Stream) (keeps : (s : Stream) → is_empty_stream (φ 
   numbered-re : (config : Config) (s : LabeledFileModel) → numbered_lines config (re_file φ s) ≡ numbered_lines config s
   numbered-re config s = by_layout config.layout
     where
-      by_layout : (layout : Layout) → numbered_lines (record config { layout = layout }) (re_file φ s) ≡ numbered_lines (record config { layout = layout }) s
+      by_layout : (layout : Layout)
+          → numbered_lines (record config { layout = layout }) (re_file φ s) ≡ numbered_lines
+          (record config { layout = layout }) s
       by_layout Classic = spanned-re s
       by_layout Unbroken = drawn-re config s.file s.labels
 

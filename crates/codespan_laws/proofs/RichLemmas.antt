@@ -18,7 +18,7 @@ use Rattle.codespan_laws.proofs.LaneLineRuns as runs
 use Rattle.codespan_laws.proofs.LanesShown.{lanes_are_shown}
 use Rattle.codespan_laws.proofs.MessagesOnce as messages
 use Rattle.codespan_laws.proofs.PaddingLemmas as padding
-use Rattle.codespan_laws.proofs.PointerLemmas as pointers
+use Rattle.codespan_laws.proofs.PointerTexts as pointers
 use Rattle.codespan_laws.proofs.RangeLemmas as ranges
 use Rattle.codespan_laws.proofs.RowBoundLemmas as bounds
 
@@ -28,7 +28,8 @@ unfolding caret_row
 carets_are_cells context = λ line. simp (text_of-append, text_of-line_carets)
 
 -- the snippet of a file means the labels of the file
-pub snippet_means_labels : (view_config : Config) (context : RowContext) (s : LabeledFileModel) → SnippetMeansLabels view_config context s
+pub snippet_means_labels : (view_config : Config) (context : RowContext) (s : LabeledFileModel)
+    → SnippetMeansLabels view_config context s
 snippet_means_labels view_config context s = record {
   drawn = rows_of_shown_lines view_config s;
   breaks = breaks.breaks_are_gaps view_config s (rows_of_shown_lines view_config s);
@@ -40,8 +41,10 @@ snippet_means_labels view_config context s = record {
 }
 
 -- the output means the labels of the diagnostic
-pub output_means_labels : {Id : Type 0} (renderer_config view_config : Config) (files : FileDatabase Id) (d : Diagnostic Id)
-    → IsEquivalence files.same → ((id : Id) → 0 < line_count (files.file id)) → MeansLabels renderer_config view_config files d
+pub output_means_labels : {Id : Type 0} (renderer_config view_config : Config)
+    (files : FileDatabase Id) (d : Diagnostic Id)
+    → IsEquivalence files.same → ((id : Id) → 0 < line_count (files.file id))
+    → MeansLabels renderer_config view_config files d
 output_means_labels renderer_config view_config files d equal has_line = record {
   each_file = λ s inside. snippet_means_labels view_config _ s;
   carets = carets_are_cells;

@@ -57,39 +57,51 @@ pub slots-repeated : (k n c : ℕ) → slots k (repeated n c) ≡ 0
 unfolding repeated
 slots-repeated k n c = slots-repeat k n (glyph c) (slots-bytes k _)
 
-pub slots-flat_map : {X : Type 0} (k : ℕ) (f : X → Stream) (xs : List X) → ((x : X) → slots k (f x) ≡ 0) → slots k (flat_map f xs) ≡ 0
+pub slots-flat_map : {X : Type 0} (k : ℕ) (f : X → Stream) (xs : List X)
+    → ((x : X) → slots k (f x) ≡ 0) → slots k (flat_map f xs) ≡ 0
 slots-flat_map k f [] h = slots-nil k
 slots-flat_map k f (x ∷ xs) h = slots-append k (f x) (flat_map f xs) ∙ ap₂ (λ a b. a + b) (h x) (slots-flat_map k f xs h)
 
 ruleset slots_of_parts = (slots-append, slots-nil, slots-bytes, slots-style_mark, slots-spaces, slots-repeated)
 
-pub slots-label_glyph : (k : ℕ) (severity : Severity) (style : LabelStyle) (c : ℕ) → slots k (label_glyph severity style c) ≡ 0
+pub slots-label_glyph : (k : ℕ) (severity : Severity) (style : LabelStyle) (c : ℕ)
+    → slots k (label_glyph severity style c) ≡ 0
 unfolding label_glyph
 slots-label_glyph k severity style c = simp slots_of_parts
 
-pub slots-crossing_cells : (k : ℕ) (severity : Severity) (chars : Chars) (m : Option LaneMark) (n : ℕ) → slots k (crossing_cells severity chars m n) ≡ 0
+pub slots-crossing_cells : (k : ℕ) (severity : Severity) (chars : Chars) (m : Option LaneMark)
+    (n : ℕ)
+    → slots k (crossing_cells severity chars m n) ≡ 0
 unfolding crossing_cells
 slots-crossing_cells k severity chars None n = slots-spaces k n
 slots-crossing_cells k severity chars (Some m) n = simp slots_of_parts
 
-pub slots-lane_cells : (k : ℕ) (severity : Severity) (chars : Chars) (m : Option LaneMark) (style : LabelStyle) (shape : Shape) → slots k (lane_cells severity chars m style shape) ≡ 0
+pub slots-lane_cells : (k : ℕ) (severity : Severity) (chars : Chars) (m : Option LaneMark)
+    (style : LabelStyle) (shape : Shape)
+    → slots k (lane_cells severity chars m style shape) ≡ 0
 unfolding lane_cells
 slots-lane_cells k severity chars m style Space = slots-crossing_cells k severity chars m 2
 slots-lane_cells k severity chars m style Bar = simp (slots_of_parts, slots-crossing_cells, slots-label_glyph)
 slots-lane_cells k severity chars m style TopCorner = simp (slots_of_parts, slots-crossing_cells, slots-label_glyph)
 slots-lane_cells k severity chars m style BottomCorner = simp (slots_of_parts, slots-crossing_cells, slots-label_glyph)
 
-pub slots-inner_gutter_column : (k : ℕ) (context : RowContext) (crossing : Option LaneMark) (shape : MultiLabel → Shape) (m : Option LaneMark) → slots k (inner_gutter_column context crossing shape m) ≡ 0
+pub slots-inner_gutter_column : (k : ℕ) (context : RowContext) (crossing : Option LaneMark)
+    (shape : MultiLabel → Shape) (m : Option LaneMark)
+    → slots k (inner_gutter_column context crossing shape m) ≡ 0
 unfolding inner_gutter_column
 slots-inner_gutter_column k context crossing shape None = slots-lane_cells k context.severity context.chars crossing Primary Space
 slots-inner_gutter_column k context crossing shape (Some m) = slots-lane_cells k context.severity context.chars crossing m.style (shape m.multi_label)
 
-pub slots-lanes_in : (k : ℕ) (context : RowContext) (crossing : ℕ → Option LaneMark) (shape : ℕ → MultiLabel → Shape) (lanes : Lanes) → slots k (lanes_in context crossing shape lanes) ≡ 0
+pub slots-lanes_in : (k : ℕ) (context : RowContext) (crossing : ℕ → Option LaneMark)
+    (shape : ℕ → MultiLabel → Shape) (lanes : Lanes)
+    → slots k (lanes_in context crossing shape lanes) ≡ 0
 slots-lanes_in k context crossing shape lanes =
     slots-flat_map k (λ lane. inner_gutter_column context (crossing lane) (shape lane) (lane_mark_in lanes.lane_marks lane)) (range_with_len 0 lanes.count)
     (λ lane. slots-inner_gutter_column k context (crossing lane) (shape lane) (lane_mark_in lanes.lane_marks lane))
 
-pub slots-inner_gutter : (k : ℕ) (context : RowContext) (leading : ℕ) (row : LaneRow) (lanes : Lanes) → slots k (inner_gutter context leading row lanes) ≡ 0
+pub slots-inner_gutter : (k : ℕ) (context : RowContext) (leading : ℕ) (row : LaneRow)
+    (lanes : Lanes)
+    → slots k (inner_gutter context leading row lanes) ≡ 0
 unfolding inner_gutter
 slots-inner_gutter k context leading row lanes = slots-lanes_in k context _ _ lanes
 
@@ -113,7 +125,8 @@ pub slots-border_left_break : (k : ℕ) (chars : Chars) → slots k (border_left
 unfolding border_left_break
 slots-border_left_break k chars = simp slots_of_parts
 
-pub slots-change : (k : ℕ) (severity : Severity) (a b : Option LabelStyle) → slots k (change severity a b) ≡ 0
+pub slots-change : (k : ℕ) (severity : Severity) (a b : Option LabelStyle)
+    → slots k (change severity a b) ≡ 0
 unfolding change
 slots-change k severity None None = slots-nil k
 slots-change k severity None (Some style) = slots-style_mark k _
@@ -123,8 +136,11 @@ slots-change k severity (Some Secondary) (Some Secondary) = slots-nil k
 slots-change k severity (Some Primary) (Some Secondary) = slots-style_mark k _
 slots-change k severity (Some Secondary) (Some Primary) = slots-style_mark k _
 
-pub slots-styled : (k : ℕ) (severity : Severity) (style : Metrics → Option LabelStyle) (shown : Metrics → Stream) → ((c : Metrics) → slots k (shown c) ≡ 0)
-    → (previous : Option LabelStyle) (cs : List Metrics) → slots k (styled severity style shown previous cs) ≡ 0
+pub slots-styled : (k : ℕ) (severity : Severity) (style : Metrics → Option LabelStyle)
+    (shown : Metrics → Stream)
+    → ((c : Metrics) → slots k (shown c) ≡ 0)
+    → (previous : Option LabelStyle) (cs : List Metrics)
+    → slots k (styled severity style shown previous cs) ≡ 0
 slots-styled k severity style shown h previous [] = slots-change k severity previous None
 slots-styled k severity style shown h previous (c ∷ cs) =
     let rest = slots-styled k severity style shown h (style c) cs in
@@ -138,11 +154,13 @@ slots-source_glyph k c = by_test (c.ch == 9)
     by_test true = slots-spaces k c.unicode_width
     by_test false = slots-bytes k _
 
-pub slots-colored_text : (k : ℕ) (context : RowContext) (line : Line) → slots k (colored_text context line) ≡ 0
+pub slots-colored_text : (k : ℕ) (context : RowContext) (line : Line)
+    → slots k (colored_text context line) ≡ 0
 unfolding colored_text
 slots-colored_text k context line = slots-styled k context.severity (source_style line) source_glyph (slots-source_glyph k) None (line_metrics context line)
 
-pub slots-caret_glyphs : (k : ℕ) (chars : Chars) (end : ℕ) (style : Option LabelStyle) (c : Metrics) → slots k (caret_glyphs chars end style c) ≡ 0
+pub slots-caret_glyphs : (k : ℕ) (chars : Chars) (end : ℕ) (style : Option LabelStyle) (c : Metrics)
+    → slots k (caret_glyphs chars end style c) ≡ 0
 unfolding caret_glyphs
 slots-caret_glyphs k chars end None c = by_test (nat_lt c.byte_index end)
   where
@@ -151,13 +169,15 @@ slots-caret_glyphs k chars end None c = by_test (nat_lt c.byte_index end)
     by_test false = slots-nil k
 slots-caret_glyphs k chars end (Some style) c = slots-repeated k c.unicode_width _
 
-pub slots-carets : (k : ℕ) (context : RowContext) (labels : List LabelModel) (cs : List Metrics) → slots k (carets context labels cs) ≡ 0
+pub slots-carets : (k : ℕ) (context : RowContext) (labels : List LabelModel) (cs : List Metrics)
+    → slots k (carets context labels cs) ≡ 0
 unfolding carets
 slots-carets k context labels cs =
     slots-styled k context.severity (style_under labels) (λ c. caret_glyphs context.chars (max_label_end labels) (style_under labels c) c)
     (λ c. slots-caret_glyphs k context.chars (max_label_end labels) (style_under labels c) c) None cs
 
-pub slots-spaces_up_to : (k byte_index : ℕ) (c : Metrics) (n : ℕ) → slots k (spaces_up_to byte_index c n) ≡ 0
+pub slots-spaces_up_to : (k byte_index : ℕ) (c : Metrics) (n : ℕ)
+    → slots k (spaces_up_to byte_index c n) ≡ 0
 unfolding spaces_up_to
 slots-spaces_up_to k byte_index c n = by_test (nat_le c.byte_index byte_index)
   where
@@ -165,31 +185,41 @@ slots-spaces_up_to k byte_index c n = by_test (nat_le c.byte_index byte_index)
     by_test true = slots-spaces k n
     by_test false = slots-nil k
 
-pub slots-pointer_at : (k : ℕ) (context : RowContext) (labels hanging_labels : List LabelModel) (c : Metrics) → slots k (pointer_at context labels hanging_labels c) ≡ 0
+pub slots-pointer_at : (k : ℕ) (context : RowContext) (labels hanging_labels : List LabelModel)
+    (c : Metrics)
+    → slots k (pointer_at context labels hanging_labels c) ≡ 0
 unfolding pointer_at
 slots-pointer_at k context labels hanging_labels c = by_test (list_any (starts_in c) hanging_labels)
   where
     by_test : (b : Bool)
-        → slots k (if b then label_glyph context.severity (pointer_style hanging_labels c) context.chars.pointer_left ++ spaces_up_to (max_label_start labels) c (c.unicode_width - 1) else spaces_up_to (max_label_start labels) c c.unicode_width) ≡ 0
+        → slots k
+        (if b then label_glyph context.severity (pointer_style hanging_labels c)
+        context.chars.pointer_left ++ spaces_up_to (max_label_start labels) c (c.unicode_width - 1)
+        else spaces_up_to (max_label_start labels) c c.unicode_width)
+        ≡ 0
     by_test true = simp (slots-append, slots-label_glyph, slots-spaces_up_to)
     by_test false = slots-spaces_up_to k (max_label_start labels) c c.unicode_width
 
-pub slots-pointers : (k : ℕ) (context : RowContext) (labels : List LabelModel) (cs : List Metrics) → slots k (pointers context labels cs) ≡ 0
+pub slots-pointers : (k : ℕ) (context : RowContext) (labels : List LabelModel) (cs : List Metrics)
+    → slots k (pointers context labels cs) ≡ 0
 unfolding pointers
 slots-pointers k context labels cs = slots-flat_map k (pointer_at context labels (hanging_labels labels)) cs (slots-pointer_at k context labels (hanging_labels labels))
 
 ruleset parts = (slots_of_parts, slots-inner_gutter, slots-locus, slots-outer_gutter, slots-outer_gutter_number, slots-border_left, slots-border_left_break, slots-colored_text, slots-carets, slots-pointers)
 
-pub slots-label_message : (k : ℕ) (severity : Severity) (style : LabelStyle) (message : Stream) → slots k (label_message severity style message) ≡ slots k message
+pub slots-label_message : (k : ℕ) (severity : Severity) (style : LabelStyle) (message : Stream)
+    → slots k (label_message severity style message) ≡ slots k message
 unfolding label_message
 slots-label_message k severity style message = simp slots_of_parts (omega arith)
 
-pub slots-trailing_message : (k : ℕ) (severity : Severity) (x : Option LabelModel) → slots k (trailing_message severity x) ≡ weight_of (λ y. slots k y.message) x
+pub slots-trailing_message : (k : ℕ) (severity : Severity) (x : Option LabelModel)
+    → slots k (trailing_message severity x) ≡ weight_of (λ y. slots k y.message) x
 unfolding trailing_message
 slots-trailing_message k severity None = slots-nil k
 slots-trailing_message k severity (Some x) = simp (slots_of_parts, slots-label_message) (omega arith)
 
-pub slots-underline_message : (k : ℕ) (message : Stream) → slots k (underline_message message) ≡ slots k message
+pub slots-underline_message : (k : ℕ) (message : Stream)
+    → slots k (underline_message message) ≡ slots k message
 unfolding underline_message
 slots-underline_message k [] = refl
 slots-underline_message k (p ∷ ps) = omega (arith, slots-append k space (p ∷ ps), slots-bytes k (32 ∷ []))
@@ -200,7 +230,9 @@ multi_label_slots k (Top start) = 0
 multi_label_slots k Left = 0
 multi_label_slots k (Bottom end message) = slots k message
 
-pub slots-underline : (k : ℕ) (chars : Chars) (style : LabelStyle) (cs : List Metrics) (multi_label : MultiLabel) → slots k (underline chars style cs multi_label) ≡ multi_label_slots k multi_label
+pub slots-underline : (k : ℕ) (chars : Chars) (style : LabelStyle) (cs : List Metrics)
+    (multi_label : MultiLabel)
+    → slots k (underline chars style cs multi_label) ≡ multi_label_slots k multi_label
 unfolding underline
 slots-underline k chars style cs (Top start) = simp slots_of_parts
 slots-underline k chars style cs Left = slots-nil k
@@ -228,7 +260,8 @@ row_slots k (HangingRow line x) = slots k x.message
 row_slots k (UnderlineRow line m) = multi_label_slots k m.multi_label
 row_slots k _ = 0
 
-pub slots-stream_of : (k : ℕ) (context : RowContext) (row : Row) → slots k (stream_of context row) ≡ row_slots k row
+pub slots-stream_of : (k : ℕ) (context : RowContext) (row : Row)
+    → slots k (stream_of context row) ≡ row_slots k row
 unfolding header_row snippet_start_row empty_row break_row source_row caret_row pointer_row hanging_row underline_row first_note_row later_note_row
 slots-stream_of k context (HeaderRow at header_text) = simp (parts, slots-bracketed, slots-leading_locus)
 slots-stream_of k context (SnippetStartRow at) = simp parts
@@ -243,7 +276,8 @@ slots-stream_of k context (FirstNoteRow note_line) = simp parts
 slots-stream_of k context (LaterNoteRow note_line) = simp parts
 slots-stream_of k context FinalRow = slots-nil k
 
-pub slots-rows : (k : ℕ) (context : RowContext) (rows : List Row) → slots k (stream_of_rows context rows) ≡ sum_by (row_slots k) rows
+pub slots-rows : (k : ℕ) (context : RowContext) (rows : List Row)
+    → slots k (stream_of_rows context rows) ≡ sum_by (row_slots k) rows
 slots-rows k context [] = slots-nil k
 slots-rows k context (row ∷ rows) =
     slots-append k (stream_of context row ++ newline) (stream_of_rows context rows)

@@ -24,16 +24,20 @@ use Rattle.codespan_laws.proofs.Texts.{text_of-append, text_of-bytes, text_of-st
 -- ---- streams
 
 -- a text before the first one of a stream
-after-prefix : (prefix text : List ℕ) (s : Stream) → IsUtf8 prefix → AreTextsAfter text s → AreTextsAfter (prefix ++ text) s
+after-prefix : (prefix text : List ℕ) (s : Stream) → IsUtf8 prefix → AreTextsAfter text s
+    → AreTextsAfter (prefix ++ text) s
 after-prefix prefix text [] u h = IsUtf8-append prefix text u h
 after-prefix prefix text (Byte b ∷ s) u h =
-    subst (λ xs. AreTextsAfter xs s) (sym (append_assoc prefix text (b ∷ []))) (after-prefix prefix (text ++ b ∷ []) s u h)
+    subst (λ xs. AreTextsAfter xs s) (sym (append_assoc prefix text (b ∷ [])))
+    (after-prefix prefix (text ++ b ∷ []) s u h)
 after-prefix prefix text (Mark m ∷ s) u h = (IsUtf8-append prefix text u h.0, h.1)
 after-prefix prefix text (Slot k ∷ s) u h = after-prefix prefix text s u h
 
 -- one stream after another
-after-both : (text : List ℕ) (s t : Stream) → AreTextsAfter text s → AreTextsAfter [] t → AreTextsAfter text (s ++ t)
-after-both text [] t h more = subst (λ xs. AreTextsAfter xs t) (append-nil text) (after-prefix text [] t h more)
+after-both : (text : List ℕ) (s t : Stream) → AreTextsAfter text s → AreTextsAfter [] t
+    → AreTextsAfter text (s ++ t)
+after-both text [] t h more =
+    subst (λ xs. AreTextsAfter xs t) (append-nil text) (after-prefix text [] t h more)
 after-both text (Byte b ∷ s) t h more = after-both (text ++ b ∷ []) s t h more
 after-both text (Mark m ∷ s) t h more = (h.0, after-both [] s t h.1 more)
 after-both text (Slot k ∷ s) t h more = after-both text s t h more
@@ -41,7 +45,8 @@ after-both text (Slot k ∷ s) t h more = after-both text s t h more
 -- bytes
 after-bytes : (text bs : List ℕ) → IsUtf8 (text ++ bs) → AreTextsAfter text (map Byte bs)
 after-bytes text [] u = subst IsUtf8 (append-nil text) u
-after-bytes text (b ∷ bs) u = after-bytes (text ++ b ∷ []) bs (subst IsUtf8 (sym (append_assoc text (b ∷ []) bs)) u)
+after-bytes text (b ∷ bs) u =
+    after-bytes (text ++ b ∷ []) bs (subst IsUtf8 (sym (append_assoc text (b ∷ []) bs)) u)
 
 -- nothing is a text
 pub text-none : IsText []
@@ -50,7 +55,8 @@ text-none = record { utf8 = IsUtf8-nil; between_marks = IsUtf8-nil }
 -- and so is one text after another
 pub text-both : (s t : Stream) → IsText s → IsText t → IsText (s ++ t)
 text-both s t a b = record {
-  utf8 = subst IsUtf8 (sym (text_of-append s t)) (IsUtf8-append (text_of s) (text_of t) a.utf8 b.utf8);
+  utf8 =
+      subst IsUtf8 (sym (text_of-append s t)) (IsUtf8-append (text_of s) (text_of t) a.utf8 b.utf8);
   between_marks = after-both [] s t a.between_marks b.between_marks;
 }
 
@@ -61,12 +67,18 @@ followed {s} {t} a b = text-both s t a b
 -- bytes that are UTF-8
 pub text-bytes : (bs : List ℕ) → IsUtf8 bs → IsText (bytes bs)
 unfolding bytes
-text-bytes bs u = record { utf8 = subst IsUtf8 (sym (text_of-bytes bs)) u; between_marks = after-bytes [] bs u }
+text-bytes bs u =
+    record { utf8 = subst IsUtf8 (sym (text_of-bytes bs)) u; between_marks = after-bytes [] bs u }
 
 -- a style mark
 pub text-style_mark : (m : StyleMark) → IsText (style_mark m)
 unfolding style_mark
-text-style_mark m = record { utf8 = subst IsUtf8 (sym (text_of-style_mark m)) IsUtf8-nil; between_marks = (IsUtf8-nil, IsUtf8-nil) }
+text-style_mark m =
+    record {
+      utf8 =
+          subst IsUtf8 (sym (text_of-style_mark m)) IsUtf8-nil;
+      between_marks = (IsUtf8-nil, IsUtf8-nil);
+    }
 
 -- a character
 pub text-glyph : (c : ℕ) → IsScalar c → IsText (glyph c)
@@ -80,7 +92,8 @@ is_ascii (b ∷ bs) = nat_lt b 128 && is_ascii bs
 ascii-bytes : (bs : List ℕ) → is_ascii bs ≡ true → IsAscii bs
 unfolding is_ascii
 ascii-bytes [] e = IsAscii-nil
-ascii-bytes (b ∷ bs) e = IsAscii-cons b bs (grind (arith, nat_tests)) (ascii-bytes bs (grind (arith, nat_tests)))
+ascii-bytes (b ∷ bs) e =
+    IsAscii-cons b bs (grind (arith, nat_tests)) (ascii-bytes bs (grind (arith, nat_tests)))
 
 text-ascii : (bs : List ℕ) → is_ascii bs ≡ true → IsText (bytes bs)
 text-ascii bs e = text-bytes bs (IsUtf8-from_ascii bs (ascii-bytes bs e))
@@ -123,10 +136,12 @@ text-spaces n = text-bytes (replicate n 32) (IsUtf8-from_ascii (replicate n 32) 
 pub text-repeated : (n c : ℕ) → IsScalar c → IsText (repeated n c)
 unfolding repeated
 text-repeated zero c s = text-none
-text-repeated (suc n) c s = text-both (glyph c) (repeat n (glyph c)) (text-glyph c s) (text-repeated n c s)
+text-repeated (suc n) c s =
+    text-both (glyph c) (repeat n (glyph c)) (text-glyph c s) (text-repeated n c s)
 
 -- the streams of elements
-pub text-each : {X : Type 0} (f : X → Stream) (xs : List X) → AllByRecursion (λ x. IsText (f x)) xs → IsText (flat_map f xs)
+pub text-each : {X : Type 0} (f : X → Stream) (xs : List X) → AllByRecursion (λ x. IsText (f x)) xs
+    → IsText (flat_map f xs)
 text-each f [] h = text-none
 text-each f (x ∷ xs) h = text-both (f x) (flat_map f xs) h.0 (text-each f xs h.1)
 
@@ -137,15 +152,33 @@ ascii-digit n = let small : n % 10 < 10 = omega arith in grind (arith, nat_tests
 ascii-digits : (k n : ℕ) (acc : List ℕ) → IsAscii acc → IsAscii (digits_onto k 10 false n acc)
 ascii-digits zero n acc a = a
 ascii-digits (suc k) n acc a =
-    let one : IsAscii (digit_glyph false (n % 10) ∷ acc) = IsAscii-cons (digit_glyph false (n % 10)) acc (ascii-digit n) a in
-    cond_both (n / 10 == 0) (digit_glyph false (n % 10) ∷ acc) (digits_onto k 10 false (n / 10) (digit_glyph false (n % 10) ∷ acc)) IsAscii
+    let one : IsAscii (digit_glyph false (n % 10) ∷ acc) =
+    IsAscii-cons (digit_glyph false (n % 10)) acc (ascii-digit n) a in
+    cond_both (n / 10 == 0) (digit_glyph false (n % 10) ∷ acc)
+    (digits_onto k 10 false (n / 10) (digit_glyph false (n % 10) ∷ acc)) IsAscii
     (λ _. one) (λ _. ascii-digits k (n / 10) (digit_glyph false (n % 10) ∷ acc) one)
 
 pub text-decimal : (n : ℕ) → IsText (bytes (decimal n))
 unfolding digits
-text-decimal n = text-bytes (decimal n) (IsUtf8-from_ascii (decimal n) (ascii-digits 64 n [] IsAscii-nil))
+text-decimal n =
+    text-bytes (decimal n) (IsUtf8-from_ascii (decimal n) (ascii-digits 64 n [] IsAscii-nil))
 
-pub ruleset pieces = (text-none, text-both, text-bytes, text-style_mark, text-glyph, text-space, text-newline, text-colon, text-colon_space, text-open, text-close, text-spaces, text-repeated, text-decimal)
+pub ruleset pieces = (
+  text-none,
+  text-both,
+  text-bytes,
+  text-style_mark,
+  text-glyph,
+  text-space,
+  text-newline,
+  text-colon,
+  text-colon_space,
+  text-open,
+  text-close,
+  text-spaces,
+  text-repeated,
+  text-decimal,
+)
 
 -- ---- parts of rows
 
@@ -173,7 +206,8 @@ pub text-border_left : (chars : Chars) → AreCharacters chars → IsText (borde
 unfolding border_left
 text-border_left chars ok = search (pieces, ok.source_border_left)
 
-pub text-border_left_break : (chars : Chars) → AreCharacters chars → IsText (border_left_break chars)
+pub text-border_left_break : (chars : Chars) → AreCharacters chars
+    → IsText (border_left_break chars)
 unfolding border_left_break
 text-border_left_break chars ok = search (pieces, ok.source_border_left_break)
 
@@ -184,18 +218,26 @@ text-change severity None (Some style) = text-style_mark (LabelStyleMark severit
 text-change severity (Some style) None = text-style_mark Reset
 text-change severity (Some Primary) (Some Primary) = text-none
 text-change severity (Some Secondary) (Some Secondary) = text-none
-text-change severity (Some Primary) (Some Secondary) = text-style_mark (LabelStyleMark severity Secondary)
-text-change severity (Some Secondary) (Some Primary) = text-style_mark (LabelStyleMark severity Primary)
+text-change severity (Some Primary) (Some Secondary) =
+    text-style_mark (LabelStyleMark severity Secondary)
+text-change severity (Some Secondary) (Some Primary) =
+    text-style_mark (LabelStyleMark severity Primary)
 
-pub text-styled : (severity : Severity) (style : Metrics → Option LabelStyle) (shown : Metrics → Stream) (previous : Option LabelStyle) (cs : List Metrics)
+pub text-styled : (severity : Severity) (style : Metrics → Option LabelStyle)
+    (shown : Metrics → Stream) (previous : Option LabelStyle) (cs : List Metrics)
     → AllByRecursion (λ c. IsText (shown c)) cs → IsText (styled severity style shown previous cs)
 text-styled severity style shown previous [] h = text-change severity previous None
 text-styled severity style shown previous (c ∷ cs) h =
     text-both (change severity previous (style c) ++ shown c) _
-    (text-both (change severity previous (style c)) (shown c) (text-change severity previous (style c)) h.0) (text-styled severity style shown (style c) cs h.1)
+    (text-both (change severity previous (style c)) (shown c)
+    (text-change severity previous (style c)) h.0)
+    (text-styled severity style shown (style c) cs h.1)
 
-pub text-label_message : (severity : Severity) (style : LabelStyle) (message : Stream) → IsText message → IsText (label_message severity style message)
+pub text-label_message : (severity : Severity) (style : LabelStyle) (message : Stream)
+    → IsText message → IsText (label_message severity style message)
 unfolding label_message
 text-label_message severity style message t =
     text-both (style_mark (LabelStyleMark severity style) ++ message) (style_mark Reset)
-    (text-both (style_mark (LabelStyleMark severity style)) message (text-style_mark (LabelStyleMark severity style)) t) (text-style_mark Reset)
+    (text-both (style_mark (LabelStyleMark severity style)) message
+    (text-style_mark (LabelStyleMark severity style)) t)
+    (text-style_mark Reset)

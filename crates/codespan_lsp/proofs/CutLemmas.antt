@@ -15,9 +15,16 @@ use Rattle.codespan_lsp.proofs.PrefixLemmas.{Cut, prefix-cut}
 
 -- what a line's prefix of whole characters is in the text
 pub record IsPrefixAt (encoding : PositionEncoding) (text : List ℕ) (start end n : ℕ) : Type 0 where
-  pub within : start + length (encode_utf8_all (prefix_within encoding n (chars (slice_range text start end)))) ≤ end
-  pub boundary : IsCharBoundary text (start + length (encode_utf8_all (prefix_within encoding n (chars (slice_range text start end)))))
-  pub units : code_units encoding (slice_range text start (start + length (encode_utf8_all (prefix_within encoding n (chars (slice_range text start end)))))) ≡ total_units encoding (prefix_within encoding n (chars (slice_range text start end)))
+  pub within : start + length
+      (encode_utf8_all (prefix_within encoding n (chars (slice_range text start end)))) ≤ end
+  pub boundary : IsCharBoundary text
+      (start
+      + length (encode_utf8_all (prefix_within encoding n (chars (slice_range text start end)))))
+  pub units : code_units encoding
+      (slice_range text start
+      (start
+      + length (encode_utf8_all (prefix_within encoding n (chars (slice_range text start end))))))
+      ≡ total_units encoding (prefix_within encoding n (chars (slice_range text start end)))
 
 -- what follows a byte is the line's rest and the text after it
 rest-is : (text : List ℕ) (start end : ℕ) → start ≤ end
@@ -25,44 +32,73 @@ rest-is : (text : List ℕ) (start end : ℕ) → start ≤ end
 rest-is text start end order =
     let after : start + (end - start) ≡ end = omega arith in
     let parts = take-append-drop (end - start) (drop start text) in
-    let tail : drop (end - start) (drop start text) ≡ drop end text = drop-drop (end - start) start text ∙ ap (λ k. drop k text) after in
+    let tail : drop (end - start) (drop start text) ≡ drop end text =
+    drop-drop (end - start) start text ∙ ap (λ k. drop k text) after in
     sym parts ∙ ap (λ xs. take (end - start) (drop start text) ++ xs) tail
 
-pub prefix-is_prefix_at : (encoding : PositionEncoding) (text : List ℕ) (start end n : ℕ) → IsUtf8 text
+pub prefix-is_prefix_at : (encoding : PositionEncoding) (text : List ℕ) (start end n : ℕ)
+    → IsUtf8 text
     → start ≤ end → IsCharBoundary text start → IsCharBoundary text end
     → IsPrefixAt encoding text start end n
 prefix-is_prefix_at encoding text start end n utf8 order from to =
     let line : List ℕ = slice_range text start end in
     let front : List ℕ = prefix_within encoding n (chars line) in
     let line_utf8 : IsUtf8 line = IsUtf8-between text start end utf8 order from to in
-    let cut : Cut (chars line) front = prefix-cut encoding n (chars line) (scalars-chars line line_utf8) in
+    let cut : Cut (chars line) front =
+    prefix-cut encoding n (chars line) (scalars-chars line line_utf8) in
     let line_is : line ≡ encode_utf8_all front ++ encode_utf8_all cut.back =
-    sym (encodes-chars line line_utf8) ∙ (ap encode_utf8_all cut.whole_is ∙ encodes-append front cut.back) in
-    let all_is : drop start text ≡ encode_utf8_all front ++ (encode_utf8_all cut.back ++ drop end text) =
-    rest-is text start end order ∙ (ap (λ xs. xs ++ drop end text) line_is ∙ append_assoc (encode_utf8_all front) (encode_utf8_all cut.back) (drop end text)) in
+    sym (encodes-chars line line_utf8)
+    ∙ (ap encode_utf8_all cut.whole_is ∙ encodes-append front cut.back) in
+    let all_is : drop start text ≡ encode_utf8_all front
+    ++ (encode_utf8_all cut.back ++ drop end text) =
+    rest-is text start end order
+    ∙ (ap (λ xs. xs ++ drop end text) line_is
+    ∙ append_assoc (encode_utf8_all front) (encode_utf8_all cut.back) (drop end text)) in
     let back_utf8 : IsUtf8 (encode_utf8_all cut.back ++ drop end text) =
-    IsUtf8-append (encode_utf8_all cut.back) (drop end text) (cut.back, (cut.back_chars, refl)) (IsUtf8-drop text end utf8 to) in
+    IsUtf8-append (encode_utf8_all cut.back) (drop end text) (cut.back, (cut.back_chars, refl))
+    (IsUtf8-drop text end utf8 to) in
     let seam : IsCharBoundary (drop start text) (length (encode_utf8_all front)) =
-    IsCharBoundary-at_seam (drop start text) (encode_utf8_all front) (encode_utf8_all cut.back ++ drop end text) all_is back_utf8 in
-    let same : start + length (encode_utf8_all front) - start ≡ length (encode_utf8_all front) = omega arith in
-    let taken : slice_range text start (start + length (encode_utf8_all front)) ≡ encode_utf8_all front =
+    IsCharBoundary-at_seam (drop start text) (encode_utf8_all front)
+    (encode_utf8_all cut.back ++ drop end text) all_is back_utf8 in
+    let same : start + length (encode_utf8_all front) - start ≡ length (encode_utf8_all front) =
+    omega arith in
+    let taken : slice_range text start (start + length (encode_utf8_all front))
+    ≡ encode_utf8_all front =
     ap (λ k. take k (drop start text)) same
-    ∙ (ap (take (length (encode_utf8_all front))) all_is ∙ take_at (encode_utf8_all front) (encode_utf8_all cut.back ++ drop end text) (length (encode_utf8_all front)) refl) in
-    let size : length line ≤ end - start = omega (arith, length-take (end - start) (drop start text)) in
+    ∙ (ap (take (length (encode_utf8_all front))) all_is
+    ∙ take_at (encode_utf8_all front) (encode_utf8_all cut.back ++ drop end text) (length (encode_utf8_all front)) refl) in
+    let size : length line ≤ end - start =
+    omega (arith, length-take (end - start) (drop start text)) in
     record {
-      within = omega (arith, size, order, ap length line_is, length-append (encode_utf8_all front) (encode_utf8_all cut.back));
+      within =
+          omega (
+            arith,
+            size,
+            order,
+            ap length line_is,
+            length-append (encode_utf8_all front) (encode_utf8_all cut.back),
+          );
       boundary = IsCharBoundary-from_rest text start (length (encode_utf8_all front)) from.0 seam;
-      units = ap (code_units encoding) taken ∙ ap (total_units encoding) (chars-encodes front cut.front_chars);
+      units =
+          ap (code_units encoding) taken
+          ∙ ap (total_units encoding) (chars-encodes front cut.front_chars);
     }
 
-module _ (encoding : PositionEncoding) (f : FileModel) (law : IsLawful f) (p : Position) (exists : p.line < line_count f) where
+module _ (encoding : PositionEncoding) (f : FileModel) (law : IsLawful f) (p : Position)
+    (exists : p.line < line_count f) where
   -- the prefix of so many code units ends at the byte of a position
-  pub prefix-is-at : total_units encoding (prefix_within encoding p.character (chars (line_text f p.line))) ≡ p.character
-      → IsByteAt encoding f p (line_start f p.line + length (encode_utf8_all (prefix_within encoding p.character (chars (line_text f p.line)))))
+  pub prefix-is-at : total_units encoding
+      (prefix_within encoding p.character (chars (line_text f p.line))) ≡ p.character
+      → IsByteAt encoding f p
+      (line_start f p.line
+      + length (encode_utf8_all (prefix_within encoding p.character (chars (line_text f p.line)))))
   prefix-is-at units =
-      let is_prefix_at : IsPrefixAt encoding f.text (line_start f p.line) (line_end f p.line) p.character =
-      prefix-is_prefix_at encoding f.text (line_start f p.line) (line_end f p.line) p.character law.is_utf8
-      (law.ends_after_start p.line exists) (law.starts_on_boundaries p.line exists) (law.ends_on_boundaries p.line exists) in
+      let is_prefix_at : IsPrefixAt encoding f.text (line_start f p.line) (line_end f p.line)
+      p.character =
+      prefix-is_prefix_at encoding f.text (line_start f p.line) (line_end f p.line) p.character
+      law.is_utf8
+      (law.ends_after_start p.line exists) (law.starts_on_boundaries p.line exists)
+      (law.ends_on_boundaries p.line exists) in
       record {
         line_exists = exists;
         from_start = omega arith;
@@ -72,15 +108,23 @@ module _ (encoding : PositionEncoding) (f : FileModel) (law : IsLawful f) (p : P
       }
 
   -- and so does what is returned for it
-  pub returned-is-at : (start : ℕ) (line : List ℕ) → start ≡ line_start f p.line → line ≡ line_text f p.line
+  pub returned-is-at : (start : ℕ) (line : List ℕ) → start ≡ line_start f p.line
+      → line ≡ line_text f p.line
       → (r : Result ℕ Error)
-      → IfOk r (λ byte. byte ≡ start + length (encode_utf8_all (prefix_within encoding p.character (chars line))))
-      → IfOk r (λ byte. total_units encoding (prefix_within encoding p.character (chars line)) ≡ p.character)
+      → IfOk r
+      (λ byte. byte ≡ start
+      + length (encode_utf8_all (prefix_within encoding p.character (chars line))))
+      → IfOk r
+      (λ byte. total_units encoding (prefix_within encoding p.character (chars line)) ≡ p.character)
       → IfOk r (IsByteAt encoding f p)
   returned-is-at start line start_is line_is (Ok byte) at units =
-      let here : byte ≡ line_start f p.line + length (encode_utf8_all (prefix_within encoding p.character (chars (line_text f p.line)))) =
+      let here : byte ≡ line_start f p.line
+      + length
+      (encode_utf8_all (prefix_within encoding p.character (chars (line_text f p.line)))) =
       at ∙ (ap (λ s. s + length (encode_utf8_all (prefix_within encoding p.character (chars line)))) start_is
       ∙ ap (λ l. line_start f p.line + length (encode_utf8_all (prefix_within encoding p.character (chars l)))) line_is) in
       subst (IsByteAt encoding f p) (sym here)
-      (prefix-is-at (ap (λ l. total_units encoding (prefix_within encoding p.character (chars l))) (sym line_is) ∙ units))
+      (prefix-is-at
+      (ap (λ l. total_units encoding (prefix_within encoding p.character (chars l)))
+      (sym line_is) ∙ units))
   returned-is-at start line start_is line_is (Err e) at units = tt

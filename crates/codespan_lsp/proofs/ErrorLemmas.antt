@@ -16,22 +16,31 @@ module _ (encoding : PositionEncoding) (line : List ℕ) (n : ℕ) (utf8 : IsUtf
   -- the line has the code units and the bytes of the prefix, and those of what follows it
   record Parts : Type 0 where
     pub back : List ℕ
-    pub units : code_units encoding line ≡ total_units encoding (prefix_within encoding n (chars line)) + total_units encoding back
-    pub bytes : length line ≡ length (encode_utf8_all (prefix_within encoding n (chars line))) + length (encode_utf8_all back)
+    pub units : code_units encoding line ≡ total_units encoding
+        (prefix_within encoding n (chars line)) + total_units encoding back
+    pub bytes : length line ≡ length
+        (encode_utf8_all (prefix_within encoding n (chars line))) + length (encode_utf8_all back)
 
   parts : Parts
   parts =
       let front : List ℕ = prefix_within encoding n (chars line) in
-      let cut : Cut (chars line) front = prefix-cut encoding n (chars line) (scalars-chars line utf8) in
+      let cut : Cut (chars line) front =
+      prefix-cut encoding n (chars line) (scalars-chars line utf8) in
       record {
         back = cut.back;
-        units = ap (total_units encoding) cut.whole_is ∙ sum_by-append (char_units encoding) front cut.back;
-        bytes = ap length (sym (encodes-chars line utf8) ∙ (ap encode_utf8_all cut.whole_is ∙ encodes-append front cut.back))
+        units =
+            ap (total_units encoding) cut.whole_is
+            ∙ sum_by-append (char_units encoding) front cut.back;
+        bytes =
+            ap length
+            (sym (encodes-chars line utf8)
+            ∙ (ap encode_utf8_all cut.whole_is ∙ encodes-append front cut.back))
             ∙ length-append (encode_utf8_all front) (encode_utf8_all cut.back);
       }
 
   -- no error where the prefix has all the code units
-  pub character_failure-none : (start : ℕ) → total_units encoding (prefix_within encoding n (chars line)) ≡ n
+  pub character_failure-none : (start : ℕ)
+      → total_units encoding (prefix_within encoding n (chars line)) ≡ n
       → character_failure encoding start line n ≡ None
   character_failure-none start h =
       rw (
@@ -40,27 +49,35 @@ module _ (encoding : PositionEncoding) (line : List ℕ) (n : ℕ) (utf8 : IsUtf
       ) refl
 
   -- past the line's end the prefix is the line
-  pub character_failure-past : (start : ℕ) → ¬ (total_units encoding (prefix_within encoding n (chars line)) ≡ n)
+  pub character_failure-past : (start : ℕ)
+      → ¬ (total_units encoding (prefix_within encoding n (chars line)) ≡ n)
       → length (encode_utf8_all (prefix_within encoding n (chars line))) ≡ length line
       → character_failure encoding start line n
       ≡ Some (ColumnTooLarge n (total_units encoding (prefix_within encoding n (chars line))))
   character_failure-past start apart whole =
       let few = prefix-le encoding n (chars line) in
       let none = total_units-le encoding parts.back in
-      let max : code_units encoding line ≡ total_units encoding (prefix_within encoding n (chars line)) =
+      let max : code_units encoding line
+      ≡ total_units encoding (prefix_within encoding n (chars line)) =
       omega (arith, parts.units, parts.bytes, whole, none) in
-      let less : total_units encoding (prefix_within encoding n (chars line)) < n = grind (arith, few, apart) in
+      let less : total_units encoding (prefix_within encoding n (chars line)) < n =
+      grind (arith, few, apart) in
       rw (lt-ltb (code_units encoding line) n (omega (arith, max, less)))
       (ap (λ m. Some (ColumnTooLarge n m)) max)
 
   -- elsewhere it ends before the character that the code units end in
-  pub character_failure-inside : (start : ℕ) → ¬ (total_units encoding (prefix_within encoding n (chars line)) ≡ n)
+  pub character_failure-inside : (start : ℕ)
+      → ¬ (total_units encoding (prefix_within encoding n (chars line)) ≡ n)
       → ¬ (length (encode_utf8_all (prefix_within encoding n (chars line))) ≡ length line)
       → character_failure encoding start line n
-      ≡ Some (InvalidCharBoundary (start + length (encode_utf8_all (prefix_within encoding n (chars line)))))
+      ≡ Some
+      (InvalidCharBoundary
+      (start + length (encode_utf8_all (prefix_within encoding n (chars line)))))
   character_failure-inside start apart part =
       elim (cases_lt (code_units encoding line) n) [
-        | inl p ↦ absurd (part (ap length (ap encode_utf8_all (prefix-whole encoding n (chars line) (omega (arith, p))) ∙ encodes-chars line utf8)))
+        | inl p ↦ absurd (part (ap length
+            (ap encode_utf8_all (prefix-whole encoding n (chars line) (omega (arith, p)))
+            ∙ encodes-chars line utf8)))
         | inr p ↦ rw (
           le-ltb (code_units encoding line) n p,
           ne_eqb (total_units encoding (prefix_within encoding n (chars line))) n apart,

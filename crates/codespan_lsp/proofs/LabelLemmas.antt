@@ -17,7 +17,8 @@ use Rattle.codespan_lsp.specs.declared.spans.Range.{Range}
 use Rattle.codespan_lsp.specs.declared.diagnostics.RelatedInformation.{RelatedInformation}
 use Rattle.codespan_lsp.specs.declared.encoding.PositionEncoding.{PositionEncoding}
 
-module _ {A : Type 0} (p : A → Bool) (items : List A) (i : ℕ) (x : A) (inside : i < length items) (is : x ≡ get_or items i x) where
+module _ {A : Type 0} (p : A → Bool) (items : List A) (i : ℕ) (x : A) (inside : i < length items)
+    (is : x ≡ get_or items i x) where
   -- the item at i is the next one
   next : drop i items ≡ x ∷ drop (i + 1) items
   next = drop_more items i x inside ∙ ap (λ y. y ∷ drop (i + 1) items) (sym is)
@@ -42,13 +43,16 @@ views-push view made xs ys y x left rest all ys_are same left_is was =
     ∙ (ap (λ l. map view xs ++ map made l) (sym left_is) ∙ was))))
 
 -- no item is left
-pub views-end : {A B X : Type 0} (p : A → Bool) (view : B → X) (made : A → X) (xs : List B) (items : List A) (i : ℕ) (all : List X)
+pub views-end : {A B X : Type 0} (p : A → Bool) (view : B → X) (made : A → X) (xs : List B)
+    (items : List A) (i : ℕ) (all : List X)
     → length items ≤ i → map view xs ++ map made (filter p (drop i items)) ≡ all → map view xs ≡ all
 views-end p view made xs items i all past was =
-    sym (append-nil (map view xs)) ∙ (ap (λ l. map view xs ++ map made (filter p l)) (sym (drop_all i items past)) ∙ was)
+    sym (append-nil (map view xs))
+    ∙ (ap (λ l. map view xs ++ map made (filter p l)) (sym (drop_all i items past)) ∙ was)
 
 -- the lookup for an item succeeds
-pub failure-more : {A : Type 0} (failure : A → Option Error) (x : A) (left rest : List A) (o : Option Error)
+pub failure-more : {A : Type 0} (failure : A → Option Error) (x : A) (left rest : List A)
+    (o : Option Error)
     → o ≡ first_failure (map failure left) → left ≡ x ∷ rest → failure x ≡ None
     → o ≡ first_failure (map failure rest)
 failure-more failure x left rest o was left_is none =
@@ -56,7 +60,8 @@ failure-more failure x left rest o was left_is none =
     ∙ ap (λ a. or_failure a (first_failure (map failure rest))) none)
 
 -- or it fails
-pub failure-here : {A : Type 0} (failure : A → Option Error) (x : A) (left rest : List A) (o : Option Error) (e : Error)
+pub failure-here : {A : Type 0} (failure : A → Option Error) (x : A) (left rest : List A)
+    (o : Option Error) (e : Error)
     → o ≡ first_failure (map failure left) → left ≡ x ∷ rest → failure x ≡ Some e → o ≡ Some e
 failure-here failure x left rest o e was left_is fails =
     was ∙ (ap (λ l. first_failure (map failure l)) left_is
@@ -71,9 +76,12 @@ pub related-same : {FileId : Type 0} (encoding : PositionEncoding) (database : F
 related-same encoding database label related id range message = rw (id, range, message) refl
 
 -- what is sent with the fields of a diagnostic and of a label
-pub lsp-same : {FileId : Type 0} (encoding : PositionEncoding) (database : FileDatabase FileId) (d : Diagnostic FileId) (label : Label FileId)
-    (range : Range) (severity : DiagnosticSeverity) (code : Option (List ℕ)) (message : List ℕ) (related : List (RelatedView FileId))
-    → range ≡ label_range encoding database label → severity ≡ lsp_severity d.severity → code ≡ option_map string_bytes d.code
+pub lsp-same : {FileId : Type 0} (encoding : PositionEncoding) (database : FileDatabase FileId)
+    (d : Diagnostic FileId) (label : Label FileId)
+    (range : Range) (severity : DiagnosticSeverity) (code : Option (List ℕ)) (message : List ℕ)
+    (related : List (RelatedView FileId))
+    → range ≡ label_range encoding database label → severity ≡ lsp_severity d.severity
+    → code ≡ option_map string_bytes d.code
     → message ≡ full_message d label → related ≡ related_views encoding database d.labels.items
     → lsp_view_for encoding database d label ≡ record {
       file_id = label.file_id;
@@ -83,4 +91,5 @@ pub lsp-same : {FileId : Type 0} (encoding : PositionEncoding) (database : FileD
       message = message;
       related = related;
     }
-lsp-same encoding database d label range severity code message related e1 e2 e3 e4 e5 = rw (e1, e2, e3, e4, e5) refl
+lsp-same encoding database d label range severity code message related e1 e2 e3 e4 e5 =
+    rw (e1, e2, e3, e4, e5) refl

@@ -47,12 +47,19 @@ module _ (encoding : PositionEncoding) (f : FileModel) (law : IsLawful f) where
       → units_before encoding f i a < units_before encoding f i b
   units-rise i a b exists low less at_a at_b =
       let start : ℕ = line_start f i in
-      let front : IsUtf8 (slice_range f.text start a) = IsUtf8-between f.text start a law.is_utf8 low (law.starts_on_boundaries i exists) at_a in
-      let between : IsUtf8 (slice_range f.text a b) = IsUtf8-between f.text a b law.is_utf8 (omega arith) at_a at_b in
+      let front : IsUtf8 (slice_range f.text start a) =
+      IsUtf8-between f.text start a law.is_utf8 low (law.starts_on_boundaries i exists) at_a in
+      let between : IsUtf8 (slice_range f.text a b) =
+      IsUtf8-between f.text a b law.is_utf8 (omega arith) at_a at_b in
       let size : length (slice_range f.text a b) ≡ b - a = slice-length f.text a b at_b.0 in
-      let some = code_units-some encoding (slice_range f.text a b) between (omega (arith, size, less)) in
-      let sum : code_units encoding (slice_range f.text start b) ≡ code_units encoding (slice_range f.text start a) + code_units encoding (slice_range f.text a b) =
-      ap (code_units encoding) (slice-parts f.text start a b low (omega arith)) ∙ code_units-append encoding (slice_range f.text start a) (slice_range f.text a b) front in
+      let some =
+      code_units-some encoding (slice_range f.text a b) between (omega (arith, size, less)) in
+      let sum : code_units encoding (slice_range f.text start b)
+      ≡ code_units encoding (slice_range f.text start a)
+      + code_units encoding (slice_range f.text a b) =
+      ap (code_units encoding) (slice-parts f.text start a b low (omega arith))
+      ∙ code_units-append encoding (slice_range f.text start a) (slice_range f.text a b)
+      front in
       omega (arith, some, sum)
 
   -- only one byte is at a position
@@ -61,8 +68,20 @@ module _ (encoding : PositionEncoding) (f : FileModel) (law : IsLawful f) where
       elim (cases_order a b) [
         | inl same ↦ same
         | inr apart ↦ elim apart [
-          | inl less ↦ absurd (omega (arith, at_a.units, at_b.units, units-rise p.line a b at_a.line_exists at_a.from_start less at_a.boundary at_b.boundary))
-          | inr more ↦ absurd (omega (arith, at_a.units, at_b.units, units-rise p.line b a at_b.line_exists at_b.from_start more at_b.boundary at_a.boundary))
+          | inl less ↦ absurd (omega (
+            arith,
+            at_a.units,
+            at_b.units,
+            units-rise p.line a b at_a.line_exists at_a.from_start
+                less at_a.boundary at_b.boundary,
+          ))
+          | inr more ↦ absurd (omega (
+            arith,
+            at_a.units,
+            at_b.units,
+            units-rise p.line b a at_b.line_exists at_b.from_start
+                more at_b.boundary at_a.boundary,
+          ))
         ]
       ]
 
@@ -91,7 +110,8 @@ module _ (encoding : PositionEncoding) (f : FileModel) (law : IsLawful f) where
         | inl same ↦ inr (
           same,
           subst (λ k. units_before encoding f i a < units_before encoding f k b) same
-              (units-rise i a b (line_of_below f.starts a law.has_line) (line_of-start f law a) less on_a.boundary on_b.boundary),
+              (units-rise i a b (line_of_below f.starts a law.has_line) (line_of-start f law a) less
+              on_a.boundary on_b.boundary),
         )
         | inr apart ↦ elim apart [
           | inl early ↦ inl early
@@ -102,14 +122,21 @@ module _ (encoding : PositionEncoding) (f : FileModel) (law : IsLawful f) where
   -- a line's characters are those before a byte and those after it
   chars-parts : (i byte : ℕ) → i < line_count f → line_start f i ≤ byte → byte ≤ line_end f i
       → IsCharBoundary f.text byte
-      → chars (line_text f i) ≡ chars (slice_range f.text (line_start f i) byte) ++ chars (slice_range f.text byte (line_end f i))
+      → chars (line_text f i) ≡ chars (slice_range f.text (line_start f i) byte) ++ chars
+      (slice_range f.text byte (line_end f i))
   chars-parts i byte exists low high at =
-      let front : IsUtf8 (slice_range f.text (line_start f i) byte) = IsUtf8-between f.text (line_start f i) byte law.is_utf8 low (law.starts_on_boundaries i exists) at in
+      let front : IsUtf8 (slice_range f.text (line_start f i) byte) =
+      IsUtf8-between f.text (line_start f i) byte law.is_utf8 low
+      (law.starts_on_boundaries i exists) at in
       ap chars (slice-parts f.text (line_start f i) byte (line_end f i) low high)
-      ∙ chars-append (slice_range f.text (line_start f i) byte) (slice_range f.text byte (line_end f i)) front
+      ∙ chars-append (slice_range f.text (line_start f i) byte)
+      (slice_range f.text byte (line_end f i)) front
 
   line-utf8 : (i : ℕ) → i < line_count f → IsUtf8 (line_text f i)
-  line-utf8 i exists = IsUtf8-between f.text (line_start f i) (line_end f i) law.is_utf8 (law.ends_after_start i exists) (law.starts_on_boundaries i exists) (law.ends_on_boundaries i exists)
+  line-utf8 i exists =
+      IsUtf8-between f.text (line_start f i) (line_end f i) law.is_utf8
+      (law.ends_after_start i exists) (law.starts_on_boundaries i exists)
+      (law.ends_on_boundaries i exists)
 
   -- where a byte is at a position there is no error
   none-at : (p : Position) (byte : ℕ) → IsByteAt encoding f p byte
@@ -119,8 +146,10 @@ module _ (encoding : PositionEncoding) (f : FileModel) (law : IsLawful f) where
       let back : List ℕ = chars (slice_range f.text byte (line_end f p.line)) in
       let parts = chars-parts p.line byte at.line_exists at.from_start at.to_end at.boundary in
       let prefix : prefix_within encoding p.character (chars (line_text f p.line)) ≡ front =
-      ap (prefix_within encoding p.character) parts ∙ prefix-exact encoding p.character front back at.units in
-      character_failure-none encoding (line_text f p.line) p.character (line-utf8 p.line at.line_exists) (line_start f p.line)
+      ap (prefix_within encoding p.character) parts
+      ∙ prefix-exact encoding p.character front back at.units in
+      character_failure-none encoding (line_text f p.line) p.character
+      (line-utf8 p.line at.line_exists) (line_start f p.line)
       (ap (total_units encoding) prefix ∙ at.units)
 
   -- and where there is none a byte is
@@ -134,10 +163,16 @@ module _ (encoding : PositionEncoding) (f : FileModel) (law : IsLawful f) where
       let utf8 : IsUtf8 line = line-utf8 p.line exists in
       let prefix : List ℕ = prefix_within encoding n (chars line) in
       elim (cases_eq (total_units encoding prefix) n) [
-        | inl same ↦ (start + length (encode_utf8_all prefix), prefix-is-at encoding f law p exists same)
+        | inl same ↦ (
+          start + length (encode_utf8_all prefix),
+          prefix-is-at encoding f law p exists same,
+        )
         | inr apart ↦ elim (cases_eq (length (encode_utf8_all prefix)) (length line)) [
-          | inl whole ↦ let past = character_failure-past encoding line n utf8 start apart whole in absurd (cc)
-          | inr part ↦ let inside = character_failure-inside encoding line n utf8 start apart part in absurd (cc)
+          | inl whole ↦ let past = character_failure-past encoding line n utf8 start apart whole in
+              absurd (cc)
+          | inr part ↦ let inside =
+              character_failure-inside encoding line n utf8 start apart part in
+              absurd (cc)
         ]
       ]
 
@@ -151,23 +186,42 @@ module _ (encoding : PositionEncoding) (f : FileModel) (law : IsLawful f) where
       let end : ℕ = line_end f p.line in
       let text : List ℕ = slice_range f.text start byte in
       let rest : List ℕ = is.starts.0 in
-      let after_utf8 : IsUtf8 (slice_range f.text byte end) = IsUtf8-between f.text byte end law.is_utf8 is.to_end is.boundary (law.ends_on_boundaries p.line is.line_exists) in
-      let front_utf8 : IsUtf8 text = IsUtf8-between f.text start byte law.is_utf8 is.from_start (law.starts_on_boundaries p.line is.line_exists) is.boundary in
+      let after_utf8 : IsUtf8 (slice_range f.text byte end) =
+      IsUtf8-between f.text byte end law.is_utf8 is.to_end is.boundary
+      (law.ends_on_boundaries p.line is.line_exists) in
+      let front_utf8 : IsUtf8 text = IsUtf8-between f.text start byte law.is_utf8 is.from_start
+      (law.starts_on_boundaries p.line is.line_exists) is.boundary in
       let parts : chars line ≡ chars text ++ c ∷ chars rest =
       chars-parts p.line byte is.line_exists is.from_start is.to_end is.boundary
-      ∙ ap (λ xs. chars text ++ xs) (chars_past_char (slice_range f.text byte end) rest c after_utf8 is.starts.1) in
+      ∙ ap (λ xs. chars text ++ xs)
+      (chars_past_char (slice_range f.text byte end) rest c after_utf8 is.starts.1) in
       let prefix : prefix_within encoding n (chars line) ≡ chars text =
-      ap (prefix_within encoding n) parts ∙ prefix-inside encoding n (chars text) c (chars rest) (omega (arith, is.after)) is.before in
+      ap (prefix_within encoding n) parts
+      ∙ prefix-inside encoding n (chars text) c (chars rest) (omega (arith, is.after))
+      is.before in
       let bytes : length (encode_utf8_all (prefix_within encoding n (chars line))) ≡ byte - start =
-      ap (λ cs. length (encode_utf8_all cs)) prefix ∙ (ap length (encodes-chars text front_utf8) ∙ slice-length f.text start byte is.boundary.0) in
-      let size : length line ≡ end - start = slice-length f.text start end (law.ends_on_boundaries p.line is.line_exists).0 in
-      let left : length (slice_range f.text byte end) ≡ end - byte = slice-length f.text byte end (law.ends_on_boundaries p.line is.line_exists).0 in
-      let wide : 0 < length (slice_range f.text byte end) =
-      omega (arith, ap length is.starts.1, length-append (encode_utf8 c) rest, length-encode c, (len_utf8_bounds c).0) in
-      let units : total_units encoding (prefix_within encoding n (chars line)) ≡ units_before encoding f p.line byte = ap (total_units encoding) prefix in
+      ap (λ cs. length (encode_utf8_all cs)) prefix
+      ∙ (ap length (encodes-chars text front_utf8)
+      ∙ slice-length f.text start byte is.boundary.0) in
+      let size : length line ≡ end - start =
+      slice-length f.text start end (law.ends_on_boundaries p.line is.line_exists).0 in
+      let left : length (slice_range f.text byte end) ≡ end - byte =
+      slice-length f.text byte end (law.ends_on_boundaries p.line is.line_exists).0 in
+      let wide : 0 < length (slice_range f.text byte end) = omega (
+        arith,
+        ap length is.starts.1,
+        length-append (encode_utf8 c) rest,
+        length-encode c,
+        (len_utf8_bounds c).0,
+      ) in
+      let units : total_units encoding (prefix_within encoding n (chars line))
+      ≡ units_before encoding f p.line byte =
+      ap (total_units encoding) prefix in
       let found = character_failure-inside encoding line n (line-utf8 p.line is.line_exists) start
-      (λ same. omega (arith, same, units, is.after)) (λ same. omega (arith, same, bytes, size, left, wide, is.from_start)) in
-      let here : start + length (encode_utf8_all (prefix_within encoding n (chars line))) ≡ byte = omega (arith, bytes, is.from_start) in
+      (λ same. omega (arith, same, units, is.after))
+      (λ same. omega (arith, same, bytes, size, left, wide, is.from_start)) in
+      let here : start + length (encode_utf8_all (prefix_within encoding n (chars line))) ≡ byte =
+      omega (arith, bytes, is.from_start) in
       found ∙ ap (λ k. Some (InvalidCharBoundary k)) here
 
 pub positions-return : PositionsReturn
@@ -177,7 +231,8 @@ pub positions-ascend : PositionsAscend
 positions-ascend encoding f a b law on_a on_b less = ascends encoding f law a b on_a on_b less
 
 pub errors-have-no-byte : ErrorsHaveNoByte
-errors-have-no-byte encoding f p law exists = (at-none encoding f law p exists, λ at. none-at encoding f law p at.0 at.1)
+errors-have-no-byte encoding f p law exists =
+    (at-none encoding f law p exists, λ at. none-at encoding f law p at.0 at.1)
 
 pub inside-is-no-boundary : InsideIsNoBoundary
 inside-is-no-boundary encoding f p byte c law is = inside encoding f law p byte c is

@@ -79,4 +79,8 @@ one-later s a b h =
 pub line_of-rises : (starts : List ℕ) (a b : ℕ) → a ≤ b → line_of starts a ≤ line_of starts b
 unfolding line_of
 line_of-rises starts a b h =
-    omega (arith, sum_by-le-sum_by (λ s. cond (nat_le s a) 1 0) (λ s. cond (nat_le s b) 1 0) starts (λ s. one-later s a b h))
+    omega (
+      arith,
+      sum_by-le-sum_by (λ s. cond (nat_le s a) 1 0) (λ s. cond (nat_le s b) 1 0) starts
+          (λ s. one-later s a b h),
+    )

@@ -14,7 +14,8 @@ pub record Cut (whole front : List ℕ) : Type 0 where
   pub front_chars : all_scalars front ≡ true
   pub back_chars : all_scalars back ≡ true
 
-cut-cons : (c : ℕ) (cs front : List ℕ) → all_scalars (c ∷ cs) ≡ true → Cut cs front → Cut (c ∷ cs) (c ∷ front)
+cut-cons : (c : ℕ) (cs front : List ℕ) → all_scalars (c ∷ cs) ≡ true → Cut cs front
+    → Cut (c ∷ cs) (c ∷ front)
 cut-cons c cs front all k = record {
   back = k.back;
   whole_is = ap (λ xs. c ∷ xs) k.whole_is;
@@ -24,14 +25,15 @@ cut-cons c cs front all k = record {
 
 module _ (encoding : PositionEncoding) where
   -- the prefix is a front of the characters
-  pub prefix-cut : (n : ℕ) (cs : List ℕ) → all_scalars cs ≡ true → Cut cs (prefix_within encoding n cs)
+  pub prefix-cut : (n : ℕ) (cs : List ℕ) → all_scalars cs ≡ true
+      → Cut cs (prefix_within encoding n cs)
   prefix-cut n [] all = record { back = []; whole_is = refl; front_chars = refl; back_chars = refl }
   prefix-cut n (c ∷ cs) all =
       elim (cases_lt n (char_units encoding c)) [
         | inl p ↦ rw (lt-leb (char_units encoding c) n p)
             record { back = c ∷ cs; whole_is = refl; front_chars = refl; back_chars = all }
-        | inr p ↦ rw (le-leb (char_units encoding c) n p)
-            (cut-cons c cs _ all (prefix-cut (n - char_units encoding c) cs (and_parts _ (all_scalars cs) all).1))
+        | inr p ↦ rw (le-leb (char_units encoding c) n p) (cut-cons c cs _ all
+            (prefix-cut (n - char_units encoding c) cs (and_parts _ (all_scalars cs) all).1))
       ]
 
   -- it has at most n code units
@@ -40,17 +42,18 @@ module _ (encoding : PositionEncoding) where
   prefix-le n (c ∷ cs) =
       elim (cases_lt n (char_units encoding c)) [
         | inl p ↦ rw (lt-leb (char_units encoding c) n p) (omega arith)
-        | inr p ↦ rw (le-leb (char_units encoding c) n p)
-            (omega (
-              arith,
-              p,
-              sum_by-cons (char_units encoding) c (prefix_within encoding (n - char_units encoding c) cs),
-              prefix-le (n - char_units encoding c) cs,
-            ))
+        | inr p ↦ rw (le-leb (char_units encoding c) n p) (omega (
+          arith,
+          p,
+          sum_by-cons (char_units encoding) c
+              (prefix_within encoding (n - char_units encoding c) cs),
+          prefix-le (n - char_units encoding c) cs,
+        ))
       ]
 
   -- it is the whole where the whole has at most n
-  pub prefix-whole : (n : ℕ) (cs : List ℕ) → total_units encoding cs ≤ n → prefix_within encoding n cs ≡ cs
+  pub prefix-whole : (n : ℕ) (cs : List ℕ) → total_units encoding cs ≤ n
+      → prefix_within encoding n cs ≡ cs
   prefix-whole n [] h = refl
   prefix-whole n (c ∷ cs) h =
       let sum = sum_by-cons (char_units encoding) c cs in
@@ -63,11 +66,13 @@ module _ (encoding : PositionEncoding) where
       → prefix_within encoding n (front ++ back) ≡ front
   prefix-exact n [] [] h = refl
   prefix-exact n [] (c ∷ back) h =
-      rw (lt-leb (char_units encoding c) n (omega (arith, h, (char_units_bounds encoding c).0))) refl
+      rw (lt-leb (char_units encoding c) n (omega (arith, h, (char_units_bounds encoding c).0)))
+      refl
   prefix-exact n (c ∷ front) back h =
       let sum = sum_by-cons (char_units encoding) c front in
       rw (le-leb (char_units encoding c) n (omega (arith, sum, h)))
-      (ap (λ xs. c ∷ xs) (prefix-exact (n - char_units encoding c) front back (omega (arith, sum, h))))
+      (ap (λ xs. c ∷ xs)
+      (prefix-exact (n - char_units encoding c) front back (omega (arith, sum, h))))
 
   -- and those before a character whose code units they end in
   pub prefix-inside : (n : ℕ) (front : List ℕ) (c : ℕ) (back : List ℕ)
@@ -78,4 +83,6 @@ module _ (encoding : PositionEncoding) where
   prefix-inside n (d ∷ front) c back low high =
       let sum = sum_by-cons (char_units encoding) d front in
       rw (le-leb (char_units encoding d) n (omega (arith, sum, low)))
-      (ap (λ xs. d ∷ xs) (prefix-inside (n - char_units encoding d) front c back (omega (arith, sum, low)) (omega (arith, sum, low, high))))
+      (ap (λ xs. d ∷ xs)
+      (prefix-inside (n - char_units encoding d) front c back (omega (arith, sum, low))
+      (omega (arith, sum, low, high))))

@@ -21,7 +21,8 @@ utf16_len-high c h = rw (le-ltb c 65536 h) refl
 
 -- and four bytes where it has two
 utf8_len-high : (c : ℕ) → 65536 ≤ c → len_utf8 c ≡ 4
-utf8_len-high c h = rw (le-ltb c 128 (omega arith), le-ltb c 2048 (omega arith), le-ltb c 65536 h) refl
+utf8_len-high c h =
+    rw (le-ltb c 128 (omega arith), le-ltb c 2048 (omega arith), le-ltb c 65536 h) refl
 
 -- a character has one code unit at least, and no more than bytes
 pub char_units_bounds : (encoding : PositionEncoding) (c : ℕ)
@@ -29,8 +30,14 @@ pub char_units_bounds : (encoding : PositionEncoding) (c : ℕ)
 char_units_bounds Utf8 c = ((len_utf8_bounds c).0, omega arith)
 char_units_bounds Utf16 c =
     elim (cases_lt c 65536) [
-      | inl p ↦ (omega (arith, utf16_len-low c p), omega (arith, utf16_len-low c p, len_utf8_bounds c))
-      | inr p ↦ (omega (arith, utf16_len-high c p), omega (arith, utf16_len-high c p, utf8_len-high c p))
+      | inl p ↦ (
+        omega (arith, utf16_len-low c p),
+        omega (arith, utf16_len-low c p, len_utf8_bounds c),
+      )
+      | inr p ↦ (
+        omega (arith, utf16_len-high c p),
+        omega (arith, utf16_len-high c p, utf8_len-high c p),
+      )
     ]
 char_units_bounds Utf32 c = (omega arith, (len_utf8_bounds c).0)
 
@@ -76,7 +83,8 @@ module _ (encoding : PositionEncoding) where
       omega (arith, total_units-le (chars text), ap length (encodes-chars text utf8))
 
   -- and one at least, if it is not empty
-  pub code_units-some : (text : List ℕ) → IsUtf8 text → 0 < length text → 0 < code_units encoding text
+  pub code_units-some : (text : List ℕ) → IsUtf8 text → 0 < length text
+      → 0 < code_units encoding text
   code_units-some text utf8 h =
       total_units-some (chars text) (omega (arith, ap length (encodes-chars text utf8)))
 

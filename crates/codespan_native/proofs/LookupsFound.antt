@@ -33,7 +33,8 @@ abbrev pub Each : {X : Type 0} → (X → Type 0) → List X → Type 0
 Each P [] = Unit {0}
 Each P (x ∷ xs) = P x × Each P xs
 
-each_append : {X : Type 0} (P : X → Type 0) (xs ys : List X) → Each P xs → Each P ys → Each P (xs ++ ys)
+each_append : {X : Type 0} (P : X → Type 0) (xs ys : List X) → Each P xs → Each P ys
+    → Each P (xs ++ ys)
 each_append P [] ys a b = b
 each_append P (x ∷ xs) ys a b = (a.0, each_append P xs ys a.1 b)
 
@@ -53,7 +54,8 @@ each_filtered : {X : Type 0} (P : X → Type 0) (x : X) (xs : List X) (b : Bool)
 each_filtered P x xs true here rest = (here, rest)
 each_filtered P x xs false here rest = rest
 
-each_filter : {X : Type 0} (test : X → Bool) (P : X → Type 0) (xs : List X) → Each P xs → Each P (filter test xs)
+each_filter : {X : Type 0} (test : X → Bool) (P : X → Type 0) (xs : List X) → Each P xs
+    → Each P (filter test xs)
 each_filter test P [] all = tt
 each_filter test P (x ∷ xs) all =
     each_filtered P x (filter test xs) (test x) all.0 (each_filter test P xs all.1)
@@ -64,12 +66,14 @@ each_of_range a (suc n) =
     let e : a + 1 + n ≡ a + suc n = omega arith in
     (omega arith, rw e at (each_of_range (a + 1) n))
 
-each_first_seen : {X : Type 0} (same : X → X → Bool) (P : X → Type 0) (xs : List X) → Each P xs → Each P (first_seen same xs)
+each_first_seen : {X : Type 0} (same : X → X → Bool) (P : X → Type 0) (xs : List X) → Each P xs
+    → Each P (first_seen same xs)
 each_first_seen same P [] all = tt
 each_first_seen same P (x ∷ xs) all =
     (all.0, each_filter (λ other. not (same x other)) P (first_seen same xs) (each_first_seen same P xs all.1))
 
-at_index : {X : Type 0} (P : X → Type 0) (xs : List X) (k : ℕ) (d : X) → k < length xs → Each P xs → P (slice_index_or xs k d)
+at_index : {X : Type 0} (P : X → Type 0) (xs : List X) (k : ℕ) (d : X) → k < length xs → Each P xs
+    → P (slice_index_or xs k d)
 at_index P [] k d h all = absurd (omega (arith, h))
 at_index P (x ∷ xs) zero d h all = all.0
 at_index P (x ∷ xs) (suc k) d h all = at_index P xs k d (omega (arith, h)) all.1
@@ -97,16 +101,19 @@ lookups_succeed_of s = record {
   location = λ byte. refl;
 }
 
-module _ (failure : Lookup → Option Error) (f : FileModel) (a : LookupsSucceed failure f) (config : Config) where
+module _ (failure : Lookup → Option Error) (f : FileModel) (a : LookupsSucceed failure f)
+    (config : Config) where
   abbrev Found : Lookup → Type 0
   Found l = failure l ≡ None
 
-  of_lines : (test : ℕ → Bool) → Each (λ i. i < line_count f) (filter test (range_with_len 0 (line_count f)))
+  of_lines : (test : ℕ → Bool)
+      → Each (λ i. i < line_count f) (filter test (range_with_len 0 (line_count f)))
   of_lines test =
       each_filter test (λ i. i < line_count f) (range_with_len 0 (line_count f))
       (let e : 0 + line_count f ≡ line_count f = omega arith in rw e at (each_of_range 0 (line_count f)))
 
-  nothing_past : (b c : Bool) (ls : List Lookup) → c ≡ true → Each Found (if b && not c then ls else [])
+  nothing_past : (b c : Bool) (ls : List Lookup) → c ≡ true
+      → Each Found (if b && not c then ls else [])
   nothing_past true true ls e = tt
   nothing_past false true ls e = tt
   nothing_past b false ls e = absurd (cc)
@@ -123,7 +130,8 @@ module _ (failure : Lookup → Option Error) (f : FileModel) (a : LookupsSucceed
     ),
   )
 
-  of_filled_found : (layout : Layout) (i : ℕ) → i < line_count f → Each Found (filled_line_lookups layout i)
+  of_filled_found : (layout : Layout) (i : ℕ) → i < line_count f
+      → Each Found (filled_line_lookups layout i)
   of_filled_found Classic i h = (a.line_range i h, (a.line_number i, tt))
   of_filled_found Unbroken i h = (a.line_range i h, tt)
 
@@ -141,7 +149,9 @@ module _ (ss : List NativeFileView) where
 
   -- those of the file that is found, if any
   abbrev LookupsSucceedIf : Option NativeFileView → Type 0
-  LookupsSucceedIf o = LookupsSucceed (λ lookup. option_map_or (λ s. native_failure s lookup) o (Some FileMissing)) (option_map_or native_file_model o missing_file)
+  LookupsSucceedIf o =
+      LookupsSucceed (λ lookup. option_map_or (λ s. native_failure s lookup) o (Some FileMissing))
+      (option_map_or native_file_model o missing_file)
 
   lookups_succeed_if : (o : Option NativeFileView) → IsSome o → LookupsSucceedIf o
   lookups_succeed_if None is = absurd (cc)
@@ -152,10 +162,12 @@ module _ (ss : List NativeFileView) where
   there (x ∷ xs) zero h = refl
   there (x ∷ xs) (suc i) h = there xs i (omega (arith, h))
 
-  lookups_succeed_at : (id : ℕ) → IsKnown id → LookupsSucceed (fails id) ((native_database ss).file id)
+  lookups_succeed_at : (id : ℕ) → IsKnown id
+      → LookupsSucceed (fails id) ((native_database ss).file id)
   lookups_succeed_at id known = lookups_succeed_if (slice_get ss id) (there ss id known)
 
-  lookups_are_found : (id : ℕ) (ls : List Lookup) → Each (λ l. fails id l ≡ None) ls → Each IsFound (lookups_of_file id ls)
+  lookups_are_found : (id : ℕ) (ls : List Lookup) → Each (λ l. fails id l ≡ None) ls
+      → Each IsFound (lookups_of_file id ls)
   lookups_are_found id ls all = each_map (λ l. (id, l)) IsFound (λ l. fails id l ≡ None) ls (λ l e. e) all
 
   abbrev InKnown : InFile ℕ → Type 0
@@ -172,12 +184,20 @@ module _ (ss : List NativeFileView) where
 
     labels_found : Each IsFound (label_lookups config files xs)
     labels_found =
-        each_flat_map (λ (x : InFile ℕ). lookups_of_file x.file_id (label_line_lookups config (files.file x.file_id) (files.failure x.file_id) x.label))
+        each_flat_map
+        (λ (x : InFile ℕ). lookups_of_file x.file_id
+        (label_line_lookups config (files.file x.file_id) (files.failure x.file_id) x.label))
         IsFound InKnown xs
-        (λ x h. lookups_are_found x.file_id (label_line_lookups config (files.file x.file_id) (files.failure x.file_id) x.label) (of_label_found (fails x.file_id) (files.file x.file_id) (lookups_succeed_at x.file_id h) config x.label)) known
+        (λ x h. lookups_are_found x.file_id
+        (label_line_lookups config (files.file x.file_id) (files.failure x.file_id) x.label)
+        (of_label_found (fails x.file_id) (files.file x.file_id)
+        (lookups_succeed_at x.file_id h) config x.label))
+        known
 
-    of_ids : (lookups_for : ℕ → List Lookup) → ((id : ℕ) → IsKnown id → Each (λ l. fails id l ≡ None) (lookups_for id))
-        → Each IsFound (flat_map (λ id. lookups_of_file id (lookups_for id)) (file_ids files.same xs))
+    of_ids : (lookups_for : ℕ → List Lookup)
+        → ((id : ℕ) → IsKnown id → Each (λ l. fails id l ≡ None) (lookups_for id))
+        → Each IsFound
+        (flat_map (λ id. lookups_of_file id (lookups_for id)) (file_ids files.same xs))
     of_ids lookups_for each =
         each_flat_map (λ id. lookups_of_file id (lookups_for id)) IsFound IsKnown (file_ids files.same xs)
         (λ id h. lookups_are_found id (lookups_for id) (each id h)) ids_known
@@ -190,10 +210,12 @@ module _ (ss : List NativeFileView) where
         (filled_lines config (file_at files xs id)) (λ i _. (lookups_succeed_at id h).line_number i)
         (of_lines (fails id) (files.file id) (lookups_succeed_at id h) config _)
 
-    snippets_found : (id : ℕ) → IsKnown id → Each (λ l. fails id l ≡ None) (snippet_lookups files xs config id)
+    snippets_found : (id : ℕ) → IsKnown id
+        → Each (λ l. fails id l ≡ None) (snippet_lookups files xs config id)
     snippets_found id h = (
       (lookups_succeed_at id h).source,
-      each_flat_map (filled_line_lookups config.layout) (λ l. fails id l ≡ None) (λ i. i < line_count (files.file id))
+      each_flat_map (filled_line_lookups config.layout) (λ l. fails id l ≡ None)
+          (λ i. i < line_count (files.file id))
           (filled_lines config (file_at files xs id))
           (of_filled_found (fails id) (files.file id) (lookups_succeed_at id h) config config.layout)
           (of_lines (fails id) (files.file id) (lookups_succeed_at id h) config _),
@@ -202,17 +224,27 @@ module _ (ss : List NativeFileView) where
     rich_found : Each IsFound (early_lookups files xs config ++ late_lookups files xs config)
     rich_found =
         each_append IsFound (early_lookups files xs config) (late_lookups files xs config)
-        (each_append IsFound _ (flat_map (λ id. lookups_of_file id (locus_lookups files xs id)) (file_ids files.same xs))
+        (each_append IsFound _
+        (flat_map (λ id. lookups_of_file id (locus_lookups files xs id))
+        (file_ids files.same xs))
         (each_append IsFound (label_lookups config files xs)
-        (flat_map (λ id. lookups_of_file id (numbers_for_padding files xs config config.layout id)) (file_ids files.same xs))
+        (flat_map (λ id. lookups_of_file id (numbers_for_padding files xs config config.layout id))
+        (file_ids files.same xs))
         labels_found (of_ids (numbers_for_padding files xs config config.layout) (padding_found config.layout)))
-        (of_ids (locus_lookups files xs) (λ id h. ((lookups_succeed_at id h).name, ((lookups_succeed_at id h).location (locus_start (file_at files xs id).labels), tt)))))
+        (of_ids (locus_lookups files xs)
+        (λ id h. (
+          (lookups_succeed_at id h).name,
+          ((lookups_succeed_at id h).location (locus_start (file_at files xs id).labels), tt),
+        ))))
         (of_ids (snippet_lookups files xs config) snippets_found)
 
     header_found : Each IsFound (flat_map header_lookups_of (primary_of xs))
     header_found =
         each_flat_map header_lookups_of IsFound InKnown (primary_of xs)
-        (λ x h. ((lookups_succeed_at x.file_id h).name, ((lookups_succeed_at x.file_id h).location x.label.start, tt)))
+        (λ x h. (
+          (lookups_succeed_at x.file_id h).name,
+          ((lookups_succeed_at x.file_id h).location x.label.start, tt),
+        ))
         (each_filter (λ (x : InFile ℕ). is_primary x.label) InKnown xs known)
 
   succeed : (ls : List (ℕ × Lookup)) → Each IsFound ls → AllSucceed fails ls
@@ -221,7 +253,8 @@ module _ (ss : List NativeFileView) where
 
   -- all lookups of an output succeed where the files of the labels are known
   pub all_succeed : (style : DisplayStyle) (config : Config) (d : Diagnostic ℕ)
-      → Each InKnown (labels_of d) → AllSucceed fails (lookups_in style config (native_database ss) d)
+      → Each InKnown (labels_of d)
+      → AllSucceed fails (lookups_in style config (native_database ss) d)
   all_succeed Rich config d known = succeed _ (rich_found config (labels_of d) known)
   all_succeed Medium config d known = succeed _ (header_found config (labels_of d) known)
   all_succeed Short config d known = succeed _ (header_found config (labels_of d) known)
@@ -239,7 +272,8 @@ pub none_fails : (files : List RawFile) (diagnostic : RawDiagnostic) (raw : RawC
 none_fails files diagnostic raw valid d config viewed =
     let ss = map converted_file files in
     let same : map label_of_view (map (converted_label files) diagnostic.labels.now) ≡ labels_of d =
-    ap (λ (v : DiagnosticView ℕ). map label_of_view v.labels) (sym viewed) ∙ sym (labels-of_view d.labels.items) in
+    ap (λ (v : DiagnosticView ℕ). map label_of_view v.labels) (sym viewed)
+    ∙ sym (labels-of_view d.labels.items) in
     let count : length files ≡ length ss = sym (length-map files converted_file) in
     let known : Each (λ (l : RawLabel). l.file < length ss) diagnostic.labels.now =
     each_from_all (λ (l : RawLabel). l.file < length ss) diagnostic.labels.now

@@ -33,11 +33,13 @@ stated ss d x contains = named x.file_id
   where
     named : (id : ℕ) → IsSome ((native_database ss).file id).name
     named id =
-        elim (slice_get ss id) as (λ found. IsSome (option_map_or native_file_model found missing_file).name)
+        elim (slice_get ss id) as (λ found. IsSome
+        (option_map_or native_file_model found missing_file).name)
         [ None ↦ refl | Some s ↦ refl ]
 
 -- a call that writes writes the output with these names
-pub written_stream : (config : Config) (ss : List NativeFileView) (d : Diagnostic ℕ) (old new : Sink)
+pub written_stream : (config : Config) (ss : List NativeFileView) (d : Diagnostic ℕ)
+    (old new : Sink)
     (r : Result (Unit {0}) Error)
     → WritesStyled config.display_style config config (native_database ss) d old r new
     → is_known old ≡ true → OnOk r (new ≡ with_written old (stream_of_output config ss d))
@@ -68,31 +70,41 @@ fresh_known spelling old first fresh = ap (λ (s : Sink). is_known s) fresh
 -- the output of a configuration, of files and of a diagnostic is that of what they stand for
 pub output_is : (expected config : Config) (ss ts : List NativeFileView) (d : Diagnostic ℕ)
     (v : DiagnosticView ℕ) → IsEqualConfig expected config → ss ≡ ts → diagnostic_view d ≡ v
-    → stream_of_output config ss d ≡ picture_of_view expected (native_database ts).same (native_database ts).file v
+    → stream_of_output config ss d ≡ picture_of_view expected (native_database ts).same
+    (native_database ts).file v
 output_is expected config ss ts d v alike same viewed =
     picture-of_view expected config (native_database ss) d alike
-    ∙ ap (λ ss. picture_of_view expected (native_database ss).same (native_database ss).file (diagnostic_view d)) same
-    ∙ ap (λ v. picture_of_view expected (native_database ts).same (native_database ts).file v) viewed
+    ∙ ap
+    (λ ss. picture_of_view expected (native_database ss).same (native_database ss).file
+    (diagnostic_view d))
+    same
+    ∙ ap (λ v. picture_of_view expected (native_database ts).same (native_database ts).file v)
+    viewed
 
 -- the bytes that are rendered are those that the structs describe
-pub bytes_are : (spelling : Spelling) (config : Config) (ss : List NativeFileView) (d : Diagnostic ℕ)
+pub bytes_are : (spelling : Spelling) (config : Config) (ss : List NativeFileView)
+    (d : Diagnostic ℕ)
     (files : List RawFile) (diagnostic : RawDiagnostic) (raw : RawConfig) (bytes : List ℕ)
     → bytes ≡ spelled spelling (stream_of_output config ss d) → spelling ≡ spelling_of raw
     → IsEqualConfig (converted_config raw) config → ss ≡ map converted_file files
-    → diagnostic_view d ≡ converted_diagnostic files diagnostic → bytes ≡ output_bytes files diagnostic raw
+    → diagnostic_view d ≡ converted_diagnostic files diagnostic
+    → bytes ≡ output_bytes files diagnostic raw
 unfolding output_bytes
 bytes_are spelling config ss d files diagnostic raw bytes are spells alike same viewed =
     are
     ∙ ap (λ s. spelled s (stream_of_output config ss d)) spells
     ∙ ap (λ stream. spelled (spelling_of raw) stream)
-    (output_is (converted_config raw) config ss (map converted_file files) d (converted_diagnostic files diagnostic) alike same viewed)
+    (output_is (converted_config raw) config ss (map converted_file files) d
+    (converted_diagnostic files diagnostic) alike same viewed)
 
 -- the same of a call that returns the bytes
-pub result_is : (spelling : Spelling) (config : Config) (ss : List NativeFileView) (d : Diagnostic ℕ)
+pub result_is : (spelling : Spelling) (config : Config) (ss : List NativeFileView)
+    (d : Diagnostic ℕ)
     (files : List RawFile) (diagnostic : RawDiagnostic) (raw : RawConfig)
     (r : Result (Vec ℕ Global) OutOfMemory)
     → IfOk r (λ output. output.items ≡ spelled spelling (stream_of_output config ss d))
-    → spelling ≡ spelling_of raw → IsEqualConfig (converted_config raw) config → ss ≡ map converted_file files
+    → spelling ≡ spelling_of raw → IsEqualConfig (converted_config raw) config
+    → ss ≡ map converted_file files
     → diagnostic_view d ≡ converted_diagnostic files diagnostic
     → IfOk r (λ output. output.items ≡ output_bytes files diagnostic raw)
 result_is spelling config ss d files diagnostic raw (Ok output) are spells alike same viewed =

@@ -10,13 +10,16 @@ use Rattle.codespan_picture.specs.Carets.{covers, style_under, max_label_end}
 
 -- a label over a character ends past the index at which that begins
 covers-below : (x : LabelModel) (c : Metrics) → covers x c ≡ true → c.byte_index < x.end
-covers-below x c h = let below = ltb-true (max x.start c.byte_index) (min x.end (c.byte_index + c.bytes)) h in omega arith
+covers-below x c h =
+    let below = ltb-true (max x.start c.byte_index) (min x.end (c.byte_index + c.bytes)) h in
+    omega arith
 
 fold_max-le : (m : ℕ) (xs : List LabelModel) → m ≤ fold (λ n (x : LabelModel). max n x.end) m xs
 fold_max-le m [] = omega arith
 fold_max-le m (x ∷ xs) = let more = fold_max-le (max m x.end) xs in omega arith
 
-list_any-below : (m : ℕ) (p : LabelModel → Bool) (c : Metrics) (xs : List LabelModel) → ((x : LabelModel) → p x ≡ true → c.byte_index < x.end)
+list_any-below : (m : ℕ) (p : LabelModel → Bool) (c : Metrics) (xs : List LabelModel)
+    → ((x : LabelModel) → p x ≡ true → c.byte_index < x.end)
     → list_any p xs ≡ true → c.byte_index < fold (λ n (x : LabelModel). max n x.end) m xs
 list_any-below m p c [] below h = cc
 list_any-below m p c (x ∷ xs) below h =
@@ -26,15 +29,19 @@ list_any-below m p c (x ∷ xs) below h =
     (or_cases (p x) (list_any p xs) h)
 
 -- a character with a style begins before the greatest end
-pub style_under-below : (labels : List LabelModel) (c : Metrics) (style : LabelStyle) → style_under labels c ≡ Some style → c.byte_index < max_label_end labels
-style_under-below labels c style h = by_primary (list_any (λ x. is_primary x && covers x c) labels) refl
+pub style_under-below : (labels : List LabelModel) (c : Metrics) (style : LabelStyle)
+    → style_under labels c ≡ Some style → c.byte_index < max_label_end labels
+style_under-below labels c style h =
+    by_primary (list_any (λ x. is_primary x && covers x c) labels) refl
   where
-    by_any : (b : Bool) → list_any (λ x. covers x c) labels ≡ b → list_any (λ x. is_primary x && covers x c) labels ≡ false
+    by_any : (b : Bool) → list_any (λ x. covers x c) labels ≡ b
+        → list_any (λ x. is_primary x && covers x c) labels ≡ false
         → c.byte_index < max_label_end labels
     by_any true any none = list_any-below 0 (λ x. covers x c) c labels (λ x. covers-below x c) any
     by_any false any none = cc
 
-    by_primary : (b : Bool) → list_any (λ x. is_primary x && covers x c) labels ≡ b → c.byte_index < max_label_end labels
+    by_primary : (b : Bool) → list_any (λ x. is_primary x && covers x c) labels ≡ b
+        → c.byte_index < max_label_end labels
     by_primary true any =
         list_any-below 0 (λ x. is_primary x && covers x c) c labels
         (λ x both. covers-below x c (and_parts (is_primary x) (covers x c) both).1) any

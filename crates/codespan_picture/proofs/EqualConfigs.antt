@@ -22,10 +22,13 @@ abbrev with_start : Config → SnippetStart → Config
 with_start config start = record config { chars = record config.chars { snippet_start = start } }
 
 -- equal configurations differ at most in how that text is stored
-is_with_start : (table config : Config) → IsEqualConfig table config → config ≡ with_start table config.chars.snippet_start
-is_with_start table config equal = equal.others ∙ ap (λ chars. record table { chars = chars }) equal.chars.others
+is_with_start : (table config : Config) → IsEqualConfig table config
+    → config ≡ with_start table config.chars.snippet_start
+is_with_start table config equal =
+    equal.others ∙ ap (λ chars. record table { chars = chars }) equal.chars.others
 
-module _ (config : Config) (severity : Severity) (padding : ℕ) (start other : SnippetStart) (same : start_text start ≡ start_text other) where
+module _ (config : Config) (severity : Severity) (padding : ℕ) (start other : SnippetStart)
+    (same : start_text start ≡ start_text other) where
   -- the context of rows with each of the two texts
   abbrev context : SnippetStart → RowContext
   context text = context_of (with_start config text) severity padding
@@ -48,22 +51,33 @@ module _ (config : Config) (severity : Severity) (padding : ℕ) (start other : 
   row_equal FinalRow = refl
 
   -- all rows are the same
-  rows_equal : (rows : List Row) → stream_of_rows (context start) rows ≡ stream_of_rows (context other) rows
+  rows_equal : (rows : List Row)
+      → stream_of_rows (context start) rows ≡ stream_of_rows (context other) rows
   rows_equal [] = refl
   rows_equal (row ∷ rows) = cc (row_equal row, rows_equal rows)
 
 -- what is rendered is the same, in each style
-module _ (table config : Config) (equal : IsEqualConfig table config) (severity : Severity) (header_text : HeaderText) (loci : List Locus) (ss : List LabeledFileModel) (notes : List (List ℕ)) where
+module _ (table config : Config) (equal : IsEqualConfig table config) (severity : Severity)
+    (header_text : HeaderText) (loci : List Locus) (ss : List LabeledFileModel)
+    (notes : List (List ℕ)) where
   -- rows of this padding width are the same
-  all_equal : (padding : ℕ) (rows : List Row) → stream_of_rows (context_of config severity padding) rows ≡ stream_of_rows (context_of table severity padding) rows
+  all_equal : (padding : ℕ) (rows : List Row)
+      → stream_of_rows (context_of config severity padding) rows ≡ stream_of_rows
+      (context_of table severity padding) rows
   all_equal padding rows =
-      ap (λ c. stream_of_rows (context_of c severity padding) rows) (is_with_start table config equal)
-      ∙ rows_equal table severity padding config.chars.snippet_start table.chars.snippet_start equal.chars.start rows
+      ap (λ c. stream_of_rows (context_of c severity padding) rows)
+      (is_with_start table config equal)
+      ∙ rows_equal table severity padding config.chars.snippet_start table.chars.snippet_start
+      equal.chars.start rows
 
-  pub rendered_equal : (style : DisplayStyle) → rendered style config config severity header_text loci ss notes ≡ rendered style table table severity header_text loci ss notes
+  pub rendered_equal : (style : DisplayStyle)
+      → rendered style config config severity header_text loci ss notes ≡ rendered style table table
+      severity header_text loci ss notes
   rendered_equal Rich =
-      ap (λ c. rendered Rich c c severity header_text loci ss notes) (is_with_start table config equal)
-      ∙ rows_equal table severity (padding_of table ss) config.chars.snippet_start table.chars.snippet_start equal.chars.start
+      ap (λ c. rendered Rich c c severity header_text loci ss notes)
+      (is_with_start table config equal)
+      ∙ rows_equal table severity (padding_of table ss) config.chars.snippet_start
+      table.chars.snippet_start equal.chars.start
       (rich_rows table header_text loci ss notes)
   rendered_equal Medium = all_equal 0 (header_rows header_text loci ++ note_rows notes)
   rendered_equal Short = all_equal 0 (header_rows header_text loci)

@@ -16,26 +16,28 @@ use Rattle.codespan_picture.specs.ViewPictures.{label_of_view, picture_of_view}
 use Rattle.codespan_picture.proofs.EqualConfigs.{rendered_equal}
 
 -- the labels of a diagnostic are those of its view
-pub labels-of_view : {Id : Type 0} (xs : List (Label Id)) → map label_of xs ≡ map label_of_view (map label_view xs)
+pub labels-of_view : {Id : Type 0} (xs : List (Label Id))
+    → map label_of xs ≡ map label_of_view (map label_view xs)
 labels-of_view [] = refl
 labels-of_view (x ∷ xs) = ap (λ rest. label_of x ∷ rest) (labels-of_view xs)
 
-module _ {Id : Type 0} (expected config : Config) (files : FileDatabase Id) (d : Diagnostic Id) where
-  -- what is rendered in a style, by a configuration, with these labels
-  abbrev rendered_with : DisplayStyle → Config → List (InFile Id) → Stream
-  rendered_with style by xs =
-      rendered style by by d.severity (header_text_of d)
-      (map stated_locus (locus_starts files.same files.file xs style))
-      (labeled_file_models files.same files.file xs) (notes_of d)
+module _ {Id : Type 0} (expected config : Config) (files : FileDatabase Id) (d : Diagnostic Id)
+  where
+    -- what is rendered in a style, by a configuration, with these labels
+    abbrev rendered_with : DisplayStyle → Config → List (InFile Id) → Stream
+    rendered_with style by xs =
+        rendered style by by d.severity (header_text_of d)
+        (map stated_locus (locus_starts files.same files.file xs style))
+        (labeled_file_models files.same files.file xs) (notes_of d)
 
-  -- the picture by a configuration equal to the one that is expected
-  pub picture-of_view : IsEqualConfig expected config
-      → picture config.display_style config config files d
-      ≡ picture_of_view expected files.same files.file (diagnostic_view d)
-  picture-of_view equal =
-      ap (λ (style : DisplayStyle). rendered_with style config (labels_of d))
-      (ap (λ (c : Config). c.display_style) equal.others)
-      ∙ rendered_equal expected config equal d.severity (header_text_of d)
-      (map stated_locus (locus_starts files.same files.file (labels_of d) expected.display_style))
-      (labeled_file_models files.same files.file (labels_of d)) (notes_of d) expected.display_style
-      ∙ ap (λ xs. rendered_with expected.display_style expected xs) (labels-of_view d.labels.items)
+    -- the picture by a configuration equal to the one that is expected
+    pub picture-of_view : IsEqualConfig expected config
+        → picture config.display_style config config files d
+        ≡ picture_of_view expected files.same files.file (diagnostic_view d)
+    picture-of_view equal =
+        ap (λ (style : DisplayStyle). rendered_with style config (labels_of d))
+        (ap (λ (c : Config). c.display_style) equal.others)
+        ∙ rendered_equal expected config equal d.severity (header_text_of d)
+        (map stated_locus (locus_starts files.same files.file (labels_of d) expected.display_style))
+        (labeled_file_models files.same files.file (labels_of d)) (notes_of d) expected.display_style
+        ∙ ap (λ xs. rendered_with expected.display_style expected xs) (labels-of_view d.labels.items)

@@ -20,13 +20,14 @@ use Rattle.codespan_picture.specs.Snippets.{InFile}
 use Rattle.codespan_annotations.specs.LabeledFiles.{num_multi_labels_of}
 use Rattle.codespan_plan.specs.SnippetLines.{single_labels_in}
 use Rattle.codespan_annotations.proofs.AnnotationOrder.{lane_mark_annotation, index_below}
-use Rattle.codespan_collect.proofs.LabelAnnotations.{is_kind, all-of_file, all-below, annotations-on_line, lane_marks-on_line, single_labels-on_line, shown-on_line}
+use Rattle.codespan_collect.proofs.LinesOfLabels.{is_kind}
+use Rattle.codespan_collect.proofs.LabelAnnotations.{all-of_file, all-below, annotations-on_line, lane_marks-on_line, single_labels-on_line, shown-on_line}
 use Rattle.codespan_collect.proofs.LabelIndexing.{num_multi_labels_of-more, label_lanes}
 use Rattle.codespan_plan.proofs.LaneMarks.{marks_from}
 use Rattle.codespan_laws.proofs.OrderSorts.{has_range}
 use Rattle.codespan_laws.proofs.RangeLemmas.{line_of-below}
 use Rattle.codespan_laws.proofs.ListElements.{all-append, all-weaker, filter-whole, filter-nothing}
-use Rattle.codespan_laws.proofs.SortedLists.{Falls}
+use Rattle.codespan_laws.proofs.SortedFilters.{Falls}
 use Rattle.codespan_plan.proofs.FileLabels.{is_of_range, HasFileIndex}
 
 module _ {Id : Type 0} {same : Id → Id → Bool} {file : Id → FileModel} {ids : List Id} {f : ℕ} {id : Id} (here : HasFileIndex same file ids f id) (config : Config) where

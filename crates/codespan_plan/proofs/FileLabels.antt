@@ -25,8 +25,10 @@ is_of_range start end e = has_label_range start end (single_label_of e.kind)
 
 -- a file has its index among those of a diagnostic: its id is equal to those that have the index,
 -- they name it with its lanes, and it has a line
-pub record HasFileIndex {Id : Type 0} (same : Id → Id → Bool) (file : Id → FileModel) (ids : List Id) (f : ℕ) (id : Id) : Type 0 where
+pub record HasFileIndex {Id : Type 0} (same : Id → Id → Bool) (file : Id → FileModel)
+    (ids : List Id) (f : ℕ) (id : Id) : Type 0 where
   pub index : (i : Id) → (index_of_file same ids i == f) ≡ same id i
   pub one_file : (i : Id) → same id i ≡ true → file i ≡ file id
-  pub lanes : (before : List (InFile Id)) (i : Id) → same id i ≡ true → num_multi_labels_of same file before i ≡ num_multi_labels_of same file before id
+  pub lanes : (before : List (InFile Id)) (i : Id) → same id i ≡ true
+      → num_multi_labels_of same file before i ≡ num_multi_labels_of same file before id
   pub has_line : 0 < line_count (file id)

@@ -12,12 +12,14 @@ use Rattle.codespan_picture.specs.Arguments.{starts_from, starts_in_order}
 later-start : (x z : LabelModel) → range_precedes z x ≡ false → x.start ≤ z.start
 later-start x z h = grind (arith, nat_tests)
 
-starts-from : (low : ℕ) (xs : List LabelModel) → AllByRecursion (λ (z : LabelModel). low ≤ z.start) xs → Ascends xs → starts_from low xs ≡ true
+starts-from : (low : ℕ) (xs : List LabelModel)
+    → AllByRecursion (λ (z : LabelModel). low ≤ z.start) xs → Ascends xs → starts_from low xs ≡ true
 starts-from low [] far up = refl
 starts-from low (x ∷ xs) far up =
     let first = far.0 in
     let here : nat_le low x.start ≡ true = grind (arith, nat_tests) in
-    let others = all-weaker (λ z. range_precedes z x ≡ false) (λ z. x.start ≤ z.start) (λ z h. later-start x z h) xs up.0 in
+    let others = all-weaker (λ z. range_precedes z x ≡ false) (λ z. x.start ≤ z.start)
+    (λ z h. later-start x z h) xs up.0 in
     rw (here, starts-from x.start xs others up.1) refl
 
 from-zero : (xs : List LabelModel) → AllByRecursion (λ (z : LabelModel). 0 ≤ z.start) xs

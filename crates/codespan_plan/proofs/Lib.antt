@@ -13,7 +13,9 @@ pub mod GroupLines
 pub mod SnippetLineViews
 pub mod LocusStarts
 pub mod PlanFiles
+pub mod SnippetLineLookups
 pub mod PlansFound
+pub mod FileTurns
 pub mod PlanPadding
 pub mod SpannedPadding
 pub mod OutputPlanned

@@ -14,7 +14,9 @@ least-unwrap (n ∷ ns) = refl
 
 module _ {Id : Type 0} (same : Id → Id → Bool) (file : Id → FileModel) (id : Id) where
   -- the starts of the primary labels of the file
-  primary-starts : (xs : List (InFile Id)) → label_starts same id true xs ≡ map (λ (x : LabelModel). x.start) (filter is_primary (labeled_file_model same file xs id).labels)
+  primary-starts : (xs : List (InFile Id))
+      → label_starts same id true xs ≡ map (λ (x : LabelModel). x.start)
+      (filter is_primary (labeled_file_model same file xs id).labels)
   primary-starts [] = refl
   primary-starts (x ∷ xs) = by (same id x.file_id) (primary-starts xs)
     where
@@ -24,57 +26,83 @@ module _ {Id : Type 0} (same : Id → Id → Bool) (file : Id → FileModel) (id
       candidates : List (InFile Id)
       candidates = filter (is_locus_label same id true) xs
 
-      unchanged : (c : Bool) → label_starts same id true xs ≡ map (λ (y : LabelModel). y.start) (filter is_primary (labeled_file_model same file xs id).labels)
+      unchanged : (c : Bool)
+          → label_starts same id true xs ≡ map (λ (y : LabelModel). y.start)
+          (filter is_primary (labeled_file_model same file xs id).labels)
           → map (λ (y : InFile Id). y.label.start) (cond c (x ∷ candidates) candidates)
-          ≡ map (λ (y : LabelModel). y.start) (cond c (x.label ∷ filter is_primary (map (λ (y : InFile Id). y.label) own)) (filter is_primary (map (λ (y : InFile Id). y.label) own)))
+          ≡ map (λ (y : LabelModel). y.start)
+          (cond c (x.label ∷ filter is_primary (map (λ (y : InFile Id). y.label) own))
+          (filter is_primary (map (λ (y : InFile Id). y.label) own)))
       unchanged true rest = ap (λ (ns : List ℕ). x.label.start ∷ ns) rest
       unchanged false rest = rest
 
-      by : (b : Bool) → label_starts same id true xs ≡ map (λ (y : LabelModel). y.start) (filter is_primary (labeled_file_model same file xs id).labels)
-          → map (λ (y : InFile Id). y.label.start) (cond (b && is_primary x.label) (x ∷ candidates) candidates)
-          ≡ map (λ (y : LabelModel). y.start) (filter is_primary (map (λ (y : InFile Id). y.label) (cond b (x ∷ own) own)))
+      by : (b : Bool)
+          → label_starts same id true xs ≡ map (λ (y : LabelModel). y.start)
+          (filter is_primary (labeled_file_model same file xs id).labels)
+          → map (λ (y : InFile Id). y.label.start)
+          (cond (b && is_primary x.label) (x ∷ candidates) candidates)
+          ≡ map (λ (y : LabelModel). y.start)
+          (filter is_primary (map (λ (y : InFile Id). y.label) (cond b (x ∷ own) own)))
       by true rest = unchanged (is_primary x.label) rest
       by false rest = rest
 
   -- the starts of all its labels
-  all-starts : (xs : List (InFile Id)) → label_starts same id false xs ≡ map (λ (x : LabelModel). x.start) (labeled_file_model same file xs id).labels
+  all-starts : (xs : List (InFile Id))
+      → label_starts same id false xs ≡ map (λ (x : LabelModel). x.start)
+      (labeled_file_model same file xs id).labels
   all-starts [] = refl
   all-starts (x ∷ xs) = by (same id x.file_id) (all-starts xs)
     where
-      by : (b : Bool) → label_starts same id false xs ≡ map (λ (x : LabelModel). x.start) (labeled_file_model same file xs id).labels
-          → map (λ (x : InFile Id). x.label.start) (cond (b && true) (x ∷ filter (is_locus_label same id false) xs) (filter (is_locus_label same id false) xs))
-          ≡ map (λ (x : LabelModel). x.start) (map (λ (x : InFile Id). x.label) (cond b (x ∷ filter (λ (x : InFile Id). same id x.file_id) xs) (filter (λ (x : InFile Id). same id x.file_id) xs)))
+      by : (b : Bool)
+          → label_starts same id false xs ≡ map (λ (x : LabelModel). x.start)
+          (labeled_file_model same file xs id).labels
+          → map (λ (x : InFile Id). x.label.start)
+          (cond (b && true) (x ∷ filter (is_locus_label same id false) xs)
+          (filter (is_locus_label same id false) xs))
+          ≡ map (λ (x : LabelModel). x.start)
+          (map (λ (x : InFile Id). x.label)
+          (cond b (x ∷ filter (λ (x : InFile Id). same id x.file_id) xs)
+          (filter (λ (x : InFile Id). same id x.file_id) xs)))
       by true rest = ap (λ (ns : List ℕ). x.label.start ∷ ns) rest
       by false rest = rest
 
   -- the least start of a primary label, where there is one
-  locus-primary : (xs : List (InFile Id)) (n : ℕ) → least_if_any (label_starts same id true xs) ≡ Some n → n ≡ locus_start (labeled_file_model same file xs id).labels
-  locus-primary xs n is = by (filter is_primary labels) (ap least_if_any (sym (primary-starts xs)) ∙ is)
+  locus-primary : (xs : List (InFile Id)) (n : ℕ)
+      → least_if_any (label_starts same id true xs) ≡ Some n
+      → n ≡ locus_start (labeled_file_model same file xs id).labels
+  locus-primary xs n is =
+      by (filter is_primary labels) (ap least_if_any (sym (primary-starts xs)) ∙ is)
     where
       labels : List LabelModel
       labels = (labeled_file_model same file xs id).labels
 
-      by : (ls : List LabelModel) → least_if_any (map (λ (x : LabelModel). x.start) ls) ≡ Some n → n ≡ least (map (λ (x : LabelModel). x.start) (if_any ls labels))
+      by : (ls : List LabelModel) → least_if_any (map (λ (x : LabelModel). x.start) ls) ≡ Some n
+          → n ≡ least (map (λ (x : LabelModel). x.start) (if_any ls labels))
       by [] h = cc
       by (l ∷ ls) h = cc
 
   -- or that of any label
-  locus-any : (xs : List (InFile Id)) (n : ℕ) → least_if_any (label_starts same id true xs) ≡ None → n ≡ unwrap_or (least_if_any (label_starts same id false xs)) 0
+  locus-any : (xs : List (InFile Id)) (n : ℕ) → least_if_any (label_starts same id true xs) ≡ None
+      → n ≡ unwrap_or (least_if_any (label_starts same id false xs)) 0
       → n ≡ locus_start (labeled_file_model same file xs id).labels
   locus-any xs n none is =
-      is ∙ ap (λ (ns : List ℕ). unwrap_or (least_if_any ns) 0) (all-starts xs) ∙ least-unwrap (map (λ (x : LabelModel). x.start) labels)
+      is ∙ ap (λ (ns : List ℕ). unwrap_or (least_if_any ns) 0) (all-starts xs)
+      ∙ least-unwrap (map (λ (x : LabelModel). x.start) labels)
       ∙ by (filter is_primary labels) (ap least_if_any (sym (primary-starts xs)) ∙ none)
     where
       labels : List LabelModel
       labels = (labeled_file_model same file xs id).labels
 
       by : (ls : List LabelModel) → least_if_any (map (λ (x : LabelModel). x.start) ls) ≡ None
-          → least (map (λ (x : LabelModel). x.start) labels) ≡ least (map (λ (x : LabelModel). x.start) (if_any ls labels))
+          → least (map (λ (x : LabelModel). x.start) labels) ≡ least
+          (map (λ (x : LabelModel). x.start) (if_any ls labels))
       by [] h = refl
       by (l ∷ ls) h = cc
 
   -- the start by the labels is where the snippet starts
-  pub start-is : (xs : List (InFile Id)) → locus_byte (file_locus_start same xs id) ≡ locus_start (labeled_file_model same file xs id).labels
+  pub start-is : (xs : List (InFile Id))
+      → locus_byte (file_locus_start same xs id) ≡ locus_start
+      (labeled_file_model same file xs id).labels
   start-is xs = by (least_if_any (label_starts same id true xs)) refl
     where
       by : (o : Option ℕ) → least_if_any (label_starts same id true xs) ≡ o

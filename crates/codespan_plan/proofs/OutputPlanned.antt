@@ -20,15 +20,25 @@ module _ {Id : Type 0} (database : FileDatabase Id) (config : Config) (xs : List
   early = early_lookups database xs config
 
   -- the lookups of the labels come first, and then those of the files
-  early-is : failed early ≡ or_failure (labels_failure config database xs) (output_plan_failure config database xs)
+  early-is : failed early ≡ or_failure (labels_failure config database xs)
+      (output_plan_failure config database xs)
   early-is =
       let of_labels = label_lookups config database xs in
-      ap failed (append_assoc of_labels (padding_lookups config database xs) (file_locus_lookups database xs)) ∙ first_error-append database.failure of_labels (output_plan_lookups config database xs)
+      ap failed
+      (append_assoc of_labels (padding_lookups config database xs)
+      (file_locus_lookups database xs))
+      ∙ first_error-append database.failure of_labels (output_plan_lookups config database xs)
 
   -- a lookup of a label fails
-  pub labels-failed : (e : Error) → labels_failure config database xs ≡ Some e → failed early ≡ Some e
-  labels-failed e known = early-is ∙ ap (λ (o : Option Error). or_failure o (output_plan_failure config database xs)) known
+  pub labels-failed : (e : Error) → labels_failure config database xs ≡ Some e
+      → failed early ≡ Some e
+  labels-failed e known =
+      early-is
+      ∙ ap (λ (o : Option Error). or_failure o (output_plan_failure config database xs)) known
 
   -- the labels' lookups succeed, and the files' decide the rest
-  pub labels-succeeded : labels_failure config database xs ≡ None → failed early ≡ output_plan_failure config database xs
-  labels-succeeded succeeded = early-is ∙ ap (λ (o : Option Error). or_failure o (output_plan_failure config database xs)) succeeded
+  pub labels-succeeded : labels_failure config database xs ≡ None
+      → failed early ≡ output_plan_failure config database xs
+  labels-succeeded succeeded =
+      early-is
+      ∙ ap (λ (o : Option Error). or_failure o (output_plan_failure config database xs)) succeeded

@@ -14,8 +14,11 @@ use Rattle.codespan_row_parts.proofs.Pieces.{taken-dropped}
 use Rattle.codespan_renderer.proofs.WidthSearch.{past-none}
 
 -- a scan that goes on elsewhere yields what the first one would
-cached-after : (tab : ℕ) (text : List ℕ) (cached : List Metrics) (rest fork : CharMetrics) (to_end : Bool) → AreCached tab text cached rest
-    → ((after : MetricsAfterEnd) → metrics_from after fork ≡ metrics_from after rest) → fork.to_end ≡ to_end
+cached-after : (tab : ℕ) (text : List ℕ) (cached : List Metrics) (rest fork : CharMetrics)
+    (to_end : Bool)
+    → AreCached tab text cached rest
+    → ((after : MetricsAfterEnd) → metrics_from after fork ≡ metrics_from after rest)
+    → fork.to_end ≡ to_end
     → cached ++ metrics_left fork ≡ metrics_then (after_last to_end) tab 0 0 (chars text)
 cached-after tab text cached rest fork to_end are same end =
     ap (λ (e : Bool). cached ++ metrics_from (after_last e) fork) end
@@ -23,27 +26,41 @@ cached-after tab text cached rest fork to_end are same end =
     ∙ are (after_last to_end)
 
 -- the same, where the first ones of the cache are left out
-pub cached-from : (tab : ℕ) (text : List ℕ) (cached : List Metrics) (rest fork : CharMetrics) (to_end : Bool) (n : ℕ) → AreCached tab text cached rest
-    → ((after : MetricsAfterEnd) → metrics_from after fork ≡ metrics_from after rest) → fork.to_end ≡ to_end
-    → take n cached ++ (take (length cached - n) (drop n cached) ++ metrics_left fork) ≡ metrics_then (after_last to_end) tab 0 0 (chars text)
+pub cached-from : (tab : ℕ) (text : List ℕ) (cached : List Metrics) (rest fork : CharMetrics)
+    (to_end : Bool) (n : ℕ)
+    → AreCached tab text cached rest
+    → ((after : MetricsAfterEnd) → metrics_from after fork ≡ metrics_from after rest)
+    → fork.to_end ≡ to_end
+    → take n
+    cached ++ (take (length cached - n) (drop n cached) ++ metrics_left fork)
+    ≡ metrics_then (after_last to_end) tab 0 0 (chars text)
 cached-from tab text cached rest fork to_end n are same end =
     sym (append_assoc (take n cached) (take (length cached - n) (drop n cached)) (metrics_left fork))
     ∙ ap (λ (cs : List Metrics). cs ++ metrics_left fork) (taken-dropped n cached)
     ∙ cached-after tab text cached rest fork to_end are same end
 
 -- one more character is cached
-cached-more : (tab : ℕ) (text : List ℕ) (cached : List Metrics) (c : Metrics) (old new : CharMetrics) → GoesOver c old new → AreCached tab text cached old
+cached-more : (tab : ℕ) (text : List ℕ) (cached : List Metrics) (c : Metrics)
+    (old new : CharMetrics)
+    → GoesOver c old new → AreCached tab text cached old
     → AreCached tab text (cached ++ c ∷ []) new
 cached-more tab text cached c old new over are = λ (after : MetricsAfterEnd).
-    append_assoc cached (c ∷ []) (metrics_from after new) ∙ ap (λ (cs : List Metrics). cached ++ cs) (sym (over.yields after)) ∙ are after
+    append_assoc cached (c ∷ []) (metrics_from after new)
+    ∙ ap (λ (cs : List Metrics). cached ++ cs) (sym (over.yields after)) ∙ are after
 
 -- the same of characters to which this one was pushed
-pub cached-pushed : (tab : ℕ) (text : List ℕ) (cached : List Metrics) (c : Metrics) (pushed : List Metrics) (old new : CharMetrics) → pushed ≡ cached ++ c ∷ [] → GoesOver c old new
+pub cached-pushed : (tab : ℕ) (text : List ℕ) (cached : List Metrics) (c : Metrics)
+    (pushed : List Metrics) (old new : CharMetrics)
+    → pushed ≡ cached ++ c ∷ [] → GoesOver c old new
     → AreCached tab text cached old → AreCached tab text pushed new
-cached-pushed tab text cached c pushed old new is over are = rw is (cached-more tab text cached c old new over are)
+cached-pushed tab text cached c pushed old new is over are =
+    rw is (cached-more tab text cached c old new over are)
 
 -- after a character past a byte index all begin past it
-pub past-scan : (byte_index : ℕ) (c : Metrics) (old new : CharMetrics) → GoesOver c old new → byte_index < c.byte_index → metrics_up_to byte_index (metrics_from no_more new) ≡ []
+pub past-scan : (byte_index : ℕ) (c : Metrics) (old new : CharMetrics) → GoesOver c old new
+    → byte_index < c.byte_index → metrics_up_to byte_index (metrics_from no_more new) ≡ []
 past-scan byte_index c old new over far =
-    past-none byte_index new.byte_index new.column (metrics_from no_more new) (char_metrics-consecutive new.tab_width new.byte_index new.column (chars (chars_rest new.chars)))
+    past-none byte_index new.byte_index new.column (metrics_from no_more new)
+    (char_metrics-consecutive new.tab_width new.byte_index new.column
+    (chars (chars_rest new.chars)))
     (omega (arith, over.byte_index, over.here, far))

@@ -25,16 +25,23 @@ use Rattle.codespan_renderer.specs.Private.LabelCursors.{end_with, IsReached, Ha
 
 -- a label that starts before the character's end covers it where the label has a byte and ends past
 -- the byte index of the character
-covers-prefix : (x : LabelModel) (c : Metrics) → x.start < c.byte_index + c.bytes → 1 ≤ c.bytes → covers x c ≡ (nat_lt x.start x.end && nat_lt c.byte_index x.end)
+covers-prefix : (x : LabelModel) (c : Metrics) → x.start < c.byte_index + c.bytes → 1 ≤ c.bytes
+    → covers x c ≡ (nat_lt x.start x.end && nat_lt c.byte_index x.end)
 covers-prefix x c h some = grind (arith, nat_tests)
 
 -- such a label is over the character where its end raises the greatest one past the byte index of
 -- the character
-end-raised : (counts : Bool) (end : ℕ) (x : LabelModel) (c : Metrics) → x.start < c.byte_index + c.bytes → 1 ≤ c.bytes
-    → nat_lt c.byte_index (end_with counts end x) ≡ (nat_lt c.byte_index end || (counts && covers x c))
-end-raised counts end x c h some = rw (covers-prefix x c h some) (by_test counts (nat_lt x.start x.end))
+end-raised : (counts : Bool) (end : ℕ) (x : LabelModel) (c : Metrics)
+    → x.start < c.byte_index + c.bytes → 1 ≤ c.bytes
+    → nat_lt c.byte_index
+    (end_with counts end x) ≡ (nat_lt c.byte_index end || (counts && covers x c))
+end-raised counts end x c h some =
+    rw (covers-prefix x c h some) (by_test counts (nat_lt x.start x.end))
   where
-    by_test : (b d : Bool) → nat_lt c.byte_index (if b && d then max end x.end else end) ≡ (nat_lt c.byte_index end || (b && (d && nat_lt c.byte_index x.end)))
+    by_test : (b d : Bool)
+        → nat_lt c.byte_index
+        (if b && d then max end x.end else end)
+        ≡ (nat_lt c.byte_index end || (b && (d && nat_lt c.byte_index x.end)))
     by_test true true = grind (arith, nat_tests)
     by_test true false = grind (arith, nat_tests)
     by_test false d = grind (arith, nat_tests)
@@ -44,17 +51,22 @@ or-assoc true b c = refl
 or-assoc false b c = refl
 
 -- the next label starts before this byte index, and is passed
-pub reached-more : (passes : LabelModel → Bool) (labels left rest : List LabelModel) (x : LabelModel) (byte_index end : ℕ) → left ≡ x ∷ rest → x.start < byte_index
-    → IsReached passes labels left byte_index end → IsReached passes labels rest byte_index (end_with (passes x) end x)
+pub reached-more : (passes : LabelModel → Bool) (labels left rest : List LabelModel)
+    (x : LabelModel) (byte_index end : ℕ)
+    → left ≡ x ∷ rest → x.start < byte_index
+    → IsReached passes labels left byte_index end
+    → IsReached passes labels rest byte_index (end_with (passes x) end x)
 reached-more passes labels left rest x byte_index end step prefix r = record {
   is = λ c h some. r.is c h some
       ∙ ap (λ (xs : List LabelModel). nat_lt c.byte_index end || is_covered passes xs c) step
       ∙ or-assoc (nat_lt c.byte_index end) (passes x && covers x c) (is_covered passes rest c)
-      ∙ ap (λ (b : Bool). b || is_covered passes rest c) (sym (end-raised (passes x) end x c (omega arith) some));
+      ∙ ap (λ (b : Bool). b || is_covered passes rest c)
+      (sym (end-raised (passes x) end x c (omega arith) some));
 }
 
 -- labels that start at the character's end or later do not cover it
-uncovered : (passes : LabelModel → Bool) (xs : List LabelModel) (byte_index : ℕ) (c : Metrics) → starts_from byte_index xs ≡ true → c.byte_index + c.bytes ≤ byte_index
+uncovered : (passes : LabelModel → Bool) (xs : List LabelModel) (byte_index : ℕ) (c : Metrics)
+    → starts_from byte_index xs ≡ true → c.byte_index + c.bytes ≤ byte_index
     → is_covered passes xs c ≡ false
 uncovered passes [] byte_index c ordered past = refl
 uncovered passes (x ∷ xs) byte_index c ordered past =
@@ -72,22 +84,29 @@ or-false true = refl
 or-false false = refl
 
 -- all labels that start before the character's end have been passed
-pub reached-here : (passes : LabelModel → Bool) (labels left : List LabelModel) (byte_index end : ℕ) (c : Metrics) → c.byte_index + c.bytes ≡ byte_index → 1 ≤ c.bytes
-    → starts_from byte_index left ≡ true → IsReached passes labels left byte_index end → is_covered passes labels c ≡ nat_lt c.byte_index end
+pub reached-here : (passes : LabelModel → Bool) (labels left : List LabelModel) (byte_index end : ℕ)
+    (c : Metrics)
+    → c.byte_index + c.bytes ≡ byte_index → 1 ≤ c.bytes
+    → starts_from byte_index left ≡ true → IsReached passes labels left byte_index end
+    → is_covered passes labels c ≡ nat_lt c.byte_index end
 reached-here passes labels left byte_index end c ends some ordered r =
     r.is c (omega arith) some
-    ∙ ap (λ (b : Bool). nat_lt c.byte_index end || b) (uncovered passes left byte_index c ordered (omega arith))
+    ∙ ap (λ (b : Bool). nat_lt c.byte_index end || b)
+    (uncovered passes left byte_index c ordered (omega arith))
     ∙ or-false (nat_lt c.byte_index end)
 
 -- ---- labels in order
 
 -- a label of a list, and those after it in the same list
-pub labels-step : (ys xs : List SingleLabelTuple) (i : ℕ) (d : SingleLabelTuple) → ys ≡ xs → i < length xs
-    → single_label_views (drop i ys) ≡ single_label_view (get_or xs i d) ∷ single_label_views (drop (i + 1) ys)
+pub labels-step : (ys xs : List SingleLabelTuple) (i : ℕ) (d : SingleLabelTuple) → ys ≡ xs
+    → i < length xs
+    → single_label_views (drop i ys) ≡ single_label_view (get_or xs i d) ∷ single_label_views
+    (drop (i + 1) ys)
 labels-step ys xs i d same h = rw (same, drop-cons xs i d h, add-one) refl
 
 -- they start from an earlier byte index on
-pub starts-lower : (xs : List LabelModel) (low byte_index : ℕ) → low ≤ byte_index → starts_from byte_index xs ≡ true → starts_from low xs ≡ true
+pub starts-lower : (xs : List LabelModel) (low byte_index : ℕ) → low ≤ byte_index
+    → starts_from byte_index xs ≡ true → starts_from low xs ≡ true
 starts-lower [] low byte_index h ordered = refl
 starts-lower (x ∷ xs) low byte_index h ordered =
     let parts = and_parts (nat_le byte_index x.start) (starts_from x.start xs) ordered in
@@ -95,52 +114,73 @@ starts-lower (x ∷ xs) low byte_index h ordered =
     rw (here, parts.1) refl
 
 -- those after the first one
-pub starts-next : (low : ℕ) (left rest : List LabelModel) (x : LabelModel) → left ≡ x ∷ rest → starts_from low left ≡ true → starts_from low rest ≡ true
+pub starts-next : (low : ℕ) (left rest : List LabelModel) (x : LabelModel) → left ≡ x ∷ rest
+    → starts_from low left ≡ true → starts_from low rest ≡ true
 starts-next low left rest x step ordered =
     let parts = and_parts (nat_le low x.start) (starts_from x.start rest) (rw step at ordered) in
     let far : low ≤ x.start = (let test = parts.0 in grind (arith, nat_tests)) in
     starts-lower rest low x.start far parts.1
 
 -- the first one of those that are left starts no earlier than they do
-pub starts-first : (low : ℕ) (ys xs : List SingleLabelTuple) (i : ℕ) (d : SingleLabelTuple) → ys ≡ xs → i < length xs → starts_from low (single_label_views (drop i ys)) ≡ true
+pub starts-first : (low : ℕ) (ys xs : List SingleLabelTuple) (i : ℕ) (d : SingleLabelTuple)
+    → ys ≡ xs → i < length xs → starts_from low (single_label_views (drop i ys)) ≡ true
     → low ≤ (get_or xs i d).1.start
 starts-first low ys xs i d same h ordered =
     let x = single_label_view (get_or xs i d) in
-    let parts = and_parts (nat_le low x.start) (starts_from x.start (single_label_views (drop (i + 1) ys))) (rw (labels-step ys xs i d same h) at ordered) in
+    let parts =
+    and_parts (nat_le low x.start) (starts_from x.start (single_label_views (drop (i + 1) ys)))
+    (rw (labels-step ys xs i d same h) at ordered) in
     let test = parts.0 in grind (arith, nat_tests)
 
 -- those after one that starts before a byte index
-pub starts-rest : (low : ℕ) (ys xs : List SingleLabelTuple) (i : ℕ) (d : SingleLabelTuple) (byte_index : ℕ) → ys ≡ xs → i < length xs → (get_or xs i d).1.start < byte_index
-    → starts_from low (single_label_views (drop i ys)) ≡ true → starts_from low (single_label_views (drop (i + 1) ys)) ≡ true
+pub starts-rest : (low : ℕ) (ys xs : List SingleLabelTuple) (i : ℕ) (d : SingleLabelTuple)
+    (byte_index : ℕ)
+    → ys ≡ xs → i < length xs → (get_or xs i d).1.start < byte_index
+    → starts_from low (single_label_views (drop i ys)) ≡ true
+    → starts_from low (single_label_views (drop (i + 1) ys)) ≡ true
 starts-rest low ys xs i d byte_index same h prefix ordered =
-    starts-next low (single_label_views (drop i ys)) (single_label_views (drop (i + 1) ys)) (single_label_view (get_or xs i d)) (labels-step ys xs i d same h) ordered
+    starts-next low (single_label_views (drop i ys)) (single_label_views (drop (i + 1) ys))
+    (single_label_view (get_or xs i d)) (labels-step ys xs i d same h) ordered
 
 -- where it does not start before a byte index, all start there or later
-pub starts-past : (low : ℕ) (ys xs : List SingleLabelTuple) (i byte_index : ℕ) (d : SingleLabelTuple) → ys ≡ xs → i < length xs
-    → nat_lt (single_label_view (get_or xs i d)).start byte_index ≡ false → starts_from low (single_label_views (drop i ys)) ≡ true → starts_from byte_index (single_label_views (drop i ys)) ≡ true
+pub starts-past : (low : ℕ) (ys xs : List SingleLabelTuple) (i byte_index : ℕ)
+    (d : SingleLabelTuple)
+    → ys ≡ xs → i < length xs
+    → nat_lt (single_label_view (get_or xs i d)).start byte_index ≡ false
+    → starts_from low (single_label_views (drop i ys)) ≡ true
+    → starts_from byte_index (single_label_views (drop i ys)) ≡ true
 starts-past low ys xs i byte_index d same h late ordered =
     let step = labels-step ys xs i d same h in
     let x = single_label_view (get_or xs i d) in
-    let parts = and_parts (nat_le low x.start) (starts_from x.start (single_label_views (drop (i + 1) ys))) (rw step at ordered) in
+    let parts =
+    and_parts (nat_le low x.start) (starts_from x.start (single_label_views (drop (i + 1) ys)))
+    (rw step at ordered) in
     let here : nat_le byte_index x.start ≡ true = grind (arith, nat_tests) in
     rw (step, here, parts.1) refl
 
 -- ---- characters one after another
 
 -- the characters of a line, and what comes after the last one
-follow-then : (after : ℕ → ℕ → List Metrics) (tab byte_index column : ℕ) (codes : List ℕ) → ((p q : ℕ) → AreContiguous p (after p q))
+follow-then : (after : ℕ → ℕ → List Metrics) (tab byte_index column : ℕ) (codes : List ℕ)
+    → ((p q : ℕ) → AreContiguous p (after p q))
     → AreContiguous byte_index (metrics_then after tab byte_index column codes)
 follow-then after tab byte_index column [] last = last byte_index column
-follow-then after tab byte_index column (c ∷ cs) last =
-    (refl, omega (arith, (len_utf8_bounds c).0), follow-then after tab (byte_index + len_utf8 c) (column + width_at tab column c) cs last)
+follow-then after tab byte_index column (c ∷ cs) last = (
+  refl,
+  omega (arith, (len_utf8_bounds c).0),
+  follow-then after tab (byte_index + len_utf8 c) (column + width_at tab column c) cs last,
+)
 
 -- the characters of a line, and the placeholder where `to_end` is set
-pub follow-after : (to_end : Bool) (tab : ℕ) (text : List ℕ) → AreContiguous 0 (metrics_then (after_last to_end) tab 0 0 (chars text))
-follow-after true tab text = follow-then placeholder tab 0 0 (chars text) (λ p q. (refl, omega arith, tt))
+pub follow-after : (to_end : Bool) (tab : ℕ) (text : List ℕ)
+    → AreContiguous 0 (metrics_then (after_last to_end) tab 0 0 (chars text))
+follow-after true tab text =
+    follow-then placeholder tab 0 0 (chars text) (λ p q. (refl, omega arith, tt))
 follow-after false tab text = follow-then no_more tab 0 0 (chars text) (λ p q. tt)
 
 -- one of the characters that are left
-pub char_metrics-step : (cs : List Metrics) (i : ℕ) (d : Metrics) → i < length cs → drop i cs ≡ get_or cs i d ∷ drop (i + 1) cs
+pub char_metrics-step : (cs : List Metrics) (i : ℕ) (d : Metrics) → i < length cs
+    → drop i cs ≡ get_or cs i d ∷ drop (i + 1) cs
 char_metrics-step cs i d h = rw (drop-cons cs i d h, add-one) refl
 
 -- ---- a cursor over labels and characters
@@ -156,14 +196,16 @@ passed-later s p q h m = record {
 }
 
 -- the characters after some of those that follow one another
-follow-rest : (byte_index : ℕ) (before left : List Metrics) → AreContiguous byte_index (before ++ left) → (q : ℕ) × (byte_index ≤ q) × AreContiguous q left
+follow-rest : (byte_index : ℕ) (before left : List Metrics)
+    → AreContiguous byte_index (before ++ left) → (q : ℕ) × (byte_index ≤ q) × AreContiguous q left
 follow-rest byte_index [] left follow = (byte_index, omega arith, follow)
 follow-rest byte_index (c ∷ cs) left follow =
     let later = follow-rest (byte_index + c.bytes) cs left follow.2 in
     (later.0, omega (arith, later.1), later.2)
 
 -- before some characters of a line, the first ones left out
-pub cursor-start : (s : LabelCursor) (before left : List Metrics) → HasPassedLabels 0 s → AreContiguous 0 (before ++ left) → ∥ IsBefore s left ∥₁
+pub cursor-start : (s : LabelCursor) (before left : List Metrics) → HasPassedLabels 0 s
+    → AreContiguous 0 (before ++ left) → ∥ IsBefore s left ∥₁
 cursor-start s before left passed follow =
     let later = follow-rest 0 before left follow in
     ∣ record { byte_index = later.0; passed = passed-later s 0 later.0 later.1 passed; follow = later.2 } ∣₁
@@ -174,30 +216,62 @@ module _ (s : LabelCursor) (left rest : List Metrics) (c : Metrics) (step : left
 
   -- it returns the next character
   pub cursor-returns : ∥ IsBefore s left ∥₁ → ∥ HasReturned c s rest ∥₁
-  cursor-returns before_it = ∥∥₁_elim before_it (Prim.hlevel props) (λ w. ∣ record { some = (here w).1; passed = rw (here w).0 w.passed; follow = rw (here w).0 (here w).2 } ∣₁)
+  cursor-returns before_it =
+      ∥∥₁_elim before_it (Prim.hlevel props)
+      (λ w. ∣
+      record {
+        some =
+            (here w).1;
+        passed = rw (here w).0 w.passed;
+        follow = rw (here w).0 (here w).2;
+      }
+      ∣₁)
 
 -- and goes on after it, whether or not the style under it was requested
-pub cursor-goes_on : (s : LabelCursor) (rest : List Metrics) (c : Metrics) → ∥ HasReturned c s rest ∥₁ → ∥ IsBefore s rest ∥₁
+pub cursor-goes_on : (s : LabelCursor) (rest : List Metrics) (c : Metrics)
+    → ∥ HasReturned c s rest ∥₁ → ∥ IsBefore s rest ∥₁
 cursor-goes_on s rest c returned =
-    ∥∥₁_elim returned (Prim.hlevel props) (λ g. ∣ record { byte_index = c.byte_index + c.bytes; passed = passed-later s c.byte_index (c.byte_index + c.bytes) (omega arith) g.passed; follow = g.follow } ∣₁)
+    ∥∥₁_elim returned (Prim.hlevel props)
+    (λ g. ∣
+    record {
+      byte_index =
+          c.byte_index + c.bytes;
+      passed =
+          passed-later s c.byte_index (c.byte_index + c.bytes) (omega arith) g.passed;
+      follow =
+          g.follow;
+    }
+    ∣₁)
 
 -- as it does where none is left
-pub cursor-next : (s : LabelCursor) (old new : CachedMetrics) (r : Option Metrics) → YieldsFirst cached_left old r new → ∥ IsBefore s (cached_left old) ∥₁ → ∥ IsBefore s (cached_left new) ∥₁
-cursor-next s old new (Some c) step before_it = cursor-goes_on s (cached_left new) c (cursor-returns s (cached_left old) (cached_left new) c step before_it)
-cursor-next s old new None ends before_it = subst (λ (cs : List Metrics). ∥ IsBefore s cs ∥₁) (ends.0 ∙ sym ends.1) before_it
+pub cursor-next : (s : LabelCursor) (old new : CachedMetrics) (r : Option Metrics)
+    → YieldsFirst cached_left old r new → ∥ IsBefore s (cached_left old) ∥₁
+    → ∥ IsBefore s (cached_left new) ∥₁
+cursor-next s old new (Some c) step before_it =
+    cursor-goes_on s (cached_left new) c
+    (cursor-returns s (cached_left old) (cached_left new) c step before_it)
+cursor-next s old new None ends before_it =
+    subst (λ (cs : List Metrics). ∥ IsBefore s cs ∥₁) (ends.0 ∙ sym ends.1) before_it
 
 -- what it has returned
-pub cursor-next_returned : (s : LabelCursor) (old new : CachedMetrics) (r : Option Metrics) → YieldsFirst cached_left old r new → ∥ IsBefore s (cached_left old) ∥₁
+pub cursor-next_returned : (s : LabelCursor) (old new : CachedMetrics) (r : Option Metrics)
+    → YieldsFirst cached_left old r new → ∥ IsBefore s (cached_left old) ∥₁
     → IfSome r (λ c. ∥ HasReturned c s (cached_left new) ∥₁)
-cursor-next_returned s old new (Some c) step before_it = cursor-returns s (cached_left old) (cached_left new) c step before_it
+cursor-next_returned s old new (Some c) step before_it =
+    cursor-returns s (cached_left old) (cached_left new) c step before_it
 cursor-next_returned s old new None ends before_it = tt
 
-pub cursor-passed : (s t : LabelCursor) (rest : List Metrics) (c : Metrics) → ∥ HasReturned c s rest ∥₁ → HasPassedLabels (c.byte_index + c.bytes) t → ∥ IsBefore t rest ∥₁
-cursor-passed s t rest c returned passed = ∥∥₁_elim returned (Prim.hlevel props) (λ g. ∣ record { byte_index = c.byte_index + c.bytes; passed = passed; follow = g.follow } ∣₁)
+pub cursor-passed : (s t : LabelCursor) (rest : List Metrics) (c : Metrics)
+    → ∥ HasReturned c s rest ∥₁ → HasPassedLabels (c.byte_index + c.bytes) t → ∥ IsBefore t rest ∥₁
+cursor-passed s t rest c returned passed =
+    ∥∥₁_elim returned (Prim.hlevel props)
+    (λ g. ∣ record { byte_index = c.byte_index + c.bytes; passed = passed; follow = g.follow } ∣₁)
 
 -- the labels that it has passed, and the character that it has returned
-pub returned-passed : (s : LabelCursor) (rest : List Metrics) (c : Metrics) → ∥ HasReturned c s rest ∥₁ → HasPassedLabels c.byte_index s
+pub returned-passed : (s : LabelCursor) (rest : List Metrics) (c : Metrics)
+    → ∥ HasReturned c s rest ∥₁ → HasPassedLabels c.byte_index s
 returned-passed s rest c returned = ∥∥₁_elim returned (passed-prop c.byte_index s) (λ g. g.passed)
 
-pub returned-some : (s : LabelCursor) (rest : List Metrics) (c : Metrics) → ∥ HasReturned c s rest ∥₁ → 1 ≤ c.bytes
+pub returned-some : (s : LabelCursor) (rest : List Metrics) (c : Metrics)
+    → ∥ HasReturned c s rest ∥₁ → 1 ≤ c.bytes
 returned-some s rest c returned = ∥∥₁_elim returned (Prim.hlevel props) (λ g. g.some)

@@ -6,6 +6,7 @@ pub mod ScannedPointers
 pub mod LabelCursorSteps
 pub mod StartsPassed
 pub mod SpacedPointers
+pub mod PointersBefore
 pub mod PointerCursors
 pub mod WidthSearch
 pub mod CachedScans

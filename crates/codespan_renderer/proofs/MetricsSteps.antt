@@ -19,20 +19,39 @@ width_at-printable tab column c low high =
     rw (no_tab, ascii, seen) refl
 
 -- the first of the remaining characters
-pub metrics_then-char : (after : ℕ → ℕ → List Metrics) (tab byte_index column : ℕ) (bs rest : List ℕ) (c bytes width : ℕ)
+pub metrics_then-char : (after : ℕ → ℕ → List Metrics) (tab byte_index column : ℕ)
+    (bs rest : List ℕ) (c bytes width : ℕ)
     → IsUtf8 bs → bs ≡ encode_utf8 c ++ rest → bytes ≡ len_utf8 c → width ≡ width_at tab column c
     → metrics_then after tab byte_index column (chars bs)
-    ≡ record { ch = c; byte_index = byte_index; bytes = bytes; column = column; unicode_width = width } ∷ metrics_then after tab (byte_index + bytes) (column + width) (chars rest)
+    ≡ record {
+      ch =
+          c;
+      byte_index = byte_index;
+      bytes = bytes;
+      column = column;
+      unicode_width = width;
+    }
+    ∷ metrics_then after tab (byte_index + bytes) (column + width) (chars rest)
 metrics_then-char after tab byte_index column bs rest c bytes width u e b w =
     ap (metrics_then after tab byte_index column) (chars_past_char bs rest c u e) ∙ rw (b, w) refl
 
 -- none remains
-pub metrics_then-end : (after : ℕ → ℕ → List Metrics) (tab byte_index column : ℕ) (bs : List ℕ) → length bs ≡ 0
+pub metrics_then-end : (after : ℕ → ℕ → List Metrics) (tab byte_index column : ℕ) (bs : List ℕ)
+    → length bs ≡ 0
     → metrics_then after tab byte_index column (chars bs) ≡ after byte_index column
-metrics_then-end after tab byte_index column [] e = ap (metrics_then after tab byte_index column) chars-nil
+metrics_then-end after tab byte_index column [] e =
+    ap (metrics_then after tab byte_index column) chars-nil
 metrics_then-end after tab byte_index column (b ∷ bs) e = absurd (omega arith)
 
 -- how many bytes of the remaining text it took
-pub bytes-taken : (previous left bs rest : List ℕ) (c : ℕ) → previous ≡ bs → left ≡ rest → bs ≡ encode_utf8 c ++ rest → length previous - length left ≡ len_utf8 c
+pub bytes-taken : (previous left bs rest : List ℕ) (c : ℕ) → previous ≡ bs → left ≡ rest
+    → bs ≡ encode_utf8 c ++ rest → length previous - length left ≡ len_utf8 c
 bytes-taken previous left bs rest c w l e =
-    omega (arith, ap length w, ap length l, ap length e, length-append (encode_utf8 c) rest, length-encode c)
+    omega (
+      arith,
+      ap length w,
+      ap length l,
+      ap length e,
+      length-append (encode_utf8 c) rest,
+      length-encode c,
+    )

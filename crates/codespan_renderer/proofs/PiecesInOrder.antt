@@ -8,13 +8,15 @@ use Rattle.codespan_row_parts.specs.Runs.{ArePrefixAndSuffix}
 use Rattle.codespan_renderer.proofs.LabelCursorSteps.{starts-lower}
 use Rattle.codespan_row_parts.proofs.Pieces.{whole}
 
-front-ordered : (low : ℕ) (xs ys : List LabelModel) → starts_from low (xs ++ ys) ≡ true → starts_from low xs ≡ true
+front-ordered : (low : ℕ) (xs ys : List LabelModel) → starts_from low (xs ++ ys) ≡ true
+    → starts_from low xs ≡ true
 front-ordered low [] ys h = refl
 front-ordered low (x ∷ xs) ys h =
     let parts = and_parts (nat_le low x.start) (starts_from x.start (xs ++ ys)) h in
     rw (parts.0, front-ordered x.start xs ys parts.1) refl
 
-back-ordered : (low : ℕ) (xs ys : List LabelModel) → starts_from low (xs ++ ys) ≡ true → starts_from low ys ≡ true
+back-ordered : (low : ℕ) (xs ys : List LabelModel) → starts_from low (xs ++ ys) ≡ true
+    → starts_from low ys ≡ true
 back-ordered low [] ys h = h
 back-ordered low (x ∷ xs) ys h =
     let parts = and_parts (nat_le low x.start) (starts_from x.start (xs ++ ys)) h in
@@ -22,13 +24,17 @@ back-ordered low (x ∷ xs) ys h =
     starts-lower ys low x.start far (back-ordered x.start xs ys parts.1)
 
 -- the labels before the trailing one keep the order
-pub before-ordered : (labels before after : List SingleLabelTuple) → ArePrefixAndSuffix labels before after → starts_in_order (single_label_views labels) ≡ true
+pub before-ordered : (labels before after : List SingleLabelTuple)
+    → ArePrefixAndSuffix labels before after → starts_in_order (single_label_views labels) ≡ true
     → starts_in_order (single_label_views before) ≡ true
 before-ordered labels before after p h =
-    front-ordered 0 (single_label_views before) (single_label_views p.rest) (ap starts_in_order (whole before p.rest labels p.begins) ∙ h)
+    front-ordered 0 (single_label_views before) (single_label_views p.rest)
+    (ap starts_in_order (whole before p.rest labels p.begins) ∙ h)
 
 -- so do those after it
-pub after-ordered : (labels before after : List SingleLabelTuple) → ArePrefixAndSuffix labels before after → starts_in_order (single_label_views labels) ≡ true
+pub after-ordered : (labels before after : List SingleLabelTuple)
+    → ArePrefixAndSuffix labels before after → starts_in_order (single_label_views labels) ≡ true
     → starts_in_order (single_label_views after) ≡ true
 after-ordered labels before after p h =
-    back-ordered 0 (single_label_views p.skipped) (single_label_views after) (ap starts_in_order (whole p.skipped after labels p.ends) ∙ h)
+    back-ordered 0 (single_label_views p.skipped) (single_label_views after)
+    (ap starts_in_order (whole p.skipped after labels p.ends) ∙ h)

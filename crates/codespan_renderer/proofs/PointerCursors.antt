@@ -17,7 +17,8 @@ use Rattle.codespan_renderer.proofs.ScannedPointers.{pointer_is}
 use Rattle.codespan_picture.proofs.Consecutive.{AreConsecutive}
 
 -- two cursors have passed the labels of two lists that start before these characters
-pub record IsPassing (before after : List SingleLabelTuple) (s t : StartCursor) (left : List Metrics) : Type 0 where
+pub record IsPassing (before after : List SingleLabelTuple) (s t : StartCursor)
+    (left : List Metrics) : Type 0 where
   pub byte_index : ℕ
   pub column : ℕ
   pub early : HasPassedStarts byte_index s
@@ -27,7 +28,8 @@ pub record IsPassing (before after : List SingleLabelTuple) (s t : StartCursor) 
   pub consecutive : AreConsecutive byte_index column left
 
 -- at the next character
-pub record IsPassingAt (before after : List SingleLabelTuple) (s t : StartCursor) (c : Metrics) (left : List Metrics) : Type 0 where
+pub record IsPassingAt (before after : List SingleLabelTuple) (s t : StartCursor) (c : Metrics)
+    (left : List Metrics) : Type 0 where
   pub some : 1 ≤ c.bytes
   pub early : HasPassedStarts c.byte_index s
   pub late : HasPassedStarts c.byte_index t
@@ -35,7 +37,9 @@ pub record IsPassingAt (before after : List SingleLabelTuple) (s t : StartCursor
   pub same_late : t.labels.now ≡ after
   pub consecutive : AreConsecutive (c.byte_index + c.bytes) (c.column + c.unicode_width) left
 
-pub passing-at : (before after : List SingleLabelTuple) (s t : StartCursor) (cs left : List Metrics) (c : Metrics) → cs ≡ c ∷ left → IsPassing before after s t cs
+pub passing-at : (before after : List SingleLabelTuple) (s t : StartCursor) (cs left : List Metrics)
+    (c : Metrics)
+    → cs ≡ c ∷ left → IsPassing before after s t cs
     → IsPassingAt before after s t c left
 passing-at before after s t cs left c step w =
     let consecutive : AreConsecutive w.byte_index w.column (c ∷ left) = rw step at w.consecutive in
@@ -50,8 +54,11 @@ passing-at before after s t cs left c step w =
       consecutive = rw (here, at) consecutive.3;
     }
 
-pub passing-more : (before after : List SingleLabelTuple) (s t u v : StartCursor) (c : Metrics) (left : List Metrics) → IsPassingAt before after s t c left
-    → HasPassedStarts (c.byte_index + c.bytes) u → HasPassedStarts (c.byte_index + c.bytes) v → u.labels.now ≡ s.labels.now → v.labels.now ≡ t.labels.now
+pub passing-more : (before after : List SingleLabelTuple) (s t u v : StartCursor) (c : Metrics)
+    (left : List Metrics)
+    → IsPassingAt before after s t c left
+    → HasPassedStarts (c.byte_index + c.bytes) u → HasPassedStarts (c.byte_index + c.bytes) v
+    → u.labels.now ≡ s.labels.now → v.labels.now ≡ t.labels.now
     → IsPassing before after u v left
 passing-more before after s t u v c left w early late same same2 = record {
   byte_index = c.byte_index + c.bytes;
@@ -64,11 +71,14 @@ passing-more before after s t u v c left w early late same same2 = record {
 }
 
 -- the style that the two cursors find
-pub found-style : (labels before after bs ds : List SingleLabelTuple) (c : Metrics) (first second : Option LabelStyle) → AreHanging labels before after → bs ≡ before → ds ≡ after
+pub found-style : (labels before after bs ds : List SingleLabelTuple) (c : Metrics)
+    (first second : Option LabelStyle)
+    → AreHanging labels before after → bs ≡ before → ds ≡ after
     → first ≡ preferred_style (starts_in c) None (filter has_message (single_label_views bs))
     → second ≡ preferred_style (starts_in c) first (filter has_message (single_label_views ds))
     → second ≡ pointer_style_if_any (hanging_labels (single_label_views labels)) c
-found-style labels before after bs ds c first second h e f p q = rw (q, p, e, f) (pointer_is labels before after c h)
+found-style labels before after bs ds c first second h e f p q =
+    rw (q, p, e, f) (pointer_is labels before after c h)
 
 -- there is no pointer where no label hangs
 pub no-pointers : (cs : List Metrics) → pointers_in [] cs ≡ []
@@ -76,19 +86,27 @@ no-pointers [] = refl
 no-pointers (c ∷ cs) = no-pointers cs
 
 -- a pointer comes to those that were found
-pub found-some : (labels : List LabelModel) (ps : List Pointer) (cs left : List Metrics) (c : Metrics) (style : LabelStyle) → cs ≡ c ∷ left
+pub found-some : (labels : List LabelModel) (ps : List Pointer) (cs left : List Metrics)
+    (c : Metrics) (style : LabelStyle)
+    → cs ≡ c ∷ left
     → pointer_style_if_any (hanging_labels labels) c ≡ Some style
-    → (ps ++ pointer_under c style ∷ []) ++ pointers_in (hanging_labels labels) left ≡ ps ++ pointers_in (hanging_labels labels) cs
-found-some labels ps cs left c style step is = rw (step, is) (append_assoc ps (pointer_under c style ∷ []) (pointers_in (hanging_labels labels) left))
+    → (ps ++ pointer_under c style ∷ []) ++ pointers_in (hanging_labels labels)
+    left ≡ ps ++ pointers_in (hanging_labels labels) cs
+found-some labels ps cs left c style step is =
+    rw (step, is)
+    (append_assoc ps (pointer_under c style ∷ []) (pointers_in (hanging_labels labels) left))
 
 -- none does
-pub found-none : (labels : List LabelModel) (ps : List Pointer) (cs left : List Metrics) (c : Metrics) → cs ≡ c ∷ left
+pub found-none : (labels : List LabelModel) (ps : List Pointer) (cs left : List Metrics)
+    (c : Metrics)
+    → cs ≡ c ∷ left
     → pointer_style_if_any (hanging_labels labels) c ≡ None
     → ps ++ pointers_in (hanging_labels labels) left ≡ ps ++ pointers_in (hanging_labels labels) cs
 found-none labels ps cs left c step is = rw (step, is) refl
 
 -- both cursors are at the line's start
-pub passing-start : (before after : List SingleLabelTuple) (s t : StartCursor) (cs : List Metrics) → HasPassedStarts 0 s → HasPassedStarts 0 t → s.labels.now ≡ before → t.labels.now ≡ after
+pub passing-start : (before after : List SingleLabelTuple) (s t : StartCursor) (cs : List Metrics)
+    → HasPassedStarts 0 s → HasPassedStarts 0 t → s.labels.now ≡ before → t.labels.now ≡ after
     → AreConsecutive 0 0 cs → IsPassing before after s t cs
 passing-start before after s t cs early late same_early same_late consecutive = record {
   byte_index = 0;
@@ -103,27 +121,40 @@ passing-start before after s t cs early late same_early same_late consecutive = 
 -- ---- past the greatest start
 
 -- the test of a character from which labels hang
-none-test : (labels : List LabelModel) (c : Metrics) (b : Bool) → max_label_start labels < c.byte_index → list_any (starts_in c) (hanging_labels labels) ≡ b → b ≡ false
+none-test : (labels : List LabelModel) (c : Metrics) (b : Bool)
+    → max_label_start labels < c.byte_index → list_any (starts_in c) (hanging_labels labels) ≡ b
+    → b ≡ false
 none-test labels c true past is =
-    let low = any-below 0 c.byte_index (starts_in c) labels (λ x. starts_in-low c x) (any-hanging_labels (starts_in c) labels is) in
+    let low = any-below 0 c.byte_index (starts_in c) labels (λ x. starts_in-low c x)
+    (any-hanging_labels (starts_in c) labels is) in
     absurd (omega arith)
 none-test labels c false past is = refl
 
 -- no label hangs from a character there
-none-past : (labels : List LabelModel) (c : Metrics) → max_label_start labels < c.byte_index → pointer_style_if_any (hanging_labels labels) c ≡ None
-none-past labels c past = rw (none-test labels c (list_any (starts_in c) (hanging_labels labels)) past refl) refl
+none-past : (labels : List LabelModel) (c : Metrics) → max_label_start labels < c.byte_index
+    → pointer_style_if_any (hanging_labels labels) c ≡ None
+none-past labels c past =
+    rw (none-test labels c (list_any (starts_in c) (hanging_labels labels)) past refl) refl
 
 -- where all characters begin there, there is no pointer
-pointers-past : (labels : List LabelModel) (byte_index column : ℕ) (cs : List Metrics) → AreConsecutive byte_index column cs → max_label_start labels < byte_index → pointers_in (hanging_labels labels) cs ≡ []
+pointers-past : (labels : List LabelModel) (byte_index column : ℕ) (cs : List Metrics)
+    → AreConsecutive byte_index column cs → max_label_start labels < byte_index
+    → pointers_in (hanging_labels labels) cs ≡ []
 pointers-past labels byte_index column [] consecutive past = refl
 pointers-past labels byte_index column (c ∷ cs) consecutive past =
     let there : max_label_start labels < c.byte_index = omega (arith, consecutive.0) in
-    rw (none-past labels c there) (pointers-past labels (byte_index + c.bytes) (column + c.unicode_width) cs consecutive.3 (omega arith))
+    rw (none-past labels c there)
+    (pointers-past labels (byte_index + c.bytes) (column + c.unicode_width) cs consecutive.3
+    (omega arith))
 
 -- the next character begins past the starts, and so do all that follow
-pub pointers-past-at : (labels before after : List SingleLabelTuple) (s t : StartCursor) (last : ℕ) (cs left : List Metrics) (c : Metrics) → cs ≡ c ∷ left
-    → IsPassing before after s t cs → last < c.byte_index → last ≡ max_label_start (single_label_views labels)
+pub pointers-past-at : (labels before after : List SingleLabelTuple) (s t : StartCursor) (last : ℕ)
+    (cs left : List Metrics) (c : Metrics)
+    → cs ≡ c ∷ left
+    → IsPassing before after s t cs → last < c.byte_index
+    → last ≡ max_label_start (single_label_views labels)
     → pointers_in (hanging_labels (single_label_views labels)) cs ≡ []
 pointers-past-at labels before after s t last cs left c step w past e =
     let consecutive : AreConsecutive w.byte_index w.column (c ∷ left) = rw step at w.consecutive in
-    pointers-past (single_label_views labels) w.byte_index w.column cs w.consecutive (omega (arith, e, past, consecutive.0))
+    pointers-past (single_label_views labels) w.byte_index w.column cs w.consecutive
+    (omega (arith, e, past, consecutive.0))

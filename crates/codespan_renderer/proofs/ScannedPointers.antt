@@ -19,45 +19,66 @@ use Rattle.codespan_renderer.specs.Private.PreferredStyles.{prefer_primary, pref
 use Rattle.codespan_row_parts.specs.Runs.{AreHanging}
 use Rattle.codespan_renderer.proofs.PreferredStyles.{preferred-cons, preferred-primary}
 use Rattle.codespan_row_parts.proofs.RowEquations.{spaces-add}
-use Rattle.codespan_row_parts.proofs.Hanging.{hanging_parts, is_empty_bytes}
+use Rattle.codespan_row_parts.proofs.TrailingLabel.{is_empty_bytes}
+use Rattle.codespan_row_parts.proofs.Hanging.{hanging_parts}
 
 -- ---- the style of a pointer
 
 -- the preferred style of two lists
-preferred-append : (p : LabelModel → Bool) (found : Option LabelStyle) (xs ys : List LabelModel) → preferred_style p found (xs ++ ys) ≡ preferred_style p (preferred_style p found xs) ys
+preferred-append : (p : LabelModel → Bool) (found : Option LabelStyle) (xs ys : List LabelModel)
+    → preferred_style p found (xs ++ ys) ≡ preferred_style p (preferred_style p found xs) ys
 preferred-append p found xs ys =
     let step = λ (best : Option LabelStyle) (x : LabelModel). prefer_primary best x.style in
-    ap (fold step found) (filter-append p xs ys) ∙ fold-append step found (filter p xs) (filter p ys)
+    ap (fold step found) (filter-append p xs ys)
+    ∙ fold-append step found (filter p xs) (filter p ys)
 
 -- after a secondary style only a primary one counts
-preferred-after_secondary : (c : Metrics) (xs : List LabelModel) → preferred_style (starts_in c) (Some Secondary) xs ≡ Some (pointer_style xs c)
+preferred-after_secondary : (c : Metrics) (xs : List LabelModel)
+    → preferred_style (starts_in c) (Some Secondary) xs ≡ Some (pointer_style xs c)
 preferred-after_secondary c [] = refl
-preferred-after_secondary c (x ∷ xs) = preferred-cons (starts_in c) (Some Secondary) x xs ∙ by_style (preferred-after_secondary c xs) (starts_in c x) x.style
+preferred-after_secondary c (x ∷ xs) =
+    preferred-cons (starts_in c) (Some Secondary) x xs
+    ∙ by_style (preferred-after_secondary c xs) (starts_in c x) x.style
   where
-    by_style : preferred_style (starts_in c) (Some Secondary) xs ≡ Some (pointer_style xs c) → (b : Bool) (s : LabelStyle)
-        → preferred_style (starts_in c) (if b then prefer_primary (Some Secondary) s else Some Secondary) xs
-        ≡ Some (if (is_primary_style s && b) || list_any (λ y. is_primary y && starts_in c y) xs then Primary else Secondary)
+    by_style : preferred_style (starts_in c) (Some Secondary) xs ≡ Some (pointer_style xs c)
+        → (b : Bool) (s : LabelStyle)
+        → preferred_style (starts_in c)
+        (if b then prefer_primary (Some Secondary) s else Some Secondary) xs
+        ≡ Some
+        (if (is_primary_style s && b)
+        || list_any (λ y. is_primary y && starts_in c y) xs then Primary else Secondary)
     by_style more true Primary = preferred-primary (starts_in c) xs
     by_style more true Secondary = more
     by_style more false Primary = more
     by_style more false Secondary = more
 
 -- the preferred style of the labels that start in the character is that of its pointer
-preferred-pointer_style : (c : Metrics) (xs : List LabelModel) → preferred_style (starts_in c) None xs ≡ pointer_style_if_any xs c
+preferred-pointer_style : (c : Metrics) (xs : List LabelModel)
+    → preferred_style (starts_in c) None xs ≡ pointer_style_if_any xs c
 preferred-pointer_style c [] = refl
-preferred-pointer_style c (x ∷ xs) = preferred-cons (starts_in c) None x xs ∙ by_style (preferred-pointer_style c xs) (starts_in c x) x.style
+preferred-pointer_style c (x ∷ xs) =
+    preferred-cons (starts_in c) None x xs
+    ∙ by_style (preferred-pointer_style c xs) (starts_in c x) x.style
   where
-    by_style : preferred_style (starts_in c) None xs ≡ pointer_style_if_any xs c → (b : Bool) (s : LabelStyle)
+    by_style : preferred_style (starts_in c) None xs ≡ pointer_style_if_any xs c
+        → (b : Bool) (s : LabelStyle)
         → preferred_style (starts_in c) (if b then prefer_primary None s else None) xs
-        ≡ (if b || list_any (starts_in c) xs then Some (if (is_primary_style s && b) || list_any (λ y. is_primary y && starts_in c y) xs then Primary else Secondary) else None)
+        ≡ (if b
+        || list_any (starts_in c) xs then Some
+        (if (is_primary_style s && b)
+        || list_any (λ y. is_primary y && starts_in c y) xs then Primary else Secondary)
+        else None)
     by_style more true Primary = preferred-primary (starts_in c) xs
     by_style more true Secondary = preferred-after_secondary c xs
     by_style more false Primary = more
     by_style more false Secondary = more
 
 -- the style of a pointer is that of the labels of the one list and then of the other
-pub pointer_is : (labels before after : List SingleLabelTuple) (c : Metrics) → AreHanging labels before after
-    → preferred_style (starts_in c) (preferred_style (starts_in c) None (filter has_message (single_label_views before))) (filter has_message (single_label_views after))
+pub pointer_is : (labels before after : List SingleLabelTuple) (c : Metrics)
+    → AreHanging labels before after
+    → preferred_style (starts_in c)
+    (preferred_style (starts_in c) None (filter has_message (single_label_views before)))
+    (filter has_message (single_label_views after))
     ≡ pointer_style_if_any (hanging_labels (single_label_views labels)) c
 pointer_is labels before after c h =
     sym (preferred-append (starts_in c) None (filter has_message (single_label_views before)) (filter has_message (single_label_views after)))
@@ -65,16 +86,34 @@ pointer_is labels before after c h =
     ∙ preferred-pointer_style c (hanging_labels (single_label_views labels))
 
 -- a step over the label at an index
-pub preferred-step : (c : Metrics) (found best : Option LabelStyle) (xs : List SingleLabelTuple) (i : ℕ) (d : SingleLabelTuple) (empty : Bool) → i < length xs
+pub preferred-step : (c : Metrics) (found best : Option LabelStyle) (xs : List SingleLabelTuple)
+    (i : ℕ) (d : SingleLabelTuple) (empty : Bool)
+    → i < length xs
     → empty ≡ (length (get_or xs i d).2.now == 0)
-    → best ≡ (if not empty then (if starts_in c (single_label_view (get_or xs i d)) then prefer_primary found (get_or xs i d).0 else found) else found)
-    → preferred_style (starts_in c) best (filter has_message (single_label_views (drop (i + 1) xs))) ≡ preferred_style (starts_in c) found (filter has_message (single_label_views (drop i xs)))
-preferred-step c found best xs i d empty h is e = rw (drop-cons xs i d h, add-one, e, is_empty_bytes, ← is) (by_message (get_or xs i d) (not empty))
+    → best
+    ≡ (if not
+    empty then (if starts_in c (single_label_view (get_or xs i d)) then prefer_primary found
+    (get_or xs i d).0 else found)
+    else found)
+    → preferred_style (starts_in c) best
+    (filter has_message (single_label_views (drop (i + 1) xs)))
+    ≡ preferred_style (starts_in c) found (filter has_message (single_label_views (drop i xs)))
+preferred-step c found best xs i d empty h is e =
+    rw (drop-cons xs i d h, add-one, e, is_empty_bytes, ← is)
+    (by_message (get_or xs i d) (not empty))
   where
     by_message : (x : SingleLabelTuple) (b : Bool)
-        → preferred_style (starts_in c) (if b then (if starts_in c (single_label_view x) then prefer_primary found x.0 else found) else found) (filter has_message (single_label_views (drop (suc i) xs)))
-        ≡ preferred_style (starts_in c) found (cond b (single_label_view x ∷ filter has_message (single_label_views (drop (suc i) xs))) (filter has_message (single_label_views (drop (suc i) xs))))
-    by_message x true = sym (preferred-cons (starts_in c) found (single_label_view x) (filter has_message (single_label_views (drop (suc i) xs))))
+        → preferred_style (starts_in c)
+        (if b then (if starts_in c (single_label_view x) then prefer_primary found x.0 else found)
+        else found)
+        (filter has_message (single_label_views (drop (suc i) xs)))
+        ≡ preferred_style (starts_in c) found
+        (cond b (single_label_view x ∷ filter has_message (single_label_views (drop (suc i) xs)))
+        (filter has_message (single_label_views (drop (suc i) xs))))
+    by_message x true =
+        sym
+        (preferred-cons (starts_in c) found (single_label_view x)
+        (filter has_message (single_label_views (drop (suc i) xs))))
     by_message x false = refl
 
 -- ---- the pointers of a line
@@ -85,35 +124,49 @@ unfolding spaces bytes
 spaces_none s = refl
 
 -- the first character, before the byte index, and then the others
-pointers_next : (context : RowContext) (labels : List LabelModel) (before : ℕ) (c : Metrics) (cs : List Metrics) → c.byte_index < before
-    → pointers context labels (metrics_before before (c ∷ cs)) ≡ pointer_at context labels (hanging_labels labels) c ++ pointers context labels (metrics_before before cs)
+pointers_next : (context : RowContext) (labels : List LabelModel) (before : ℕ) (c : Metrics)
+    (cs : List Metrics)
+    → c.byte_index < before
+    → pointers context labels (metrics_before before (c ∷ cs)) ≡ pointer_at context labels
+    (hanging_labels labels) c ++ pointers context labels (metrics_before before cs)
 unfolding pointers
 pointers_next context labels before c cs h =
     let near : nat_lt c.byte_index before ≡ true = lt-ltb c.byte_index before h in
     rw near refl
 
 -- no label hangs from the character
-pub pointer_none : (context : RowContext) (labels : List LabelModel) (c : Metrics) → pointer_style_if_any (hanging_labels labels) c ≡ None
-    → pointer_at context labels (hanging_labels labels) c ≡ spaces_up_to (max_label_start labels) c c.unicode_width
+pub pointer_none : (context : RowContext) (labels : List LabelModel) (c : Metrics)
+    → pointer_style_if_any (hanging_labels labels) c ≡ None
+    → pointer_at context labels (hanging_labels labels) c ≡ spaces_up_to (max_label_start labels) c
+    c.unicode_width
 unfolding pointer_at
 pointer_none context labels c h = by_test (list_any (starts_in c) (hanging_labels labels)) refl h
   where
-    by_test : (b : Bool) → list_any (starts_in c) (hanging_labels labels) ≡ b → (if b then Some (pointer_style (hanging_labels labels) c) else None) ≡ None
-        → pointer_at context labels (hanging_labels labels) c ≡ spaces_up_to (max_label_start labels) c c.unicode_width
+    by_test : (b : Bool) → list_any (starts_in c) (hanging_labels labels) ≡ b
+        → (if b then Some (pointer_style (hanging_labels labels) c) else None) ≡ None
+        → pointer_at context labels (hanging_labels labels) c ≡ spaces_up_to
+        (max_label_start labels) c c.unicode_width
     by_test true is h = cc
     by_test false is h = rw is refl
 
 -- a label of this style hangs from it
-pub pointer_some : (context : RowContext) (labels : List LabelModel) (c : Metrics) (style : LabelStyle) → pointer_style_if_any (hanging_labels labels) c ≡ Some style
+pub pointer_some : (context : RowContext) (labels : List LabelModel) (c : Metrics)
+    (style : LabelStyle)
+    → pointer_style_if_any (hanging_labels labels) c ≡ Some style
     → pointer_at context labels (hanging_labels labels) c
-    ≡ label_glyph context.severity style context.chars.pointer_left ++ spaces_up_to (max_label_start labels) c (c.unicode_width - 1)
+    ≡ label_glyph context.severity style context.chars.pointer_left
+    ++ spaces_up_to (max_label_start labels) c (c.unicode_width - 1)
 unfolding pointer_at
-pointer_some context labels c style h = by_test (list_any (starts_in c) (hanging_labels labels)) refl h
+pointer_some context labels c style h =
+    by_test (list_any (starts_in c) (hanging_labels labels)) refl h
   where
-    by_test : (b : Bool) → list_any (starts_in c) (hanging_labels labels) ≡ b → (if b then Some (pointer_style (hanging_labels labels) c) else None) ≡ Some style
+    by_test : (b : Bool) → list_any (starts_in c) (hanging_labels labels) ≡ b
+        → (if b then Some (pointer_style (hanging_labels labels) c) else None) ≡ Some style
         → pointer_at context labels (hanging_labels labels) c
-        ≡ label_glyph context.severity style context.chars.pointer_left ++ spaces_up_to (max_label_start labels) c (c.unicode_width - 1)
-    by_test true is h = let same : pointer_style (hanging_labels labels) c ≡ style = cc in rw (is, same) refl
+        ≡ label_glyph context.severity style context.chars.pointer_left
+        ++ spaces_up_to (max_label_start labels) c (c.unicode_width - 1)
+    by_test true is h = let same : pointer_style (hanging_labels labels) c ≡ style = cc in
+        rw (is, same) refl
     by_test false is h = cc
 
 -- the spaces of a character are added to the pending ones
@@ -125,31 +178,41 @@ spaces_due reach c pending width s h =
     rw (within, spaces-add) (sym (append_assoc (spaces pending) (spaces width) s))
 
 -- there are none past the greatest start
-pub spaces_past : (reach : ℕ) (c : Metrics) (width : ℕ) (s : Stream) → reach < c.byte_index → spaces_up_to reach c width ++ s ≡ s
+pub spaces_past : (reach : ℕ) (c : Metrics) (width : ℕ) (s : Stream) → reach < c.byte_index
+    → spaces_up_to reach c width ++ s ≡ s
 unfolding spaces_up_to
 spaces_past reach c width s h =
     let past : nat_le c.byte_index reach ≡ false = lt-leb c.byte_index reach h in
     rw past refl
 
 -- what is still to be written begins with the pending spaces and a pointer
-pub pointer_first : (context : RowContext) (labels : List LabelModel) (before reach : ℕ) (left : List Metrics) (c : Metrics) (cs : List Metrics) (pending : ℕ) (style : LabelStyle)
-    → reach ≡ max_label_start labels → left ≡ c ∷ cs → c.byte_index < before → pointer_style_if_any (hanging_labels labels) c ≡ Some style
+pub pointer_first : (context : RowContext) (labels : List LabelModel) (before reach : ℕ)
+    (left : List Metrics) (c : Metrics) (cs : List Metrics) (pending : ℕ) (style : LabelStyle)
+    → reach ≡ max_label_start labels → left ≡ c ∷ cs → c.byte_index < before
+    → pointer_style_if_any (hanging_labels labels) c ≡ Some style
     → spaces pending ++ pointers context labels (metrics_before before left)
     ≡ (spaces pending ++ label_glyph context.severity style context.chars.pointer_left)
-    ++ (spaces_up_to reach c (c.unicode_width - 1) ++ pointers context labels (metrics_before before cs))
+    ++ (spaces_up_to reach c (c.unicode_width - 1)
+    ++ pointers context labels (metrics_before before cs))
 pointer_first context labels before reach left c cs pending style far step h found =
     rw (far, step, pointers_next context labels before c cs h, pointer_some context labels c style found) (simp append_assoc)
 
 -- it begins with the pending spaces and those of a character
-pub spaces_first : (context : RowContext) (labels : List LabelModel) (before reach : ℕ) (left : List Metrics) (c : Metrics) (cs : List Metrics) (pending : ℕ)
-    → reach ≡ max_label_start labels → left ≡ c ∷ cs → c.byte_index < before → pointer_style_if_any (hanging_labels labels) c ≡ None
+pub spaces_first : (context : RowContext) (labels : List LabelModel) (before reach : ℕ)
+    (left : List Metrics) (c : Metrics) (cs : List Metrics) (pending : ℕ)
+    → reach ≡ max_label_start labels → left ≡ c ∷ cs → c.byte_index < before
+    → pointer_style_if_any (hanging_labels labels) c ≡ None
     → spaces pending ++ pointers context labels (metrics_before before left)
-    ≡ spaces pending ++ (spaces_up_to reach c c.unicode_width ++ pointers context labels (metrics_before before cs))
+    ≡ spaces pending
+    ++ (spaces_up_to reach c c.unicode_width ++ pointers context labels (metrics_before before cs))
 spaces_first context labels before reach left c cs pending far step h found =
-    rw (far, step, pointers_next context labels before c cs h, pointer_none context labels c found) refl
+    rw (far, step, pointers_next context labels before c cs h, pointer_none context labels c found)
+    refl
 
 -- only the pending spaces are still to be written
-pub spaces_last : (context : RowContext) (labels : List LabelModel) (before : ℕ) (left : List Metrics) (pending : ℕ) → left ≡ []
+pub spaces_last : (context : RowContext) (labels : List LabelModel) (before : ℕ)
+    (left : List Metrics) (pending : ℕ)
+    → left ≡ []
     → spaces pending ++ pointers context labels (metrics_before before left) ≡ spaces pending
 unfolding pointers
 spaces_last context labels before left pending none = rw none (append-nil (spaces pending))

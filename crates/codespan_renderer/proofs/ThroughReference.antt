@@ -7,24 +7,34 @@ use Rattle.codespan_base.specs.Streams.{Stream}
 use Rattle.codespan_base.specs.WriterLaw.{Sink, Frame, is_known, failed_frame, with_written, PrefixWritten, Writes, Puts}
 use Rattle.codespan_renderer.specs.Renderers.{sink_through}
 
-prefix_through : (name : GName) (s : Sink) (items : Stream) (t : Sink) → PrefixWritten s items t → PrefixWritten (sink_through name s) items (sink_through name t)
-prefix_through name s items t p = record { prefix = p.prefix; rest = p.rest; whole = p.whole; contents = p.contents }
+prefix_through : (name : GName) (s : Sink) (items : Stream) (t : Sink) → PrefixWritten s items t
+    → PrefixWritten (sink_through name s) items (sink_through name t)
+prefix_through name s items t p =
+    record { prefix = p.prefix; rest = p.rest; whole = p.whole; contents = p.contents }
 
 abbrev frame_through : GName → Frame → Frame
 frame_through name f = record f { through = name ∷ f.through }
 
 -- a call of the writer has the same result behind the reference
-pub writes_through : {E : Type 0} (name : GName) (s : Sink) (items : Stream) (r : Result (Unit {0}) E) (t : Sink) → Writes s items r t → Writes (sink_through name s) items r (sink_through name t)
+pub writes_through : {E : Type 0} (name : GName) (s : Sink) (items : Stream)
+    (r : Result (Unit {0}) E) (t : Sink)
+    → Writes s items r t → Writes (sink_through name s) items r (sink_through name t)
 unfolding with_written is_known
-writes_through name s items (Ok x) t p = (ap (frame_through name) p.0, λ known. ap (sink_through name) (p.1 known))
-writes_through name s items (Err x) t p = (ap (frame_through name) p.0, λ known. prefix_through name s items t (p.1 known))
+writes_through name s items (Ok x) t p =
+    (ap (frame_through name) p.0, λ known. ap (sink_through name) (p.1 known))
+writes_through name s items (Err x) t p =
+    (ap (frame_through name) p.0, λ known. prefix_through name s items t (p.1 known))
 
-flag_through : (name : GName) (f : Frame) (b : Bool) → frame_through name (cond b (failed_frame f) f) ≡ cond b (failed_frame (frame_through name f)) (frame_through name f)
+flag_through : (name : GName) (f : Frame) (b : Bool)
+    → frame_through name (cond b (failed_frame f) f) ≡ cond b (failed_frame (frame_through name f))
+    (frame_through name f)
 flag_through name f true = refl
 flag_through name f false = refl
 
 -- so has a `put`
-pub puts_through : {E : Type 0} (name : GName) (s : Sink) (bs : List ℕ) (r : Result ℕ E) (t : Sink) → Puts s bs r t → Puts (sink_through name s) bs r (sink_through name t)
+pub puts_through : {E : Type 0} (name : GName) (s : Sink) (bs : List ℕ) (r : Result ℕ E) (t : Sink)
+    → Puts s bs r t → Puts (sink_through name s) bs r (sink_through name t)
 unfolding is_known
-puts_through name s bs (Ok n) t p = (ap (frame_through name) p.0 ∙ flag_through name s.frame (n == 0 && nat_lt 0 (length bs)), p.1)
+puts_through name s bs (Ok n) t p =
+    (ap (frame_through name) p.0 ∙ flag_through name s.frame (n == 0 && nat_lt 0 (length bs)), p.1)
 puts_through name s bs (Err x) t p = (ap (frame_through name) p.0, p.1)

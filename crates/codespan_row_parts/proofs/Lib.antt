@@ -4,6 +4,7 @@ pub mod ScanState
 pub mod CaretRuns
 pub mod LaneCursor
 pub mod Hanging
+pub mod TrailingLabel
 pub mod Pieces
 pub mod TextRuns
 pub mod PlainText

@@ -95,7 +95,8 @@ hanging_stream_view x line labels =
     (filter has_message (single_label_views labels))
 
 -- the pointer row, and the rows of the messages of these labels that may hang
-abbrev pub pointer_and_hanging_view : context.RowContext → rust_line.Line → messages.Messages → Stream
+abbrev pub pointer_and_hanging_view : context.RowContext → rust_line.Line → messages.Messages
+    → Stream
 pointer_and_hanging_view x line found =
     pointer_row (context_view x) (line_view line) ++ newline
     ++ hanging_stream_view x line found.after.now ++ hanging_stream_view x line found.before.now

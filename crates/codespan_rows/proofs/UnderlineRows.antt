@@ -31,8 +31,10 @@ use Rattle.codespan_row_parts.specs.RenderedRows.{later_note_rows}
 -- ---- the lanes of an underline row
 
 -- the lanes of the row of a lane mark are those of that kind of row
-pub underline_lanes_are : (context : RowContext) (leading : ℕ) (lane : ℕ) (style : LabelStyle) (multi_label : rust_multi_label.MultiLabel) (lanes : Lanes)
-    → row_lanes_view context leading (Underline lane style multi_label) lanes ≡ inner_gutter context leading (kind.Underline (lane_mark_view (lane, style, multi_label))) lanes
+pub underline_lanes_are : (context : RowContext) (leading : ℕ) (lane : ℕ) (style : LabelStyle)
+    (multi_label : rust_multi_label.MultiLabel) (lanes : Lanes)
+    → row_lanes_view context leading (Underline lane style multi_label) lanes ≡ inner_gutter context
+    leading (kind.Underline (lane_mark_view (lane, style, multi_label))) lanes
 unfolding row_lanes_view inner_gutter
 underline_lanes_are context leading lane style multi_label lanes = refl
 
@@ -45,7 +47,8 @@ underline_message-none [] e = refl
 underline_message-none (b ∷ bs) e = absurd (omega arith)
 
 -- a space and the message
-pub underline_message-some : (bs : List ℕ) → 0 < length bs → underline_message (bytes bs) ≡ space ++ bytes bs
+pub underline_message-some : (bs : List ℕ) → 0 < length bs
+    → underline_message (bytes bs) ≡ space ++ bytes bs
 unfolding underline_message bytes
 underline_message-some [] e = absurd (omega arith)
 underline_message-some (b ∷ bs) e = refl
@@ -55,7 +58,9 @@ pub ruleset underline_messages = (underline_message-none, underline_message-some
 -- ---- the line of an underline
 
 -- an underline is that of the width of its line
-pub underline-runs : (chars : Chars) (style : LabelStyle) (width : ℕ) (cs : List Metrics) (multi_label : MultiLabel) → width ≡ underline_width cs multi_label
+pub underline-runs : (chars : Chars) (style : LabelStyle) (width : ℕ) (cs : List Metrics)
+    (multi_label : MultiLabel)
+    → width ≡ underline_width cs multi_label
     → underline chars style cs multi_label ≡ underline_by_width chars style width multi_label
 unfolding underline underline_by_width
 underline-runs chars style width cs (Top start) e = rw e refl
@@ -66,22 +71,41 @@ underline-runs chars style width cs (Bottom end message) e = rw e refl
 
 -- the rows of the remaining lane marks
 abbrev pub underlines_of : RowContext → Line → List LaneMarkTuple → Stream
-underlines_of context line lane_marks = stream_of_rows context (map (UnderlineRow line) (filter (λ (m : LaneMark). has_underline (leading_whitespace line.text) m.multi_label) (map lane_mark_view lane_marks)))
+underlines_of context line lane_marks =
+    stream_of_rows context
+    (map (UnderlineRow line)
+    (filter (λ (m : LaneMark). has_underline (leading_whitespace line.text) m.multi_label)
+    (map lane_mark_view lane_marks)))
 
 -- the lane mark at an index has a row
-pub underlines-in : (context : RowContext) (line : Line) (leading : ℕ) (lane_marks : List LaneMarkTuple) (i : ℕ) (d : LaneMarkTuple) → i < length lane_marks
-    → leading ≡ leading_whitespace line.text → has_underline leading (multi_label_view (get_or lane_marks i d).2) ≡ true
-    → underlines_of context line (drop i lane_marks) ≡ underline_row context line (lane_mark_view (get_or lane_marks i d)) ++ newline ++ underlines_of context line (drop (i + 1) lane_marks)
+pub underlines-in : (context : RowContext) (line : Line) (leading : ℕ)
+    (lane_marks : List LaneMarkTuple) (i : ℕ) (d : LaneMarkTuple)
+    → i < length lane_marks
+    → leading ≡ leading_whitespace line.text
+    → has_underline leading (multi_label_view (get_or lane_marks i d).2) ≡ true
+    → underlines_of context line (drop i lane_marks) ≡ underline_row context line
+    (lane_mark_view (get_or lane_marks i d)) ++ newline
+    ++ underlines_of context line (drop (i + 1) lane_marks)
 underlines-in context line leading lane_marks i d h e t =
-    let k : has_underline (leading_whitespace line.text) (multi_label_view (get_or lane_marks i d).2) ≡ true = rw e at t in
+    let k : has_underline (leading_whitespace line.text)
+    (multi_label_view (get_or lane_marks i d).2)
+    ≡ true =
+    rw e at t in
     rw (drop-cons lane_marks i d h, k, add-one) refl
 
 -- the lane mark at an index has no row
-pub underlines-out : (context : RowContext) (line : Line) (leading : ℕ) (lane_marks : List LaneMarkTuple) (i : ℕ) (d : LaneMarkTuple) → i < length lane_marks
-    → leading ≡ leading_whitespace line.text → has_underline leading (multi_label_view (get_or lane_marks i d).2) ≡ false
-    → underlines_of context line (drop i lane_marks) ≡ underlines_of context line (drop (i + 1) lane_marks)
+pub underlines-out : (context : RowContext) (line : Line) (leading : ℕ)
+    (lane_marks : List LaneMarkTuple) (i : ℕ) (d : LaneMarkTuple)
+    → i < length lane_marks
+    → leading ≡ leading_whitespace line.text
+    → has_underline leading (multi_label_view (get_or lane_marks i d).2) ≡ false
+    → underlines_of context line (drop i lane_marks) ≡ underlines_of context line
+    (drop (i + 1) lane_marks)
 underlines-out context line leading lane_marks i d h e t =
-    let k : has_underline (leading_whitespace line.text) (multi_label_view (get_or lane_marks i d).2) ≡ false = rw e at t in
+    let k : has_underline (leading_whitespace line.text)
+    (multi_label_view (get_or lane_marks i d).2)
+    ≡ false =
+    rw e at t in
     rw (drop-cons lane_marks i d h, k, add-one) refl
 
 -- ---- the rows of a note
@@ -91,7 +115,8 @@ abbrev pub HasLines : TextLines → List (List ℕ) → Type 0
 HasLines s note_lines = YieldsList lines_steps (λ (x : Bor (List ℕ)). x.now) s note_lines
 
 -- the rows of the remaining lines are still to be written
-pub record NotesToWrite (s : Sink) (whole : Stream) (padding : ℕ) (left : TextLines) (t : Sink) : Type 0 where
+pub record NotesToWrite (s : Sink) (whole : Stream) (padding : ℕ) (left : TextLines)
+    (t : Sink) : Type 0 where
   pub note_lines : List (List ℕ)
   pub yields : HasLines left note_lines
   pub written_so_far : StillToWrite s whole (later_note_rows padding note_lines) t
@@ -102,11 +127,14 @@ pub record Next (x : List ℕ) (t : TextLines) (note_lines : List (List ℕ)) : 
   pub is : note_lines ≡ x ∷ after
   pub yields : HasLines t after
 
-pub lines-next : (s : TextLines) (x : Bor (List ℕ)) (t : TextLines) (note_lines : List (List ℕ)) → HasLines s note_lines → lines_steps s (Some x) t → Next x.now t note_lines
+pub lines-next : (s : TextLines) (x : Bor (List ℕ)) (t : TextLines) (note_lines : List (List ℕ))
+    → HasLines s note_lines → lines_steps s (Some x) t → Next x.now t note_lines
 lines-next s x t [] p k = absurd (p.runs x t k)
-lines-next s x t (y ∷ ys) p k = let n = p.runs.1 x t k in record { after = ys; is = ap (λ v. v ∷ ys) (sym n.0); yields = record { runs = n.1 } }
+lines-next s x t (y ∷ ys) p k = let n = p.runs.1 x t k in
+    record { after = ys; is = ap (λ v. v ∷ ys) (sym n.0); yields = record { runs = n.1 } }
 
 -- no line remains
-pub lines-none : (s t : TextLines) (note_lines : List (List ℕ)) → HasLines s note_lines → lines_steps s None t → note_lines ≡ []
+pub lines-none : (s t : TextLines) (note_lines : List (List ℕ)) → HasLines s note_lines
+    → lines_steps s None t → note_lines ≡ []
 lines-none s t [] p k = refl
 lines-none s t (y ∷ ys) p k = absurd (p.runs.0 t k)

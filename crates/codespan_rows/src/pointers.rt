@@ -142,7 +142,8 @@ fn write_pointers_and_messages<W: PutStyle, S: LineCharacters>(
         rows.now.messages.before.now rows.now.messages.after.now }
     requires slices { ArePrefixAndSuffix rows.now.line.labels.now
         rows.now.messages.before.now rows.now.messages.after.now }
-    ensures { Writes (W.sink w.old) (pointer_and_hanging_view rows.now.context rows.now.line rows.now.messages)
+    ensures { Writes (W.sink w.old)
+        (pointer_and_hanging_view rows.now.context rows.now.line rows.now.messages)
         result (W.sink w.new) }
 {
     write_pointer_row(w, rows)?;

@@ -11,7 +11,8 @@ use Rattle.codespan_sources.specs.StatedLines.{location_at}
 
 -- the line of a byte exists
 pub byte_has_line : (f : NativeFile) (byte : ℕ)
-    → cut_line_failure (native_file_view f).cut.starts (line_of (native_file_view f).cut.starts byte) ≡ None
+    → cut_line_failure (native_file_view f).cut.starts
+    (line_of (native_file_view f).cut.starts byte) ≡ None
 byte_has_line f byte =
     let starts = (native_file_view f).cut.starts in
     let law = text_is_lawful f.text (location_at f.first_byte f.locations.now) in

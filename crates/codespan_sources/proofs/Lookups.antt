@@ -9,7 +9,8 @@ pub there : {X Y : Type 0} (view : X → Y) (xs ys : List X) (i : ℕ) (x : X) �
     → i < length ys → x ≡ get_or ys i x → slice_get (map view xs) i ≡ Some (view x)
 there view xs ys i x same below is =
     slice_get-map view xs i
-    ∙ ap (option_map view) (slice_get_read xs (length xs) i x refl (rw same at below) (rw same at is))
+    ∙ ap (option_map view)
+    (slice_get_read xs (length xs) i x refl (rw same at below) (rw same at is))
 
 -- none at an index past the last
 pub missing : {X Y : Type 0} (view : X → Y) (xs ys : List X) (i : ℕ) → ys ≡ xs → length ys ≤ i

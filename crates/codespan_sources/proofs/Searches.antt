@@ -46,9 +46,13 @@ module _ (first : ℕ) where
         omega (arith, low, step)
 
     rises : IsNonDecreasingBy (λ (l : RawLine). l.start - first) lines
-    rises = IsNonDecreasingBy-from_default (λ (l : RawLine). l.start - first) lines (no_line) (λ i j le in_range.
+    rises =
+        IsNonDecreasingBy-from_default (λ (l : RawLine). l.start - first) lines (no_line)
+        (λ i j le in_range.
         let e : i + (j - i) ≡ j = omega (arith, le) in
-        let up = rw e at (climb i (j - i) (rw (length-map lines (λ (l : RawLine). l.start - first)) (omega (arith, le, in_range)))) in
+        let up = rw e at
+        (climb i (j - i)
+        (rw (length-map lines (λ (l : RawLine). l.start - first)) (omega (arith, le, in_range)))) in
         let a = start_at lines i no_line (omega (arith, le, in_range)) in
         let b = start_at lines j no_line in_range in
         omega (arith, up, a, b))
@@ -69,11 +73,11 @@ module _ (first : ℕ) where
       (rw (length-map lines (λ (l : RawLine). l.start - first)) within)
       (λ k h. let at = start_at lines k no_line (omega (arith, h, within)) in
       let test = point.0 k no_line (omega arith) h in grind (arith, nat_tests, at, test))
-      (λ k h below. let in_lines : k < length lines = rw (length-map lines (λ (l : RawLine). l.start - first)) at below in
+      (λ k h below. let in_lines : k < length lines =
+      rw (length-map lines (λ (l : RawLine). l.start - first)) at below in
       let at = start_at lines k no_line in_lines in
       let test = point.1 k no_line h in_lines in grind (arith, nat_tests, at, test)) in
-      let some_started : 1 ≤ n =
-      elim (cases_lt 0 n) [
+      let some_started : 1 ≤ n = elim (cases_lt 0 n) [
         | inl p ↦ p
         | inr p ↦
             let at = start_at lines 0 no_line some in
@@ -121,7 +125,8 @@ module _ (first : ℕ) where
   rest_ascends byte (l ∷ ls) e = (both (nat_lt byte (l.byte - first)) _ e).1
 
   -- a location before another is of a lower byte
-  sorted : (ls : List RawLocation) → locations_ascend first ls ≡ true → (i j : ℕ) → i < j → j < length ls
+  sorted : (ls : List RawLocation) → locations_ascend first ls ≡ true → (i j : ℕ) → i < j
+      → j < length ls
       → byte_at ls i < byte_at ls j
   sorted [] e i j h k = absurd (omega (arith, k))
   sorted (l ∷ ls) e i zero h k = absurd (omega (arith, h))
@@ -133,17 +138,23 @@ module _ (first : ℕ) where
   comparisons_rise : (ls : List RawLocation) → locations_ascend first ls ≡ true → (byte : ℕ)
       → IsNonDecreasingBy (λ l. ordering_index (nat_cmp (l.byte - first) byte)) ls
   comparisons_rise ls e byte =
-      IsNonDecreasingBy-from_default (λ (l : RawLocation). ordering_index (nat_cmp (l.byte - first) byte)) ls no_location (λ i j le in_range.
-      let up : byte_at ls i ≤ byte_at ls j = grind (arith, sorted ls e i j, λ (same : i ≡ j). ap (byte_at ls) same) in
+      IsNonDecreasingBy-from_default
+      (λ (l : RawLocation). ordering_index (nat_cmp (l.byte - first) byte)) ls no_location
+      (λ i j le in_range.
+      let up : byte_at ls i ≤ byte_at ls j =
+      grind (arith, sorted ls e i j, λ (same : i ≡ j). ap (byte_at ls) same) in
       grind (arith, nat_tests, up))
 
   -- the location of a byte is the one that is found
-  found_at : (ls : List RawLocation) → locations_ascend first ls ≡ true → (byte i : ℕ) → i < length ls
-      → byte_at ls i ≡ byte → location_at first ls byte ≡ Some (location_of (slice_index_or ls i no_location))
+  found_at : (ls : List RawLocation) → locations_ascend first ls ≡ true → (byte i : ℕ)
+      → i < length ls
+      → byte_at ls i ≡ byte
+      → location_at first ls byte ≡ Some (location_of (slice_index_or ls i no_location))
   found_at [] e byte i h same = absurd (omega (arith, h))
   found_at (l ∷ ls) e byte zero h same = rw (eq-eqb (l.byte - first) byte same) refl
   found_at (l ∷ ls) e byte (suc i) h same =
-      let before : l.byte - first < byte_at ls i = after (l.byte - first) ls e i (omega (arith, h)) in
+      let before : l.byte - first < byte_at ls i =
+      after (l.byte - first) ls e i (omega (arith, h)) in
       rw (ne-eqb (l.byte - first) byte (λ equal. absurd (omega (arith, before, same, equal))))
       (found_at ls (rest_ascends (l.byte - first) ls e) byte i (omega (arith, h)) same)
 
@@ -159,24 +170,32 @@ module _ (first : ℕ) where
   pub location_found : (ls : List RawLocation) → locations_ascend first ls ≡ true → (byte : ℕ)
       → (r : Result ℕ ℕ) → IsSearchInRange r (length ls)
       → IsBinarySearchResult (λ l. nat_cmp (l.byte - first) byte) ls r
-      → MatchResult r (λ i. location_at first ls byte ≡ Some (location_of (slice_index_or ls i no_location)))
+      → MatchResult r
+      (λ i. location_at first ls byte ≡ Some (location_of (slice_index_or ls i no_location)))
       (λ _. location_at first ls byte ≡ None)
   location_found ls e byte (Ok i) within equal =
       found_at ls e byte i within (ranked _ byte _ (sym (equal no_location)))
   location_found ls e byte (Err i) within splits =
       let halves = splits (comparisons_rise ls e byte) in
       found_none ls byte (λ k h. elim (cases_lt k i) [
-        | inl p ↦ let less = ranked _ byte _ (sym (halves.0 k no_location (omega arith) p)) in λ same. absurd (omega (arith, less, same))
-        | inr p ↦ let more = ranked _ byte _ (sym (halves.1 k no_location p h)) in λ same. absurd (omega (arith, more, same))
+        | inl p ↦ let less = ranked _ byte _ (sym (halves.0 k no_location (omega arith) p)) in
+            λ same. absurd (omega (arith, less, same))
+        | inr p ↦ let more = ranked _ byte _ (sym (halves.1 k no_location p h)) in
+            λ same. absurd (omega (arith, more, same))
       ])
 
 -- a location after the last one, so that the others decide
-pub locations_ascend-more : (first : ℕ) (locations : List RawLocation) (i : ℕ) (d : RawLocation) (byte next : ℕ) (whole : Bool) → i < length locations → next ≡ (get_or locations i d).byte - first → byte < next
-    → bytes_ascend_from first byte (drop i locations) ≡ whole → bytes_ascend_from first next (drop (i + 1) locations) ≡ whole
+pub locations_ascend-more : (first : ℕ) (locations : List RawLocation) (i : ℕ) (d : RawLocation)
+    (byte next : ℕ) (whole : Bool)
+    → i < length locations → next ≡ (get_or locations i d).byte - first → byte < next
+    → bytes_ascend_from first byte (drop i locations) ≡ whole
+    → bytes_ascend_from first next (drop (i + 1) locations) ≡ whole
 locations_ascend-more first locations i d byte next whole inside is later before =
     let test : nat_lt byte next ≡ true = grind (arith, nat_tests) in
     let more = λ (n : ℕ). nat_lt byte n && bytes_ascend_from first n (drop (i + 1) locations) in
-    ap (λ (t : Bool). t && bytes_ascend_from first next (drop (i + 1) locations)) (sym test) ∙ ap more is ∙ ap (bytes_ascend_from first byte) (sym (drop_more locations i d inside)) ∙ before
+    ap (λ (t : Bool). t && bytes_ascend_from first next (drop (i + 1) locations)) (sym test)
+    ∙ ap more is ∙ ap (bytes_ascend_from first byte) (sym (drop_more locations i d inside))
+    ∙ before
 
 -- a line that follows the last one, so that the others decide
 pub follow-more : (text : List ℕ) (first : ℕ) (lines : List RawLine) (i : ℕ) (d : RawLine)
@@ -186,7 +205,8 @@ pub follow-more : (text : List ℕ) (first : ℕ) (lines : List RawLine) (i : �
     → true ≡ is_char_boundary text next_start → true ≡ is_char_boundary text next_end
     → follow text first start end (drop i lines) ≡ whole
     → follow text first next_start next_end (drop (i + 1) lines) ≡ whole
-follow-more text first lines i d start end next_start next_end whole inside starts ends after apart in_order starts_char ends_char before =
+follow-more text first lines i d start end next_start next_end whole inside starts ends after apart
+    in_order starts_char ends_char before =
     rw (
       drop_more lines i d inside,
       ← starts,

@@ -52,7 +52,8 @@ in_order =
     ∷ LabelStyle ∷ LabelMessage ∷ LabelFile ∷ Note ∷ []
 
 -- the argument of a number
-at_number : (b : Argument) (i : ℕ) (d : Argument) → argument_number b ≡ i + 1 → get_or in_order i d ≡ b
+at_number : (b : Argument) (i : ℕ) (d : Argument) → argument_number b ≡ i + 1
+    → get_or in_order i d ≡ b
 at_number Abi i d e = let at : i ≡ 0 = omega (arith, e) in rw at refl
 at_number DisplayStyle i d e = let at : i ≡ 1 = omega (arith, e) in rw at refl
 at_number Layout i d e = let at : i ≡ 2 = omega (arith, e) in rw at refl
@@ -78,17 +79,47 @@ abbrev AreNumbered : ℕ → List Argument → Type 0
 AreNumbered n [] = Unit {0}
 AreNumbered n (a ∷ more) = (argument_number a ≡ n) × AreNumbered (n + 1) more
 
-number_at : (n : ℕ) (arguments : List Argument) (i : ℕ) (d : Argument) → AreNumbered n arguments → i < length arguments → argument_number (get_or arguments i d) ≡ n + i
+number_at : (n : ℕ) (arguments : List Argument) (i : ℕ) (d : Argument) → AreNumbered n arguments
+    → i < length arguments → argument_number (get_or arguments i d) ≡ n + i
 number_at n [] i d h below = absurd (omega (arith, below))
 number_at n (a ∷ more) zero d h below = omega (arith, h.0)
-number_at n (a ∷ more) (suc i) d h below = omega (arith, number_at (n + 1) more i d h.1 (omega (arith, below)))
+number_at n (a ∷ more) (suc i) d h below =
+    omega (arith, number_at (n + 1) more i d h.1 (omega (arith, below)))
 
 numbered : AreNumbered 1 in_order
-numbered = (refl, (refl, (refl, (refl, (refl, (refl, (refl, (refl, (refl, (refl, (refl, (refl, (refl, (refl, (refl, (refl, (refl, (refl, (refl, tt)))))))))))))))))))
+numbered = (
+  refl,
+  (
+    refl,
+    (
+      refl,
+      (
+        refl,
+        (
+          refl,
+          (
+            refl,
+            (
+              refl,
+              (
+                refl,
+                (
+                  refl,
+                  (refl, (refl, (refl, (refl, (refl, (refl, (refl, (refl, (refl, (refl, tt)))))))))),
+                ),
+              ),
+            ),
+          ),
+        ),
+      ),
+    ),
+  ),
+)
 
 module _ (files : List RawFile) (d : RawDiagnostic) (c : RawConfig) (i : ℕ) where
   -- one more argument is valid
-  pub next-valid : ((b : Argument) (j : ℕ) → argument_number b ≤ i → IsValidAt files d c b j) → ((j : ℕ) → IsValidAt files d c (get_or in_order i Abi) j)
+  pub next-valid : ((b : Argument) (j : ℕ) → argument_number b ≤ i → IsValidAt files d c b j)
+      → ((j : ℕ) → IsValidAt files d c (get_or in_order i Abi) j)
       → (b : Argument) (j : ℕ) → argument_number b ≤ i + 1 → IsValidAt files d c b j
   next-valid before here b j low = elim (cases_lt i (argument_number b)) [
     | inl above ↦
@@ -98,12 +129,15 @@ module _ (files : List RawFile) (d : RawDiagnostic) (c : RawConfig) (i : ℕ) wh
   ]
 
   -- the argument at the index is the first invalid one
-  pub first-found : (index : ℕ) → i < 19 → ((b : Argument) (j : ℕ) → argument_number b ≤ i → IsValidAt files d c b j) → IsFirstInvalidIndex (IsValidAt files d c (get_or in_order i Abi)) index
+  pub first-found : (index : ℕ) → i < 19
+      → ((b : Argument) (j : ℕ) → argument_number b ≤ i → IsValidAt files d c b j)
+      → IsFirstInvalidIndex (IsValidAt files d c (get_or in_order i Abi)) index
       → IsFirstInvalid files d c (get_or in_order i Abi) index
   first-found index inside before found = record {
     invalid = found.invalid;
     before = found.before;
     arguments_before = λ b j lower.
-        let number : argument_number (get_or in_order i Abi) ≡ 1 + i = number_at 1 in_order i Abi numbered inside in
+        let number : argument_number (get_or in_order i Abi) ≡ 1 + i =
+        number_at 1 in_order i Abi numbered inside in
         before b j (omega (arith, lower, number));
   }

@@ -22,8 +22,10 @@ abbrev styles : List Style
 styles =
     Plain ∷ HeaderMessage ∷ LineNumber ∷ NoteBullet ∷ SourceBorder
     ∷ Header Bug ∷ Header Error ∷ Header Warning ∷ Header Note ∷ Header Help
-    ∷ Label Bug Primary ∷ Label Error Primary ∷ Label Warning Primary ∷ Label Note Primary ∷ Label Help Primary
-    ∷ Label Bug Secondary ∷ Label Error Secondary ∷ Label Warning Secondary ∷ Label Note Secondary ∷ Label Help Secondary ∷ []
+    ∷ Label Bug Primary ∷ Label Error Primary ∷ Label Warning Primary ∷ Label Note Primary
+    ∷ Label Help Primary
+    ∷ Label Bug Secondary ∷ Label Error Secondary ∷ Label Warning Secondary ∷ Label Note Secondary
+    ∷ Label Help Secondary ∷ []
 
 abbrev style_at : ℕ → Style
 style_at n = get_or styles (n - 256) Plain
@@ -34,16 +36,19 @@ style_at n = get_or styles (n - 256) Plain
 abbrev decoded : Style → List ℕ → List ℕ → List StyledRun
 decoded style text [] = run_of style text ∷ []
 decoded style text (n ∷ ns) =
-    if nat_lt n 256 then decoded style (text ++ n ∷ []) ns else run_of style text ∷ decoded (style_at n) [] ns
+    if nat_lt n 256 then decoded style (text ++ n ∷ []) ns
+    else run_of style text ∷ decoded (style_at n) [] ns
 
 -- a byte
-byte-step : (style : Style) (text : List ℕ) (n : ℕ) (ns : List ℕ) → n < 256 → decoded style text (n ∷ ns) ≡ decoded style (text ++ n ∷ []) ns
+byte-step : (style : Style) (text : List ℕ) (n : ℕ) (ns : List ℕ) → n < 256
+    → decoded style text (n ∷ ns) ≡ decoded style (text ++ n ∷ []) ns
 byte-step style text n ns small =
     let is : nat_lt n 256 ≡ true = grind (arith, nat_tests, small) in
     ap (λ (b : Bool). if b then decoded style (text ++ n ∷ []) ns else run_of style text ∷ decoded (style_at n) [] ns) is
 
 -- the number of a style
-style-step : (old : Style) (text : List ℕ) (style : Style) (ns : List ℕ) → decoded old text (style_number style ∷ ns) ≡ run_of old text ∷ decoded style [] ns
+style-step : (old : Style) (text : List ℕ) (style : Style) (ns : List ℕ)
+    → decoded old text (style_number style ∷ ns) ≡ run_of old text ∷ decoded style [] ns
 style-step old text Plain ns = refl
 style-step old text HeaderMessage ns = refl
 style-step old text LineNumber ns = refl
@@ -68,37 +73,45 @@ style-step old text (Label Help Secondary) ns = refl
 -- ---- a stream
 
 -- a stream that was written reads back as its runs
-spelled-decoded : (style : Style) (text : List ℕ) (s : Stream) → AreBytes (text_of s) → decoded style text (spelled style_spelling s) ≡ runs_from style text s
+spelled-decoded : (style : Style) (text : List ℕ) (s : Stream) → AreBytes (text_of s)
+    → decoded style text (spelled style_spelling s) ≡ runs_from style text s
 spelled-decoded style text [] small = refl
 spelled-decoded style text (Byte b ∷ s) small =
-    byte-step style text b (spelled style_spelling s) small.0 ∙ spelled-decoded style (text ++ b ∷ []) s small.1
+    byte-step style text b (spelled style_spelling s) small.0
+    ∙ spelled-decoded style (text ++ b ∷ []) s small.1
 spelled-decoded style text (Mark m ∷ s) small =
     style-step style text (style_after m) (spelled style_spelling s)
-    ∙ ap (λ (runs : List StyledRun). run_of style text ∷ runs) (spelled-decoded (style_after m) [] s small)
+    ∙ ap (λ (runs : List StyledRun). run_of style text ∷ runs)
+    (spelled-decoded (style_after m) [] s small)
 spelled-decoded style text (Slot k ∷ s) small = spelled-decoded style text s small
 
 -- ---- runs
 
-bytes-decoded : (style : Style) (text bs rest : List ℕ) → AreBytes bs → decoded style text (bs ++ rest) ≡ decoded style (text ++ bs) rest
+bytes-decoded : (style : Style) (text bs rest : List ℕ) → AreBytes bs
+    → decoded style text (bs ++ rest) ≡ decoded style (text ++ bs) rest
 bytes-decoded style text [] rest small = ap (λ t. decoded style t rest) (sym (append-nil text))
 bytes-decoded style text (b ∷ bs) rest small =
-    byte-step style text b (bs ++ rest) small.0 ∙ bytes-decoded style (text ++ b ∷ []) bs rest small.1
+    byte-step style text b (bs ++ rest) small.0
+    ∙ bytes-decoded style (text ++ b ∷ []) bs rest small.1
     ∙ ap (λ t. decoded style t rest) (append_assoc text (b ∷ []) bs)
 
 -- runs that are recorded read back
-contents-decoded : (style : Style) (text : List ℕ) (runs : List StyledRun) → AllBytes runs → decoded style text (recorded_runs runs) ≡ run_of style text ∷ runs
+contents-decoded : (style : Style) (text : List ℕ) (runs : List StyledRun) → AllBytes runs
+    → decoded style text (recorded_runs runs) ≡ run_of style text ∷ runs
 contents-decoded style text [] small = refl
 contents-decoded style text (run ∷ runs) small =
     style-step style text run.style (run.text ++ recorded_runs runs)
     ∙ ap (λ (rs : List StyledRun). run_of style text ∷ rs)
-    (bytes-decoded run.style [] run.text (recorded_runs runs) small.0 ∙ contents-decoded run.style run.text runs small.1)
+    (bytes-decoded run.style [] run.text (recorded_runs runs) small.0
+    ∙ contents-decoded run.style run.text runs small.1)
 
 rest_of : List StyledRun → List StyledRun
 rest_of [] = []
 rest_of (run ∷ runs) = runs
 
 -- runs that are recorded as a stream is, after the number of plain text, are those of the stream
-pub runs_of_recorded : (runs : List StyledRun) (s : Stream) → AllBytes runs → AreBytes (text_of s) → recorded_runs runs ≡ style_number Plain ∷ spelled style_spelling s → runs ≡ runs_of s
+pub runs_of_recorded : (runs : List StyledRun) (s : Stream) → AllBytes runs → AreBytes (text_of s)
+    → recorded_runs runs ≡ style_number Plain ∷ spelled style_spelling s → runs ≡ runs_of s
 unfolding rest_of
 runs_of_recorded runs s small bytes contents =
     ap rest_of (sym (contents-decoded Plain [] runs small) ∙ ap (decoded Plain []) contents
@@ -107,9 +120,11 @@ runs_of_recorded runs s small bytes contents =
 
 -- ---- their texts
 
-joined-from : (style : Style) (text : List ℕ) (s : Stream) → joined (runs_from style text s) ≡ text ++ text_of s
+joined-from : (style : Style) (text : List ℕ) (s : Stream)
+    → joined (runs_from style text s) ≡ text ++ text_of s
 joined-from style text [] = refl
-joined-from style text (Byte b ∷ s) = joined-from style (text ++ b ∷ []) s ∙ append_assoc text (b ∷ []) (text_of s)
+joined-from style text (Byte b ∷ s) =
+    joined-from style (text ++ b ∷ []) s ∙ append_assoc text (b ∷ []) (text_of s)
 joined-from style text (Mark m ∷ s) = ap (λ t. text ++ t) (joined-from (style_after m) [] s)
 joined-from style text (Slot k ∷ s) = joined-from style text s
 

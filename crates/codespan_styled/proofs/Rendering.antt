@@ -25,25 +25,33 @@ use Rattle.codespan_styled.proofs.Decoding.{joined_runs, runs_of_recorded}
 use Rattle.codespan_styled.specs.Outputs.{AreRuns, EmitsRuns, RunsAreTexts, output_at}
 
 -- a fresh writer that received a stream holds its bytes last
-bytes_after : (spelling : Spelling) (old new : Sink) (s : Stream) (first last : List ℕ) → old ≡ fresh_sink spelling (Some first) → new.contents ≡ Some last
+bytes_after : (spelling : Spelling) (old new : Sink) (s : Stream) (first last : List ℕ)
+    → old ≡ fresh_sink spelling (Some first) → new.contents ≡ Some last
     → (is_known old ≡ true → new ≡ with_written old s) → last ≡ first ++ spelled spelling s
 unfolding is_known are_known with_written extended
 bytes_after spelling old new s first last fresh contents written =
     let now = written (ap is_known fresh) ∙ ap (λ (x : Sink). with_written x s) fresh in
-    let whole : Some last ≡ Some (first ++ spelled spelling s) = sym contents ∙ ap (λ (x : Sink). x.contents) now in
+    let whole : Some last ≡ Some (first ++ spelled spelling s) =
+    sym contents ∙ ap (λ (x : Sink). x.contents) now in
     cc
 
 module _ {Id : Type 0} {config : Config} {files : FileDatabase Id} {d : Diagnostic Id} where
   -- the runs of what was rendered to a fresh writer are those of the output
-  pub runs_rendered : {old new : Sink} {last : List ℕ} (text : StyledText) → WritesStyled config.display_style config config files d old (Ok tt) new
-      → old ≡ fresh_sink style_spelling (Some (style_number Plain ∷ [])) → new.contents ≡ Some last → AreCharacters config.chars → ((id : Id) → IsLawful (files.file id))
+  pub runs_rendered : {old new : Sink} {last : List ℕ} (text : StyledText)
+      → WritesStyled config.display_style config config files d old (Ok tt) new
+      → old ≡ fresh_sink style_spelling (Some (style_number Plain ∷ [])) → new.contents ≡ Some last
+      → AreCharacters config.chars → ((id : Id) → IsLawful (files.file id))
       → recorded_runs (styled_runs text) ≡ last → AreRuns config files d (styled_runs text)
   runs_rendered {old} {new} {last} text rendered fresh contents characters lawful are =
       let loci = rendered.writes.loci in
       let stream : Stream = output_at config files d loci in
-      let utf8 = (text-output files d lawful config.display_style config config characters loci rendered.writes.on_end.1.texts).utf8 in
-      let whole = bytes_after style_spelling old new stream (style_number Plain ∷ []) last fresh contents rendered.writes.received in
-      let runs = runs_of_recorded (styled_runs text) stream (runs-bytes text.runs.items) (utf8-bytes _ utf8) (are ∙ whole) in
+      let utf8 = (text-output files d lawful config.display_style config config characters loci
+      rendered.writes.on_end.1.texts).utf8 in
+      let whole =
+      bytes_after style_spelling old new stream (style_number Plain ∷ []) last fresh contents
+      rendered.writes.received in
+      let runs = runs_of_recorded (styled_runs text) stream (runs-bytes text.runs.items)
+      (utf8-bytes _ utf8) (are ∙ whole) in
       record {
         loci = loci;
         are_loci = rendered.writes.are_loci;
@@ -54,27 +62,38 @@ module _ {Id : Type 0} {config : Config} {files : FileDatabase Id} {d : Diagnost
       }
 
   -- the same of what the writer returns
-  pub runs_emitted : {old new : Sink} {last : List ℕ} (r : Result StyledText Error) → WritesStyled config.display_style config config files d old (Ok tt) new
-      → old ≡ fresh_sink style_spelling (Some (style_number Plain ∷ [])) → new.contents ≡ Some last → AreCharacters config.chars → ((id : Id) → IsLawful (files.file id))
-      → MatchResult r (λ text. recorded_runs (styled_runs text) ≡ last) (λ e. e ≡ OutOfMemory) → EmitsRuns config files d styled_runs r
-  runs_emitted (Ok text) rendered fresh contents characters lawful are = runs_rendered text rendered fresh contents characters lawful are
+  pub runs_emitted : {old new : Sink} {last : List ℕ} (r : Result StyledText Error)
+      → WritesStyled config.display_style config config files d old (Ok tt) new
+      → old ≡ fresh_sink style_spelling (Some (style_number Plain ∷ [])) → new.contents ≡ Some last
+      → AreCharacters config.chars → ((id : Id) → IsLawful (files.file id))
+      → MatchResult r (λ text. recorded_runs (styled_runs text) ≡ last) (λ e. e ≡ OutOfMemory)
+      → EmitsRuns config files d styled_runs r
+  runs_emitted (Ok text) rendered fresh contents characters lawful are =
+      runs_rendered text rendered fresh contents characters lawful are
   runs_emitted (Err e) rendered fresh contents characters lawful is = inl is
 
   -- an error of a writer that has not failed is one of lookups
-  pub error_emitted : {old new : Sink} (e : Error) → WritesStyled config.display_style config config files d old (Err e) new → new.frame.failed ≡ false → IsEmitError config files d e
+  pub error_emitted : {old new : Sink} (e : Error)
+      → WritesStyled config.display_style config config files d old (Err e) new
+      → new.frame.failed ≡ false → IsEmitError config files d e
   error_emitted {old} {new} e rendered not_failed =
-      ⊎_elim (λ own. absurd (true≢false (sym (ap (λ (f : Frame). f.failed) own.1) ∙ not_failed))) (λ found. inr found.1) rendered.writes.on_end.error_is
+      ⊎_elim (λ own. absurd (true≢false (sym (ap (λ (f : Frame). f.failed) own.1) ∙ not_failed)))
+      (λ found. inr found.1) rendered.writes.on_end.error_is
 
 -- ---- texts
 
 -- the runs of a text are texts
-runs-texts : (style : Style) (text : List ℕ) (s : Stream) → AreTextsAfter text s → AreTexts (runs_from style text s)
+runs-texts : (style : Style) (text : List ℕ) (s : Stream) → AreTextsAfter text s
+    → AreTexts (runs_from style text s)
 runs-texts style text [] h = (h, tt)
 runs-texts style text (Byte b ∷ s) h = runs-texts style (text ++ b ∷ []) s h
 runs-texts style text (Mark m ∷ s) h = (h.0, runs-texts (style_after m) [] s h.1)
 runs-texts style text (Slot k ∷ s) h = runs-texts style text s h
 
 -- so are those of an output
-pub runs_are_texts : {Id : Type 0} (config : Config) (files : FileDatabase Id) (d : Diagnostic Id) → RunsAreTexts config files d
+pub runs_are_texts : {Id : Type 0} (config : Config) (files : FileDatabase Id) (d : Diagnostic Id)
+    → RunsAreTexts config files d
 runs_are_texts config files d characters lawful loci named =
-    runs-texts Plain [] (output_at config files d loci) (text-output files d lawful config.display_style config config characters loci named).between_marks
+    runs-texts Plain [] (output_at config files d loci)
+    (text-output files d lawful config.display_style config config characters loci
+    named).between_marks

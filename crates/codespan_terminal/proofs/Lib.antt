@@ -2,4 +2,5 @@ mod UnsafeCells
 mod SafeTexts
 mod Sequences
 mod TerminalStates
+mod TerminalRuns
 mod AnsiStreams

@@ -53,7 +53,8 @@ unfolding unicode_width
 empty_isolates = refl
 
 -- a number of a range is counted from its start
-within : (p : ℕ → Bool) (n a b c : ℕ) → passes_from p n a ≡ true → b + 1 ≡ a + n → (nat_le a c && nat_le c b) ≡ true → p c ≡ true
+within : (p : ℕ → Bool) (n a b c : ℕ) → passes_from p n a ≡ true → b + 1 ≡ a + n
+    → (nat_le a c && nat_le c b) ≡ true → p c ≡ true
 within p n a b c h e inside =
     let parts = and_parts (nat_le a c) (nat_le c b) inside in
     let low : a ≤ c = grind (arith, nat_tests) in
@@ -74,7 +75,8 @@ empty_directional c h =
     (λ (last : (embeddings || (isolates || false)) ≡ true).
     ⊎_elim (within is_empty 5 0x202A 0x202E c empty_embeddings refl)
     (λ (end : (isolates || false) ≡ true).
-    ⊎_elim (within is_empty 4 0x2066 0x2069 c empty_isolates refl) (λ (none : false ≡ true). cc) (or_cases isolates false end))
+    ⊎_elim (within is_empty 4 0x2066 0x2069 c empty_isolates refl) (λ (none : false ≡ true). cc)
+    (or_cases isolates false end))
     (or_cases embeddings (isolates || false) last))
     (or_cases direction_marks (embeddings || (isolates || false)) later))
     (or_cases letter_mark (direction_marks || (embeddings || (isolates || false))) h)
@@ -87,7 +89,8 @@ unfolding char_width
 empty_control c h = grind (arith, nat_tests)
 
 -- neither tab nor newline, and one of the two kinds
-unsafe_kinds : (layout control directional : Bool) → (layout || not (control || directional)) ≡ false
+unsafe_kinds : (layout control directional : Bool)
+    → (layout || not (control || directional)) ≡ false
     → (layout ≡ false) × ((control ≡ true) ⊎ (directional ≡ true))
 unsafe_kinds true control directional h = cc
 unsafe_kinds false true directional h = (refl, inl refl)
@@ -102,7 +105,8 @@ no_cells n h = grind (arith, nat_tests)
 unsafe_cells : (c : ℕ) → is_safe c ≡ false → cells_of c ≡ 0
 unsafe_cells c h =
     let kinds = unsafe_kinds ((c == 9) || (c == 10)) (is_control c) (is_bidi_control c) h in
-    ⊎_elim (empty_control c) (λ (e : is_bidi_control c ≡ true). no_cells (cells_of c) (empty_directional c e)) kinds.1
+    ⊎_elim (empty_control c)
+    (λ (e : is_bidi_control c ≡ true). no_cells (cells_of c) (empty_directional c e)) kinds.1
 
 -- the column after it is the same
 unsafe_column : (tab column c : ℕ) → is_safe c ≡ false → column_after tab column c ≡ column
@@ -117,11 +121,16 @@ unsafe_column tab column c h =
 columns_step : (tab column c : ℕ) (cs : List ℕ) (b : Bool) → is_safe c ≡ b
     → ((at : ℕ) → columns tab at (safe_characters cs) ≡ safe_columns tab at cs)
     → columns tab column (cond b (c ∷ safe_characters cs) (safe_characters cs))
-    ≡ cond b ((c, column) ∷ safe_columns tab (column_after tab column c) cs) (safe_columns tab (column_after tab column c) cs)
-columns_step tab column c cs true h rest = ap (λ (l : List InColumn). (c, column) ∷ l) (rest (column_after tab column c))
-columns_step tab column c cs false h rest = rest column ∙ ap (λ at. safe_columns tab at cs) (sym (unsafe_column tab column c h))
+    ≡ cond b ((c, column) ∷ safe_columns tab (column_after tab column c) cs)
+    (safe_columns tab (column_after tab column c) cs)
+columns_step tab column c cs true h rest =
+    ap (λ (l : List InColumn). (c, column) ∷ l) (rest (column_after tab column c))
+columns_step tab column c cs false h rest =
+    rest column ∙ ap (λ at. safe_columns tab at cs) (sym (unsafe_column tab column c h))
 
 -- the characters that are kept have the columns that they had
-pub columns_stay : (tab column : ℕ) (cs : List ℕ) → columns tab column (safe_characters cs) ≡ safe_columns tab column cs
+pub columns_stay : (tab column : ℕ) (cs : List ℕ)
+    → columns tab column (safe_characters cs) ≡ safe_columns tab column cs
 columns_stay tab column [] = refl
-columns_stay tab column (c ∷ cs) = columns_step tab column c cs (is_safe c) refl (λ at. columns_stay tab at cs)
+columns_stay tab column (c ∷ cs) =
+    columns_step tab column c cs (is_safe c) refl (λ at. columns_stay tab at cs)

@@ -23,7 +23,8 @@ use Rattle.codespan_views.specs.Output.{IsEmitError, IsRendered}
 use Rattle.codespan_views.specs.WriteCalls.{WritesStyled, WritesText}
 
 -- a plain writer that was empty and received a stream has its text
-written_text : {old new : Sink} {bytes : List ℕ} (s : Stream) → old ≡ fresh_sink plain_spelling (Some []) → new.contents ≡ Some bytes
+written_text : {old new : Sink} {bytes : List ℕ} (s : Stream)
+    → old ≡ fresh_sink plain_spelling (Some []) → new.contents ≡ Some bytes
     → (is_known old ≡ true → new ≡ with_written old s) → bytes ≡ text_of s
 unfolding with_written is_known are_known extended
 written_text {old} {new} {bytes} s fresh contents written =
@@ -32,27 +33,71 @@ written_text {old} {new} {bytes} s fresh contents written =
     cc
 
 -- a stream that was written to a writer that spells style marks as nothing was written as its text
-text_written : (old new : Sink) (s : Stream) → old.frame.spelling ≡ plain_spelling → new ≡ with_written old s → new.contents ≡ extended old.contents (text_of s)
+text_written : (old new : Sink) (s : Stream) → old.frame.spelling ≡ plain_spelling
+    → new ≡ with_written old s → new.contents ≡ extended old.contents (text_of s)
 unfolding with_written
-text_written old new s plain written = ap (λ (x : Sink). x.contents) written ∙ ap (λ (spelling : Spelling). extended old.contents (spelled spelling s)) plain
+text_written old new s plain written =
+    ap (λ (x : Sink). x.contents) written
+    ∙ ap (λ (spelling : Spelling). extended old.contents (spelled spelling s)) plain
 
 -- and a prefix of one, as a prefix of its text
-text_prefix : (old new : Sink) (s : Stream) → old.frame.spelling ≡ plain_spelling → PrefixWritten old s new → PrefixAppended old.contents (text_of s) new.contents
-text_prefix old new s plain p = record { prefix = p.prefix; rest = p.rest; whole = p.whole ∙ ap (λ (spelling : Spelling). spelled spelling s) plain; contents = p.contents }
+text_prefix : (old new : Sink) (s : Stream) → old.frame.spelling ≡ plain_spelling
+    → PrefixWritten old s new → PrefixAppended old.contents (text_of s) new.contents
+text_prefix old new s plain p =
+    record {
+      prefix =
+          p.prefix;
+      rest =
+          p.rest;
+      whole =
+          p.whole ∙ ap (λ (spelling : Spelling). spelled spelling s) plain;
+      contents = p.contents;
+    }
 
 -- what has been written before an error of lookups, in other words about the writer
-written_before-other : {Id : Type 0} (files : FileDatabase Id) (view_config : Config) (d : Diagnostic Id) (loci : List Locus) (style : DisplayStyle) {A B : Type 0} {P Q : List Locus → Type 0} (e : Error)
-    → (A → B) → ((ps : List Locus) → P ps → Q ps) → WrittenBefore view_config files d loci A P e style → WrittenBefore view_config files d loci B Q e style
-written_before-other files view_config d loci Rich e unchanged wrote left = λ h. ⊎_elim (λ a. inl (unchanged a)) (λ k. inr k) (left h)
+written_before-other : {Id : Type 0} (files : FileDatabase Id) (view_config : Config)
+    (d : Diagnostic Id) (loci : List Locus) (style : DisplayStyle) {A B : Type 0}
+    {P Q : List Locus → Type 0} (e : Error)
+    → (A → B) → ((ps : List Locus) → P ps → Q ps)
+    → WrittenBefore view_config files d loci A P e style
+    → WrittenBefore view_config files d loci B Q e style
+written_before-other files view_config d loci Rich e unchanged wrote left =
+    λ h. ⊎_elim (λ a. inl (unchanged a)) (λ k. inr k) (left h)
 written_before-other files view_config d loci Medium e unchanged wrote left =
-    record { before = left.before; here = left.here; after = left.after; whole = left.whole; succeed = left.succeed; fails = left.fails; wrote = wrote _ left.wrote }
+    record {
+      before =
+          left.before;
+      here =
+          left.here;
+      after =
+          left.after;
+      whole =
+          left.whole;
+      succeed = left.succeed;
+      fails = left.fails;
+      wrote = wrote _ left.wrote;
+    }
 written_before-other files view_config d loci Short e unchanged wrote left =
-    record { before = left.before; here = left.here; after = left.after; whole = left.whole; succeed = left.succeed; fails = left.fails; wrote = wrote _ left.wrote }
+    record {
+      before =
+          left.before;
+      here =
+          left.here;
+      after =
+          left.after;
+      whole =
+          left.whole;
+      succeed = left.succeed;
+      fails = left.fails;
+      wrote = wrote _ left.wrote;
+    }
 
 module _ {Id : Type 0} {config : Config} {files : FileDatabase Id} {d : Diagnostic Id} where
   -- the output that was rendered to a plain writer is what that writer has received
-  pub string_rendered : {old new : Sink} {bytes : List ℕ} → WritesStyled config.display_style config config files d old (Ok tt) new
-      → old ≡ fresh_sink plain_spelling (Some []) → new.contents ≡ Some bytes → IsRendered config files d bytes
+  pub string_rendered : {old new : Sink} {bytes : List ℕ}
+      → WritesStyled config.display_style config config files d old (Ok tt) new
+      → old ≡ fresh_sink plain_spelling (Some []) → new.contents ≡ Some bytes
+      → IsRendered config files d bytes
   string_rendered rendered fresh contents = record {
     loci = rendered.writes.loci;
     are_loci = rendered.writes.are_loci;
@@ -62,27 +107,37 @@ module _ {Id : Type 0} {config : Config} {files : FileDatabase Id} {d : Diagnost
   }
 
   -- and it is UTF-8
-  pub text_is_utf8 : {old new : Sink} {bytes : List ℕ} → WritesStyled config.display_style config config files d old (Ok tt) new
-      → old ≡ fresh_sink plain_spelling (Some []) → new.contents ≡ Some bytes → AreCharacters config.chars → ((id : Id) → IsLawful (files.file id)) → IsUtf8 bytes
+  pub text_is_utf8 : {old new : Sink} {bytes : List ℕ}
+      → WritesStyled config.display_style config config files d old (Ok tt) new
+      → old ≡ fresh_sink plain_spelling (Some []) → new.contents ≡ Some bytes
+      → AreCharacters config.chars → ((id : Id) → IsLawful (files.file id)) → IsUtf8 bytes
   text_is_utf8 rendered fresh contents characters lawful =
       subst IsUtf8 (sym (written_text _ fresh contents rendered.writes.received))
       (text-output files d lawful config.display_style config config characters
       rendered.writes.loci rendered.writes.on_end.1.texts).utf8
 
   -- the error of a string call: an allocation failed, or the writer has not failed
-  pub string_failed : (has_failed : Bool) {old new : Sink} {e : Error} → WritesStyled config.display_style config config files d old (Err e) new → has_failed ≡ new.frame.failed
+  pub string_failed : (has_failed : Bool) {old new : Sink} {e : Error}
+      → WritesStyled config.display_style config config files d old (Err e) new
+      → has_failed ≡ new.frame.failed
       → IsEmitError config files d (if has_failed then OutOfMemory else e)
   string_failed true rendered is = inl refl
   string_failed false {old} {new} rendered is =
-      ⊎_elim (λ w. absurd (true≢false (sym (ap (λ (f : Frame). f.failed) w.1) ∙ sym is))) (λ w. inr w.1) rendered.writes.on_end.error_is
+      ⊎_elim (λ w. absurd (true≢false (sym (ap (λ (f : Frame). f.failed) w.1) ∙ sym is)))
+      (λ w. inr w.1) rendered.writes.on_end.error_is
 
   -- a call writes through the references that it wrote through
-  references_of : {old : Sink} (r : Result (Unit {0}) Error) {new : Sink} → WritesStyled config.display_style config config files d old r new → new.frame.through ≡ old.frame.through
+  references_of : {old : Sink} (r : Result (Unit {0}) Error) {new : Sink}
+      → WritesStyled config.display_style config config files d old r new
+      → new.frame.through ≡ old.frame.through
   references_of (Ok done) rendered = ap (λ (f : Frame). f.through) rendered.writes.on_end.0
-  references_of (Err e) rendered = ⊎_elim (λ w. ap (λ (f : Frame). f.through) w.1) (λ w. ap (λ (f : Frame). f.through) w.0) rendered.writes.on_end.error_is
+  references_of (Err e) rendered =
+      ⊎_elim (λ w. ap (λ (f : Frame). f.through) w.1) (λ w. ap (λ (f : Frame). f.through) w.0)
+      rendered.writes.on_end.error_is
 
   -- a writer of plain text has received the output's text, or a prefix of it
-  written : (old new : Sink) → old.frame.spelling ≡ plain_spelling → (r : Result (Unit {0}) Error) → WritesStyled config.display_style config config files d old r new
+  written : (old new : Sink) → old.frame.spelling ≡ plain_spelling → (r : Result (Unit {0}) Error)
+      → WritesStyled config.display_style config config files d old r new
       → WritesText config files d old.contents r new.contents
   unfolding is_known
   written old new plain (Ok done) rendered = record {
@@ -97,14 +152,13 @@ module _ {Id : Type 0} {config : Config} {files : FileDatabase Id} {d : Diagnost
     are_loci = rendered.writes.are_loci;
     received = λ known. text_prefix old new _ plain (rendered.writes.received known);
     on_end = record {
-      error_is = ⊎_elim (λ w. inl (w.0, tt))
-          (λ w. inr (
-            tt,
-            w.1,
-            written_before-other files config d rendered.writes.loci
-                config.display_style e (λ same. ap (λ (x : Sink). x.contents) same)
-                (λ ps wrote known. text_written old new _ plain (wrote known)) w.2,
-          ))
+      error_is = ⊎_elim (λ w. inl (w.0, tt)) (λ w. inr (
+        tt,
+        w.1,
+        written_before-other files config d rendered.writes.loci
+            config.display_style e (λ same. ap (λ (x : Sink). x.contents) same)
+            (λ ps wrote known. text_written old new _ plain (wrote known)) w.2,
+      ))
           rendered.writes.on_end.error_is;
       early = λ rich p. ap (λ (x : Sink). x.contents) (rendered.writes.on_end.early rich p);
     };
@@ -113,14 +167,23 @@ module _ {Id : Type 0} {config : Config} {files : FileDatabase Id} {d : Diagnost
 
   -- an output that was rendered to a borrowed writer: the writer behind the reference has received
   -- the text, or a prefix of it
-  pub written_back : {W : Type 0} (contents_of : W → Option (List ℕ)) (before after : PlainWriterRef W) {name : GName} {contents : Option (List ℕ)} {x : W} {r : Result (Unit {0}) Error}
+  pub written_back : {W : Type 0} (contents_of : W → Option (List ℕ))
+      (before after : PlainWriterRef W) {name : GName} {contents : Option (List ℕ)} {x : W}
+      {r : Result (Unit {0}) Error}
       → plain_ref_sink contents_of before ≡ fresh_plain_ref name contents
-      → WritesStyled config.display_style config config files d (plain_ref_sink contents_of before) r (plain_ref_sink contents_of after)
+      → WritesStyled config.display_style config config files d (plain_ref_sink contents_of before)
+      r (plain_ref_sink contents_of after)
       → (name ≡ borrow_name after → x ≡ borrowed_writer after)
       → WritesText config files d contents r (contents_of x)
   written_back {W} contents_of before after {name} {contents} {x} {r} begins renders back =
-      let unchanged : (borrow_name after ∷ []) ≡ (name ∷ []) = references_of r renders ∙ ap (λ (s : Sink). s.frame.through) begins in
+      let unchanged : (borrow_name after ∷ []) ≡ (name ∷ []) =
+      references_of r renders ∙ ap (λ (s : Sink). s.frame.through) begins in
       let named : name ≡ borrow_name after = cc in
-      subst (λ (o : Option (List ℕ)). WritesText config files d o r (contents_of x)) (ap (λ (s : Sink). s.contents) begins)
-      (subst (λ (y : W). WritesText config files d (contents_of (borrowed_writer before)) r (contents_of y)) (sym (back named))
-      (written (plain_ref_sink contents_of before) (plain_ref_sink contents_of after) refl r renders))
+      subst (λ (o : Option (List ℕ)). WritesText config files d o r (contents_of x))
+      (ap (λ (s : Sink). s.contents) begins)
+      (subst
+      (λ (y : W). WritesText config files d (contents_of (borrowed_writer before)) r
+      (contents_of y))
+      (sym (back named))
+      (written (plain_ref_sink contents_of before) (plain_ref_sink contents_of after) refl r
+      renders))

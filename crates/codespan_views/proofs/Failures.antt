@@ -7,5 +7,8 @@ use Rattle.codespan_collect.proofs.FirstErrors.{all_succeed}
 use Rattle.codespan_views.specs.Failures.{SomeFails}
 
 -- where one of these lookups fails, there is a first one
-pub some_fails : {Id : Type 0} (files : FileDatabase Id) (ls : List (Id × Lookup)) → first_error files.failure ls ≡ None → SomeFails files ls → ⊥
-some_fails files ls h (error, p) = let succeeded = all_succeed files.failure ls h p.file_id p.lookup p.is_made in let fails = p.fails in cc
+pub some_fails : {Id : Type 0} (files : FileDatabase Id) (ls : List (Id × Lookup))
+    → first_error files.failure ls ≡ None → SomeFails files ls → ⊥
+some_fails files ls h (error, p) =
+    let succeeded = all_succeed files.failure ls h p.file_id p.lookup p.is_made in
+    let fails = p.fails in cc

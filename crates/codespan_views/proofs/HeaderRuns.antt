@@ -30,7 +30,7 @@ use Rattle.codespan_laws.proofs.Loci.{locus_there, zip_append, zip_each, zip_len
 use Rattle.codespan_views.proofs.Renderings.{PrefixWritten-none}
 use Rattle.codespan_collect.proofs.FirstErrors.{all_succeed, first_error-none, first_error-some}
 use Rattle.codespan_views.proofs.SnippetParts.{write_at}
-use Rattle.codespan_views.proofs.LabelHeaders.{none_of_empty, no_loci, some_headers, stated_of, primary_labels, context, headers_stream, headers_stream-append, header, short, short-some, noted, noted-after}
+use Rattle.codespan_views.proofs.HeaderStreams.{none_of_empty, no_loci, some_headers, stated_of, primary_labels, context, headers_stream, headers_stream-append, header, short, short-some, noted, noted-after}
 
 -- ---- all of them
 
@@ -43,7 +43,8 @@ module _ {Id : Type 0} {config : Config} (files : FileDatabase Id) {d : Diagnost
   header_lookups = flat_map header_lookups_of (primary_labels d)
 
   -- those of the labels before that one, of that one, and of the others
-  header_lookups-split : header_lookups ≡ flat_map header_lookups_of w.before ++ (header_lookups_of w.here ++ flat_map header_lookups_of w.after)
+  header_lookups-split : header_lookups ≡ flat_map header_lookups_of
+      w.before ++ (header_lookups_of w.here ++ flat_map header_lookups_of w.after)
   header_lookups-split = ap (flat_map header_lookups_of) (sym w.whole) ∙ flat_map-append header_lookups_of w.before (w.here ∷ w.after)
 
   -- the loci of those before it, its own, and those of labels that are not looked up
@@ -76,15 +77,21 @@ module _ {Id : Type 0} {config : Config} (files : FileDatabase Id) {d : Diagnost
   prefix_whole here known prefix =
       let is = w.written.written known in
       let rest = headers_stream config d (here ∷ others) in
-      subst (λ (s : Stream). PrefixWritten old s new) (sym (short-some config d w.written.loci here others ∙ headers_stream-append config d w.written.loci (here ∷ others)))
-      (PrefixWritten-last old first rest new (subst (λ (x : Sink). PrefixWritten x rest new) is (prefix (ap is_known is ∙ is_known-with_written old first ∙ known))))
+      subst (λ (s : Stream). PrefixWritten old s new)
+      (sym
+      (short-some config d w.written.loci here others
+      ∙ headers_stream-append config d w.written.loci (here ∷ others)))
+      (PrefixWritten-last old first rest new
+      (subst (λ (x : Sink). PrefixWritten x rest new) is
+      (prefix (ap is_known is ∙ is_known-with_written old first ∙ known))))
 
   -- the call ends so
   abbrev FailsInShort : Type 0
   FailsInShort = WritesOutput Short config config files d old (Err e) new
 
   -- the writer failed within a header
-  write_failed_at : HeaderWriteFailed config files.file files.failure d w.mid w.here e new → FailsInShort
+  write_failed_at : HeaderWriteFailed config files.file files.failure d w.mid w.here e new
+      → FailsInShort
   write_failed_at stop = record {
     loci = loci_with stop.locus;
     are_loci = loci_with-are stop.locus stop.at.is_locus;
@@ -95,7 +102,8 @@ module _ {Id : Type 0} {config : Config} (files : FileDatabase Id) {d : Diagnost
   }
 
   -- a lookup for a header failed, or an allocation, or a `Display`
-  lookup_failed_at : HeaderLookupFailed config files.file files.failure d w.mid w.here e new → FailsInShort
+  lookup_failed_at : HeaderLookupFailed config files.file files.failure d w.mid w.here e new
+      → FailsInShort
   lookup_failed_at stop =
       let here = stated_of files.file w.here in
       record {
@@ -113,7 +121,10 @@ module _ {Id : Type 0} {config : Config} (files : FileDatabase Id) {d : Diagnost
               whole = w.whole;
               succeed = all_succeed files.failure (flat_map header_lookups_of w.before) w.written.succeeded;
               fails = (omega arith, stop.error_is);
-              wrote = λ known. stop.same ∙ w.written.written known ∙ ap (λ (ps : List Locus). with_written old (headers_stream config d ps)) (sym (taken here));
+              wrote =
+                  λ known. stop.same ∙ w.written.written known
+                  ∙ ap (λ (ps : List Locus). with_written old (headers_stream config d ps))
+                  (sym (taken here));
             },
           );
           early = λ rich. cc;
@@ -134,10 +145,12 @@ module _ {Id : Type 0} {config : Config} (files : FileDatabase Id) {d : Diagnost
         length-append (header_lookups_of w.here) (flat_map header_lookups_of w.after),
       )
 
-      error_of_all : e ≢ OutOfMemory → e ≢ FormatError → first_error files.failure header_lookups ≡ Some e
+      error_of_all : e ≢ OutOfMemory → e ≢ FormatError
+          → first_error files.failure header_lookups ≡ Some e
       error_of_all p q =
           ap (first_error files.failure) header_lookups-split
-          ∙ first_error-none files.failure (flat_map header_lookups_of w.before) (header_lookups_of w.here ++ flat_map header_lookups_of w.after) w.written.succeeded
+          ∙ first_error-none files.failure (flat_map header_lookups_of w.before)
+          (header_lookups_of w.here ++ flat_map header_lookups_of w.after) w.written.succeeded
           ∙ first_error-some files.failure (header_lookups_of w.here) (flat_map header_lookups_of w.after) e (stop.error_is p q)
 
   -- either way
@@ -148,7 +161,9 @@ module _ {Id : Type 0} {config : Config} (files : FileDatabase Id) {d : Diagnost
       w.ended
 
 -- the headers of all of them have been written
-module _ {Id : Type 0} {config : Config} (files : FileDatabase Id) {d : Diagnostic Id} {old mid : Sink} (written : HeadersWritten config files.file files.failure d old (primary_labels d) mid) where
+module _ {Id : Type 0} {config : Config} (files : FileDatabase Id) {d : Diagnostic Id}
+    {old mid : Sink}
+    (written : HeadersWritten config files.file files.failure d old (primary_labels d) mid) where
   -- no lookup failed
   all_lookups_succeed : Succeeds config files d Short written.loci
   all_lookups_succeed = record {
@@ -157,7 +172,8 @@ module _ {Id : Type 0} {config : Config} (files : FileDatabase Id) {d : Diagnost
   }
 
   -- there are some
-  pub headers_written : has_any (primary_labels d) ≡ true → WritesOutput Short config config files d old (Ok tt) mid
+  pub headers_written : has_any (primary_labels d) ≡ true
+      → WritesOutput Short config config files d old (Ok tt) mid
   headers_written some = record {
     loci = written.loci;
     are_loci = label_loci files d written.loci written.are;
@@ -173,21 +189,27 @@ module _ {Id : Type 0} {config : Config} (files : FileDatabase Id) {d : Diagnost
   nowhere none = no_loci (IsLocusOfLabel files.file) (primary_labels d) written.loci (none_of_empty (primary_labels d) none) written.are
 
   none_written : has_any (primary_labels d) ≡ false → is_known old ≡ true → mid ≡ old
-  none_written none known = written.written known ∙ ap (λ (ps : List Locus). with_written old (headers_stream config d ps)) (nowhere none) ∙ with_written-nil old
+  none_written none known =
+      written.written known
+      ∙ ap (λ (ps : List Locus). with_written old (headers_stream config d ps)) (nowhere none)
+      ∙ with_written-nil old
 
   -- the output is one header
   bare : has_any (primary_labels d) ≡ false → short config d written.loci ≡ header config d None
   bare none = ap (short config d) (nowhere none) ∙ append-nil _
 
   -- then a header without a locus was written
-  pub bare_header : {new : Sink} (r : Result (Unit {0}) Error) → has_any (primary_labels d) ≡ false → Writes mid (header config d None) r new → IfErr r IsIo
+  pub bare_header : {new : Sink} (r : Result (Unit {0}) Error) → has_any (primary_labels d) ≡ false
+      → Writes mid (header config d None) r new → IfErr r IsIo
       → WritesOutput Short config config files d old r new
   bare_header {new} (Ok x) none writes io = record {
     loci = written.loci;
     are_loci = label_loci files d written.loci written.are;
     received = λ known.
         let is = none_written none known in
-        writes.1 (ap is_known is ∙ known) ∙ ap (λ (y : Sink). with_written y (header config d None)) is ∙ ap (with_written old) (sym (bare none));
+        writes.1 (ap is_known is ∙ known)
+        ∙ ap (λ (y : Sink). with_written y (header config d None)) is
+        ∙ ap (with_written old) (sym (bare none));
     on_end = (writes.0 ∙ written.frame, all_lookups_succeed);
   }
   bare_header {new} (Err e) none writes io = record {
@@ -203,8 +225,10 @@ module _ {Id : Type 0} {config : Config} (files : FileDatabase Id) {d : Diagnost
 -- ---- the notes after them
 
 -- the headers were cut short
-pub medium_failed : {Id : Type 0} {config : Config} {files : FileDatabase Id} {d : Diagnostic Id} {old new : Sink} {e : Error}
-    → WritesOutput Short config config files d old (Err e) new → WritesOutput Medium config config files d old (Err e) new
+pub medium_failed : {Id : Type 0} {config : Config} {files : FileDatabase Id} {d : Diagnostic Id}
+    {old new : Sink} {e : Error}
+    → WritesOutput Short config config files d old (Err e) new
+    → WritesOutput Medium config config files d old (Err e) new
 medium_failed {config = config} {d = d} {old = old} {new = new} rendered = record {
   loci = rendered.loci;
   are_loci = rendered.are_loci;
@@ -215,7 +239,8 @@ medium_failed {config = config} {d = d} {old = old} {new = new} rendered = recor
 }
 
 -- the headers have been written
-module _ {Id : Type 0} {config : Config} {files : FileDatabase Id} {d : Diagnostic Id} {old mid : Sink} (rendered : WritesOutput Short config config files d old (Ok tt) mid) where
+module _ {Id : Type 0} {config : Config} {files : FileDatabase Id} {d : Diagnostic Id}
+    {old mid : Sink} (rendered : WritesOutput Short config config files d old (Ok tt) mid) where
   -- the notes
   abbrev notes : Stream
   notes = noted config d
@@ -225,14 +250,17 @@ module _ {Id : Type 0} {config : Config} {files : FileDatabase Id} {d : Diagnost
   before = short config d rendered.loci
 
   -- the notes were written after them, by an equal configuration
-  pub medium_written : {now : Config} {new : Sink} (r : Result (Unit {0}) Error) → now ≡ config → Writes mid (noted now d) r new → IfErr r IsIo
+  pub medium_written : {now : Config} {new : Sink} (r : Result (Unit {0}) Error) → now ≡ config
+      → Writes mid (noted now d) r new → IfErr r IsIo
       → WritesOutput Medium config config files d old r new
   medium_written {now} {new} r equal writes io = by r (write_at (λ (k : Config). noted k d) equal mid new r writes) io
     where
-      rows : stream_of_rows (context config d) (header_rows (header_text_of d) rendered.loci ++ note_rows (notes_of d)) ≡ before ++ notes
+      rows : stream_of_rows (context config d)
+          (header_rows (header_text_of d) rendered.loci ++ note_rows (notes_of d)) ≡ before ++ notes
       rows = noted-after config d (header_rows (header_text_of d) rendered.loci)
 
-      by : (r : Result (Unit {0}) Error) → Writes mid notes r new → IfErr r IsIo → WritesOutput Medium config config files d old r new
+      by : (r : Result (Unit {0}) Error) → Writes mid notes r new → IfErr r IsIo
+          → WritesOutput Medium config config files d old r new
       by (Ok x) writes io = record {
         loci = rendered.loci;
         are_loci = rendered.are_loci;
@@ -249,6 +277,8 @@ module _ {Id : Type 0} {config : Config} {files : FileDatabase Id} {d : Diagnost
         received = λ known.
             let is = rendered.received known in
             subst (λ (s : Stream). PrefixWritten old s new) (sym rows)
-            (PrefixWritten-last old before notes new (subst (λ (y : Sink). PrefixWritten y notes new) is (writes.1 (ap is_known is ∙ is_known-with_written old before ∙ known))));
+            (PrefixWritten-last old before notes new
+            (subst (λ (y : Sink). PrefixWritten y notes new) is
+            (writes.1 (ap is_known is ∙ is_known-with_written old before ∙ known))));
         on_end = record { error_is = inl (io, writes.0 ∙ ap failed_frame rendered.on_end.0); early = λ rich. cc };
       }

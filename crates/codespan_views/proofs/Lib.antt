@@ -12,4 +12,5 @@ pub mod LinesRendered
 pub mod NoteRows
 pub mod RichParts
 pub mod LabelHeaders
+pub mod HeaderStreams
 pub mod HeaderRuns

@@ -24,18 +24,22 @@ module _ {Id : Type 0} (files : FileDatabase Id) (d : Diagnostic Id) (loci : Lis
   pub file_loci : AllZip IsLocusOfFile own loci → AreLoci files d Rich loci
   file_loci are =
       zip_map IsLocus snippet_locus_start own loci
-      (zip_weaker IsLocusOfFile (λ s p. IsLocus (snippet_locus_start s) p) (λ s p h. h.is_locus) own loci are)
+      (zip_weaker IsLocusOfFile (λ s p. IsLocus (snippet_locus_start s) p) (λ s p h. h.is_locus) own
+      loci are)
 
   -- and their names are UTF-8
   pub file_texts : AllZip IsLocusOfFile own loci → NamesAreTexts loci
   file_texts are = zip_texts IsLocusOfFile (λ s p h. h.is_utf8) own loci are
 
   -- those of the labels' headers are loci of a short output
-  pub label_loci : AllZip (IsLocusOfLabel files.file) primary_labels loci → AreLoci files d Short loci
+  pub label_loci : AllZip (IsLocusOfLabel files.file) primary_labels loci
+      → AreLoci files d Short loci
   label_loci are =
       zip_map IsLocus (label_locus_start files.file) primary_labels loci
-      (zip_weaker (IsLocusOfLabel files.file) (λ x p. IsLocus (label_locus_start files.file x) p) (λ x p h. h.is_locus) primary_labels loci are)
+      (zip_weaker (IsLocusOfLabel files.file) (λ x p. IsLocus (label_locus_start files.file x) p)
+      (λ x p h. h.is_locus) primary_labels loci are)
 
   -- and their names are UTF-8
   pub label_texts : AllZip (IsLocusOfLabel files.file) primary_labels loci → NamesAreTexts loci
-  label_texts are = zip_texts (IsLocusOfLabel files.file) (λ x p h. h.is_utf8) primary_labels loci are
+  label_texts are =
+      zip_texts (IsLocusOfLabel files.file) (λ x p h. h.is_utf8) primary_labels loci are

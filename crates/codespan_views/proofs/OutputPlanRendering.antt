@@ -52,19 +52,26 @@ module _ {Id : Type 0} (database : FileDatabase Id) (view_config : RichDiagnosti
     -- the files before this index are rendered, and all lookups with them succeeded
     pub record SnippetsLeft (renderer_config : Config) (k : ℕ) (old now : Sink) : Type 0 where
       pub rows : List Row
-      pub rendered : IsLookupRun None old (stream_of_rows (context_of renderer_config (diagnostic_of view_config).severity output_plan.padding) rows) (Ok tt) now
+      pub rendered : IsLookupRun None old
+          (stream_of_rows
+          (context_of renderer_config (diagnostic_of view_config).severity output_plan.padding)
+          rows)
+          (Ok tt) now
       pub rows_whole : rows ++ rows_left k ≡ rows_left 0
       pub lookups : List (Id × Lookup)
       pub succeeded : first_error database.failure lookups ≡ None
       pub lookups_whole : lookups ++ lookups_left k ≡ lookups_left 0
 
 -- no file is rendered
-pub left-start : {Id : Type 0} {database : FileDatabase Id} {view_config : RichDiagnostic Id} {renderer_config : Config} {output_plan : OutputPlan Id} {s : Sink}
+pub left-start : {Id : Type 0} {database : FileDatabase Id} {view_config : RichDiagnostic Id}
+    {renderer_config : Config} {output_plan : OutputPlan Id} {s : Sink}
     → SnippetsLeft database view_config output_plan renderer_config 0 s s
 left-start = record { rows = []; rendered = run_of_nothing; rows_whole = refl; lookups = []; succeeded = refl; lookups_whole = refl }
 
 module _ {Id : Type 0} {database : FileDatabase Id} {view_config : RichDiagnostic Id} {renderer_config : Config} {output_plan : OutputPlan Id} {k : ℕ} {old mid : Sink}
-    (planned : IsOutputPlan database (view_config_of view_config) (labels_of (diagnostic_of view_config)) output_plan) (left : SnippetsLeft database view_config output_plan renderer_config k old mid) where
+    (planned : IsOutputPlan database (view_config_of view_config)
+    (labels_of (diagnostic_of view_config)) output_plan)
+    (left : SnippetsLeft database view_config output_plan renderer_config k old mid) where
   -- what all rows share, in a configuration
   abbrev context_by : Config → RowContext
   context_by config = context_of config (diagnostic_of view_config).severity output_plan.padding
@@ -111,7 +118,9 @@ module _ {Id : Type 0} {database : FileDatabase Id} {view_config : RichDiagnosti
   failure-all = ap (λ js. first_error database.failure (flat_map (snippet_lookups_of database view_config) js)) planned.ids_are
 
   -- all files are rendered
-  pub left-end : {snippet_plans : List (SnippetPlan Id)} → snippet_plans ≡ output_plan.snippet_plans.items → length snippet_plans ≤ k → WritesWithLookups all_failure old (stream_of_rows context all_rows) (Ok tt) mid
+  pub left-end : {snippet_plans : List (SnippetPlan Id)}
+      → snippet_plans ≡ output_plan.snippet_plans.items → length snippet_plans ≤ k
+      → WritesWithLookups all_failure old (stream_of_rows context all_rows) (Ok tt) mid
   left-end equal past =
       let none : drop k ids ≡ [] =
       drop-end ids k (omega (arith, ids-count output_plan.snippet_plans.items, subst (λ (snippet_plans : List (SnippetPlan Id)). length snippet_plans ≤ k) equal past)) in
@@ -129,7 +138,8 @@ module _ {Id : Type 0} {database : FileDatabase Id} {view_config : RichDiagnosti
       no-rows (p ∷ ps) = refl
 
   module _ {snippet_plan : SnippetPlan Id} {snippet_lines : List (RustLine Id)} {notes next : Bool} {now : Config} (at : IsElementAt output_plan.snippet_plans.items k snippet_plan)
-      (is : IsSnippetPlan (view_config_of view_config) (labeled database view_config snippet_plan.file.now.file_id) snippet_plan
+      (is : IsSnippetPlan (view_config_of view_config)
+      (labeled database view_config snippet_plan.file.now.file_id) snippet_plan
       snippet_lines) (notes_are : notes ≡ has_notes)
       (next_is : next ≡ nat_lt (k + 1) (length output_plan.snippet_plans.items))
       (equal : now ≡ renderer_config) where
@@ -151,7 +161,9 @@ module _ {Id : Type 0} {database : FileDatabase Id} {view_config : RichDiagnosti
         ∙ ap (rows_at (locus_view snippet_plan.locus ∷ drop (k + 1) loci)) (drop-one ids k snippet_plan.file.now.file_id (id-inside at) (id-at at))
         ∙ ap (λ (b : Bool). (snippet (view_config_of view_config) (locus_view snippet_plan.locus) own ++ row_after b own) ++ rest (k + 1)) (followed-mapped (drop (k + 1) ids))
       where
-        followed-mapped : (js : List Id) → (has_any (map (labeled database view_config) js) || has_notes) ≡ (has_any js || has_notes)
+        followed-mapped : (js : List Id)
+            → (has_any (map (labeled database view_config) js) || has_notes)
+            ≡ (has_any js || has_notes)
         followed-mapped [] = refl
         followed-mapped (j ∷ js) = refl
 
@@ -183,8 +195,11 @@ module _ {Id : Type 0} {database : FileDatabase Id} {view_config : RichDiagnosti
     snippet-here renders = run_as refl (λ i. stream_of_rows (context_by (equal i)) (rows_in snippet_plan (database.file snippet_plan.file.now.file_id) snippet_lines)) (record { renders = renders })
 
     -- both are the rows and the lookups at the index
-    rendered-here : {r : Result (Unit {0}) Error} {new : Sink} → IsLookupRun (or_failure snippet_lines_failure None) mid (snippet_stream ++ end_stream) r new
-        → IsLookupRun (first_error database.failure lookups_here) mid (stream_of_rows context rows_here) r new
+    rendered-here : {r : Result (Unit {0}) Error} {new : Sink}
+        → IsLookupRun (or_failure snippet_lines_failure
+        None) mid (snippet_stream ++ end_stream) r new
+        → IsLookupRun (first_error database.failure lookups_here) mid
+        (stream_of_rows context rows_here) r new
     rendered-here both =
         let followed : follows ≡ (has_any (drop (k + 1) ids) || has_notes) =
         (λ i. notes_are i || (next_is ∙ ap (nat_lt (k + 1)) (sym (ids-count output_plan.snippet_plans.items))) i) ∙ sym (followed-at has_notes ids k) in
@@ -211,7 +226,9 @@ module _ {Id : Type 0} {database : FileDatabase Id} {view_config : RichDiagnosti
         }
 
     -- the file was cut short
-    left-cut : {new : Sink} {e : Error} → IsLookupRun (first_error database.failure lookups_here) mid (stream_of_rows context rows_here) (Err e) new
+    left-cut : {new : Sink} {e : Error}
+        → IsLookupRun (first_error database.failure lookups_here) mid
+        (stream_of_rows context rows_here) (Err e) new
         → WritesWithLookups all_failure old (stream_of_rows context all_rows) (Err e) new
     left-cut rendered =
         let here = first_error database.failure lookups_here in
@@ -227,15 +244,23 @@ module _ {Id : Type 0} {database : FileDatabase Id} {view_config : RichDiagnosti
         (run_then left.rendered (run_cut after (stream_of_rows context (rest (k + 1))) rendered))).renders
 
     -- the snippet was cut short
-    pub cut-in_snippet : {new : Sink} {e : Error} → WritesWithLookups snippet_lines_failure mid (stream_of_rows (context_by now) (rows_in snippet_plan (database.file snippet_plan.file.now.file_id) snippet_lines)) (Err e) new
+    pub cut-in_snippet : {new : Sink} {e : Error}
+        → WritesWithLookups snippet_lines_failure mid
+        (stream_of_rows (context_by now)
+        (rows_in snippet_plan (database.file snippet_plan.file.now.file_id) snippet_lines))
+        (Err e) new
         → WritesWithLookups all_failure old (stream_of_rows context all_rows) (Err e) new
     cut-in_snippet renders = left-cut (rendered-here (run_cut None end_stream (snippet-here renders)))
 
     module _ {inner : Sink} (renders : WritesWithLookups snippet_lines_failure mid (stream_of_rows (context_by now) (rows_in snippet_plan (database.file snippet_plan.file.now.file_id) snippet_lines)) (Ok tt) inner)
         {after : Config} (equal_after : after ≡ now) where
       -- then the row after it was rendered, by an equal configuration, however that ends
-      end-here : {r : Result (Unit {0}) Error} {new : Sink} → Writes inner (stream_of_rows (context_by after) (trailing_border_rows snippet_plan follows)) r new → IfErr r IsIo
-          → IsLookupRun (first_error database.failure lookups_here) mid (stream_of_rows context rows_here) r new
+      end-here : {r : Result (Unit {0}) Error} {new : Sink}
+          → Writes inner
+          (stream_of_rows (context_by after) (trailing_border_rows snippet_plan follows)) r new
+          → IfErr r IsIo
+          → IsLookupRun (first_error database.failure lookups_here) mid
+          (stream_of_rows context rows_here) r new
       end-here {r} {new} writes io =
           rendered-here (run_then (snippet-here renders)
           (run_of_writes r (write_at (λ (c : Config).
@@ -243,10 +268,17 @@ module _ {Id : Type 0} {database : FileDatabase Id} {view_config : RichDiagnosti
           inner new r writes) io))
 
       -- it was written
-      pub next-file : {new : Sink} → WroteStream inner (stream_of_rows (context_by after) (trailing_border_rows snippet_plan follows)) new → SnippetsLeft database view_config output_plan renderer_config (k + 1) old new
+      pub next-file : {new : Sink}
+          → WroteStream inner
+          (stream_of_rows (context_by after) (trailing_border_rows snippet_plan follows)) new
+          → SnippetsLeft database view_config output_plan renderer_config (k + 1) old new
       next-file written = left-next (end-here written tt)
 
       -- it was cut short
-      pub cut-after_snippet : {new : Sink} {e : Error} → Writes inner (stream_of_rows (context_by after) (trailing_border_rows snippet_plan follows)) (Err e) new → IsIo e
+      pub cut-after_snippet : {new : Sink} {e : Error}
+          → Writes inner
+          (stream_of_rows (context_by after) (trailing_border_rows snippet_plan follows)) (Err
+          e) new
+          → IsIo e
           → WritesWithLookups all_failure old (stream_of_rows context all_rows) (Err e) new
       cut-after_snippet writes io = left-cut (end-here writes io)

@@ -26,7 +26,8 @@ drop-end (x ∷ xs) (suc k) past = drop-end xs k (omega arith)
 -- ---- what follows a snippet
 
 -- a snippet is followed by another one, or by notes
-followed-is : {X : Type 0} (has_notes : Bool) (ys : List X) → (has_any ys || has_notes) ≡ (has_notes || nat_lt 0 (length ys))
+followed-is : {X : Type 0} (has_notes : Bool) (ys : List X)
+    → (has_any ys || has_notes) ≡ (has_notes || nat_lt 0 (length ys))
 followed-is true [] = refl
 followed-is false [] = refl
 followed-is true (y ∷ ys) = refl
@@ -37,7 +38,8 @@ left-over : (a b : ℕ) → nat_lt 0 (b - a) ≡ nat_lt a b
 left-over a b = grind (arith, common_steps)
 
 -- something follows where there are notes or another file
-pub followed-at : {X : Type 0} (b : Bool) (xs : List X) (k : ℕ) → (has_any (drop (k + 1) xs) || b) ≡ (b || nat_lt (k + 1) (length xs))
+pub followed-at : {X : Type 0} (b : Bool) (xs : List X) (k : ℕ)
+    → (has_any (drop (k + 1) xs) || b) ≡ (b || nat_lt (k + 1) (length xs))
 followed-at has_notes xs k =
     followed-is has_notes (drop (k + 1) xs)
     ∙ ap (λ n. has_notes || nat_lt 0 n) (length-drop (k + 1) xs)
@@ -46,68 +48,124 @@ followed-at has_notes xs k =
 -- ---- the file at an index
 
 -- there are as many ids as plans
-pub ids-count : {Id : Type 0} (snippet_plans : List (SnippetPlan Id)) → length (ids_of snippet_plans) ≡ length snippet_plans
-ids-count {Id} snippet_plans = length-map snippet_plans (λ (snippet_plan : SnippetPlan Id). snippet_plan.file.now.file_id)
+pub ids-count : {Id : Type 0} (snippet_plans : List (SnippetPlan Id))
+    → length (ids_of snippet_plans) ≡ length snippet_plans
+ids-count {Id} snippet_plans =
+    length-map snippet_plans (λ (snippet_plan : SnippetPlan Id). snippet_plan.file.now.file_id)
 
-module _ {Id : Type 0} {snippet_plans : List (SnippetPlan Id)} {k : ℕ} {snippet_plan : SnippetPlan Id} (at : IsElementAt snippet_plans k snippet_plan) where
+module _ {Id : Type 0} {snippet_plans : List (SnippetPlan Id)} {k : ℕ}
+    {snippet_plan : SnippetPlan Id} (at : IsElementAt snippet_plans k snippet_plan) where
   -- its id and its locus are at the same index
   pub id-inside : k < length (ids_of snippet_plans)
   id-inside = omega (arith, at.inside, ids-count snippet_plans)
 
-  pub id-at : snippet_plan.file.now.file_id ≡ get_or (ids_of snippet_plans) k snippet_plan.file.now.file_id
-  id-at = ap (λ (snippet_plan : SnippetPlan Id). snippet_plan.file.now.file_id) at.is ∙ sym (get_or-map (λ (snippet_plan : SnippetPlan Id). snippet_plan.file.now.file_id) snippet_plans k snippet_plan snippet_plan.file.now.file_id at.inside)
+  pub id-at : snippet_plan.file.now.file_id ≡ get_or (ids_of snippet_plans) k
+      snippet_plan.file.now.file_id
+  id-at =
+      ap (λ (snippet_plan : SnippetPlan Id). snippet_plan.file.now.file_id) at.is
+      ∙ sym
+      (get_or-map (λ (snippet_plan : SnippetPlan Id). snippet_plan.file.now.file_id) snippet_plans k
+      snippet_plan snippet_plan.file.now.file_id at.inside)
 
   pub locus-inside : k < length (loci_of snippet_plans)
-  locus-inside = omega (arith, at.inside, length-map snippet_plans (λ (snippet_plan : SnippetPlan Id). locus_view snippet_plan.locus))
+  locus-inside =
+      omega (
+        arith,
+        at.inside,
+        length-map snippet_plans (λ (snippet_plan : SnippetPlan Id). locus_view snippet_plan.locus),
+      )
 
-  pub locus-at : locus_view snippet_plan.locus ≡ get_or (loci_of snippet_plans) k (locus_view snippet_plan.locus)
-  locus-at = ap (λ (snippet_plan : SnippetPlan Id). locus_view snippet_plan.locus) at.is ∙ sym (get_or-map (λ (snippet_plan : SnippetPlan Id). locus_view snippet_plan.locus) snippet_plans k snippet_plan (locus_view snippet_plan.locus) at.inside)
+  pub locus-at : locus_view snippet_plan.locus ≡ get_or (loci_of snippet_plans) k
+      (locus_view snippet_plan.locus)
+  locus-at =
+      ap (λ (snippet_plan : SnippetPlan Id). locus_view snippet_plan.locus) at.is
+      ∙ sym
+      (get_or-map (λ (snippet_plan : SnippetPlan Id). locus_view snippet_plan.locus) snippet_plans k
+      snippet_plan (locus_view snippet_plan.locus) at.inside)
 
 module _ {Id : Type 0} (database : FileDatabase Id) (config : Config) (xs : List (InFile Id)) where
   -- the file is that of its labels, with the snippet lines that it counts in front, and the rest is
   -- of the files after it
   abbrev pub IsFirstFile : List (SnippetPlan Id) → SnippetPlan Id → List (RustLine Id) → Type 0
   IsFirstFile later snippet_plan snippet_lines =
-      IsSnippetPlan config (labeled_file_model database.same database.file xs snippet_plan.file.now.file_id) snippet_plan
+      IsSnippetPlan config
+      (labeled_file_model database.same database.file xs snippet_plan.file.now.file_id)
+      snippet_plan
       (take snippet_plan.line_total snippet_lines)
       × AreSnippetPlans database config xs later (drop snippet_plan.line_total snippet_lines)
 
   -- the files from an index on are those of their labels, with the snippet lines from an index on
-  pub record AreFilesFrom (snippet_plans : List (SnippetPlan Id)) (k : ℕ) (snippet_lines : List (RustLine Id)) (start : ℕ) : Type 0 where
+  pub record AreFilesFrom (snippet_plans : List (SnippetPlan Id)) (k : ℕ)
+      (snippet_lines : List (RustLine Id)) (start : ℕ) : Type 0 where
     pub inside : start ≤ length snippet_lines
     pub are : AreSnippetPlans database config xs (drop k snippet_plans) (drop start snippet_lines)
 
 module _ {Id : Type 0} {database : FileDatabase Id} {config : Config} {xs : List (InFile Id)}
     {snippet_plans : List (SnippetPlan Id)} {k : ℕ} {snippet_plan : SnippetPlan Id}
     {snippet_lines : List (RustLine Id)} {start : ℕ}
-    (at : IsElementAt snippet_plans k snippet_plan) (from : AreFilesFrom database config xs snippet_plans k snippet_lines start) where
+    (at : IsElementAt snippet_plans k snippet_plan)
+    (from : AreFilesFrom database config xs snippet_plans k snippet_lines start) where
   -- from the file at an index on they are that file, and those after it
-  files-at : IsFirstFile database config xs (drop (k + 1) snippet_plans) snippet_plan (drop start snippet_lines)
-  files-at = subst (λ (snippet_plans : List (SnippetPlan Id)). AreSnippetPlans database config xs snippet_plans (drop start snippet_lines)) (drop-one snippet_plans k snippet_plan at.inside at.is) from.are
+  files-at : IsFirstFile database config xs (drop (k + 1) snippet_plans) snippet_plan
+      (drop start snippet_lines)
+  files-at =
+      subst
+      (λ (snippet_plans : List (SnippetPlan Id)). AreSnippetPlans database config xs snippet_plans
+      (drop start snippet_lines))
+      (drop-one snippet_plans k snippet_plan at.inside at.is) from.are
 
   -- there are as many snippet lines as it counts
   pub own-inside : start + snippet_plan.line_total ≤ length snippet_lines
   own-inside =
       let count = files-at.0.count_is in
       let inside = from.inside in
-      omega (arith, count, inside, length-take snippet_plan.line_total (drop start snippet_lines), length-drop start snippet_lines)
+      omega (
+        arith,
+        count,
+        inside,
+        length-take snippet_plan.line_total (drop start snippet_lines),
+        length-drop start snippet_lines,
+      )
 
   -- it is the file of its labels, with these snippet lines
-  pub own-snippet_lines : {own : List (RustLine Id)} → own ≡ take snippet_plan.line_total (drop start snippet_lines)
-      → IsSnippetPlan config (labeled_file_model database.same database.file xs snippet_plan.file.now.file_id) snippet_plan own
-  own-snippet_lines is = subst (IsSnippetPlan config (labeled_file_model database.same database.file xs snippet_plan.file.now.file_id) snippet_plan) (sym is) files-at.0
+  pub own-snippet_lines : {own : List (RustLine Id)}
+      → own ≡ take snippet_plan.line_total (drop start snippet_lines)
+      → IsSnippetPlan config
+      (labeled_file_model database.same database.file xs
+      snippet_plan.file.now.file_id) snippet_plan own
+  own-snippet_lines is =
+      subst
+      (IsSnippetPlan config
+      (labeled_file_model database.same database.file xs snippet_plan.file.now.file_id)
+      snippet_plan)
+      (sym is) files-at.0
 
   -- the later files are those of their labels, with the snippet lines after these
-  pub later-files : AreFilesFrom database config xs snippet_plans (k + 1) snippet_lines (start + snippet_plan.line_total)
+  pub later-files : AreFilesFrom database config xs snippet_plans (k + 1) snippet_lines
+      (start + snippet_plan.line_total)
   later-files = record {
     inside = own-inside;
-    are = subst (AreSnippetPlans database config xs (drop (k + 1) snippet_plans)) (drop-drop snippet_plan.line_total start snippet_lines) files-at.1;
+    are =
+        subst (AreSnippetPlans database config xs (drop (k + 1) snippet_plans))
+        (drop-drop snippet_plan.line_total start snippet_lines) files-at.1;
   }
 
-module _ {Id : Type 0} {config : Config} {own : LabeledFileModel} {snippet_plan : SnippetPlan Id} {snippet_lines : List (RustLine Id)} (is : IsSnippetPlan config own snippet_plan snippet_lines) where
-  -- its rows
-  pub rows-are : (followed : Bool) → rows_in snippet_plan own.file snippet_lines ++ trailing_border_rows snippet_plan followed ≡ snippet config (locus_view snippet_plan.locus) own ++ row_after followed own
-  rows-are followed =
-      (λ i. (SnippetStartRow (locus_view snippet_plan.locus) ∷ EmptyRow (record { count = is.lanes_are i; lane_marks = [] }) ∷ []) ++ rows_of_lines own.file (is.lanes_are i) (map snippet_line_view snippet_lines)
-      ++ (if followed then EmptyRow (record { count = is.lanes_are i; lane_marks = [] }) ∷ [] else []))
-      ∙ ap (λ (r : List Row). (SnippetStartRow (locus_view snippet_plan.locus) ∷ EmptyRow (empty_lanes own) ∷ []) ++ r ++ (if followed then EmptyRow (empty_lanes own) ∷ [] else [])) is.rows
+module _ {Id : Type 0} {config : Config} {own : LabeledFileModel} {snippet_plan : SnippetPlan Id}
+    {snippet_lines : List (RustLine Id)} (is : IsSnippetPlan config own snippet_plan snippet_lines)
+  where
+    -- its rows
+    pub rows-are : (followed : Bool)
+        → rows_in snippet_plan own.file snippet_lines ++ trailing_border_rows snippet_plan
+        followed ≡ snippet config (locus_view snippet_plan.locus) own ++ row_after followed own
+    rows-are followed =
+        (λ i.
+        (SnippetStartRow (locus_view snippet_plan.locus)
+        ∷ EmptyRow (record { count = is.lanes_are i; lane_marks = [] }) ∷ [])
+        ++ rows_of_lines own.file (is.lanes_are i) (map snippet_line_view snippet_lines)
+        ++ (if followed then EmptyRow (record { count = is.lanes_are i; lane_marks = [] }) ∷ []
+        else []))
+        ∙ ap
+        (λ (r : List Row).
+        (SnippetStartRow (locus_view snippet_plan.locus) ∷ EmptyRow (empty_lanes own) ∷ []) ++ r
+        ++ (if followed then EmptyRow (empty_lanes own) ∷ [] else []))
+        is.rows

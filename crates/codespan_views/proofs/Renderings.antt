@@ -29,7 +29,15 @@ use Rattle.codespan_collect.proofs.FirstErrors.{first_error-some, first_error-no
 
 -- nothing has been written, which is a prefix of everything
 pub PrefixWritten-none : (s : Sink) (items : Stream) (t : Sink) → t ≡ s → PrefixWritten s items t
-PrefixWritten-none s items t same = record { prefix = []; rest = _; whole = refl; contents = ap (λ (x : Sink). x.contents) same ∙ sym (extended-nil s.contents) }
+PrefixWritten-none s items t same =
+    record {
+      prefix =
+          [];
+      rest =
+          _;
+      whole = refl;
+      contents = ap (λ (x : Sink). x.contents) same ∙ sym (extended-nil s.contents);
+    }
 
 -- an error is not both of these
 two_errors : (e : Error) → e ≡ FormatError → e ≡ OutOfMemory → ⊥
@@ -53,15 +61,19 @@ module _ {Id : Type 0} (view_config : Config) (files : FileDatabase Id) (d : Dia
   late_failure = first_error files.failure after_header
 
 -- this holds of a rich output, by the loci of its snippets
-pub record ByLoci {Id : Type 0} (renderer_config view_config : Config) (files : FileDatabase Id) (d : Diagnostic Id) (Holds : Stream → Type 0) : Type 0 where
+pub record ByLoci {Id : Type 0} (renderer_config view_config : Config) (files : FileDatabase Id)
+    (d : Diagnostic Id) (Holds : Stream → Type 0) : Type 0 where
   pub loci : List Locus
   pub are : AllZip IsLocusOfFile (files_of files d) loci
   pub holds : Holds (output Rich renderer_config view_config files d loci)
 
-module _ {Id : Type 0} {renderer_config view_config : Config} {files : FileDatabase Id} {d : Diagnostic Id} where
+module _ {Id : Type 0} {renderer_config view_config : Config} {files : FileDatabase Id}
+    {d : Diagnostic Id} where
   -- a lookup before the header failed: nothing has been written
-  pub failed_early : {old new : Sink} {e : Error} → new ≡ old → 0 < length (before_header view_config files d)
-      → (e ≢ OutOfMemory → e ≢ FormatError → early_failure view_config files d ≡ Some e) → WritesOutput Rich renderer_config view_config files d old (Err e) new
+  pub failed_early : {old new : Sink} {e : Error} → new ≡ old
+      → 0 < length (before_header view_config files d)
+      → (e ≢ OutOfMemory → e ≢ FormatError → early_failure view_config files d ≡ Some e)
+      → WritesOutput Rich renderer_config view_config files d old (Err e) new
   failed_early {old} {new} {e} unchanged some known = record {
     loci = stated_loci files d Rich;
     are_loci = stated_are_loci files d Rich;
@@ -70,7 +82,10 @@ module _ {Id : Type 0} {renderer_config view_config : Config} {files : FileDatab
       error_is = inr (
         ap (λ (s : Sink). s.frame) unchanged,
         (
-          omega (arith, length-append (before_header view_config files d) (after_header view_config files d)),
+          omega (
+            arith,
+            length-append (before_header view_config files d) (after_header view_config files d),
+          ),
           λ p q. first_error-some files.failure (before_header view_config files d)
               (after_header view_config files d) e (known p q),
         ),
@@ -81,19 +96,31 @@ module _ {Id : Type 0} {renderer_config view_config : Config} {files : FileDatab
   }
 
   -- the writer failed
-  pub failed_by_writer : {old new : Sink} {e : Error} → early_failure view_config files d ≡ None → new.frame ≡ failed_frame old.frame → IsIo e
-      → ByLoci renderer_config view_config files d (λ s. is_known old ≡ true → PrefixWritten old s new) → WritesOutput Rich renderer_config view_config files d old (Err e) new
+  pub failed_by_writer : {old new : Sink} {e : Error} → early_failure view_config files d ≡ None
+      → new.frame ≡ failed_frame old.frame → IsIo e
+      → ByLoci renderer_config view_config files d
+      (λ s. is_known old ≡ true → PrefixWritten old s new)
+      → WritesOutput Rich renderer_config view_config files d old (Err e) new
   failed_by_writer succeeded frame io prefix = record {
     loci = prefix.loci;
     are_loci = file_loci files d prefix.loci prefix.are;
     received = prefix.holds;
-    on_end = record { error_is = inl (io, frame); early = λ rich p. absurd (some_fails files (before_header view_config files d) succeeded p) };
+    on_end =
+        record {
+          error_is =
+              inl (io, frame);
+          early =
+              λ rich p. absurd (some_fails files (before_header view_config files d) succeeded p);
+        };
   }
 
   -- a lookup after the header failed
-  pub failed_late : {old new : Sink} {e : Error} → early_failure view_config files d ≡ None → new.frame ≡ old.frame → 0 < length (after_header view_config files d)
+  pub failed_late : {old new : Sink} {e : Error} → early_failure view_config files d ≡ None
+      → new.frame ≡ old.frame → 0 < length (after_header view_config files d)
       → (e ≢ OutOfMemory → late_failure view_config files d ≡ Some e)
-      → ByLoci renderer_config view_config files d (λ s. is_known old ≡ true → PrefixWritten old s new) → WritesOutput Rich renderer_config view_config files d old (Err e) new
+      → ByLoci renderer_config view_config files d
+      (λ s. is_known old ≡ true → PrefixWritten old s new)
+      → WritesOutput Rich renderer_config view_config files d old (Err e) new
   failed_late {old} {new} {e} succeeded frame some known prefix = record {
     loci = prefix.loci;
     are_loci = file_loci files d prefix.loci prefix.are;
@@ -102,7 +129,10 @@ module _ {Id : Type 0} {renderer_config view_config : Config} {files : FileDatab
       error_is = inr (
         frame,
         (
-          omega (arith, length-append (before_header view_config files d) (after_header view_config files d)),
+          omega (
+            arith,
+            length-append (before_header view_config files d) (after_header view_config files d),
+          ),
           λ p q. first_error-none files.failure (before_header view_config files d)
               (after_header view_config files d) succeeded ∙ known p,
         ),
@@ -113,8 +143,11 @@ module _ {Id : Type 0} {renderer_config view_config : Config} {files : FileDatab
   }
 
   -- no lookup failed, and all has been written
-  rendered : {old new : Sink} → early_failure view_config files d ≡ None → late_failure view_config files d ≡ None → new.frame ≡ old.frame
-      → ByLoci renderer_config view_config files d (λ s. is_known old ≡ true → new ≡ with_written old s) → WritesOutput Rich renderer_config view_config files d old (Ok tt) new
+  rendered : {old new : Sink} → early_failure view_config files d ≡ None
+      → late_failure view_config files d ≡ None → new.frame ≡ old.frame
+      → ByLoci renderer_config view_config files d
+      (λ s. is_known old ≡ true → new ≡ with_written old s)
+      → WritesOutput Rich renderer_config view_config files d old (Ok tt) new
   rendered {old} {new} succeeded_early succeeded_late frame written = record {
     loci = written.loci;
     are_loci = file_loci files d written.loci written.are;
@@ -124,7 +157,8 @@ module _ {Id : Type 0} {renderer_config view_config : Config} {files : FileDatab
       record {
         lookups_succeed = all_succeed files.failure
             (before_header view_config files d ++ after_header view_config files d)
-            (first_error-none files.failure (before_header view_config files d) (after_header view_config files d)
+            (first_error-none files.failure (before_header view_config files d)
+            (after_header view_config files d)
             succeeded_early ∙ succeeded_late);
         texts = file_texts files d written.loci written.are;
       },
@@ -132,13 +166,31 @@ module _ {Id : Type 0} {renderer_config view_config : Config} {files : FileDatab
   }
 
   -- after its first part, which has been written, the rest of the output was written or cut short
-  pub finished : {old mid new : Sink} (first rest : Stream) (r : Result (Unit {0}) Error) → early_failure view_config files d ≡ None
-      → (late_failure view_config files d ≡ None) × WroteStream old first mid → Writes mid rest r new → IfErr r IsIo
-      → ByLoci renderer_config view_config files d (λ s. s ≡ first ++ rest) → WritesOutput Rich renderer_config view_config files d old r new
+  pub finished : {old mid new : Sink} (first rest : Stream) (r : Result (Unit {0}) Error)
+      → early_failure view_config files d ≡ None
+      → (late_failure view_config files d ≡ None) × WroteStream old first mid
+      → Writes mid rest r new → IfErr r IsIo
+      → ByLoci renderer_config view_config files d (λ s. s ≡ first ++ rest)
+      → WritesOutput Rich renderer_config view_config files d old r new
   finished {old} first rest (Ok x) succeeded written writes io names =
       let both = written-then old first rest written.1 writes in
-      rendered succeeded written.0 both.0 (record { loci = names.loci; are = names.are; holds = λ known. both.1 known ∙ ap (with_written old) (sym names.holds) })
+      rendered succeeded written.0 both.0
+      (record {
+        loci =
+            names.loci;
+        are =
+            names.are;
+        holds = λ known. both.1 known ∙ ap (with_written old) (sym names.holds);
+      })
   finished {old} {new = new} first rest (Err e) succeeded written writes io names =
       let failed = failed-then first written.1 writes in
       failed_by_writer succeeded failed.0 io
-      (record { loci = names.loci; are = names.are; holds = λ known. subst (λ (s : Stream). PrefixWritten old s new) (sym names.holds) (failed.1 known) })
+      (record {
+        loci =
+            names.loci;
+        are =
+            names.are;
+        holds =
+            λ known. subst (λ (s : Stream). PrefixWritten old s new) (sym names.holds)
+            (failed.1 known);
+      })

@@ -48,7 +48,8 @@ module _ {Id : Type 0} (view_config : Config) (files : FileDatabase Id) (d : Dia
   some_early : 0 < length (before_header view_config files d)
   some_early = from (labels_of d) some_labels
     where
-      from : (xs : List (InFile Id)) → 0 < length xs → 0 < length (early_lookups files xs view_config)
+      from : (xs : List (InFile Id)) → 0 < length xs
+          → 0 < length (early_lookups files xs view_config)
       from [] none = absurd (omega arith)
       from (x ∷ xs) none = omega arith
 
@@ -56,25 +57,42 @@ module _ {Id : Type 0} (view_config : Config) (files : FileDatabase Id) (d : Dia
   some_late : 0 < length (after_header view_config files d)
   some_late = from (labels_of d) some_labels
     where
-      from : (xs : List (InFile Id)) → 0 < length xs → 0 < length (late_lookups files xs view_config)
+      from : (xs : List (InFile Id)) → 0 < length xs
+          → 0 < length (late_lookups files xs view_config)
       from [] none = absurd (omega arith)
       from (x ∷ xs) none = omega arith
 
 -- without labels the output is its header and its notes
-pub bare-whole : {Id : Type 0} {renderer_config view_config : Config} {files : FileDatabase Id} {d : Diagnostic Id} {old new : Sink} (r : Result (Unit {0}) Error)
+pub bare-whole : {Id : Type 0} {renderer_config view_config : Config} {files : FileDatabase Id}
+    {d : Diagnostic Id} {old new : Sink} (r : Result (Unit {0}) Error)
     → length d.labels.items ≡ 0
-    → Writes old (header_row d.severity None (header_text_of d) ++ newline ++ whole_of_notes (context_of renderer_config d.severity 0) (notes_of d)) r new → IfErr r IsIo
+    → Writes old
+    (header_row d.severity None (header_text_of d) ++ newline
+    ++ whole_of_notes (context_of renderer_config d.severity 0) (notes_of d))
+    r new
+    → IfErr r IsIo
     → WritesOutput Rich renderer_config view_config files d old r new
-bare-whole {renderer_config = renderer_config} {view_config = view_config} {files = files} {d = d} {old = old} r no_labels writes io =
+bare-whole {renderer_config = renderer_config} {view_config = view_config} {files = files} {d = d}
+    {old = old} r no_labels writes io =
     let none : labels_of d ≡ [] = ap (map label_of) (nil_from_length d.labels.items no_labels) in
-    finished [] (header_row d.severity None (header_text_of d) ++ newline ++ whole_of_notes (context_of renderer_config d.severity 0) (notes_of d)) r
-    (ap (λ (xs : List (InFile _)). first_error files.failure (early_lookups files xs view_config)) none)
-    (ap (λ (xs : List (InFile _)). first_error files.failure (late_lookups files xs view_config)) none, (refl, λ known. sym (with_written-nil old)))
+    finished []
+    (header_row d.severity None (header_text_of d) ++ newline
+    ++ whole_of_notes (context_of renderer_config d.severity 0) (notes_of d))
+    r
+    (ap (λ (xs : List (InFile _)). first_error files.failure (early_lookups files xs view_config)) none) (
+      ap (λ (xs : List (InFile _)). first_error files.failure (late_lookups files xs view_config))
+          none,
+      (refl, λ known. sym (with_written-nil old)),
+    )
     writes io
     (record {
       loci = [];
       are = subst (λ (xs : List (InFile _)). AllZip IsLocusOfFile (labeled_file_models files.same files.file xs) []) (sym none) tt;
-      holds = ap (λ (xs : List (InFile _)). stream_of_rows (context_of renderer_config d.severity (padding_of view_config (labeled_file_models files.same files.file xs)))
+      holds =
+          ap
+          (λ (xs : List (InFile _)). stream_of_rows
+          (context_of renderer_config d.severity
+          (padding_of view_config (labeled_file_models files.same files.file xs)))
           (HeaderRow None (header_text_of d) ∷ (note_rows (notes_of d) ++ (FinalRow ∷ [])))) none;
     })
 
@@ -82,9 +100,13 @@ bare-whole {renderer_config = renderer_config} {view_config = view_config} {file
 
 -- where the labels' lookups succeed, those of the plan decide what those before the header fail
 -- with
-early-of_labels_are : {Id : Type 0} (view_config : Config) (database : FileDatabase Id) {source_labels collected items : List (Label Id)} → source_labels ≡ items → collected ≡ source_labels
+early-of_labels_are : {Id : Type 0} (view_config : Config) (database : FileDatabase Id)
+    {source_labels collected items : List (Label Id)}
+    → source_labels ≡ items → collected ≡ source_labels
     → labels_failure view_config database (map label_of source_labels) ≡ None
-    → first_error database.failure (early_lookups database (map label_of items) view_config) ≡ output_plan_failure view_config database (map label_of collected)
+    → first_error database.failure
+    (early_lookups database (map label_of items) view_config)
+    ≡ output_plan_failure view_config database (map label_of collected)
 early-of_labels_are view_config database {source_labels} source_labels_are collected_are succeeded =
     ap (λ ls. first_error database.failure (early_lookups database (map label_of ls) view_config)) (sym source_labels_are)
     ∙ labels-succeeded database view_config (map label_of source_labels) succeeded
@@ -94,35 +116,47 @@ early-of_labels_are view_config database {source_labels} source_labels_are colle
 pub planned-of_all : {Id : Type 0} {view_config : Config} {database : FileDatabase Id}
     {source_labels collected items : List (Label Id)} {output_plan : OutputPlan Id}
     → source_labels ≡ items → collected ≡ source_labels
-    → IsOutputPlan database view_config (map label_of collected) output_plan → IsOutputPlan database view_config (map label_of items) output_plan
+    → IsOutputPlan database view_config (map label_of collected) output_plan
+    → IsOutputPlan database view_config (map label_of items) output_plan
 planned-of_all {view_config = view_config} {database = database} {output_plan = output_plan} source_labels_are collected_are planned =
     subst (λ ls. IsOutputPlan database view_config (map label_of ls) output_plan) (collected_are ∙ source_labels_are) planned
 
 -- a view is ready to render: its output is planned, and the lookups before the header have
 -- succeeded
-pub record IsReady {Id : Type 0} (view_config : Config) (database : FileDatabase Id) (d : Diagnostic Id) (output_plan : OutputPlan Id) : Type 0 where
+pub record IsReady {Id : Type 0} (view_config : Config) (database : FileDatabase Id)
+    (d : Diagnostic Id) (output_plan : OutputPlan Id) : Type 0 where
   pub planned : IsOutputPlan database view_config (labels_of d) output_plan
   pub early : early_failure view_config database d ≡ None
 
-module _ {Id : Type 0} {view_config : Config} {database : FileDatabase Id} {d : Diagnostic Id} {source_labels : List (Label Id)} (source_labels_are : source_labels ≡ d.labels.items) where
+module _ {Id : Type 0} {view_config : Config} {database : FileDatabase Id} {d : Diagnostic Id}
+    {source_labels : List (Label Id)} (source_labels_are : source_labels ≡ d.labels.items) where
   -- a label's lookup failed
-  pub failed-collecting : {renderer_config : Config} {s : Sink} {e : Error} → 0 < length d.labels.items
-      → (e ≢ OutOfMemory → labels_failure view_config database (map label_of source_labels) ≡ Some e) → WritesOutput Rich renderer_config view_config database d s (Err e) s
+  pub failed-collecting : {renderer_config : Config} {s : Sink} {e : Error}
+      → 0 < length d.labels.items
+      → (e ≢ OutOfMemory
+      → labels_failure view_config database (map label_of source_labels) ≡ Some e)
+      → WritesOutput Rich renderer_config view_config database d s (Err e) s
   failed-collecting {e = e} some known =
       failed_early refl (some_early view_config database d some)
       (λ memory display. ap (λ ls. first_error database.failure (early_lookups database (map label_of ls) view_config)) (sym source_labels_are)
       ∙ labels-failed database view_config (map label_of source_labels) e (known memory))
 
-  module _ {collected : List (Label Id)} (collected_are : collected ≡ source_labels) (succeeded : labels_failure view_config database (map label_of source_labels) ≡ None) where
+  module _ {collected : List (Label Id)} (collected_are : collected ≡ source_labels)
+      (succeeded : labels_failure view_config database (map label_of source_labels) ≡ None) where
     -- a lookup of the plan failed
-    pub failed-planning : {renderer_config : Config} {s : Sink} {e : Error} → 0 < length d.labels.items
-        → (e ≢ OutOfMemory → e ≢ FormatError → output_plan_failure view_config database (map label_of collected) ≡ Some e) → WritesOutput Rich renderer_config view_config database d s (Err e) s
+    pub failed-planning : {renderer_config : Config} {s : Sink} {e : Error}
+        → 0 < length d.labels.items
+        → (e ≢ OutOfMemory → e ≢ FormatError
+        → output_plan_failure view_config database (map label_of collected) ≡ Some e)
+        → WritesOutput Rich renderer_config view_config database d s (Err e) s
     failed-planning some known =
         failed_early refl (some_early view_config database d some)
         (λ memory display. early-of_labels_are view_config database source_labels_are collected_are succeeded ∙ known memory display)
 
     -- all of these lookups succeed
-    pub ready : {output_plan : OutputPlan Id} → IsOutputPlan database view_config (map label_of collected) output_plan → output_plan_failure view_config database (map label_of collected) ≡ None
+    pub ready : {output_plan : OutputPlan Id}
+        → IsOutputPlan database view_config (map label_of collected) output_plan
+        → output_plan_failure view_config database (map label_of collected) ≡ None
         → IsReady view_config database d output_plan
     ready planned known = record {
       planned = planned-of_all source_labels_are collected_are planned;
@@ -131,7 +165,8 @@ module _ {Id : Type 0} {view_config : Config} {database : FileDatabase Id} {d : 
 
 -- ---- from the header on
 
-module _ {Id : Type 0} {view_config : Config} {database : FileDatabase Id} {d : Diagnostic Id} {output_plan : OutputPlan Id} (ready : IsReady view_config database d output_plan) where
+module _ {Id : Type 0} {view_config : Config} {database : FileDatabase Id} {d : Diagnostic Id}
+    {output_plan : OutputPlan Id} (ready : IsReady view_config database d output_plan) where
   -- the header, with the end of its row
   abbrev header : Stream
   header = header_row d.severity None (header_text_of d) ++ newline
@@ -155,28 +190,42 @@ module _ {Id : Type 0} {view_config : Config} {database : FileDatabase Id} {d : 
   RendersAllSnippets k old r new = WritesWithLookups (late_failure view_config database d) old (middle k) r new
 
   -- the snippets start at loci of the files
-  loci-are : AllZip IsLocusOfFile (labeled_file_models database.same database.file (labels_of d)) (loci_of output_plan.snippet_plans.items)
+  loci-are : AllZip IsLocusOfFile (labeled_file_models database.same database.file (labels_of d))
+      (loci_of output_plan.snippet_plans.items)
   loci-are =
       subst (λ (ids : List Id). AllZip IsLocusOfFile
       (map (labeled_file_model database.same database.file (labels_of d)) ids)
       (loci_of output_plan.snippet_plans.items)) ready.planned.ids_are
       (from output_plan.snippet_plans.items output_plan.snippet_lines.items ready.planned.snippet_plans_are)
     where
-      from : (snippet_plans : List (SnippetPlan Id)) (snippet_lines : List (RustLine Id)) → AreSnippetPlans database view_config (labels_of d) snippet_plans snippet_lines
-          → AllZip IsLocusOfFile (map (labeled_file_model database.same database.file (labels_of d)) (ids_of snippet_plans)) (loci_of snippet_plans)
+      from : (snippet_plans : List (SnippetPlan Id)) (snippet_lines : List (RustLine Id))
+          → AreSnippetPlans database view_config (labels_of d) snippet_plans snippet_lines
+          → AllZip IsLocusOfFile
+          (map (labeled_file_model database.same database.file (labels_of d))
+          (ids_of snippet_plans))
+          (loci_of snippet_plans)
       from [] snippet_lines are = tt
-      from (snippet_plan ∷ snippet_plans) snippet_lines are = (are.0.locus_is, from snippet_plans (drop snippet_plan.line_total snippet_lines) are.1)
+      from (snippet_plan ∷ snippet_plans) snippet_lines are =
+          (are.0.locus_is, from snippet_plans (drop snippet_plan.line_total snippet_lines) are.1)
 
   -- the output with these loci is all of these
-  output-is : (renderer_config : Config) → ByLoci renderer_config view_config database d (λ s. s ≡ whole renderer_config)
+  output-is : (renderer_config : Config)
+      → ByLoci renderer_config view_config database d (λ s. s ≡ whole renderer_config)
   output-is renderer_config =
-      let rows = snippets view_config (has_any (notes_of d)) (loci_of output_plan.snippet_plans.items) (labeled_file_models database.same database.file (labels_of d)) in
+      let rows =
+      snippets view_config (has_any (notes_of d)) (loci_of output_plan.snippet_plans.items)
+      (labeled_file_models database.same database.file (labels_of d)) in
       let context = context_of renderer_config d.severity output_plan.padding in
       let ended : Row → Stream = λ row. stream_of context row ++ newline in
       record {
         loci = loci_of output_plan.snippet_plans.items;
         are = loci-are;
-        holds = ap (λ n. stream_of_rows (context_of renderer_config d.severity n) ((HeaderRow None (header_text_of d) ∷ rows) ++ note_rows (notes_of d) ++ (FinalRow ∷ []))) (sym ready.planned.padding_is)
+        holds =
+            ap
+            (λ n. stream_of_rows (context_of renderer_config d.severity n)
+            ((HeaderRow None (header_text_of d) ∷ rows) ++ note_rows (notes_of d)
+            ++ (FinalRow ∷ [])))
+            (sym ready.planned.padding_is)
             ∙ ap (stream_of_rows context) (append_assoc (HeaderRow None (header_text_of d) ∷ rows) (note_rows (notes_of d)) (FinalRow ∷ []))
             ∙ flat_map-append ended (HeaderRow None (header_text_of d) ∷ rows) (note_rows (notes_of d) ++ (FinalRow ∷ []));
       }
@@ -184,19 +233,26 @@ module _ {Id : Type 0} {view_config : Config} {database : FileDatabase Id} {d : 
   -- a prefix of that is one of the output
   prefix-as : (renderer_config : Config) {old new : Sink}
       → (is_known old ≡ true → PrefixWritten old (whole renderer_config) new)
-      → ByLoci renderer_config view_config database d (λ s. is_known old ≡ true → PrefixWritten old s new)
+      → ByLoci renderer_config view_config database d
+      (λ s. is_known old ≡ true → PrefixWritten old s new)
   prefix-as renderer_config {old} {new} prefix =
       let names = output-is renderer_config in
       record { loci = names.loci; are = names.are; holds = λ known. PrefixWritten-as old new (whole renderer_config) _ names.holds (prefix known) }
 
   module _ {renderer_config : Config} where
     -- the header was cut short
-    pub failed-in_header : {old new : Sink} {e : Error} → Writes old header (Err e) new → IsIo e → WritesOutput Rich renderer_config view_config database d old (Err e) new
-    failed-in_header writes io = failed_by_writer ready.early writes.0 io (prefix-as renderer_config (failed-before (end renderer_config) (failed-before (middle renderer_config) writes)).1)
+    pub failed-in_header : {old new : Sink} {e : Error} → Writes old header (Err e) new → IsIo e
+        → WritesOutput Rich renderer_config view_config database d old (Err e) new
+    failed-in_header writes io =
+        failed_by_writer ready.early writes.0 io
+        (prefix-as renderer_config
+        (failed-before (end renderer_config) (failed-before (middle renderer_config) writes)).1)
 
     -- the snippets were cut short, rendered by an equal configuration
-    pub failed-in_snippets : {now : Config} {old mid new : Sink} {e : Error} → 0 < length d.labels.items → WroteStream old header mid → now ≡ renderer_config
-        → RendersAllSnippets now mid (Err e) new → WritesOutput Rich renderer_config view_config database d old (Err e) new
+    pub failed-in_snippets : {now : Config} {old mid new : Sink} {e : Error}
+        → 0 < length d.labels.items → WroteStream old header mid → now ≡ renderer_config
+        → RendersAllSnippets now mid (Err e) new
+        → WritesOutput Rich renderer_config view_config database d old (Err e) new
     failed-in_snippets {now} {old} {mid} {new} {e} some written equal part =
         ⊎_elim
         (λ (w : IsIo e × WrotePrefix mid (middle renderer_config) new). let failed =
@@ -207,16 +263,24 @@ module _ {Id : Type 0} {view_config : Config} {database : FileDatabase Id} {d : 
         (prefix-as renderer_config (λ known. cut known (written.1 known) w.prefix)))
         (subst (λ (k : Config). RendersAllSnippets k mid (Err e) new) equal part)
       where
-        cut : is_known old ≡ true → mid ≡ with_written old header → (is_known mid ≡ true → PrefixWritten mid (middle renderer_config) new) → PrefixWritten old (whole renderer_config) new
+        cut : is_known old ≡ true → mid ≡ with_written old header
+            → (is_known mid ≡ true → PrefixWritten mid (middle renderer_config) new)
+            → PrefixWritten old (whole renderer_config) new
         cut known is prefix =
             PrefixWritten-first old (header ++ middle renderer_config) new (end renderer_config)
-            (PrefixWritten-last old header (middle renderer_config) new (subst (λ (x : Sink). PrefixWritten x (middle renderer_config) new) is (prefix (known-after old mid header known is))))
+            (PrefixWritten-last old header (middle renderer_config) new
+            (subst (λ (x : Sink). PrefixWritten x (middle renderer_config) new) is
+            (prefix (known-after old mid header known is))))
 
     -- header and snippets have been written, and then the notes were written
-    pub rendered-whole : {second third : Config} {old mid last new : Sink} (r : Result (Unit {0}) Error) → WroteStream old header mid
+    pub rendered-whole : {second third : Config} {old mid last new : Sink}
+        (r : Result (Unit {0}) Error)
+        → WroteStream old header mid
         → second ≡ renderer_config → RendersAllSnippets second mid (Ok tt) last
-        → third ≡ renderer_config → Writes last (end third) r new → IfErr r IsIo → WritesOutput Rich renderer_config view_config database d old r new
+        → third ≡ renderer_config → Writes last (end third) r new → IfErr r IsIo
+        → WritesOutput Rich renderer_config view_config database d old r new
     rendered-whole {old = old} {mid = mid} {last = last} {new = new} r written equal part equal_end writes io =
         let rendered = subst (λ (k : Config). RendersAllSnippets k mid (Ok tt) last) equal part in
-        finished (header ++ middle renderer_config) (end renderer_config) r ready.early (rendered.0, written-then old header (middle renderer_config) written rendered.1)
+        finished (header ++ middle renderer_config) (end renderer_config) r ready.early
+        (rendered.0, written-then old header (middle renderer_config) written rendered.1)
         (subst (λ (k : Config). Writes last (end k) r new) equal_end writes) io (output-is renderer_config)

@@ -23,21 +23,26 @@ use Rattle.codespan_picture.specs.RowStreams.{stream_of, stream_of_rows}
 use Rattle.codespan_views.proofs.LookupRuns.{IsLookupRun, run_after, run_as, run_cut, run_of_writes, run_then}
 
 -- the streams of rows, one after the other
-pub rows-two : (row_context : RowContext) (a b : List Row) → stream_of_rows row_context (a ++ b) ≡ stream_of_rows row_context a ++ stream_of_rows row_context b
+pub rows-two : (row_context : RowContext) (a b : List Row)
+    → stream_of_rows row_context (a ++ b) ≡ stream_of_rows row_context a ++ stream_of_rows
+    row_context b
 rows-two row_context a b = flat_map-append (λ r. stream_of row_context r ++ newline) a b
 
 -- a call that writes what a configuration decides writes it by an equal one
-pub write_at : {K : Type 0} (f : K → Stream) {k m : K} → m ≡ k → (s t : Sink) (r : Result (Unit {0}) Error) → Writes s (f m) r t → Writes s (f k) r t
+pub write_at : {K : Type 0} (f : K → Stream) {k m : K} → m ≡ k
+    → (s t : Sink) (r : Result (Unit {0}) Error) → Writes s (f m) r t → Writes s (f k) r t
 write_at f same s t r writes = subst (λ (x : _). Writes s (f x) r t) same writes
 
 -- ---- the snippet of a file
 
-module _ {F Id : Type 0} (database : F → FileDatabase Id) (context : SnippetContext F) (snippet_plan : SnippetPlan Id) (own : List (SnippetLine Id)) (config : Config) where
+module _ {F Id : Type 0} (database : F → FileDatabase Id) (context : SnippetContext F)
+    (snippet_plan : SnippetPlan Id) (own : List (SnippetLine Id)) (config : Config) where
   -- the source of its file was looked up, and so it is rendered
   pub record IsOpen : Type 0 where
     pub succeeded : (database context.files.now).failure snippet_plan.file.now.file_id Source ≡ None
 
-module _ {F Id : Type 0} {database : F → FileDatabase Id} {context : SnippetContext F} {snippet_plan : SnippetPlan Id} {own : List (SnippetLine Id)} {config : Config}
+module _ {F Id : Type 0} {database : F → FileDatabase Id} {context : SnippetContext F}
+    {snippet_plan : SnippetPlan Id} {own : List (SnippetLine Id)} {config : Config}
     (opened : IsOpen database context snippet_plan own config) where
   -- what rows share, as a configuration renders them
   abbrev context_by : Config → RowContext
@@ -49,11 +54,15 @@ module _ {F Id : Type 0} {database : F → FileDatabase Id} {context : SnippetCo
 
   -- the rows of its lines
   abbrev line_rows : List Row
-  line_rows = rows_of_lines ((database context.files.now).file snippet_plan.file.now.file_id) snippet_plan.file.now.num_multi_labels (map snippet_line_view own)
+  line_rows =
+      rows_of_lines ((database context.files.now).file snippet_plan.file.now.file_id)
+      snippet_plan.file.now.num_multi_labels (map snippet_line_view own)
 
   -- the error of the lookups of these snippet lines
   abbrev lookups_failure : List (SnippetLine Id) → Option Error
-  lookups_failure snippet_lines = first_error (database context.files.now).failure (lookups_of_file snippet_plan.file.now.file_id (lookups_of_lines snippet_lines))
+  lookups_failure snippet_lines =
+      first_error (database context.files.now).failure
+      (lookups_of_file snippet_plan.file.now.file_id (lookups_of_lines snippet_lines))
 
   -- the streams of its first rows, and of its lines
   abbrev at_start : Stream
@@ -65,27 +74,40 @@ module _ {F Id : Type 0} {database : F → FileDatabase Id} {context : SnippetCo
   -- a call renders all of it, and makes all its lookups
   abbrev RendersWhole : Sink → Result (Unit {0}) Error → Sink → Type 0
   RendersWhole s r t =
-      WritesWithLookups (or_failure ((database context.files.now).failure snippet_plan.file.now.file_id Source) (lookups_failure own)) s (stream (start_rows snippet_plan ++ line_rows)) r t
+      WritesWithLookups
+      (or_failure ((database context.files.now).failure snippet_plan.file.now.file_id Source)
+      (lookups_failure own))
+      s (stream (start_rows snippet_plan ++ line_rows)) r t
 
   -- a call renders its lines, and makes their lookups
   abbrev RendersItsLines : Sink → Result (Unit {0}) Error → Sink → Type 0
   RendersItsLines s r t = IsLookupRun (lookups_failure own) s in_lines r t
 
   -- its first rows and its lines, one after the other
-  whole-rendered : {s t : Sink} {r : Result (Unit {0}) Error} → IsLookupRun (lookups_failure own) s (at_start ++ in_lines) r t → RendersWhole s r t
-  whole-rendered parts = (run_after opened.succeeded (run_as refl (sym (rows-two (context_by config) (start_rows snippet_plan) line_rows)) parts)).renders
+  whole-rendered : {s t : Sink} {r : Result (Unit {0}) Error}
+      → IsLookupRun (lookups_failure own) s (at_start ++ in_lines) r t → RendersWhole s r t
+  whole-rendered parts =
+      (run_after opened.succeeded
+      (run_as refl (sym (rows-two (context_by config) (start_rows snippet_plan) line_rows))
+      parts)).renders
 
   -- the lines were rendered, by an equal configuration
   pub lines-rendered : {by : Config} {s t : Sink} {r : Result (Unit {0}) Error} → by ≡ config
-      → WritesWithLookups (lookups_failure own) s (stream_of_rows (context_by by) line_rows) r t → RendersItsLines s r t
-  lines-rendered equal rendered = run_as refl (λ i. stream_of_rows (context_by (equal i)) line_rows) (record { renders = rendered })
+      → WritesWithLookups (lookups_failure own) s (stream_of_rows (context_by by) line_rows) r t
+      → RendersItsLines s r t
+  lines-rendered equal rendered =
+      run_as refl (λ i. stream_of_rows (context_by (equal i)) line_rows)
+      (record { renders = rendered })
 
   -- the first rows were cut short
-  pub snippet-at_start : {s t : Sink} {e : Error} → Writes s at_start (Err e) t → IsIo e → RendersWhole s (Err e) t
+  pub snippet-at_start : {s t : Sink} {e : Error} → Writes s at_start (Err e) t → IsIo e
+      → RendersWhole s (Err e) t
   snippet-at_start {s} {t} {e} writes io =
       let start : IsLookupRun None s at_start (Err e) t = run_of_writes (Err e) writes io in
       whole-rendered (run_cut (lookups_failure own) in_lines start)
 
   -- the first rows have been written, and then the lines were rendered, however that ended
-  pub snippet-rendered : (s : Sink) {t u : Sink} (r : Result (Unit {0}) Error) → WroteStream s at_start t → RendersItsLines t r u → RendersWhole s r u
-  snippet-rendered s r written lines = whole-rendered (run_then (run_of_writes (Ok tt) written tt) lines)
+  pub snippet-rendered : (s : Sink) {t u : Sink} (r : Result (Unit {0}) Error)
+      → WroteStream s at_start t → RendersItsLines t r u → RendersWhole s r u
+  snippet-rendered s r written lines =
+      whole-rendered (run_then (run_of_writes (Ok tt) written tt) lines)

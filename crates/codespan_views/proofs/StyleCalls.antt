@@ -10,9 +10,14 @@ use Rattle.codespan_base.specs.WriterLaw.{Sink}
 use Rattle.codespan_views.specs.WriteCalls.{WritesStyled}
 use Rattle.codespan_base.specs.FileModel.{FileDatabase}
 
-module _ {Id : Type 0} {config k : Config} {d e : Diagnostic Id} (configs : k ≡ config) (diagnostics : e ≡ d) {files : FileDatabase Id} {style : DisplayStyle}
+module _ {Id : Type 0} {config k : Config} {d e : Diagnostic Id} (configs : k ≡ config)
+    (diagnostics : e ≡ d) {files : FileDatabase Id} {style : DisplayStyle}
     {r : Result (Unit {0}) Error} {s t u w : Sink} (before : s ≡ t) (after : u ≡ w) where
   -- what a view does in its style, by its configurations
-  pub view_rendered : {own : DisplayStyle} {v : Config} → own ≡ style → v ≡ config → WritesStyled own k v files e s r u → WritesStyled style config config files d t r w
+  pub view_rendered : {own : DisplayStyle} {v : Config} → own ≡ style → v ≡ config
+      → WritesStyled own k v files e s r u → WritesStyled style config config files d t r w
   view_rendered styles views renders =
-      transport (λ i. WritesStyled (styles i) (configs i) (views i) files (diagnostics i) (before i) r (after i)) renders
+      transport
+      (λ i. WritesStyled (styles i) (configs i) (views i) files (diagnostics i) (before i) r
+      (after i))
+      renders

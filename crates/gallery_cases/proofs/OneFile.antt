@@ -10,34 +10,51 @@ use Rattle.gallery_cases.specs.CaseOutputs.{HoldsOfCase, HoldsOfOnlyFile, HoldsO
 use Rattle.gallery_script.specs.Database.{BorrowedFile, IsOnlyFile, borrowed_view, with_numbers}
 
 -- it holds over all files of a case
-pub over_several : (case : Case) (files : List BorrowedFile) (Holds : Property) → case.database_kind ≡ Several → map borrowed_view files ≡ map file_view case.files.items
+pub over_several : (case : Case) (files : List BorrowedFile) (Holds : Property)
+    → case.database_kind ≡ Several → map borrowed_view files ≡ map file_view case.files.items
     → Holds ℕ (several_database files) case.diagnostic → HoldsOfCase case.database_kind case Holds
 over_several case files Holds kind same holds =
     let among : HoldsOfAllFiles case Holds = record { files = files; same = same; holds = holds } in
     subst (λ k. HoldsOfCase k case Holds) (sym kind) among
 
-module _ (case : Case) (name source : List ℕ) (diagnostic : Diagnostic (Unit {0})) (by_unit_id : IsOnlyFile case name source diagnostic) (Holds : Property) where
+module _ (case : Case) (name source : List ℕ) (diagnostic : Diagnostic (Unit {0}))
+    (by_unit_id : IsOnlyFile case name source diagnostic) (Holds : Property) where
   -- it holds over such a database of its only file
   over_one_file : (database : List ℕ → List ℕ → FileDatabase (Unit {0}))
       → Holds (Unit {0}) (database name source) diagnostic → HoldsOfOnlyFile database case Holds
-  over_one_file database holds = record { name = name; source = source; diagnostic = diagnostic; only = by_unit_id.only; same = by_unit_id.same; holds = holds }
+  over_one_file database holds =
+      record {
+        name =
+            name;
+        source =
+            source;
+        diagnostic =
+            diagnostic;
+        only = by_unit_id.only;
+        same = by_unit_id.same;
+        holds = holds;
+      }
 
   -- it holds over a simple file
-  pub over_one : case.database_kind ≡ One → Holds (Unit {0}) (simple_database name source) diagnostic
+  pub over_one : case.database_kind ≡ One
+      → Holds (Unit {0}) (simple_database name source) diagnostic
       → HoldsOfCase case.database_kind case Holds
   over_one kind holds =
       subst (λ k. HoldsOfCase k case Holds) (sym kind) (over_one_file simple_database holds)
 
   -- it holds over a file whose line numbers are set
-  pub over_mapped : case.database_kind ≡ Mapped → (numbers : List (ℕ × ℕ)) → numbers ≡ with_numbers [] case.numbers.items
-      → Holds (Unit {0}) (mapped_database numbers name source) diagnostic → HoldsOfCase case.database_kind case Holds
+  pub over_mapped : case.database_kind ≡ Mapped → (numbers : List (ℕ × ℕ))
+      → numbers ≡ with_numbers [] case.numbers.items
+      → Holds (Unit {0}) (mapped_database numbers name source) diagnostic
+      → HoldsOfCase case.database_kind case Holds
   over_mapped kind numbers set holds =
       subst (λ k. HoldsOfCase k case Holds) (sym kind)
       (subst (λ ns. HoldsOfOnlyFile (mapped_database ns) case Holds) set
       (over_one_file (mapped_database numbers) holds))
 
 -- what follows from a fact of what a call returns
-pub ok_follows : {T E : Type 0} {P Q : T → Type 0} (r : Result T E) → ((x : T) → P x → Q x) → IfOk r P → IfOk r Q
+pub ok_follows : {T E : Type 0} {P Q : T → Type 0} (r : Result T E) → ((x : T) → P x → Q x)
+    → IfOk r P → IfOk r Q
 ok_follows (Ok x) follows holds = follows x holds
 ok_follows (Err error) follows holds = tt
 

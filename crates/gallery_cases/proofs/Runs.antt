@@ -20,18 +20,28 @@ use Rattle.gallery_script.specs.Database.{BorrowedFile}
 
 module _ {Id : Type 0} (config : Config) (files : FileDatabase Id) (d : Diagnostic Id) where
   -- where names are stated, the runs of an output with some loci are those of the output
-  pub stated_runs : {T : Type 0} (runs : T → List StyledRun) (r : Result T Error) → EmitsRuns config files d runs r → NamesAreStated files d → IfOk r (λ t. AreRunsOver config files d (runs t))
+  pub stated_runs : {T : Type 0} (runs : T → List StyledRun) (r : Result T Error)
+      → EmitsRuns config files d runs r → NamesAreStated files d
+      → IfOk r (λ t. AreRunsOver config files d (runs t))
   stated_runs runs (Ok t) emits stated = record {
     lookups_succeed = emits.succeeds.lookups_succeed;
-    are = emits.runs_are ∙ ap runs_of (output_stated files d stated config.display_style config config emits.loci emits.are_loci);
+    are =
+        emits.runs_are
+        ∙ ap runs_of
+        (output_stated files d stated config.display_style config config emits.loci emits.are_loci);
   }
   stated_runs runs (Err error) emits stated = tt
 
 -- the names of the files of a database are stated
-pub stated_in_database : (files : List BorrowedFile) (diagnostic : Diagnostic ℕ) (x : InFile ℕ) → Contains (labels_of diagnostic) x → IsSome (database_file (λ name. Some name.now) (λ source. source.now) files x.file_id).name
+pub stated_in_database : (files : List BorrowedFile) (diagnostic : Diagnostic ℕ) (x : InFile ℕ)
+    → Contains (labels_of diagnostic) x
+    → IsSome (database_file (λ name. Some name.now) (λ source. source.now) files x.file_id).name
 stated_in_database files diagnostic x contains = stated x.file_id
   where
-    stated : (id : ℕ) → IsSome (database_file (λ name. Some name.now) (λ source. source.now) files id).name
+    stated : (id : ℕ)
+        → IsSome (database_file (λ name. Some name.now) (λ source. source.now) files id).name
     stated id =
-        elim (slice_get files id) as (λ found. IsSome (option_map_or (λ (entry : BorrowedFile). simple_file (Some entry.0.now) entry.1.now) found missing_file).name)
+        elim (slice_get files id) as (λ found. IsSome
+        (option_map_or (λ (entry : BorrowedFile). simple_file (Some entry.0.now) entry.1.now)
+        found missing_file).name)
         [ None ↦ refl | Some entry ↦ refl ]

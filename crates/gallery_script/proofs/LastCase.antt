@@ -17,35 +17,63 @@ pub record IsLast {X : Type 0} (xs : List X) (k : ℕ) (old new : X) : Type 0 wh
   pub is : slice_set xs k new ≡ front ++ new ∷ []
 
 -- the element at the last index is the last one
-pub last_one : {X : Type 0} (xs : List X) (k : ℕ) (old new : X) → k + 1 ≡ length xs → old ≡ slice_index_or xs k old → IsLast xs k old new
+pub last_one : {X : Type 0} (xs : List X) (k : ℕ) (old new : X) → k + 1 ≡ length xs
+    → old ≡ slice_index_or xs k old → IsLast xs k old new
 last_one [] k old new count at = absurd (omega arith)
-last_one (x ∷ []) zero old new count at = record { front = []; was = ap (λ y. y ∷ []) (sym at); is = refl }
+last_one (x ∷ []) zero old new count at =
+    record { front = []; was = ap (λ y. y ∷ []) (sym at); is = refl }
 last_one (x ∷ y ∷ ys) zero old new count at = absurd (omega arith)
 last_one (x ∷ xs) (suc k) old new count at =
     let left : IsLast xs k old new = last_one xs k old new (omega arith) at in
-    record { front = x ∷ left.front; was = ap (λ ys. x ∷ ys) left.was; is = ap (λ ys. x ∷ ys) left.is }
+    record {
+      front =
+          x ∷ left.front;
+      was = ap (λ ys. x ∷ ys) left.was;
+      is = ap (λ ys. x ∷ ys) left.is;
+    }
 
 -- the statement has been applied to the last case
-pub last_applied : (cases : List Case) (n : ℕ) (statement : Statement) (old new : Case) (r : Result (Unit {0}) LineError) → n ≡ length cases → 0 < n → old ≡ slice_index_or cases (n - 1) old
-    → OnOk r (Applies statement old new) → OnOk r (AppliesToLast statement cases (slice_set cases (n - 1) new))
+pub last_applied : (cases : List Case) (n : ℕ) (statement : Statement) (old new : Case)
+    (r : Result (Unit {0}) LineError)
+    → n ≡ length cases → 0 < n → old ≡ slice_index_or cases (n - 1) old
+    → OnOk r (Applies statement old new)
+    → OnOk r (AppliesToLast statement cases (slice_set cases (n - 1) new))
 last_applied cases n statement old new (Ok done) count some at applied =
     let last : IsLast cases (n - 1) old new = last_one cases (n - 1) old new (omega arith) at in
-    record { front = last.front; old = old; new = new; was = last.was; is = last.is; applied = applied }
+    record {
+      front =
+          last.front;
+      old = old;
+      new = new;
+      was = last.was;
+      is = last.is;
+      applied = applied;
+    }
 last_applied cases n statement old new (Err line_error) count some at applied = tt
 
 -- the statement could not be applied to the last case
-pub last_failed : (cases : List Case) (n : ℕ) (statement : Statement) (old : Case) (r : Result (Unit {0}) LineError) → n ≡ length cases → 0 < n → old ≡ slice_index_or cases (n - 1) old
-    → IfErr r (λ line_error. (line_error ≡ OutOfMemory) ⊎ ((line_error ≡ NoFile) × IsSource statement × (old.files.items ≡ []))) → IfErr r (FailsAtLast statement cases)
+pub last_failed : (cases : List Case) (n : ℕ) (statement : Statement) (old : Case)
+    (r : Result (Unit {0}) LineError)
+    → n ≡ length cases → 0 < n → old ≡ slice_index_or cases (n - 1) old
+    → IfErr r
+    (λ line_error. (line_error ≡ OutOfMemory)
+    ⊎ ((line_error ≡ NoFile) × IsSource statement × (old.files.items ≡ [])))
+    → IfErr r (FailsAtLast statement cases)
 last_failed cases n statement old (Ok done) count some at failed = tt
-last_failed cases n statement old (Err line_error) count some at (inl memory) = subst (FailsAtLast statement cases) (sym memory) tt
+last_failed cases n statement old (Err line_error) count some at (inl memory) =
+    subst (FailsAtLast statement cases) (sym memory) tt
 last_failed cases n statement old (Err line_error) count some at (inr no_file) =
     let last : IsLast cases (n - 1) old old = last_one cases (n - 1) old old (omega arith) at in
-    subst (FailsAtLast statement cases) (sym no_file.0) (no_file.1, (last.front, old, last.was, no_file.2))
+    subst (FailsAtLast statement cases) (sym no_file.0)
+    (no_file.1, (last.front, old, last.was, no_file.2))
 
 -- the text continues the last file
-pub last_continues : (files : List File) (n : ℕ) (text : List ℕ) (old : File) (source : String Global) → n ≡ length files → 0 < n → old ≡ slice_index_or files (n - 1) old
+pub last_continues : (files : List File) (n : ℕ) (text : List ℕ) (old : File)
+    (source : String Global)
+    → n ≡ length files → 0 < n → old ≡ slice_index_or files (n - 1) old
     → string_bytes source ≡ string_bytes old.source ++ text
-    → ContinuesSource text (map file_view files) (map file_view (slice_set files (n - 1) (record { name = old.name; source = source })))
+    → ContinuesSource text (map file_view files)
+    (map file_view (slice_set files (n - 1) (record { name = old.name; source = source })))
 last_continues files n text old source count some at is =
     let new : File = record { name = old.name; source = source } in
     let last : IsLast files (n - 1) old new = last_one files (n - 1) old new (omega arith) at in
@@ -54,5 +82,7 @@ last_continues files n text old source count some at is =
       name = string_bytes old.name;
       source = string_bytes old.source;
       was = ap (map file_view) last.was ∙ map-append file_view last.front (old ∷ []);
-      is = ap (map file_view) last.is ∙ map-append file_view last.front (new ∷ []) ∙ ap (λ bytes. map file_view last.front ++ (string_bytes old.name, bytes) ∷ []) is;
+      is =
+          ap (map file_view) last.is ∙ map-append file_view last.front (new ∷ [])
+          ∙ ap (λ bytes. map file_view last.front ++ (string_bytes old.name, bytes) ∷ []) is;
     }

@@ -11,19 +11,28 @@ use Rattle.gallery_script.specs.Numbers.{IsBadNumber}
 use Rattle.gallery_script.specs.Statements.{IsWrong, HasBadNumber, HasBadNumberOfThree, past_two}
 
 -- a number that has to follow the word is missing
-pub number_missing : (word : Word) (rest : List ℕ) (r : Result Statement LineError) (line_error : LineError) → IsErrAnd r (λ y. y ≡ line_error) → line_error ≡ BadNumber → HasBadNumber rest word
+pub number_missing : (word : Word) (rest : List ℕ) (r : Result Statement LineError)
+    (line_error : LineError)
+    → IsErrAnd r (λ y. y ≡ line_error) → line_error ≡ BadNumber → HasBadNumber rest word
     → IfErr r (IsWrong (Some word) rest)
 number_missing word rest (Ok statement) line_error same is lacks = tt
-number_missing word rest (Err y) line_error same is lacks = subst (IsWrong (Some word) rest) (sym same) (subst (IsWrong (Some word) rest) (sym is) lacks)
+number_missing word rest (Err y) line_error same is lacks =
+    subst (IsWrong (Some word) rest) (sym same) (subst (IsWrong (Some word) rest) (sym is) lacks)
 
 -- a text is not a number
-pub no_number : (text rest : List ℕ) (line_error : LineError) → text ≡ rest → line_error ≡ BadNumber → ParsesUnsigned {E = LineError} 64 10 text (Err line_error) → IsBadNumber rest
+pub no_number : (text rest : List ℕ) (line_error : LineError) → text ≡ rest → line_error ≡ BadNumber
+    → ParsesUnsigned {E = LineError} 64 10 text (Err line_error) → IsBadNumber rest
 no_number text rest line_error same is unparsed =
-    subst (λ (t : List ℕ). IsBadNumber t) same (subst (λ e. ParsesUnsigned {E = LineError} 64 10 text (Err e)) is unparsed)
+    subst (λ (t : List ℕ). IsBadNumber t) same
+    (subst (λ e. ParsesUnsigned {E = LineError} 64 10 text (Err e)) is unparsed)
 
 -- the second field is not a number, or the third is not
-pub lacks_second : (rest left : List ℕ) → left ≡ past_space rest → IsBadNumber (field_of left) → HasBadNumberOfThree rest
-lacks_second rest left is none = inr (inl (subst (λ (text : List ℕ). IsBadNumber (field_of text)) is none))
+pub lacks_second : (rest left : List ℕ) → left ≡ past_space rest → IsBadNumber (field_of left)
+    → HasBadNumberOfThree rest
+lacks_second rest left is none =
+    inr (inl (subst (λ (text : List ℕ). IsBadNumber (field_of text)) is none))
 
-pub lacks_third : (rest left : List ℕ) → left ≡ past_two rest → IsBadNumber (field_of left) → HasBadNumberOfThree rest
-lacks_third rest left is none = inr (inr (subst (λ (text : List ℕ). IsBadNumber (field_of text)) is none))
+pub lacks_third : (rest left : List ℕ) → left ≡ past_two rest → IsBadNumber (field_of left)
+    → HasBadNumberOfThree rest
+lacks_third rest left is none =
+    inr (inr (subst (λ (text : List ℕ). IsBadNumber (field_of text)) is none))

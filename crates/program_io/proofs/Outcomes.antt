@@ -5,7 +5,8 @@ use Rattle.program_io.specs.declared.run_error.RunError.TheVariants.{WrongArgume
 use Rattle.program_io.specs.RunErrors.{IsStatusOf}
 
 -- the status is one of three
-pub status_at_most : {E : Type 0} (outcome : Result (Unit {0}) (RunError E)) (status : ℕ) → IsStatusOf outcome status → status ≤ 2
+pub status_at_most : {E : Type 0} (outcome : Result (Unit {0}) (RunError E)) (status : ℕ)
+    → IsStatusOf outcome status → status ≤ 2
 status_at_most (Ok done) status is = omega arith
 status_at_most (Err WrongArguments) status is = omega arith
 status_at_most (Err CannotReadInput) status is = omega arith
@@ -15,7 +16,8 @@ status_at_most (Err CannotWriteOutput) status is = omega arith
 status_at_most (Err (Failed error)) status is = omega arith
 
 -- the status 2 is that of wrong arguments
-pub wrong_by_status : {E : Type 0} (outcome : Result (Unit {0}) (RunError E)) (status : ℕ) → IsStatusOf outcome status → status ≡ 2 → IsErrOf outcome WrongArguments
+pub wrong_by_status : {E : Type 0} (outcome : Result (Unit {0}) (RunError E)) (status : ℕ)
+    → IsStatusOf outcome status → status ≡ 2 → IsErrOf outcome WrongArguments
 wrong_by_status (Ok done) status is two = absurd (omega arith)
 wrong_by_status (Err WrongArguments) status is two = refl
 wrong_by_status (Err CannotReadInput) status is two = absurd (omega arith)
@@ -25,12 +27,15 @@ wrong_by_status (Err CannotWriteOutput) status is two = absurd (omega arith)
 wrong_by_status (Err (Failed error)) status is two = absurd (omega arith)
 
 -- wrong arguments have the status 2
-pub status_of_wrong : {E : Type 0} (outcome : Result (Unit {0}) (RunError E)) (status : ℕ) → IsStatusOf outcome status → IsErrOf outcome WrongArguments → status ≡ 2
+pub status_of_wrong : {E : Type 0} (outcome : Result (Unit {0}) (RunError E)) (status : ℕ)
+    → IsStatusOf outcome status → IsErrOf outcome WrongArguments → status ≡ 2
 status_of_wrong (Ok done) status is wrong = absurd (cc wrong)
-status_of_wrong (Err error) status is wrong = subst (λ (r : Result (Unit {0}) (RunError _)). IsStatusOf r status) wrong is
+status_of_wrong (Err error) status is wrong =
+    subst (λ (r : Result (Unit {0}) (RunError _)). IsStatusOf r status) wrong is
 
 -- any other error has the status 1
-pub status_of_error : {E : Type 0} (error : RunError E) (status : ℕ) → IsStatusOf (Err error) status → error ≢ WrongArguments → status ≡ 1
+pub status_of_error : {E : Type 0} (error : RunError E) (status : ℕ) → IsStatusOf (Err error) status
+    → error ≢ WrongArguments → status ≡ 1
 status_of_error WrongArguments status is right = absurd (right refl)
 status_of_error CannotReadInput status is right = is
 status_of_error NotUtf8 status is right = is
@@ -39,7 +44,8 @@ status_of_error CannotWriteOutput status is right = is
 status_of_error (Failed error) status is right = is
 
 -- the status 0 is that of success
-pub success_by_status : {E X : Type 0} (outcome : Result (Unit {0}) (RunError E)) (status : ℕ) → IsStatusOf outcome status → status ≡ 0 → OnOk outcome X → X
+pub success_by_status : {E X : Type 0} (outcome : Result (Unit {0}) (RunError E)) (status : ℕ)
+    → IsStatusOf outcome status → status ≡ 0 → OnOk outcome X → X
 success_by_status (Ok done) status is zero contents = contents
 success_by_status (Err WrongArguments) status is zero contents = absurd (omega arith)
 success_by_status (Err CannotReadInput) status is zero contents = absurd (omega arith)
@@ -49,7 +55,8 @@ success_by_status (Err CannotWriteOutput) status is zero contents = absurd (omeg
 success_by_status (Err (Failed error)) status is zero contents = absurd (omega arith)
 
 -- an error is that of a failed output, or another one
-pub failed_output_or_other : {E : Type 0} (error : RunError E) → (error ≡ CannotWriteOutput) ⊎ (error ≢ CannotWriteOutput)
+pub failed_output_or_other : {E : Type 0} (error : RunError E)
+    → (error ≡ CannotWriteOutput) ⊎ (error ≢ CannotWriteOutput)
 failed_output_or_other WrongArguments = inr (λ output. cc output)
 failed_output_or_other CannotReadInput = inr (λ output. cc output)
 failed_output_or_other NotUtf8 = inr (λ output. cc output)

@@ -9,7 +9,7 @@ ghost use Rattle.program_io.specs.declared.run_error.RunError.TheVariants as run
 
 use crate::arguments::ArgumentsError;
 use crate::input::InputError;
-use crate::output::{write_and_flush, write_all};
+use crate::output::{write_all, write_and_flush};
 use std::alloc::AllocError;
 use std::error::Error;
 use std::io::Write;

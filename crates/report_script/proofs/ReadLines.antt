@@ -29,44 +29,56 @@ abbrev pub rest_by : List ℕ → ScriptLine → Option (List ℕ)
 rest_by word line = if bytes_eq (word_of line) word then Some (rest_of line) else None
 
 -- the severity, the code, the message and the note of a line are those of its statement
-pub severity_read : (start : ℕ) (s : Statement) → IsStatable s → rest_by (codes "severity") (line_at start s) ≡ option_map severity_field (severity_stated s)
+pub severity_read : (start : ℕ) (s : Statement) → IsStatable s
+    → rest_by (codes "severity") (line_at start s) ≡ option_map severity_field (severity_stated s)
 severity_read start (SeverityLine severity) can = refl
 severity_read start (CodeLine text) can = refl
 severity_read start (MessageLine text) can = refl
 severity_read start (LabelLine Primary range message) can = refl
 severity_read start (LabelLine Secondary range message) can = refl
 severity_read start (NoteLine text) can = refl
-severity_read start (CommentLine text) can = ap (λ word. if bytes_eq word (codes "severity") then Some (past_space (35 ∷ text)) else None) (comment_word text)
+severity_read start (CommentLine text) can =
+    ap (λ word. if bytes_eq word (codes "severity") then Some (past_space (35 ∷ text)) else None)
+    (comment_word text)
 severity_read start EmptyLine can = refl
 
-pub code_read : (start : ℕ) (s : Statement) → IsStatable s → rest_by (codes "code") (line_at start s) ≡ code_stated s
+pub code_read : (start : ℕ) (s : Statement) → IsStatable s
+    → rest_by (codes "code") (line_at start s) ≡ code_stated s
 code_read start (SeverityLine severity) can = refl
 code_read start (CodeLine text) can = refl
 code_read start (MessageLine text) can = refl
 code_read start (LabelLine Primary range message) can = refl
 code_read start (LabelLine Secondary range message) can = refl
 code_read start (NoteLine text) can = refl
-code_read start (CommentLine text) can = ap (λ word. if bytes_eq word (codes "code") then Some (past_space (35 ∷ text)) else None) (comment_word text)
+code_read start (CommentLine text) can =
+    ap (λ word. if bytes_eq word (codes "code") then Some (past_space (35 ∷ text)) else None)
+    (comment_word text)
 code_read start EmptyLine can = refl
 
-pub message_read : (start : ℕ) (s : Statement) → IsStatable s → rest_by (codes "message") (line_at start s) ≡ message_stated s
+pub message_read : (start : ℕ) (s : Statement) → IsStatable s
+    → rest_by (codes "message") (line_at start s) ≡ message_stated s
 message_read start (SeverityLine severity) can = refl
 message_read start (CodeLine text) can = refl
 message_read start (MessageLine text) can = refl
 message_read start (LabelLine Primary range message) can = refl
 message_read start (LabelLine Secondary range message) can = refl
 message_read start (NoteLine text) can = refl
-message_read start (CommentLine text) can = ap (λ word. if bytes_eq word (codes "message") then Some (past_space (35 ∷ text)) else None) (comment_word text)
+message_read start (CommentLine text) can =
+    ap (λ word. if bytes_eq word (codes "message") then Some (past_space (35 ∷ text)) else None)
+    (comment_word text)
 message_read start EmptyLine can = refl
 
-pub note_read : (start : ℕ) (s : Statement) → IsStatable s → parsed_note (line_at start s) ≡ note_stated s
+pub note_read : (start : ℕ) (s : Statement) → IsStatable s
+    → parsed_note (line_at start s) ≡ note_stated s
 note_read start (SeverityLine severity) can = refl
 note_read start (CodeLine text) can = refl
 note_read start (MessageLine text) can = refl
 note_read start (LabelLine Primary range message) can = refl
 note_read start (LabelLine Secondary range message) can = refl
 note_read start (NoteLine text) can = refl
-note_read start (CommentLine text) can = ap (λ word. if bytes_eq word (codes "note") then Some (past_space (35 ∷ text)) else None) (comment_word text)
+note_read start (CommentLine text) can =
+    ap (λ word. if bytes_eq word (codes "note") then Some (past_space (35 ∷ text)) else None)
+    (comment_word text)
 note_read start EmptyLine can = refl
 
 -- the name of a severity is read as that severity
@@ -79,8 +91,10 @@ name_read Note = refl
 name_read Help = refl
 
 -- a label is read field by field
-both_ends : (style : LabelStyle) (range : Range ℕ) (message text : List ℕ) (first last : Option ℕ) → text ≡ message → first ≡ Some range.start → last ≡ Some range.end
-    → with_ends style text first last ≡ Some (record { style = style; file_id = tt; range = range; message = message })
+both_ends : (style : LabelStyle) (range : Range ℕ) (message text : List ℕ) (first last : Option ℕ)
+    → text ≡ message → first ≡ Some range.start → last ≡ Some range.end
+    → with_ends style text first last ≡ Some
+    (record { style = style; file_id = tt; range = range; message = message })
 both_ends style range message text first last p q r = rw (p, q, r)
 
 -- what is read of the fields of a label
@@ -89,48 +103,71 @@ pub record AreRead (range : Range ℕ) (message rest : List ℕ) : Type 0 where
   pub last : number_of (field_of (past_space rest)) ≡ Some range.end
   pub text : past_space (past_space rest) ≡ message
 
-pub fields_read : (range : Range ℕ) (message : Option (List ℕ)) → range.start < 2 ^ 64 → range.end < 2 ^ 64 → AreRead range (unwrap_or message []) (label_fields range message)
+pub fields_read : (range : Range ℕ) (message : Option (List ℕ)) → range.start < 2 ^ 64
+    → range.end < 2 ^ 64 → AreRead range (unwrap_or message []) (label_fields range message)
 fields_read range None first last =
     let start = no_space range.start first in
     let end = no_space range.end last in
-    let after : past_space (label_fields range None) ≡ decimal range.end = past_field (decimal range.start) (decimal range.end) start in
+    let after : past_space (label_fields range None) ≡ decimal range.end =
+    past_field (decimal range.start) (decimal range.end) start in
     record {
-      first = ap number_of (first_field (decimal range.start) (decimal range.end) start) ∙ number_of-decimal range.start first;
-      last = ap (λ rest. number_of (field_of rest)) after ∙ ap number_of (field_alone (decimal range.end) end) ∙ number_of-decimal range.end last;
+      first =
+          ap number_of (first_field (decimal range.start) (decimal range.end) start)
+          ∙ number_of-decimal range.start first;
+      last =
+          ap (λ rest. number_of (field_of rest)) after
+          ∙ ap number_of (field_alone (decimal range.end) end) ∙ number_of-decimal range.end last;
       text = ap past_space after ∙ past_alone (decimal range.end) end;
     }
 fields_read range (Some message) first last =
     let start = no_space range.start first in
     let end = no_space range.end last in
     let others : List ℕ = fields (decimal range.end) message in
-    let after : past_space (label_fields range (Some message)) ≡ others = past_field (decimal range.start) others start in
+    let after : past_space (label_fields range (Some message)) ≡ others =
+    past_field (decimal range.start) others start in
     record {
-      first = ap number_of (first_field (decimal range.start) others start) ∙ number_of-decimal range.start first;
-      last = ap (λ rest. number_of (field_of rest)) after ∙ ap number_of (first_field (decimal range.end) message end) ∙ number_of-decimal range.end last;
+      first =
+          ap number_of (first_field (decimal range.start) others start)
+          ∙ number_of-decimal range.start first;
+      last =
+          ap (λ rest. number_of (field_of rest)) after
+          ∙ ap number_of (first_field (decimal range.end) message end)
+          ∙ number_of-decimal range.end last;
       text = ap past_space after ∙ past_field (decimal range.end) message end;
     }
 
-label_fields_read : (style : LabelStyle) (range : Range ℕ) (message : Option (List ℕ)) → range.start < 2 ^ 64 → range.end < 2 ^ 64
-    → label_of_rest style (label_fields range message) ≡ label_stated (LabelLine style range message)
+label_fields_read : (style : LabelStyle) (range : Range ℕ) (message : Option (List ℕ))
+    → range.start < 2 ^ 64 → range.end < 2 ^ 64
+    → label_of_rest style (label_fields range message) ≡ label_stated
+    (LabelLine style range message)
 label_fields_read style range message first last =
     let rest : List ℕ = label_fields range message in
     let read = fields_read range message first last in
-    both_ends style range (unwrap_or message []) (past_space (past_space rest)) (number_of (field_of rest)) (number_of (field_of (past_space rest))) read.text read.first read.last
+    both_ends style range (unwrap_or message []) (past_space (past_space rest))
+    (number_of (field_of rest)) (number_of (field_of (past_space rest))) read.text read.first
+    read.last
 
-pub label_read : (start : ℕ) (s : Statement) → IsStatable s → parsed_label (line_at start s) ≡ label_stated s
+pub label_read : (start : ℕ) (s : Statement) → IsStatable s
+    → parsed_label (line_at start s) ≡ label_stated s
 unfolding parsed_label script_word_named
 label_read start (SeverityLine severity) can = refl
 label_read start (CodeLine text) can = refl
 label_read start (MessageLine text) can = refl
-label_read start (LabelLine Primary range message) can = label_fields_read Primary range message can.0 can.1
-label_read start (LabelLine Secondary range message) can = label_fields_read Secondary range message can.0 can.1
+label_read start (LabelLine Primary range message) can =
+    label_fields_read Primary range message can.0 can.1
+label_read start (LabelLine Secondary range message) can =
+    label_fields_read Secondary range message can.0 can.1
 label_read start (NoteLine text) can = refl
-label_read start (CommentLine text) can = ap (λ word. label_by_word (line_at start (CommentLine text)) (script_word_named word)) (comment_word text)
+label_read start (CommentLine text) can =
+    ap (λ word. label_by_word (line_at start (CommentLine text)) (script_word_named word))
+    (comment_word text)
 label_read start EmptyLine can = refl
 
 -- what is read of each line of statements is read of all of them
-pub all_read : {T : Type 0} (read : ScriptLine → Option T) (stated : Statement → Option T) → ((start : ℕ) (s : Statement) → IsStatable s → read (line_at start s) ≡ stated s)
-    → (start : ℕ) (ss : List Statement) → AllByRecursion IsStatable ss → filter_map read (statement_lines start ss) ≡ filter_map stated ss
+pub all_read : {T : Type 0} (read : ScriptLine → Option T) (stated : Statement → Option T)
+    → ((start : ℕ) (s : Statement) → IsStatable s → read (line_at start s) ≡ stated s)
+    → (start : ℕ) (ss : List Statement) → AllByRecursion IsStatable ss
+    → filter_map read (statement_lines start ss) ≡ filter_map stated ss
 all_read read stated same start [] can = refl
 all_read read stated same start (s ∷ ss) can =
     let next : ℕ = start + length (statement_line s) + 1 in

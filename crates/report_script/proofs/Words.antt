@@ -9,7 +9,8 @@ use Rattle.report_script.specs.Requests.RequestView.{OneLabel, OfScript}
 
 -- five words by their indices
 five_words : {A : Type 0} (xs : List A) (a b c d e : A) → 5 ≤ length xs → length xs < 6
-    → a ≡ get_or xs 0 a → b ≡ get_or xs 1 b → c ≡ get_or xs 2 c → d ≡ get_or xs 3 d → e ≡ get_or xs 4 e
+    → a ≡ get_or xs 0 a → b ≡ get_or xs 1 b → c ≡ get_or xs 2 c → d ≡ get_or xs 3 d
+    → e ≡ get_or xs 4 e
     → xs ≡ a ∷ b ∷ c ∷ d ∷ e ∷ []
 five_words [] a b c d e least most p q r s t = absurd (omega arith)
 five_words (v ∷ []) a b c d e least most p q r s t = absurd (omega arith)
@@ -20,21 +21,27 @@ five_words (v ∷ w ∷ x ∷ y ∷ z ∷ []) a b c d e least most p q r s t = c
 five_words (v ∷ w ∷ x ∷ y ∷ z ∷ u ∷ more) a b c d e least most p q r s t = absurd (omega arith)
 
 -- any other number of words requests nothing
-pub other_words : {A : Type 0} (text : A → List ℕ) (xs : List A) → (length xs < 5) ⊎ (6 ≤ length xs) → None ≡ label_request_of (map text xs)
+pub other_words : {A : Type 0} (text : A → List ℕ) (xs : List A) → (length xs < 5) ⊎ (6 ≤ length xs)
+    → None ≡ label_request_of (map text xs)
 unfolding label_request_of
 other_words text [] others = refl
 other_words text (v ∷ []) others = refl
 other_words text (v ∷ w ∷ []) others = refl
 other_words text (v ∷ w ∷ x ∷ []) others = refl
 other_words text (v ∷ w ∷ x ∷ y ∷ []) others = refl
-other_words text (v ∷ w ∷ x ∷ y ∷ z ∷ []) others = absurd (elim others [ inl few ↦ omega arith | inr many ↦ omega arith ])
+other_words text (v ∷ w ∷ x ∷ y ∷ z ∷ []) others =
+    absurd (elim others [ inl few ↦ omega arith | inr many ↦ omega arith ])
 other_words text (v ∷ w ∷ x ∷ y ∷ z ∷ u ∷ more) others = refl
 
 -- the request of five words, from what each of them says
-pub five_arguments : {A : Type 0} (text : A → List ℕ) (xs : List A) (style name start end message : A) → 5 ≤ length xs → length xs < 6
-    → style ≡ get_or xs 0 style → name ≡ get_or xs 1 name → start ≡ get_or xs 2 start → end ≡ get_or xs 3 end → message ≡ get_or xs 4 message
+pub five_arguments : {A : Type 0} (text : A → List ℕ) (xs : List A)
+    (style name start end message : A)
+    → 5 ≤ length xs → length xs < 6
+    → style ≡ get_or xs 0 style → name ≡ get_or xs 1 name → start ≡ get_or xs 2 start
+    → end ≡ get_or xs 3 end → message ≡ get_or xs 4 message
     → (named : Option DisplayStyle) (first last : Option ℕ)
-    → named ≡ display_style_named (text style) → first ≡ number_of (text start) → last ≡ number_of (text end)
+    → named ≡ display_style_named (text style) → first ≡ number_of (text start)
+    → last ≡ number_of (text end)
     → with_parts (text name) (text message) named first last ≡ label_request_of (map text xs)
 unfolding label_request_of
 five_arguments text xs style name start end message least most p q r s t named first last x y z =
@@ -45,24 +52,31 @@ five_arguments text xs style name start end message least most p q r s t named f
     request ∙ ap (λ l. label_request_of (map text l)) (sym five)
 
 -- two words by their indices
-two_words : {A : Type 0} (xs : List A) (a b : A) → 2 ≤ length xs → length xs < 3 → a ≡ get_or xs 0 a → b ≡ get_or xs 1 b → xs ≡ a ∷ b ∷ []
+two_words : {A : Type 0} (xs : List A) (a b : A) → 2 ≤ length xs → length xs < 3 → a ≡ get_or xs 0 a
+    → b ≡ get_or xs 1 b → xs ≡ a ∷ b ∷ []
 two_words [] a b least most p q = absurd (omega arith)
 two_words (v ∷ []) a b least most p q = absurd (omega arith)
 two_words (v ∷ w ∷ []) a b least most p q = cc
 two_words (v ∷ w ∷ x ∷ more) a b least most p q = absurd (omega arith)
 
 -- the request of two words
-pub two_arguments : {A : Type 0} (text : A → List ℕ) (xs : List A) (style name : A) → 2 ≤ length xs → length xs < 3
-    → style ≡ get_or xs 0 style → name ≡ get_or xs 1 name → (named : Option DisplayStyle) → named ≡ display_style_named (text style)
+pub two_arguments : {A : Type 0} (text : A → List ℕ) (xs : List A) (style name : A) → 2 ≤ length xs
+    → length xs < 3
+    → style ≡ get_or xs 0 style → name ≡ get_or xs 1 name → (named : Option DisplayStyle)
+    → named ≡ display_style_named (text style)
     → option_map (λ s. OfScript s (text name)) named ≡ request_of (map text xs)
 unfolding request_of
 two_arguments text xs style name least most p q named x =
-    ap (option_map (λ s. OfScript s (text name))) x ∙ ap (λ l. request_of (map text l)) (sym (two_words xs style name least most p q))
+    ap (option_map (λ s. OfScript s (text name))) x
+    ∙ ap (λ l. request_of (map text l)) (sym (two_words xs style name least most p q))
 
 -- what another number of words requests
-pub other_arguments : {A : Type 0} (text : A → List ℕ) (xs : List A) → (length xs < 2) ⊎ (3 ≤ length xs) → request_of (map text xs) ≡ option_map OneLabel (label_request_of (map text xs))
+pub other_arguments : {A : Type 0} (text : A → List ℕ) (xs : List A)
+    → (length xs < 2) ⊎ (3 ≤ length xs)
+    → request_of (map text xs) ≡ option_map OneLabel (label_request_of (map text xs))
 unfolding request_of
 other_arguments text [] others = refl
 other_arguments text (v ∷ []) others = refl
-other_arguments text (v ∷ w ∷ []) others = absurd (elim others [ inl few ↦ omega arith | inr many ↦ omega arith ])
+other_arguments text (v ∷ w ∷ []) others =
+    absurd (elim others [ inl few ↦ omega arith | inr many ↦ omega arith ])
 other_arguments text (v ∷ w ∷ x ∷ more) others = refl

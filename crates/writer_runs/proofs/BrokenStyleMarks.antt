@@ -5,7 +5,8 @@ use Rattle.std.proofs.lemmas.List.{take-append-drop}
 use Rattle.codespan_base.specs.WriterLaw.{extended, PrefixAppended}
 
 -- the first bytes are written
-pub first_written : (o : Option (List ℕ)) (n : ℕ) (bs first : List ℕ) (m : Option (List ℕ)) → first ≡ take n bs → m ≡ extended o first → PrefixAppended o bs m
+pub first_written : (o : Option (List ℕ)) (n : ℕ) (bs first : List ℕ) (m : Option (List ℕ))
+    → first ≡ take n bs → m ≡ extended o first → PrefixAppended o bs m
 first_written o n bs first m e h = record {
   prefix = first;
   rest = drop n bs;
@@ -14,10 +15,13 @@ first_written o n bs first m e h = record {
 }
 
 -- the first bytes are a prefix
-pub first_prefix : (o : Option (List ℕ)) (n : ℕ) (bs first : List ℕ) (m : Option (List ℕ)) → first ≡ take n bs → PrefixAppended o first m → PrefixAppended o bs m
+pub first_prefix : (o : Option (List ℕ)) (n : ℕ) (bs first : List ℕ) (m : Option (List ℕ))
+    → first ≡ take n bs → PrefixAppended o first m → PrefixAppended o bs m
 first_prefix o n bs first m e p = record {
   prefix = p.prefix;
   rest = p.rest ++ drop n bs;
-  whole = sym (append_assoc p.prefix p.rest (drop n bs)) ∙ ap (λ (l : List ℕ). l ++ drop n bs) (p.whole ∙ e) ∙ take-append-drop n bs;
+  whole =
+      sym (append_assoc p.prefix p.rest (drop n bs))
+      ∙ ap (λ (l : List ℕ). l ++ drop n bs) (p.whole ∙ e) ∙ take-append-drop n bs;
   contents = p.contents;
 }

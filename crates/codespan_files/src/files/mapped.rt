@@ -76,8 +76,8 @@ impl<Name, Source: AsStr> MappedFile<Name, Source> {
     pub fn set_line(&mut self, line_index: usize, number: usize) -> Result<(), Error>
         ensures name { mapped_name_of self.new ≡ mapped_name_of self.old }
         ensures source { mapped_source_of self.new ≡ mapped_source_of self.old }
-        ensures ok { OnOk result
-            (set_numbers_of self.new ≡ with_set_number line_index number (set_numbers_of self.old)) }
+        ensures ok { OnOk result (set_numbers_of self.new
+            ≡ with_set_number line_index number (set_numbers_of self.old)) }
         ensures err { OnErr result (set_numbers_of self.new ≡ set_numbers_of self.old) }
         ensures failed { FailsBy (past_end_failure (mapped_text_of self.old) line_index) result }
     {

@@ -88,7 +88,8 @@ module _ (text : List ℕ) (first : ℕ) where
     ends_before_next = λ i p. absurd (omega (arith, p));
   }
     where
-      start_on_boundary : (i : ℕ) → i < 1 → IsCharBoundary text (slice_index ((l.start - first) ∷ []) i)
+      start_on_boundary : (i : ℕ) → i < 1
+          → IsCharBoundary text (slice_index ((l.start - first) ∷ []) i)
       start_on_boundary zero p = s
       start_on_boundary (suc i) p = absurd (omega (arith, p))
 
@@ -142,7 +143,8 @@ module _ (text : List ℕ) (first : ℕ) where
           ≤ slice_index (starts_of first (l ∷ m ∷ ms)) (i + 1)
       ends_before_next zero p = apart
       ends_before_next (suc k) p =
-          let q : suc k + 1 ≡ suc (k + 1) = omega arith in rw q (c.ends_before_next k (omega (arith, p)))
+          let q : suc k + 1 ≡ suc (k + 1) = omega arith in
+          rw q (c.ends_before_next k (omega (arith, p)))
 
   -- lines for which `follow` holds are a chain
   chain : (l : RawLine) (ls : List RawLine) → IsCharBoundary text (l.start - first)

@@ -11,21 +11,25 @@ use Rattle.codespan_annotations.proofs.labeled_files.add_label.Goals.{After-add}
 use Rattle.codespan_annotations.proofs.labeled_files.add_label.Goals as goal
 
 -- the file at the index
-at : (g : Over) (c : After-add g) → IsElementAt c.args.files.now.items c.args.index c.index_mut.result.now
+at : (g : Over) (c : After-add g)
+    → IsElementAt c.args.files.now.items c.args.index c.index_mut.result.now
 at g c = record { inside = c.requires.index; is = c.index_mut.ensures.value }
 
 pub returns-clause-ids : goal.returns-clause-ids
 returns-clause-ids g c =
     let name : RustFile g.row.FileId.Denot → g.row.FileId.Denot = λ f. f.file_id in
-    map-changed name (name c.index_mut.result.now) (λ id. id) (at g (goal.at.returns-clause-ids g c).After-add) c.add.new.self c.add.ensures.id
+    map-changed name (name c.index_mut.result.now) (λ id. id)
+    (at g (goal.at.returns-clause-ids g c).After-add) c.add.new.self c.add.ensures.id
     ∙ set-get_or (ids_view c.args.files.now.items) c.args.index (name c.index_mut.result.now)
 
 pub returns-clause-starts : goal.returns-clause-starts
 returns-clause-starts g c =
     let start : RustFile g.row.FileId.Denot → LocusStart = λ f. f.start in
-    map-changed start no_start (λ s. start_with s (label_of c.args.label.now).label) (at g (goal.at.returns-clause-starts g c).After-add) c.add.new.self c.add.ensures.start
+    map-changed start no_start (λ s. start_with s (label_of c.args.label.now).label)
+    (at g (goal.at.returns-clause-starts g c).After-add) c.add.new.self c.add.ensures.start
 
 pub returns-clause-lanes : goal.returns-clause-lanes
 returns-clause-lanes g c =
     let lanes : RustFile g.row.FileId.Denot → ℕ = λ f. f.num_multi_labels in
-    map-changed lanes 0 (λ n. n + lanes_by c.args.lines) (at g (goal.at.returns-clause-lanes g c).After-add) c.add.new.self c.add.ensures.lanes
+    map-changed lanes 0 (λ n. n + lanes_by c.args.lines)
+    (at g (goal.at.returns-clause-lanes g c).After-add) c.add.new.self c.add.ensures.lanes

@@ -16,6 +16,9 @@ returns-in-Some g c =
     let name : RustFile g.row.FileId.Denot → g.row.FileId.Denot = λ f. f.file_id in
     let found = c.in-Some.ensures.lookup in
     let inside : previous < length files = ltb-true previous _ (sym found.0) in
-    let there : file.file_id ≡ get_or ids previous file.file_id = ap name found.1 ∙ sym (get_or-map name files previous file file.file_id inside) in
+    let there : file.file_id ≡ get_or ids previous file.file_id =
+    ap name found.1 ∙ sym (get_or-map name files previous file file.file_id inside) in
     same_id-index g.met.FileId.Eq.laws ids file.file_id c.args.id c.requires
-    (subst (IsIdAt ids previous) (sym there) (at-get ids previous file.file_id (omega (arith, inside, length-map files name)))) (sym c.if-eq.ensures)
+    (subst (IsIdAt ids previous) (sym there)
+    (at-get ids previous file.file_id (omega (arith, inside, length-map files name))))
+    (sym c.if-eq.ensures)

@@ -7,7 +7,8 @@ use Rattle.codespan_annotations.proofs.labeled_files.first_file.Given as goal
 abbrev pub invariant-loop-index : goal.invariant-loop-index
 invariant-loop-index g l = record {
   within : l.index ≤ length l.files;
-  none : AllByRecursion (λ j. g.FileId.PartialEq.eq j l.id ≡ false) (ids_view (take l.index l.files));
+  none : AllByRecursion (λ j. g.FileId.PartialEq.eq j l.id ≡ false)
+      (ids_view (take l.index l.files));
 }
 
 abbrev pub decreases-loop-index : goal.decreases-loop-index

@@ -6,4 +6,5 @@ use Rattle.codespan_documents.proofs.html.push_runs.Given as goal
 
 abbrev pub invariant-loop-run : goal.invariant-loop-run
 invariant-loop-run l =
-    string_bytes l.html ++ flat_map html_run (map run_view (drop l.run-index l.runs)) ≡ string_bytes l.initial.html ++ flat_map html_run (map run_view l.runs)
+    string_bytes l.html ++ flat_map html_run (map run_view (drop l.run-index l.runs))
+    ≡ string_bytes l.initial.html ++ flat_map html_run (map run_view l.runs)

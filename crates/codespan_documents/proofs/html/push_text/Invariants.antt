@@ -7,5 +7,6 @@ use Rattle.codespan_documents.proofs.html.push_text.Given as goal
 abbrev pub invariant-loop-c : goal.invariant-loop-c
 invariant-loop-c l = record {
   utf8 : IsUtf8 (chars_rest l.c-iterator);
-  left : string_bytes l.html ++ html_text (chars_rest l.c-iterator) ≡ string_bytes l.initial.html ++ html_text l.text;
+  left : string_bytes l.html ++ html_text (chars_rest l.c-iterator) ≡ string_bytes
+      l.initial.html ++ html_text l.text;
 }

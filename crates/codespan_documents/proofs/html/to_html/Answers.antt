@@ -8,11 +8,15 @@ use Rattle.codespan_documents.proofs.html.to_html.Goals as goal
 pub returns-clause-tokens : goal.returns-clause-tokens
 returns-clause-tokens c =
     let runs = c.args.text.now.runs.items in
-    ap html_tokens (element-written runs _ _ _ _ _ c.new-html.ensures.bytes c.in_ok-push_str.ensures.bytes c.as_slice.ensures.value c.in_ok-push_runs.ensures c.in_ok-push_str-2.ensures.bytes)
+    ap html_tokens
+    (element-written runs _ _ _ _ _ c.new-html.ensures.bytes c.in_ok-push_str.ensures.bytes
+    c.as_slice.ensures.value c.in_ok-push_runs.ensures c.in_ok-push_str-2.ensures.bytes)
     ∙ element-read (map run_view runs)
 
 pub returns-clause-text : goal.returns-clause-text
 returns-clause-text c =
     let runs = c.args.text.now.runs.items in
-    ap text_of_html (element-written runs _ _ _ _ _ c.new-html.ensures.bytes c.in_ok-push_str.ensures.bytes c.as_slice.ensures.value c.in_ok-push_runs.ensures c.in_ok-push_str-2.ensures.bytes)
+    ap text_of_html
+    (element-written runs _ _ _ _ _ c.new-html.ensures.bytes c.in_ok-push_str.ensures.bytes
+    c.as_slice.ensures.value c.in_ok-push_runs.ensures c.in_ok-push_str-2.ensures.bytes)
     ∙ element-text runs

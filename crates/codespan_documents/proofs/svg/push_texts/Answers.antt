@@ -6,6 +6,8 @@ pub loop-index-preserved : goal.loop-index-preserved
 loop-index-preserved c = record {
   row = omega arith;
   column = omega arith;
-  left = next_texts c.args.glyphs.now c.loop-index.index _ c.loop-index-test.true c.loop-index.pen c.after.result _ _ _ c.after.ensures.position c.in_ok-push_glyph.ensures
+  left =
+      next_texts c.args.glyphs.now c.loop-index.index _ c.loop-index-test.true c.loop-index.pen
+      c.after.result _ _ _ c.after.ensures.position c.in_ok-push_glyph.ensures
       c.loop-index.invariant.left;
 }

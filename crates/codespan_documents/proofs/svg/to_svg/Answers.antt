@@ -9,12 +9,17 @@ use Rattle.codespan_documents.proofs.svg.to_svg.Goals as goal
 -- the document is that of the glyphs of all runs
 pub returns-clause-document : goal.returns-clause-document
 returns-clause-document c =
-    c.in_ok-document.ensures ∙ ap svg_document (c.as_slice-2.ensures.value ∙ c.in_ok-glyphs.ensures ∙ ap (λ runs. glyphs_of c.args.styles.now (map run_view runs)) c.as_slice.ensures.value)
+    c.in_ok-document.ensures
+    ∙ ap svg_document
+    (c.as_slice-2.ensures.value ∙ c.in_ok-glyphs.ensures
+    ∙ ap (λ runs. glyphs_of c.args.styles.now (map run_view runs)) c.as_slice.ensures.value)
 
 pub returns-clause-tokens : goal.returns-clause-tokens
 returns-clause-tokens c =
-    ap (λ bytes. html_tokens bytes) (returns-clause-document c) ∙ svg-read (glyphs_of c.args.styles.now (styled_runs c.args.text.now))
+    ap (λ bytes. html_tokens bytes) (returns-clause-document c)
+    ∙ svg-read (glyphs_of c.args.styles.now (styled_runs c.args.text.now))
 
 pub returns-clause-text : goal.returns-clause-text
 returns-clause-text c =
-    ap (λ bytes. text_of_tokens (html_tokens bytes)) (returns-clause-document c) ∙ svg-text c.args.styles.now (styled_runs c.args.text.now)
+    ap (λ bytes. text_of_tokens (html_tokens bytes)) (returns-clause-document c)
+    ∙ svg-text c.args.styles.now (styled_runs c.args.text.now)

@@ -5,4 +5,6 @@ use Rattle.codespan_laws.proofs.laws.lanes_take_two.Goals as goal
 
 pub returns : goal.returns
 unfolding inner_gutter
-returns c = λ context leading row lanes. row_length-lanes_in context (row_crossing row) (row_shape context.layout leading row) lanes
+returns c =
+    λ context leading row lanes. row_length-lanes_in context (row_crossing row)
+    (row_shape context.layout leading row) lanes

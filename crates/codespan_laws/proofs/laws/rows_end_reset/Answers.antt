@@ -1,4 +1,4 @@
-use Rattle.codespan_laws.proofs.ResetLemmas as resets
+use Rattle.codespan_laws.proofs.RowResets as resets
 use Rattle.codespan_laws.proofs.laws.rows_end_reset.Goals as goal
 
 pub returns : goal.returns

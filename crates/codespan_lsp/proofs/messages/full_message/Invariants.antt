@@ -6,5 +6,6 @@ use Rattle.codespan_lsp.proofs.messages.full_message.Given as goal
 -- the notes still to come make the text whole
 abbrev pub invariant-loop-note : goal.invariant-loop-note
 invariant-loop-note g l =
-    string_bytes l.text ++ flat_map next_line (map string_bytes (drop l.note-index l.diagnostic.notes.items))
+    string_bytes l.text
+    ++ flat_map next_line (map string_bytes (drop l.note-index l.diagnostic.notes.items))
     ≡ full_message l.diagnostic l.label

@@ -10,7 +10,8 @@ use Rattle.codespan_native.proofs.render.render_ansi.Goals as goal
 
 pub returns-clause-value : goal.returns-clause-value
 returns-clause-value c =
-    let stream = stream_of_output c.args.config.now (native_file_views c.args.files.now) c.args.diagnostic.now in
+    let stream = stream_of_output c.args.config.now (native_file_views c.args.files.now)
+    c.args.diagnostic.now in
     let spelling = ansi_spelling c.args.styles.now in
     let first : List ℕ = (ansi_inner {W = Vec ℕ Global} c.new.result).items in
     let begins = c.new-writer.ensures.begins in

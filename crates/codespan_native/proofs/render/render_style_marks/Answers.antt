@@ -7,7 +7,8 @@ use Rattle.codespan_native.proofs.render.render_style_marks.Goals as goal
 
 pub returns-clause-value : goal.returns-clause-value
 returns-clause-value c =
-    let stream = stream_of_output c.args.config.now (native_file_views c.args.files.now) c.args.diagnostic.now in
+    let stream = stream_of_output c.args.config.now (native_file_views c.args.files.now)
+    c.args.diagnostic.now in
     let first = c.args.buffer.items in
     let begins = c.new-writer.ensures.begins in
     let written = c.in_ok-write_to.ensures.value (fresh_known style_mark_spelling _ first begins) in

@@ -4,5 +4,6 @@ use Rattle.codespan_native.proofs.render.write_to.Goals as goal
 
 pub returns-in-Ok-clause-value : goal.returns-in-Ok-clause-value
 returns-in-Ok-clause-value g c = λ known.
-    written_stream c.args.config.now (native_file_views c.args.files.now) c.args.diagnostic.now _ _ _
+    written_stream c.args.config.now (native_file_views
+    c.args.files.now) c.args.diagnostic.now _ _ _
     c.in-Ok.ensures known

@@ -8,19 +8,23 @@ use Rattle.codespan_plan.proofs.plan.plan_output.Given.{Over}
 use Rattle.codespan_plan.proofs.plan.plan_output.Goals as goal
 
 -- the files are lawful, and equal ids name one file
-are_files : (g : Over) (κs : Lfts 9) → g.claim κs → (files : g.row.F.Denot) → AreFiles (g.F.Files.database files)
+are_files : (g : Over) (κs : Lfts 9) → g.claim κs → (files : g.row.F.Denot)
+    → AreFiles (g.F.Files.database files)
 are_files g κs claim files =
     let laws = g.met.F.Files κs claim in
     are-files (laws.same_is files) g.met.F.FileId.Eq.laws (laws.same_file files) (laws.lawful files)
 
 pub plan_snippets-requires : goal.plan_snippets-requires
-plan_snippets-requires g c κs = ((refl, tt), (c.in_ok-snippet_lines.ensures.items, (c.requires.sorted, c.requires.lines)))
+plan_snippets-requires g c κs =
+    ((refl, tt), (c.in_ok-snippet_lines.ensures.items, (c.requires.sorted, c.requires.lines)))
 
 pub returns-in_err-snippet_plans-clause-failed : goal.returns-in_err-snippet_plans-clause-failed
 returns-in_err-snippet_plans-clause-failed g c =
     let same = failure-is (are_files g c.lifetimes (search rules) c.args.files.now) c.requires in
-    let p = err_from_is_err_and c.from_residual-in_err-snippet_plans.result c.from_residual-in_err-snippet_plans.ensures.1 in
-    rw (p.1 ∙ ap Err p.2) (λ memory display. sym same ∙ c.in_err-snippet_plans.ensures.failed memory display)
+    let p = err_from_is_err_and c.from_residual-in_err-snippet_plans.result
+    c.from_residual-in_err-snippet_plans.ensures.1 in
+    rw (p.1 ∙ ap Err p.2)
+    (λ memory display. sym same ∙ c.in_err-snippet_plans.ensures.failed memory display)
 
 pub returns-clause-planned : goal.returns-clause-planned
 returns-clause-planned g c =

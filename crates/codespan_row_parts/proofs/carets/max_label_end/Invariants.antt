@@ -7,4 +7,6 @@ use Rattle.codespan_row_parts.proofs.carets.max_label_end.Given as goal
 -- the remaining labels decide
 abbrev pub invariant-loop-label : goal.invariant-loop-label
 invariant-loop-label l =
-    fold (λ m (x : LabelModel). max m x.end) l.greatest (single_label_views (drop l.label-index l.labels)) ≡ max_label_end (single_label_views l.labels)
+    fold (λ m (x : LabelModel). max m x.end) l.greatest
+    (single_label_views (drop l.label-index l.labels))
+    ≡ max_label_end (single_label_views l.labels)

@@ -10,8 +10,12 @@ use Rattle.codespan_row_parts.proofs.carets.write_carets.Given as goal
 
 abbrev pub invariant-loop-metrics : goal.invariant-loop-metrics
 invariant-loop-metrics g l = record {
-  written_so_far : StillToWrite (g.W.PutStyle.sink l.fn.w) (carets (context_view l.context) (single_label_views l.line.labels.now) (char_metrics_to_end l.context.tab_width l.line.text.now))
-      (carets_left (context_view l.context) (single_label_views l.line.labels.now) l.previous l.run (g.S.Cursor.CharCursor.left l.cursor)) (g.W.PutStyle.sink l.w);
+  written_so_far : StillToWrite (g.W.PutStyle.sink l.fn.w)
+      (carets (context_view l.context) (single_label_views l.line.labels.now)
+      (char_metrics_to_end l.context.tab_width l.line.text.now))
+      (carets_left (context_view l.context) (single_label_views l.line.labels.now) l.previous l.run
+      (g.S.Cursor.CharCursor.left l.cursor))
+      (g.W.PutStyle.sink l.w);
   scan_state : ScanState (length l.line.text.now + 1) l.run (g.S.Cursor.CharCursor.left l.cursor);
   same : g.S.Cursor.CharCursor.labels l.cursor ≡ l.line.labels.now;
 }

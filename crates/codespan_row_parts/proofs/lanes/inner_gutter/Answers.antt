@@ -7,5 +7,8 @@ use Rattle.codespan_row_parts.proofs.lanes.inner_gutter.Goals as goal
 pub returns-then-lanes-eq0 : goal.returns-then-lanes-eq0
 returns-then-lanes-eq0 g c =
     let s = g.W.PutStyle.sink c.args.w.now in
-    let none = sym (cursor-end _ _ _ 0 c.args.lanes.count _ (let zero = c.if-lanes-eq0.true in omega (arith, zero))) ∙ cursor-lanes _ _ _ c.args.lanes.count c.args.lanes.lane_marks.now c.args.lanes.in_order in
+    let none = sym
+    (cursor-end _ _ _ 0 c.args.lanes.count _
+    (let zero = c.if-lanes-eq0.true in omega (arith, zero)))
+    ∙ cursor-lanes _ _ _ c.args.lanes.count c.args.lanes.lane_marks.now c.args.lanes.in_order in
     (refl, λ known. sym (with_written-nil s) ∙ ap (with_written s) none)

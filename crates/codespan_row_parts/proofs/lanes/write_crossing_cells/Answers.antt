@@ -8,14 +8,25 @@ returns-in-None g c = rw c.in-None.is c.put_spaces.ensures
 
 pub returns-in_err-set_label-in-Some : goal.returns-in_err-set_label-in-Some
 unfolding crossing_cells
-returns-in_err-set_label-in-Some g c = rw c.in-Some.is (failed _ _ _ _ _ c.from_residual.ensures.1 (failed-before _ (failed-before _ c.in_err-set_label-in-Some.ensures)))
+returns-in_err-set_label-in-Some g c =
+    rw c.in-Some.is
+    (failed _ _ _ _ _ c.from_residual.ensures.1
+    (failed-before _ (failed-before _ c.in_err-set_label-in-Some.ensures)))
 
 pub returns-in_err-put_repeated-in-Some : goal.returns-in_err-put_repeated-in-Some
 unfolding crossing_cells
 returns-in_err-put_repeated-in-Some g c =
-    rw c.in-Some.is (failed _ _ _ _ _ c.from_residual-in_err-put_repeated-in-Some.ensures.1 (failed-before _ (failed-then _ c.in_ok-set_label-in-Some.ensures (rw c.underline_char.ensures at c.in_err-put_repeated-in-Some.ensures))))
+    rw c.in-Some.is
+    (failed _ _ _ _ _ c.from_residual-in_err-put_repeated-in-Some.ensures.1
+    (failed-before _
+    (failed-then _ c.in_ok-set_label-in-Some.ensures
+    (rw c.underline_char.ensures at c.in_err-put_repeated-in-Some.ensures))))
 
 pub returns-in_ok-put_repeated-in-Some : goal.returns-in_ok-put_repeated-in-Some
 unfolding crossing_cells
 returns-in_ok-put_repeated-in-Some g c =
-    rw c.in-Some.is (writes-last _ _ _ _ _ (written-then _ _ _ c.in_ok-set_label-in-Some.ensures (rw c.underline_char.ensures at c.in_ok-put_repeated-in-Some.ensures)) c.reset.ensures)
+    rw c.in-Some.is
+    (writes-last _ _ _ _ _
+    (written-then _ _ _ c.in_ok-set_label-in-Some.ensures
+    (rw c.underline_char.ensures at c.in_ok-put_repeated-in-Some.ensures))
+    c.reset.ensures)

@@ -20,10 +20,19 @@ pub loop-c-preserved : goal.loop-c-preserved
 loop-c-preserved c =
     let i = c.loop-c.invariant in
     let step = c.in-Some.ensures.steps.0 in
-    let more = leading-more _ _ _ i.utf8 step (sym c.is_whitespace.ensures ∙ c.if-not-is_whitespace.false) in
+    let more = leading-more _ _ _ i.utf8 step
+    (sym c.is_whitespace.ensures ∙ c.if-not-is_whitespace.false) in
     record {
       utf8 = IsUtf8-past_char _ _ _ i.utf8 step;
-      room = omega (arith, i.room, ap length step, length-append {A = ℕ}, length-encode, c.len_utf8-leading.ensures.value);
+      room =
+          omega (
+            arith,
+            i.room,
+            ap length step,
+            length-append {A = ℕ},
+            length-encode,
+            c.len_utf8-leading.ensures.value,
+          );
       so_far = omega (arith, i.so_far, more, c.len_utf8-leading.ensures.value);
     }
 

@@ -8,7 +8,8 @@ abbrev pub invariant-loop-end : goal.invariant-loop-end
 invariant-loop-end l = record {
   within : l.end ≤ length l.source;
   boundary : IsCharBoundary l.source l.end;
-  trimmed : length l.source + suffix_len is_line_end (take l.end l.source) ≡ l.end + suffix_len is_line_end l.source;
+  trimmed : length l.source + suffix_len is_line_end (take l.end l.source) ≡ l.end + suffix_len
+      is_line_end l.source;
 }
 
 abbrev pub decreases-loop-end : goal.decreases-loop-end

@@ -6,4 +6,6 @@ use Rattle.codespan_row_parts.proofs.messages.has_any_message.Given as goal
 
 -- the remaining labels decide
 abbrev pub invariant-loop-label : goal.invariant-loop-label
-invariant-loop-label l = list_any has_message (single_label_views (drop l.label-index l.labels)) ≡ list_any has_message (single_label_views l.labels)
+invariant-loop-label l =
+    list_any has_message (single_label_views (drop l.label-index l.labels))
+    ≡ list_any has_message (single_label_views l.labels)

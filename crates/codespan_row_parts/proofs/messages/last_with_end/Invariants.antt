@@ -1,5 +1,5 @@
 use Rattle.std.proofs.Common.{drop}
-use Rattle.codespan_row_parts.proofs.Hanging.{NoneEnds}
+use Rattle.codespan_row_parts.proofs.TrailingLabel.{NoneEnds}
 use Rattle.codespan_row_parts.proofs.messages.last_with_end.Given as goal
 
 -- none of the labels from here on ends there

@@ -6,4 +6,5 @@ use Rattle.codespan_row_parts.proofs.messages.overlaps_any.Given as goal
 -- the remaining others decide
 abbrev pub invariant-loop-other : goal.invariant-loop-other
 invariant-loop-other l =
-    overlaps_any (single_label_view l.label) (single_label_views (drop l.other-index l.others)) ≡ overlaps_any (single_label_view l.label) (single_label_views l.others)
+    overlaps_any (single_label_view l.label) (single_label_views (drop l.other-index l.others))
+    ≡ overlaps_any (single_label_view l.label) (single_label_views l.others)

@@ -6,4 +6,6 @@ use Rattle.codespan_row_parts.proofs.text_styles.has_primary.Given as goal
 
 -- the remaining labels decide
 abbrev pub invariant-loop-label : goal.invariant-loop-label
-invariant-loop-label l = list_any is_primary (single_label_views (drop l.label-index l.labels)) ≡ list_any is_primary (single_label_views l.labels)
+invariant-loop-label l =
+    list_any is_primary (single_label_views (drop l.label-index l.labels))
+    ≡ list_any is_primary (single_label_views l.labels)

@@ -7,5 +7,6 @@ use Rattle.codespan_row_parts.proofs.text_styles.has_primary_lane_mark.Given as 
 -- the remaining lane marks decide
 abbrev pub invariant-loop-lane_mark : goal.invariant-loop-lane_mark
 invariant-loop-lane_mark l =
-    list_any (λ (m : LaneMark). is_primary_style m.style) (map lane_mark_view (drop l.lane_mark-index l.lane_marks))
+    list_any (λ (m : LaneMark). is_primary_style m.style)
+    (map lane_mark_view (drop l.lane_mark-index l.lane_marks))
     ≡ list_any (λ (m : LaneMark). is_primary_style m.style) (map lane_mark_view l.lane_marks)

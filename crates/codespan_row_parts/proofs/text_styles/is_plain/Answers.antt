@@ -8,8 +8,12 @@ use Rattle.codespan_row_parts.proofs.text_styles.is_plain.Goals as goal
 
 pub returns-then-not-has_primary_lane_mark : goal.returns-then-not-has_primary_lane_mark
 returns-then-not-has_primary_lane_mark c = λ plain context. elim c.if-not-has_primary.branch [
-  | then-not-has_primary w ↦ colored-seen context (line_view c.args.line) c.has_primary.result w.has_primary_lane_mark.result c.has_tab.result
-      c.has_primary.ensures w.has_primary_lane_mark.ensures c.has_tab.ensures (IsUtf8-had _ c.args.line.utf8)
+  | then-not-has_primary w ↦ colored-seen context (line_view c.args.line) c.has_primary.result
+      w.has_primary_lane_mark.result c.has_tab.result
+      c.has_primary.ensures w.has_primary_lane_mark.ensures c.has_tab.ensures
+      (IsUtf8-had _ c.args.line.utf8)
       w.if-not-has_primary.true (sym w.value-is ∙ c.if-not-has_primary_lane_mark.true) plain
-  | else-not-has_primary w ↦ absurd (false≢true (sym (not_true c.has_primary.result (sym w.value-is ∙ c.if-not-has_primary_lane_mark.true)) ∙ w.if-not-has_primary.false))
+  | else-not-has_primary w ↦ absurd (false≢true
+      (sym (not_true c.has_primary.result (sym w.value-is ∙ c.if-not-has_primary_lane_mark.true))
+      ∙ w.if-not-has_primary.false))
 ]

@@ -16,7 +16,9 @@ use Rattle.codespan_row_parts.proofs.text_styles.text_style.Goals as goal
 -- multi-line one does
 styled : (line : Line) (c : Metrics) (inside marked : Bool)
     → inside ≡ list_any (λ x. is_primary x && covers x c) line.labels
-    → marked ≡ list_any (λ (m : LaneMark). is_primary_style m.style && multi_label_covers c m.multi_label) line.lanes.lane_marks
+    → marked ≡ list_any
+    (λ (m : LaneMark). is_primary_style m.style && multi_label_covers c m.multi_label)
+    line.lanes.lane_marks
     → (if inside || marked then Some Primary else None) ≡ source_style line c
 styled line c inside marked same_inside same_marked = rw (same_inside, same_marked) refl
 
@@ -26,7 +28,8 @@ returns-then-covers_char-clause-style g c =
     let inside = rw c.requires.labels at c.has_primary.ensures.primary in
     let marked = c.requires.primary c.args.metrics c.requires.has_byte in
     elim c.if-has_primary.branch [
-      | then-has_primary w ↦ styled line c.args.metrics true _ (sym w.if-has_primary.true ∙ inside) refl
+      | then-has_primary w ↦ styled line c.args.metrics true _ (sym w.if-has_primary.true ∙ inside)
+          refl
       | else-has_primary w ↦
           styled line c.args.metrics false true (sym w.if-has_primary.false ∙ inside)
           (sym c.if-covers_char.true ∙ w.value-is ∙ w.covers_char.ensures ∙ marked)
@@ -38,7 +41,8 @@ returns-else-covers_char-clause-style g c =
     let inside = rw c.requires.labels at c.has_primary.ensures.primary in
     let marked = c.requires.primary c.args.metrics c.requires.has_byte in
     elim c.if-has_primary.branch [
-      | then-has_primary w ↦ absurd (false≢true (sym c.if-covers_char.false ∙ w.value-is ∙ w.if-has_primary.true))
+      | then-has_primary w ↦ absurd
+          (false≢true (sym c.if-covers_char.false ∙ w.value-is ∙ w.if-has_primary.true))
       | else-has_primary w ↦
           styled line c.args.metrics false false (sym w.if-has_primary.false ∙ inside)
           (sym c.if-covers_char.false ∙ w.value-is ∙ w.covers_char.ensures ∙ marked)

@@ -4,8 +4,13 @@ use Rattle.codespan_rows.proofs.header.write_leading_locus.Goals as goal
 
 pub returns-in_err-snippet_locus : goal.returns-in_err-snippet_locus
 unfolding leading_locus
-returns-in_err-snippet_locus g c = rw c.in-Some.is (failed _ _ _ _ _ c.from_residual.ensures.1 (failed-before _ c.in_err-snippet_locus.ensures))
+returns-in_err-snippet_locus g c =
+    rw c.in-Some.is
+    (failed _ _ _ _ _ c.from_residual.ensures.1 (failed-before _ c.in_err-snippet_locus.ensures))
 
 pub returns-in_err-put_all : goal.returns-in_err-put_all
 unfolding leading_locus
-returns-in_err-put_all g c = rw c.in-Some.is (failed _ _ _ _ _ c.from_residual-in_err-put_all.ensures.1 (failed-then _ c.in_ok-snippet_locus.ensures c.in_err-put_all.ensures))
+returns-in_err-put_all g c =
+    rw c.in-Some.is
+    (failed _ _ _ _ _ c.from_residual-in_err-put_all.ensures.1
+    (failed-then _ c.in_ok-snippet_locus.ensures c.in_err-put_all.ensures))

@@ -5,16 +5,30 @@ use Rattle.codespan_rows.proofs.notes.write_snippet_empty.Goals as goal
 
 pub returns-in_err-outer_gutter : goal.returns-in_err-outer_gutter
 unfolding empty_row
-returns-in_err-outer_gutter g c = failed _ _ _ _ _ c.from_residual.ensures.1 (failed-before _ (failed-before _ (failed-before _ c.in_err-outer_gutter.ensures)))
+returns-in_err-outer_gutter g c =
+    failed _ _ _ _ _ c.from_residual.ensures.1
+    (failed-before _ (failed-before _ (failed-before _ c.in_err-outer_gutter.ensures)))
 
 pub returns-in_err-border_left : goal.returns-in_err-border_left
 unfolding empty_row
-returns-in_err-border_left g c = failed _ _ _ _ _ c.from_residual-in_err-border_left.ensures.1 (failed-before _ (failed-before _ (failed-then _ c.in_ok-outer_gutter.ensures c.in_err-border_left.ensures)))
+returns-in_err-border_left g c =
+    failed _ _ _ _ _ c.from_residual-in_err-border_left.ensures.1
+    (failed-before _
+    (failed-before _ (failed-then _ c.in_ok-outer_gutter.ensures c.in_err-border_left.ensures)))
 
 pub returns-in_err-inner_gutter : goal.returns-in_err-inner_gutter
 unfolding empty_row
-returns-in_err-inner_gutter g c = failed _ _ _ _ _ c.from_residual-in_err-inner_gutter.ensures.1 (failed-before _ (failed-then _ (written-then _ _ _ c.in_ok-outer_gutter.ensures c.in_ok-border_left.ensures) (rw plain_lanes_are at c.in_err-inner_gutter.ensures)))
+returns-in_err-inner_gutter g c =
+    failed _ _ _ _ _ c.from_residual-in_err-inner_gutter.ensures.1
+    (failed-before _
+    (failed-then _ (written-then _ _ _ c.in_ok-outer_gutter.ensures c.in_ok-border_left.ensures)
+    (rw plain_lanes_are at c.in_err-inner_gutter.ensures)))
 
 pub returns : goal.returns
 unfolding empty_row
-returns g c = writes-last _ _ _ _ _ (written-then _ _ _ (written-then _ _ _ c.in_ok-outer_gutter.ensures c.in_ok-border_left.ensures) (rw plain_lanes_are at c.in_ok-inner_gutter.ensures)) c.write_newline.ensures
+returns g c =
+    writes-last _ _ _ _ _
+    (written-then _ _ _
+    (written-then _ _ _ c.in_ok-outer_gutter.ensures c.in_ok-border_left.ensures)
+    (rw plain_lanes_are at c.in_ok-inner_gutter.ensures))
+    c.write_newline.ensures

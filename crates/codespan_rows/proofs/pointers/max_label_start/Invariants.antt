@@ -7,4 +7,6 @@ use Rattle.codespan_rows.proofs.pointers.max_label_start.Given as goal
 -- the remaining labels decide
 abbrev pub invariant-loop-label : goal.invariant-loop-label
 invariant-loop-label l =
-    fold (λ m (x : LabelModel). max m x.start) l.greatest (single_label_views (drop l.label-index l.labels)) ≡ max_label_start (single_label_views l.labels)
+    fold (λ m (x : LabelModel). max m x.start) l.greatest
+    (single_label_views (drop l.label-index l.labels))
+    ≡ max_label_start (single_label_views l.labels)

@@ -7,8 +7,10 @@ use Rattle.codespan_rows.proofs.pointers.write_hanging.Goals as goal
 pub returns-then-not-has_any_message-2 : goal.returns-then-not-has_any_message-2
 returns-then-not-has_any_message-2 g c =
     let early = sym c.has_any_message.ensures ∙ c.if-not-has_any_message.true in
-    let late = sym c.has_any_message-then-not-has_any_message.ensures ∙ c.if-not-has_any_message-2.true in
-    StillToWrite-end _ _ _ _ (StillToWrite-start _ _ _ refl) (nothing_hangs _ _ _ _ _ c.requires.hanging_labels early late)
+    let late =
+    sym c.has_any_message-then-not-has_any_message.ensures ∙ c.if-not-has_any_message-2.true in
+    StillToWrite-end _ _ _ _ (StillToWrite-start _ _ _ refl)
+    (nothing_hangs _ _ _ _ _ c.requires.hanging_labels early late)
 
 pub returns : goal.returns
 returns g c =

@@ -19,21 +19,31 @@ write_hanging_row-requires g c = record {
 
 pub loop-label-preserved-then-is_empty : goal.loop-label-preserved-then-is_empty
 loop-label-preserved-then-is_empty g c = record {
-  with_written = StillToWrite-same _ _ _ _ _ (hanging_skip _ _ _ _ _ _ c.in-Some.ensures.steps c.is_empty.ensures c.if-is_empty.true) c.loop-label.invariant.with_written;
+  with_written =
+      StillToWrite-same _ _ _ _ _
+      (hanging_skip _ _ _ _ _ _ c.in-Some.ensures.steps c.is_empty.ensures c.if-is_empty.true)
+      c.loop-label.invariant.with_written;
   near = (near-last _ _ _ _ c.in-Some.ensures.steps c.loop-label.invariant.near).others;
 }
 
 pub returns-in_err-write_hanging_row : goal.returns-in_err-write_hanging_row
-returns-in_err-write_hanging_row g c = let p = err_from_is_err_and c.from_residual.result c.from_residual.ensures.1 in
-    rw p.1 (StillToWrite-failed _ _ _ _ _ _ _ c.loop-label.invariant.with_written c.in_err-write_hanging_row.ensures
+returns-in_err-write_hanging_row g c =
+    let p = err_from_is_err_and c.from_residual.result c.from_residual.ensures.1 in
+    rw p.1
+    (StillToWrite-failed _ _ _ _ _ _ _ c.loop-label.invariant.with_written
+    c.in_err-write_hanging_row.ensures
     (hanging_first _ _ _ _ _ _ c.in-Some.ensures.steps c.is_empty.ensures c.if-is_empty.false))
 
 pub loop-label-preserved : goal.loop-label-preserved
 loop-label-preserved g c = record {
-  with_written = StillToWrite-more _ _ _ _ _ _ _ c.loop-label.invariant.with_written c.in_ok-write_hanging_row.ensures
+  with_written =
+      StillToWrite-more _ _ _ _ _ _ _ c.loop-label.invariant.with_written
+      c.in_ok-write_hanging_row.ensures
       (hanging_first _ _ _ _ _ _ c.in-Some.ensures.steps c.is_empty.ensures c.if-is_empty.false);
   near = (near-last _ _ _ _ c.in-Some.ensures.steps c.loop-label.invariant.near).others;
 }
 
 pub returns : goal.returns
-returns g c = StillToWrite-end _ _ _ _ c.loop-label.invariant.with_written (hanging_end _ _ _ c.in-None.ensures.steps.0)
+returns g c =
+    StillToWrite-end _ _ _ _ c.loop-label.invariant.with_written
+    (hanging_end _ _ _ c.in-None.ensures.steps.0)

@@ -10,7 +10,12 @@ use Rattle.codespan_rows.proofs.pointers.write_hanging_rows.Given as goal
 -- the remaining labels are the first ones
 abbrev pub invariant-loop-label : goal.invariant-loop-label
 invariant-loop-label g l = record {
-  with_written : StillToWrite (g.W.PutStyle.sink l.fn.w) (hanging_stream (context_view l.rows.context) (line_view l.rows.line) (filter has_message (single_label_views l.labels)))
-      (hanging_stream (context_view l.rows.context) (line_view l.rows.line) (filter has_message (single_label_views l.label-iterator.iter.rest.now))) (g.W.PutStyle.sink l.w);
-  near : max_label_start (single_label_views l.label-iterator.iter.rest.now) ≤ max_label_start (single_label_views l.rows.line.labels.now);
+  with_written : StillToWrite (g.W.PutStyle.sink l.fn.w)
+      (hanging_stream (context_view l.rows.context) (line_view l.rows.line)
+      (filter has_message (single_label_views l.labels)))
+      (hanging_stream (context_view l.rows.context) (line_view l.rows.line)
+      (filter has_message (single_label_views l.label-iterator.iter.rest.now)))
+      (g.W.PutStyle.sink l.w);
+  near : max_label_start (single_label_views l.label-iterator.iter.rest.now) ≤ max_label_start
+      (single_label_views l.rows.line.labels.now);
 }

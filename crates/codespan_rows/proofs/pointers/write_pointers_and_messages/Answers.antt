@@ -3,7 +3,9 @@ use Rattle.codespan_row_parts.proofs.Pieces.{before-near, after-near}
 use Rattle.codespan_rows.proofs.pointers.write_pointers_and_messages.Goals as goal
 
 pub returns-in_err-write_pointer_row : goal.returns-in_err-write_pointer_row
-returns-in_err-write_pointer_row g c = failed _ _ _ _ _ c.from_residual.ensures.1 (failed-before _ (failed-before _ c.in_err-write_pointer_row.ensures))
+returns-in_err-write_pointer_row g c =
+    failed _ _ _ _ _ c.from_residual.ensures.1
+    (failed-before _ (failed-before _ c.in_err-write_pointer_row.ensures))
 
 pub write_hanging_rows-requires-clause-near : goal.write_hanging_rows-requires-clause-near
 write_hanging_rows-requires-clause-near g c = after-near _ _ _ c.requires.slices
@@ -12,7 +14,13 @@ pub write_hanging_rows-requires-2-clause-near : goal.write_hanging_rows-requires
 write_hanging_rows-requires-2-clause-near g c = before-near _ _ _ c.requires.slices
 
 pub returns-in_err-write_hanging_rows : goal.returns-in_err-write_hanging_rows
-returns-in_err-write_hanging_rows g c = failed _ _ _ _ _ c.from_residual-in_err-write_hanging_rows.ensures.1 (failed-before _ (failed-then _ c.in_ok-write_pointer_row.ensures c.in_err-write_hanging_rows.ensures))
+returns-in_err-write_hanging_rows g c =
+    failed _ _ _ _ _ c.from_residual-in_err-write_hanging_rows.ensures.1
+    (failed-before _
+    (failed-then _ c.in_ok-write_pointer_row.ensures c.in_err-write_hanging_rows.ensures))
 
 pub returns : goal.returns
-returns g c = writes-last _ _ _ _ _ (written-then _ _ _ c.in_ok-write_pointer_row.ensures c.in_ok-write_hanging_rows.ensures) c.write_hanging_rows-2.ensures
+returns g c =
+    writes-last _ _ _ _ _
+    (written-then _ _ _ c.in_ok-write_pointer_row.ensures c.in_ok-write_hanging_rows.ensures)
+    c.write_hanging_rows-2.ensures

@@ -7,8 +7,11 @@ use Rattle.codespan_rows.proofs.source.write_colored_text.Given as goal
 
 abbrev pub invariant-loop-metrics : goal.invariant-loop-metrics
 invariant-loop-metrics g l = record {
-  written_so_far : StillToWrite (g.W.PutStyle.sink l.fn.w) (colored_text (context_view l.context) (line_view l.line))
-      (text_rest (context_view l.context) (line_view l.line) l.previous (piece l.text l.start l.end) (g.C.CharCursor.left l.characters)) (g.W.PutStyle.sink l.w);
+  written_so_far : StillToWrite (g.W.PutStyle.sink l.fn.w)
+      (colored_text (context_view l.context) (line_view l.line))
+      (text_rest (context_view l.context) (line_view l.line) l.previous (piece l.text l.start l.end)
+      (g.C.CharCursor.left l.characters))
+      (g.W.PutStyle.sink l.w);
   over : IsOver l.context.tab_width l.line.text.now l.end (g.C.CharCursor.left l.characters);
   same : g.C.CharCursor.labels l.characters ≡ l.line.labels.now;
   ordered : l.start ≤ l.end;

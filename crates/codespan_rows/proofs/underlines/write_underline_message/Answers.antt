@@ -7,9 +7,12 @@ use Rattle.codespan_rows.proofs.underlines.write_underline_message.Goals as goal
 pub returns-in_err-write_space : goal.returns-in_err-write_space
 returns-in_err-write_space g c =
     let some : 0 < length c.args.message.now = grind (arith, nat_tests) in
-    rw (underline_message-some _ some) (failed _ _ _ _ _ c.from_residual.ensures.1 (failed-before _ c.in_err-write_space.ensures))
+    rw (underline_message-some _ some)
+    (failed _ _ _ _ _ c.from_residual.ensures.1 (failed-before _ c.in_err-write_space.ensures))
 
 pub returns : goal.returns
 returns g c =
     let some : 0 < length c.args.message.now = grind (arith, nat_tests) in
-    rw (underline_message-some _ some) (writes-last _ _ _ _ _ c.in_ok-write_space.ensures (rw c.as_bytes.ensures.value at c.put_all.ensures))
+    rw (underline_message-some _ some)
+    (writes-last _ _ _ _ _ c.in_ok-write_space.ensures
+    (rw c.as_bytes.ensures.value at c.put_all.ensures))

@@ -7,5 +7,9 @@ use Rattle.codespan_rows.proofs.UnderlineRows.{underlines_of}
 use Rattle.codespan_rows.proofs.underlines.write_underlines.Given as goal
 
 abbrev pub invariant-loop-lane_mark : goal.invariant-loop-lane_mark
-invariant-loop-lane_mark g l = StillToWrite (g.W.PutStyle.sink l.fn.w) (stream_of_rows (context_view l.context) (underline_rows (line_view l.line)))
-    (underlines_of (context_view l.context) (line_view l.line) (drop l.lane_mark-index l.lane_mark-items)) (g.W.PutStyle.sink l.w)
+invariant-loop-lane_mark g l =
+    StillToWrite (g.W.PutStyle.sink l.fn.w)
+    (stream_of_rows (context_view l.context) (underline_rows (line_view l.line)))
+    (underlines_of (context_view l.context) (line_view l.line)
+    (drop l.lane_mark-index l.lane_mark-items))
+    (g.W.PutStyle.sink l.w)

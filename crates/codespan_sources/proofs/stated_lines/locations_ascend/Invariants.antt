@@ -5,4 +5,5 @@ use Rattle.codespan_sources.proofs.stated_lines.locations_ascend.Given as goal
 -- the locations that are left decide
 abbrev pub invariant-loop-location : goal.invariant-loop-location
 invariant-loop-location l =
-    bytes_ascend_from l.first_byte l.byte (drop l.location-index l.rest) ≡ locations_ascend l.first_byte l.locations
+    bytes_ascend_from l.first_byte l.byte (drop l.location-index l.rest)
+    ≡ locations_ascend l.first_byte l.locations

@@ -3,7 +3,8 @@ use Rattle.codespan_structs.proofs.buffer.copy_out.Goals as goal
 
 -- the bytes are too many, and `out` is unchanged
 pub returns-then-length-out-clause-too_small : goal.returns-then-length-out-clause-too_small
-returns-then-length-out-clause-too_small c = λ _. record { is_length = refl; small = c.if-length-out.true; unchanged = refl }
+returns-then-length-out-clause-too_small c =
+    λ _. record { is_length = refl; small = c.if-length-out.true; unchanged = refl }
 
 -- their number is known
 pub returns-then-length-out-clause-set : goal.returns-then-length-out-clause-set
@@ -14,7 +15,9 @@ pub returns-clause-ok : goal.returns-clause-ok
 returns-clause-ok c = λ _. record {
   is_length = refl;
   fits = c.if-length-out.false;
-  are_there = ap (λ front. front ++ drop (length c.args.bytes.now) c.args.out.now) c.copy_from_slice.ensures.after;
+  are_there =
+      ap (λ front. front ++ drop (length c.args.bytes.now) c.args.out.now)
+      c.copy_from_slice.ensures.after;
 }
 
 -- and their number is known

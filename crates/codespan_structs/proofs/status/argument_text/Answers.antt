@@ -14,11 +14,16 @@ short_at : (texts : List (Bor (List ℕ))) (i : ℕ) (text : Bor (List ℕ)) →
     → text ≡ get_or texts i text → are_short texts ≡ true → length text.now ≤ STATUS_TEXT_MAX
 short_at [] i text below is all = absurd (omega (arith, below))
 short_at (t ∷ ts) zero text below is all =
-    rw is (leb-true (length t.now) STATUS_TEXT_MAX (and_parts (leb (length t.now) STATUS_TEXT_MAX) (are_short ts) all).0)
+    rw is
+    (leb-true (length t.now) STATUS_TEXT_MAX
+    (and_parts (leb (length t.now) STATUS_TEXT_MAX) (are_short ts) all).0)
 short_at (t ∷ ts) (suc i) text below is all =
-    short_at ts i text (omega (arith, below)) is (and_parts (leb (length t.now) STATUS_TEXT_MAX) (are_short ts) all).1
+    short_at ts i text (omega (arith, below)) is
+    (and_parts (leb (length t.now) STATUS_TEXT_MAX) (are_short ts) all).1
 
 -- the texts of the table are short
 pub returns-in-Some-clause-short : goal.returns-in-Some-clause-short
 returns-in-Some-clause-short c =
-    short_at (_ ∷ _ ∷ _ ∷ _ ∷ _ ∷ _ ∷ _ ∷ _ ∷ _ ∷ _ ∷ _ ∷ _ ∷ _ ∷ _ ∷ _ ∷ _ ∷ _ ∷ _ ∷ _ ∷ _ ∷ []) c.args.argument c.in-Some.text.now c.in-Some.ensures.lookup.3.0 c.in-Some.ensures.lookup.1 refl
+    short_at (_ ∷ _ ∷ _ ∷ _ ∷ _ ∷ _ ∷ _ ∷ _ ∷ _ ∷ _ ∷ _ ∷ _ ∷ _ ∷ _ ∷ _ ∷ _ ∷ _ ∷ _ ∷ _ ∷ _ ∷ [])
+    c.args.argument c.in-Some.text.now c.in-Some.ensures.lookup.3.0 c.in-Some.ensures.lookup.1
+    refl

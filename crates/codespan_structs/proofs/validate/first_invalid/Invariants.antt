@@ -6,4 +6,5 @@ use Rattle.codespan_structs.proofs.validate.first_invalid.Given as goal
 -- the arguments so far are valid
 abbrev pub invariant-loop-argument : goal.invariant-loop-argument
 invariant-loop-argument l =
-    (b : Argument) (j : ℕ) → argument_number b ≤ l.argument-index → IsValidAt l.files l.diagnostic l.config b j
+    (b : Argument) (j : ℕ) → argument_number b ≤ l.argument-index
+    → IsValidAt l.files l.diagnostic l.config b j

@@ -18,20 +18,25 @@ pub returns-in-FileLines : goal.returns-in-FileLines
 returns-in-FileLines c = rw c.in-FileLines.is (by_index HasValidLines _ _ c.lines_index.ensures)
 
 pub returns-in-FileLocations : goal.returns-in-FileLocations
-returns-in-FileLocations c = rw c.in-FileLocations.is (by_index HasValidLocations _ _ c.locations_index.ensures)
+returns-in-FileLocations c =
+    rw c.in-FileLocations.is (by_index HasValidLocations _ _ c.locations_index.ensures)
 
 pub returns-in-LabelStyle : goal.returns-in-LabelStyle
-returns-in-LabelStyle c = rw c.in-LabelStyle.is (by_index HasLabelStyle _ _ c.label_style_index.ensures)
+returns-in-LabelStyle c =
+    rw c.in-LabelStyle.is (by_index HasLabelStyle _ _ c.label_style_index.ensures)
 
 pub returns-in-LabelMessage : goal.returns-in-LabelMessage
-returns-in-LabelMessage c = rw c.in-LabelMessage.is (by_index HasTextMessage _ _ c.label_message_index.ensures)
+returns-in-LabelMessage c =
+    rw c.in-LabelMessage.is (by_index HasTextMessage _ _ c.label_message_index.ensures)
 
 pub returns-in-LabelFile : goal.returns-in-LabelFile
-returns-in-LabelFile c = rw c.in-LabelFile.is (by_index (HasLabelFile _) _ _ c.label_file_index.ensures)
+returns-in-LabelFile c =
+    rw c.in-LabelFile.is (by_index (HasLabelFile _) _ _ c.label_file_index.ensures)
 
 pub returns-in-Note : goal.returns-in-Note
 returns-in-Note c = rw c.in-Note.is (by_index IsValidText _ _ c.note_index.ensures)
 
 pub returns-in-Abi : goal.returns-in-Abi
 returns-in-Abi c =
-    rw c.in-Abi.is (by_test _ _ _ c.is_abi_valid.ensures.0 c.is_abi_valid.ensures.1 c.index_unless.ensures)
+    rw c.in-Abi.is
+    (by_test _ _ _ c.is_abi_valid.ensures.0 c.is_abi_valid.ensures.1 c.index_unless.ensures)

@@ -10,14 +10,19 @@ pub returns-in-Ok : goal.returns-in-Ok
 returns-in-Ok g c =
     let file = ((g.F.Files.database c.args.files.now).file) in
     let claim : g.claim c.lifetimes = search rules in
-    let lawful : (id : g.row.F-FileId.Denot) → IsLawful (file id) = λ id. (g.met.F.Files c.lifetimes claim).lawful c.args.files.now id in
-    runs_emitted c.into_text.result c.in-Ok.ensures c.new-recorder.ensures refl c.are_characters.ensures lawful c.into_text.ensures
+    let lawful : (id : g.row.F-FileId.Denot) → IsLawful (file id) =
+    λ id. (g.met.F.Files c.lifetimes claim).lawful c.args.files.now id in
+    runs_emitted c.into_text.result c.in-Ok.ensures c.new-recorder.ensures refl
+    c.are_characters.ensures lawful c.into_text.ensures
 
 -- the error is `OutOfMemory` where the writer has failed, and else one of lookups
 pub returns-after-has_failed : goal.returns-after-has_failed
 returns-after-has_failed g c =
-    let IsError : Error → Type 0 = IsEmitError c.args.config.now (g.F.Files.database c.args.files.now) c.args.diagnostic.now in
+    let IsError : Error → Type 0 =
+    IsEmitError c.args.config.now (g.F.Files.database c.args.files.now) c.args.diagnostic.now in
     elim c.if-has_failed.branch [
       | then-has_failed w ↦ inl w.result-is
-      | else-has_failed w ↦ subst IsError (sym w.result-is) (error_emitted c.in-Err.error c.in-Err.ensures (sym c.has_failed.ensures ∙ w.if-has_failed.false))
+      | else-has_failed w ↦ subst IsError (sym w.result-is)
+          (error_emitted c.in-Err.error c.in-Err.ensures
+          (sym c.has_failed.ensures ∙ w.if-has_failed.false))
     ]

@@ -5,4 +5,5 @@ use Rattle.codespan_terminal.proofs.terminal.push_safe.Given as goal
 
 abbrev pub invariant-loop-c : goal.invariant-loop-c
 invariant-loop-c l =
-    string_bytes l.terminal ≡ string_bytes l.initial.terminal ++ encode_utf8_all (safe_characters l.yielded)
+    string_bytes l.terminal ≡ string_bytes l.initial.terminal
+    ++ encode_utf8_all (safe_characters l.yielded)

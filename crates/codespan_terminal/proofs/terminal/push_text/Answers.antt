@@ -7,4 +7,6 @@ use Rattle.codespan_terminal.proofs.terminal.push_text.Goals as goal
 pub returns : goal.returns
 returns c =
     IfOk-equal c.push_runs.result _ _ _ c.push_runs.ensures
-    (first-written c.args.styles.now c.args.runs.now c.first-item.result (string_bytes c.args.terminal.now) _ c.in-len1-up.len_at_least c.first-item.is (grind (arith, append_assoc)))
+    (first-written c.args.styles.now c.args.runs.now c.first-item.result
+    (string_bytes c.args.terminal.now) _ c.in-len1-up.len_at_least c.first-item.is
+    (grind (arith, append_assoc)))

@@ -4,4 +4,6 @@ use Rattle.codespan_terminal.proofs.terminal.safe_text.Goals as goal
 
 -- the safe characters of the text are appended to nothing
 pub returns : goal.returns
-returns c = c.in_ok-push_safe.ensures ∙ ap (λ (l : List ℕ). l ++ safe_text c.args.text.now) c.new-safe.ensures.bytes
+returns c =
+    c.in_ok-push_safe.ensures
+    ∙ ap (λ (l : List ℕ). l ++ safe_text c.args.text.now) c.new-safe.ensures.bytes

@@ -6,4 +6,5 @@ use Rattle.codespan_terminal.proofs.terminal.sequences.Goals as goal
 
 pub returns-in-Ok : goal.returns-in-Ok
 returns-in-Ok c =
-    written_sequences (ansi_spelling c.args.styles.now) (style_mark_of c.args.style) _ _ _ _ c.new-writer.ensures.begins (search rules) c.in-Ok.ensures.1 (search rules)
+    written_sequences (ansi_spelling c.args.styles.now) (style_mark_of c.args.style) _ _ _ _
+    c.new-writer.ensures.begins (search rules) c.in-Ok.ensures.1 (search rules)

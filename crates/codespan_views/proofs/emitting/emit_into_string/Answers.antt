@@ -7,7 +7,8 @@ use Rattle.codespan_views.proofs.EmittedOutputs.{string_rendered, text_is_utf8, 
 use Rattle.codespan_views.proofs.emitting.emit_into_string.Goals as goal
 
 -- a writer of plain text over an empty buffer begins with nothing
-begins-empty : {s : Sink} {xs : List ℕ} → s ≡ fresh_sink plain_spelling (Some xs) → xs ≡ [] → s ≡ fresh_sink plain_spelling (Some [])
+begins-empty : {s : Sink} {xs : List ℕ} → s ≡ fresh_sink plain_spelling (Some xs) → xs ≡ []
+    → s ≡ fresh_sink plain_spelling (Some [])
 begins-empty begins empty = begins ∙ ap (λ ys. fresh_sink plain_spelling (Some ys)) empty
 
 -- what was written is UTF-8
@@ -15,13 +16,19 @@ pub from_utf8_unchecked-requires : goal.from_utf8_unchecked-requires
 from_utf8_unchecked-requires g c =
     let file = ((g.F.Files.database c.args.files.now).file) in
     let claim : g.claim c.lifetimes = search rules in
-    let lawful : (id : g.row.F-FileId.Denot) → IsLawful (file id) = λ id. (g.met.F.Files c.lifetimes claim).lawful c.args.files.now id in
-    text_is_utf8 c.in-Ok.ensures (begins-empty c.new-plain.ensures.begins c.in_ok-bytes.ensures.items) (search rules) c.are_characters.ensures lawful
+    let lawful : (id : g.row.F-FileId.Denot) → IsLawful (file id) =
+    λ id. (g.met.F.Files c.lifetimes claim).lawful c.args.files.now id in
+    text_is_utf8 c.in-Ok.ensures
+    (begins-empty c.new-plain.ensures.begins c.in_ok-bytes.ensures.items) (search rules)
+    c.are_characters.ensures lawful
 
 pub returns-in-Ok : goal.returns-in-Ok
 returns-in-Ok g c =
-    string_rendered c.in-Ok.ensures (begins-empty c.new-plain.ensures.begins c.in_ok-bytes.ensures.items) (search rules)
+    string_rendered c.in-Ok.ensures
+    (begins-empty c.new-plain.ensures.begins c.in_ok-bytes.ensures.items) (search rules)
 
 -- an allocation failed, or the writer has not failed
 pub returns-in-Err : goal.returns-in-Err
-returns-in-Err g c = rw c.string_error.ensures (string_failed c.has_failed.result c.in-Err.ensures c.has_failed.ensures)
+returns-in-Err g c =
+    rw c.string_error.ensures
+    (string_failed c.has_failed.result c.in-Err.ensures c.has_failed.ensures)

@@ -17,6 +17,7 @@ returns-in_err-push_str g c = search rules
 pub returns : goal.returns
 returns g c = (
   string_bytes c.in_ok-text.text,
-  c.in_ok-push_str.ensures.bytes ∙ ap (λ t. string_bytes c.args.string.now ++ t) c.as_str.ensures.value,
+  c.in_ok-push_str.ensures.bytes
+      ∙ ap (λ t. string_bytes c.args.string.now ++ t) c.as_str.ensures.value,
   c.in_ok-text.ensures,
 )

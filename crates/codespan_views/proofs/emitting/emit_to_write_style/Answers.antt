@@ -5,7 +5,8 @@ use Rattle.codespan_views.proofs.emitting.emit_to_write_style.Goals as goal
 pub returns-in-Rich : goal.returns-in-Rich
 returns-in-Rich g c =
     view_rendered c.new-renderer.ensures.config c.new.ensures.diagnostic
-    (ap g.W.WriteStyle.sink c.new-renderer.ensures.writer) (ap g.W.WriteStyle.sink (search rules)) (sym c.in-Rich.is) c.new.ensures.config c.render.ensures.renders
+    (ap g.W.WriteStyle.sink c.new-renderer.ensures.writer) (ap g.W.WriteStyle.sink (search rules))
+    (sym c.in-Rich.is) c.new.ensures.config c.render.ensures.renders
 
 pub returns-in-Medium : goal.returns-in-Medium
 returns-in-Medium g c =

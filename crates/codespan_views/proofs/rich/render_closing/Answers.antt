@@ -14,10 +14,13 @@ returns-in_err-render_notes g c =
     let d = c.args.diagnostic.now in
     let context = context_of (config_of c.args.renderer.now) d.severity c.args.padding in
     let p = err_from_is_err_and c.from_residual.result c.from_residual.ensures.1 in
-    rw (p.1 ∙ ap Err p.2) (renders_as (sym (notes-empty string_bytes context d.notes.items)) (renders_cut newline c.in_err-render_notes.ensures))
+    rw (p.1 ∙ ap Err p.2)
+    (renders_as (sym (notes-empty string_bytes context d.notes.items))
+    (renders_cut newline c.in_err-render_notes.ensures))
 
 pub returns : goal.returns
 returns g c =
     let d = c.args.diagnostic.now in
     let context = context_of (config_of c.args.renderer.now) d.severity c.args.padding in
-    renders_as (sym (notes-empty string_bytes context d.notes.items)) (renders_then (λ (k : Config). newline) c.in_ok-render_notes.ensures c.render_empty.ensures)
+    renders_as (sym (notes-empty string_bytes context d.notes.items))
+    (renders_then (λ (k : Config). newline) c.in_ok-render_notes.ensures c.render_empty.ensures)

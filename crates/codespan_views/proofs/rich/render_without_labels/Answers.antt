@@ -14,4 +14,5 @@ returns-in_err-render_diagnostic_header g c =
 pub returns : goal.returns
 returns g c =
     let d = c.args.diagnostic.now in
-    renders_then (λ (k : Config). whole_of_notes (context_of k d.severity 0) (notes_of d)) c.in_ok-render_diagnostic_header.ensures c.render_closing.ensures
+    renders_then (λ (k : Config). whole_of_notes (context_of k d.severity 0) (notes_of d))
+    c.in_ok-render_diagnostic_header.ensures c.render_closing.ensures

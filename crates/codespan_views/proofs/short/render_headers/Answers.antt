@@ -12,10 +12,13 @@ returns-in_err-render_located_headers-clause-renders g c =
 
 pub returns-then-branch-clause-renders : goal.returns-then-branch-clause-renders
 unfolding RendersHeadersOf
-returns-then-branch-clause-renders g c = headers_written _ c.in_ok-render_located_headers.ensures.renders.0 (sym c.in_ok-render_located_headers.ensures.renders.1 ∙ c.if-branch.true)
+returns-then-branch-clause-renders g c =
+    headers_written _ c.in_ok-render_located_headers.ensures.renders.0
+    (sym c.in_ok-render_located_headers.ensures.renders.1 ∙ c.if-branch.true)
 
 pub returns-else-branch-clause-renders : goal.returns-else-branch-clause-renders
 unfolding RendersHeadersOf
 returns-else-branch-clause-renders g c =
     bare_header _ c.in_ok-render_located_headers.ensures.renders.0 c.render_diagnostic_header.result
-    (sym c.in_ok-render_located_headers.ensures.renders.1 ∙ c.if-branch.false) c.render_diagnostic_header.ensures.writes c.render_diagnostic_header.ensures.io
+    (sym c.in_ok-render_located_headers.ensures.renders.1 ∙ c.if-branch.false)
+    c.render_diagnostic_header.ensures.writes c.render_diagnostic_header.ensures.io

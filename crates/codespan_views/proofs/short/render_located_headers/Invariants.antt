@@ -14,5 +14,6 @@ invariant-loop-label g l = record {
       (g.W.WriteStyle.sink (writer_of l.initial.renderer))
       (primary_of (map label_of (take l.label-index l.diagnostic.labels.items)))
       (g.W.WriteStyle.sink (writer_of l.renderer));
-  some : l.has_primary ≡ has_any (primary_of (map label_of (take l.label-index l.diagnostic.labels.items)));
+  some : l.has_primary ≡ has_any
+      (primary_of (map label_of (take l.label-index l.diagnostic.labels.items)));
 }

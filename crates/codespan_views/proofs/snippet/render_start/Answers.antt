@@ -16,5 +16,7 @@ returns g c =
     let context = c.args.context.now in
     let snippet_plan = c.args.snippet_plan.now in
     let start = rendered_start (config_of c.args.renderer.now) context.padding snippet_plan.locus in
-    let empty = λ (k : Config). rendered_snippet_empty k context.severity context.padding snippet_plan.file.now.num_multi_labels [] in
-    renders_as (ap (λ s. start ++ s) (sym (append-nil (empty (config_of c.args.renderer.now))))) (renders_then empty c.in_ok-render_snippet_start.ensures c.render_snippet_empty.ensures)
+    let empty = λ (k : Config). rendered_snippet_empty k context.severity context.padding
+    snippet_plan.file.now.num_multi_labels [] in
+    renders_as (ap (λ s. start ++ s) (sym (append-nil (empty (config_of c.args.renderer.now)))))
+    (renders_then empty c.in_ok-render_snippet_start.ensures c.render_snippet_empty.ensures)

@@ -3,7 +3,8 @@ use Rattle.codespan_views.proofs.RendererRuns.{renders_as, renders_nothing}
 use Rattle.codespan_views.proofs.snippet.render_trailing_border.Goals as goal
 
 pub returns-then-is_followed : goal.returns-then-is_followed
-returns-then-is_followed g c = rw c.if-is_followed.true (renders_as (sym (append-nil _)) c.render_snippet_empty.ensures)
+returns-then-is_followed g c =
+    rw c.if-is_followed.true (renders_as (sym (append-nil _)) c.render_snippet_empty.ensures)
 
 pub returns-else-is_followed : goal.returns-else-is_followed
 returns-else-is_followed g c = rw c.if-is_followed.false renders_nothing

@@ -13,13 +13,17 @@ loop-index-preserved-in-loop-index c =
     let text = c.args.text.now in
     let Inside = λ (word : Word). word.end ≤ length text in
     let count = length c.loop-index.yielded in
-    let turn = YieldsList-turn (YieldsList-from_enumerate (YieldsList-from_bytes text cc) cc) c.loop-index.yielded _ c.loop-index.yielded_by _ _ _ c.in-Some.is c.next.ensures.steps in
+    let turn = YieldsList-turn (YieldsList-from_enumerate (YieldsList-from_bytes text cc) cc)
+    c.loop-index.yielded _ c.loop-index.yielded_by _ _ _ c.in-Some.is c.next.ensures.steps in
     let inside : count < length text = omega (arith, turn.0, length-enumerate_from 0 text) in
-    let at : c.in-Some.index ≡ 0 + count = ap (λ (p : ℕ × ℕ). p.0) (turn.1 ∙ get_or-enumerate_from 0 text count (c.in-Some.index, c.in-Some.byte) inside) in
+    let at : c.in-Some.index ≡ 0 + count = ap (λ (p : ℕ × ℕ). p.0)
+    (turn.1 ∙ get_or-enumerate_from 0 text count (c.in-Some.index, c.in-Some.byte) inside) in
     let within : c.in-Some.index < length text = omega (arith, inside, at) in
-    let ended : All Inside c.match-take.words.items =
-    elim c.match-take.branch [
-      | in-Some-take+in_ok-push w ↦ rw (w.words-is, w.in_ok-push.ensures.items) (All-push Inside c.loop-index.words.items _ c.loop-index.invariant (omega (arith, within)))
+    let ended : All Inside c.match-take.words.items = elim c.match-take.branch [
+      | in-Some-take+in_ok-push w ↦ rw (w.words-is, w.in_ok-push.ensures.items)
+          (All-push Inside c.loop-index.words.items _ c.loop-index.invariant
+          (omega (arith, within)))
       | in_default w ↦ rw w.words-is c.loop-index.invariant
     ] in
-    subst (All Inside) (sym c.in_ok-push-2.ensures.items) (All-push Inside c.match-take.words.items _ ended (omega (arith, within)))
+    subst (All Inside) (sym c.in_ok-push-2.ensures.items)
+    (All-push Inside c.match-take.words.items _ ended (omega (arith, within)))

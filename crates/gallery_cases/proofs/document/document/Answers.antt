@@ -13,5 +13,7 @@ returns c =
     (record {
       runs = runs;
       are_runs = c.in_ok-text.ensures;
-      is = subst (λ (styles : Styles). bytes ≡ terminal_text styles runs) c.default-in-Terminal.ensures c.in_ok-to_terminal-in-Terminal.ensures.runs;
+      is =
+          subst (λ (styles : Styles). bytes ≡ terminal_text styles runs)
+          c.default-in-Terminal.ensures c.in_ok-to_terminal-in-Terminal.ensures.runs;
     })

@@ -13,7 +13,8 @@ returns-in-One c = λ plain.
       added.0,
       added.1,
       over_one case (name_of files).now (source_of files).now c.in-One.diagnostic are.1
-          (λ Id database diagnostic. IsRendered case.config database diagnostic added.0) are.0 added.2,
+          (λ Id database diagnostic. IsRendered case.config database diagnostic added.0) are.0
+          added.2,
     ))
     (c.render_over.ensures plain)
 
@@ -26,7 +27,9 @@ returns c = λ plain.
     (λ added. (
       added.0,
       added.1,
-      over_mapped case (mapped_name_of files).now (mapped_source_of files).now c.in-Mapped.diagnostic are.1
-          (λ Id database diagnostic. IsRendered case.config database diagnostic added.0) are.0 (set_numbers_of files) are.2 added.2,
+      over_mapped case (mapped_name_of files).now (mapped_source_of files).now
+          c.in-Mapped.diagnostic are.1
+          (λ Id database diagnostic. IsRendered case.config database diagnostic added.0) are.0
+          (set_numbers_of files) are.2 added.2,
     ))
     (c.render_over-in-Mapped.ensures plain)

@@ -12,7 +12,9 @@ returns-in-One c =
     let files = c.in-One.files in
     let are = rw c.in-One.is at c.in_ok-database.ensures in
     ok_follows c.runs_over.result
-    (λ text. over_one case (name_of files).now (source_of files).now c.in-One.diagnostic are.1 (λ Id database diagnostic. AreRunsOver case.config database diagnostic (styled_runs text)) are.0)
+    (λ text. over_one case (name_of files).now (source_of files).now c.in-One.diagnostic are.1
+    (λ Id database diagnostic. AreRunsOver case.config database diagnostic (styled_runs text))
+    are.0)
     (c.runs_over.ensures (λ x contains. refl))
 
 pub returns-in-Several : goal.returns-in-Several
@@ -21,7 +23,9 @@ returns-in-Several c =
     let files = c.in-Several.files in
     let are = rw c.in-Several.is at c.in_ok-database.ensures in
     ok_follows c.runs_over-in-Several.result
-    (λ text. over_several case (entries files) (λ Id database diagnostic. AreRunsOver case.config database diagnostic (styled_runs text)) are.0 are.1)
+    (λ text. over_several case (entries files)
+    (λ Id database diagnostic. AreRunsOver case.config database diagnostic (styled_runs text))
+    are.0 are.1)
     (c.runs_over-in-Several.ensures (stated_in_database (entries files) case.diagnostic))
 
 pub returns : goal.returns
@@ -30,6 +34,8 @@ returns c =
     let files = c.in-Mapped.files in
     let are = rw c.in-Mapped.is at c.in_ok-database.ensures in
     ok_follows c.runs_over-in-Mapped.result
-    (λ text. over_mapped case (mapped_name_of files).now (mapped_source_of files).now c.in-Mapped.diagnostic are.1
-    (λ Id database diagnostic. AreRunsOver case.config database diagnostic (styled_runs text)) are.0 (set_numbers_of files) are.2)
+    (λ text. over_mapped case (mapped_name_of files).now (mapped_source_of files).now
+    c.in-Mapped.diagnostic are.1
+    (λ Id database diagnostic. AreRunsOver case.config database diagnostic (styled_runs text)) are.0
+    (set_numbers_of files) are.2)
     (c.runs_over-in-Mapped.ensures (λ x contains. refl))

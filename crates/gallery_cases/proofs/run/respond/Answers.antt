@@ -9,19 +9,37 @@ use Rattle.gallery_cases.proofs.run.respond.Goals as goal
 
 pub returns-in_err-response-clause-reported : goal.returns-in_err-response-clause-reported
 returns-in_err-response-clause-reported g c =
-    let is_requested = requested gallery_request_view c.from_arguments.result _ c.ok_or.result c.in_ok-request.request _ c.ok_or.ensures.value c.in_ok-request.was c.from_arguments.ensures in
+    let is_requested = requested gallery_request_view c.from_arguments.result _ c.ok_or.result
+    c.in_ok-request.request _ c.ok_or.ensures.value c.in_ok-request.was
+    c.from_arguments.ensures in
     let read = c.in_ok-text.ensures.bytes in
-    let applied_lines = subst (λ (t : List ℕ). AppliesLines (lines t) _ c.in_ok-cases.cases.items) c.as_str.ensures.value c.in_ok-cases.ensures.cases in
-    let fails = subst (λ (cs : List Case). IsFailureOf (gallery_request_view c.in_ok-request.request) cs c.in_err-response.field-0.0) c.as_slice.ensures.value c.in_err-response.ensures.fails in
-    let reported : IfSome (g.R.Read.remaining c.args.input.now) (GalleryErrorMeans (gallery_request_of (map string_bytes c.args.args.now)) c.in_err-response.field-0.0) =
+    let applied_lines = subst (λ (t : List ℕ). AppliesLines (lines t) _ c.in_ok-cases.cases.items)
+    c.as_str.ensures.value c.in_ok-cases.ensures.cases in
+    let fails = subst
+    (λ (cs : List Case). IsFailureOf (gallery_request_view c.in_ok-request.request) cs
+    c.in_err-response.field-0.0)
+    c.as_slice.ensures.value c.in_err-response.ensures.fails in
+    let reported : IfSome (g.R.Read.remaining c.args.input.now)
+    (GalleryErrorMeans (gallery_request_of (map string_bytes c.args.args.now))
+    c.in_err-response.field-0.0) =
     failed _ _ _ _ c.in_ok-cases.cases.items _ is_requested read applied_lines fails in
     search rules
 
 pub returns-clause-rendered : goal.returns-clause-rendered
 returns-clause-rendered g c =
-    let is_requested = requested gallery_request_view c.from_arguments.result _ c.ok_or.result c.in_ok-request.request _ c.ok_or.ensures.value c.in_ok-request.was c.from_arguments.ensures in
+    let is_requested = requested gallery_request_view c.from_arguments.result _ c.ok_or.result
+    c.in_ok-request.request _ c.ok_or.ensures.value c.in_ok-request.was
+    c.from_arguments.ensures in
     let read = c.in_ok-text.ensures.bytes in
-    let applied_lines = subst (λ (t : List ℕ). AppliesLines (lines t) _ c.in_ok-cases.cases.items) c.as_str.ensures.value c.in_ok-cases.ensures.cases in
-    let of_cases = subst (λ (cs : List Case). IsResponseOf (gallery_request_view c.in_ok-request.request) cs c.in_ok-response.response.items) c.as_slice.ensures.value c.in_ok-response.ensures.responds in
-    let responds = subst (λ (bytes : List ℕ). IsResponseOf (gallery_request_view c.in_ok-request.request) c.in_ok-cases.cases.items bytes) (sym c.as_slice-2.ensures.value) of_cases in
-    responded _ _ _ _ c.as_slice-2.result.now c.in_ok-cases.cases.items c.write_output.result _ is_requested read applied_lines responds c.write_output.ensures.written
+    let applied_lines = subst (λ (t : List ℕ). AppliesLines (lines t) _ c.in_ok-cases.cases.items)
+    c.as_str.ensures.value c.in_ok-cases.ensures.cases in
+    let of_cases = subst
+    (λ (cs : List Case). IsResponseOf (gallery_request_view c.in_ok-request.request) cs
+    c.in_ok-response.response.items)
+    c.as_slice.ensures.value c.in_ok-response.ensures.responds in
+    let responds = subst
+    (λ (bytes : List ℕ). IsResponseOf (gallery_request_view c.in_ok-request.request)
+    c.in_ok-cases.cases.items bytes)
+    (sym c.as_slice-2.ensures.value) of_cases in
+    responded _ _ _ _ c.as_slice-2.result.now c.in_ok-cases.cases.items c.write_output.result _
+    is_requested read applied_lines responds c.write_output.ensures.written

@@ -14,6 +14,7 @@ returns-then-eq c =
     let cases = c.args.cases.now in
     let name = c.args.name.now in
     let same : bytes_eq case.name.now name ≡ true = sym c.eq.ensures ∙ c.if-eq.true in
-    let left = drop_more cases i case c.loop-case-test.true ∙ ap (λ (x : Case). x ∷ drop (i + 1) cases) (sym c.case-item.is) in
+    let left = drop_more cases i case c.loop-case-test.true
+    ∙ ap (λ (x : Case). x ∷ drop (i + 1) cases) (sym c.case-item.is) in
     ap (λ found. if found then Some case else case_named name (drop (i + 1) cases)) (sym same)
     ∙ ap (case_named name) (sym left) ∙ c.loop-case.invariant

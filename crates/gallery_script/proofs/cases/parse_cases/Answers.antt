@@ -7,12 +7,20 @@ use Rattle.gallery_script.proofs.cases.parse_cases.Goals as goal
 
 pub returns-clause-cases : goal.returns-clause-cases
 returns-clause-cases c =
-    let collected = map_from_collect {E = AllocError} (Ok c.in_ok-lines.lines) c.in_ok-lines.ensures.ran (YieldsList-from_lines c.args.input.now c.lines.ensures.rest) in
-    let same : map (λ (line : Bor (List ℕ)). line.now) c.as_slice.result.now ≡ lines c.args.input.now = ap (map (λ (line : Bor (List ℕ)). line.now)) c.as_slice.ensures.value ∙ collected in
+    let collected =
+    map_from_collect {E = AllocError} (Ok c.in_ok-lines.lines) c.in_ok-lines.ensures.ran
+    (YieldsList-from_lines c.args.input.now c.lines.ensures.rest) in
+    let same : map (λ (line : Bor (List ℕ)). line.now) c.as_slice.result.now
+    ≡ lines c.args.input.now =
+    ap (map (λ (line : Bor (List ℕ)). line.now)) c.as_slice.ensures.value ∙ collected in
     rw same at c.apply_lines.ensures.cases
 
 pub returns-clause-line_error : goal.returns-clause-line_error
 returns-clause-line_error c =
-    let collected = map_from_collect {E = AllocError} (Ok c.in_ok-lines.lines) c.in_ok-lines.ensures.ran (YieldsList-from_lines c.args.input.now c.lines.ensures.rest) in
-    let same : map (λ (line : Bor (List ℕ)). line.now) c.as_slice.result.now ≡ lines c.args.input.now = ap (map (λ (line : Bor (List ℕ)). line.now)) c.as_slice.ensures.value ∙ collected in
+    let collected =
+    map_from_collect {E = AllocError} (Ok c.in_ok-lines.lines) c.in_ok-lines.ensures.ran
+    (YieldsList-from_lines c.args.input.now c.lines.ensures.rest) in
+    let same : map (λ (line : Bor (List ℕ)). line.now) c.as_slice.result.now
+    ≡ lines c.args.input.now =
+    ap (map (λ (line : Bor (List ℕ)). line.now)) c.as_slice.ensures.value ∙ collected in
     rw same at c.apply_lines.ensures.line_error

@@ -7,5 +7,6 @@ use Rattle.gallery_script.proofs.database.mapped_file.Given as goal
 abbrev pub invariant-loop-line : goal.invariant-loop-line
 invariant-loop-line l = record {
   file : ((mapped_name_of l.mapped).now, (mapped_source_of l.mapped).now) ≡ file_view l.file;
-  numbers : with_numbers (set_numbers_of l.mapped) (drop l.line-index l.numbers) ≡ with_numbers [] l.numbers;
+  numbers : with_numbers (set_numbers_of l.mapped) (drop l.line-index l.numbers) ≡ with_numbers []
+      l.numbers;
 }

@@ -5,4 +5,5 @@ use Rattle.gallery_script.specs.Database.{borrowed_view}
 use Rattle.gallery_script.proofs.database.several_files.Given as goal
 
 abbrev pub invariant-loop-file : goal.invariant-loop-file
-invariant-loop-file l = map borrowed_view (entries l.database) ≡ map file_view (take l.file-index l.files)
+invariant-loop-file l =
+    map borrowed_view (entries l.database) ≡ map file_view (take l.file-index l.files)

@@ -4,7 +4,14 @@ use Rattle.gallery_script.proofs.Escaping.{none_unescaped, one_more, all_unescap
 use Rattle.gallery_script.proofs.escape.unescape.Goals as goal
 
 pub escapes-init : goal.escapes-init
-escapes-init c = record { utf8 = search rules; continues = none_unescaped c.args.text.now (string_bytes c.new-unescaped.result) c.new-unescaped.ensures.bytes }
+escapes-init c =
+    record {
+      utf8 =
+          search rules;
+      continues =
+          none_unescaped c.args.text.now (string_bytes c.new-unescaped.result)
+          c.new-unescaped.ensures.bytes;
+    }
 
 pub returns-in_default-read_escape : goal.returns-in_default-read_escape
 returns-in_default-read_escape c =
@@ -13,10 +20,18 @@ returns-in_default-read_escape c =
 pub escapes-preserved : goal.escapes-preserved
 escapes-preserved c = record {
   utf8 = search rules;
-  continues = one_more c.args.text.now (string_bytes c.escapes.unescaped) (string_bytes c.push.new.self) c.escapes.rest.now c.in-Some-read_escape.left.now c.in-Some-read_escape.character
-      (c.in-Some.plain, c.in-Some.escape) c.escapes.invariant.continues c.in-Some.ensures.cases c.in-Some-read_escape.ensures.read
-      (c.in_ok-push.ensures.bytes ∙ ap (λ front. front ++ encode_utf8 c.in-Some-read_escape.character) c.in_ok-push_str.ensures.bytes);
+  continues =
+      one_more c.args.text.now (string_bytes c.escapes.unescaped) (string_bytes c.push.new.self)
+      c.escapes.rest.now c.in-Some-read_escape.left.now c.in-Some-read_escape.character
+      (c.in-Some.plain, c.in-Some.escape) c.escapes.invariant.continues c.in-Some.ensures.cases
+      c.in-Some-read_escape.ensures.read
+      (c.in_ok-push.ensures.bytes
+      ∙ ap (λ front. front ++ encode_utf8 c.in-Some-read_escape.character)
+      c.in_ok-push_str.ensures.bytes);
 }
 
 pub returns : goal.returns
-returns c = all_unescaped c.args.text.now (string_bytes c.escapes.unescaped) c.escapes.rest.now (string_bytes c.push_str-2.new.self) c.escapes.invariant.continues c.in_default.ensures.cases c.in_ok-push_str-2.ensures.bytes
+returns c =
+    all_unescaped c.args.text.now (string_bytes c.escapes.unescaped) c.escapes.rest.now
+    (string_bytes c.push_str-2.new.self) c.escapes.invariant.continues c.in_default.ensures.cases
+    c.in_ok-push_str-2.ensures.bytes

@@ -5,7 +5,12 @@ use Rattle.gallery_script.proofs.Escaping.{ContinuesUnescaped}
 use Rattle.gallery_script.proofs.escape.unescape.Given as goal
 
 abbrev pub invariant-escapes : goal.invariant-escapes
-invariant-escapes l = record { utf8 : shadow (Utf8 l.rest); continues : ContinuesUnescaped l.text (string_bytes l.unescaped) l.rest }
+invariant-escapes l =
+    record {
+      utf8 : shadow (Utf8 l.rest);
+      continues : ContinuesUnescaped l.text
+          (string_bytes l.unescaped) l.rest;
+    }
 
 abbrev pub decreases-escapes : goal.decreases-escapes
 decreases-escapes l = length l.rest

@@ -13,8 +13,14 @@ returns-clause-parsed c =
       refl,
       record {
         file = c.in_ok-file_id.ensures.number;
-        start = subst (λ (text : List ℕ). IsNumber (field_of text) c.in_ok-start.start) one c.in_ok-start.ensures.number;
-        end = subst (λ (text : List ℕ). IsNumber (field_of text) c.in_ok-end.end) two c.in_ok-end.ensures.number;
-        message = subst (λ (text : List ℕ). UnescapesTo text (string_bytes c.in_ok-unescape.field-0)) three c.in_ok-unescape.ensures;
+        start =
+            subst (λ (text : List ℕ). IsNumber (field_of text) c.in_ok-start.start) one
+            c.in_ok-start.ensures.number;
+        end =
+            subst (λ (text : List ℕ). IsNumber (field_of text) c.in_ok-end.end) two
+            c.in_ok-end.ensures.number;
+        message =
+            subst (λ (text : List ℕ). UnescapesTo text (string_bytes c.in_ok-unescape.field-0))
+            three c.in_ok-unescape.ensures;
       },
     )

@@ -12,6 +12,11 @@ loop-preserved g c =
     let (done, split, received) = c.loop.invariant in
     let rest = c.loop.rest.now in
     elim c.match-write.branch [
-      | in-Ok w ↦ (done ++ take w.in-Ok.count rest, rw w.rest-is (moved_range _ done rest w.in-Ok.count split), Appends-trans _ _ _ _ _ received w.in-Ok.ensures.bytes)
+      | in-Ok w ↦ (
+        done
+            ++ take w.in-Ok.count rest,
+        rw w.rest-is (moved_range _ done rest w.in-Ok.count split),
+        Appends-trans _ _ _ _ _ received w.in-Ok.ensures.bytes,
+      )
       | in-Err w ↦ (done, rw w.rest-is split, Appends-kept _ _ _ _ received w.in-Err.ensures.bytes)
     ]

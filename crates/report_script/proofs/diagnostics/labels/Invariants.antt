@@ -4,4 +4,5 @@ use Rattle.report_script.specs.Scripts.{script_label_view}
 use Rattle.report_script.proofs.diagnostics.labels.Given as goal
 
 abbrev pub invariant-loop-style : goal.invariant-loop-style
-invariant-loop-style l = map label_view l.labels.items ≡ map script_label_view (take l.style-index l.stated)
+invariant-loop-style l =
+    map label_view l.labels.items ≡ map script_label_view (take l.style-index l.stated)

@@ -9,11 +9,18 @@ use Rattle.report_script.proofs.request.parse_number.Goals as goal
 pub returns-then-all : goal.returns-then-all
 returns-then-all c =
     let text = c.args.text.now in
-    let all : c.all.result ≡ all_ascii_digits text = all_from_yields_List is_ascii_digit _ _ _ c.all.ensures.ran (YieldsList-from_bytes text cc) (λ x b q k. search (rules, tests)) ∙ digits_are text in
-    c.ok.ensures.value ∙ number_of-parsed text c.parse.result (sym all ∙ c.if-all.true) c.parse.ensures.value.0
+    let all : c.all.result ≡ all_ascii_digits text =
+    all_from_yields_List is_ascii_digit _ _ _ c.all.ensures.ran (YieldsList-from_bytes text cc)
+    (λ x b q k. search (rules, tests))
+    ∙ digits_are text in
+    c.ok.ensures.value
+    ∙ number_of-parsed text c.parse.result (sym all ∙ c.if-all.true) c.parse.ensures.value.0
 
 pub returns-else-all : goal.returns-else-all
 returns-else-all c =
     let text = c.args.text.now in
-    let all : c.all.result ≡ all_ascii_digits text = all_from_yields_List is_ascii_digit _ _ _ c.all.ensures.ran (YieldsList-from_bytes text cc) (λ x b q k. search (rules, tests)) ∙ digits_are text in
+    let all : c.all.result ≡ all_ascii_digits text =
+    all_from_yields_List is_ascii_digit _ _ _ c.all.ensures.ran (YieldsList-from_bytes text cc)
+    (λ x b q k. search (rules, tests))
+    ∙ digits_are text in
     number_of-others text (sym all ∙ c.if-all.false)

@@ -13,9 +13,11 @@ first_decides [] long = absurd (omega (arith, long))
 first_decides (b ∷ bs) long = refl
 
 pub returns-in-empty : goal.returns-in-empty
-returns-in-empty c = empty c.args.line.now (omega (arith, c.in-empty.len_below, ap length c.as_bytes.ensures.value))
+returns-in-empty c =
+    empty c.args.line.now (omega (arith, c.in-empty.len_below, ap length c.as_bytes.ensures.value))
 
 pub returns-in-len1-up : goal.returns-in-len1-up
 returns-in-len1-up c =
     ap (λ (line : List ℕ). get_or line 0 0 == 35) c.as_bytes.ensures.value
-    ∙ first_decides c.args.line.now (omega (arith, c.in-len1-up.len_at_least, ap length c.as_bytes.ensures.value))
+    ∙ first_decides c.args.line.now
+    (omega (arith, c.in-len1-up.len_at_least, ap length c.as_bytes.ensures.value))

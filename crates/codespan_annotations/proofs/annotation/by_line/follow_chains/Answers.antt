@@ -10,9 +10,11 @@ abbrev is_moved : ℕ → Bool
 is_moved n = n == MOVED
 
 -- there is room for one more
-room : {X : Type 0} (ms ns : List ℕ) (xs ys : List X) (i : ℕ) (y : X) → AreKept is_moved ms ns xs ys → length ns ≡ length xs → i < length xs → is_moved (get_or ns i 0) ≡ false
+room : {X : Type 0} (ms ns : List ℕ) (xs ys : List X) (i : ℕ) (y : X) → AreKept is_moved ms ns xs ys
+    → length ns ≡ length xs → i < length xs → is_moved (get_or ns i 0) ≡ false
     → y ≡ get_or xs i y → length ys < length xs
-room ms ns xs ys i y h long inside out is = AreKept-room is_moved ms ns xs ys i MOVED y h long inside out refl is
+room ms ns xs ys i y h long inside out is =
+    AreKept-room is_moved ms ns xs ys i MOVED y h long inside out refl is
 
 pub push_reserved-requires : goal.push_reserved-requires
 push_reserved-requires g c =
@@ -39,7 +41,11 @@ loop-source-smaller g c =
 
 pub loop-source-preserved : goal.loop-source-preserved
 loop-source-preserved g c = record {
-  moved = subst (λ ys. AreKept is_moved c.args.next.now (set c.loop-source.next c.loop-source.source MOVED) c.args.annotations.now ys) (sym c.push_reserved.ensures.items)
+  moved =
+      subst
+      (λ ys. AreKept is_moved c.args.next.now (set c.loop-source.next c.loop-source.source MOVED)
+      c.args.annotations.now ys)
+      (sym c.push_reserved.ensures.items)
       (AreKept-more is_moved c.args.next.now c.loop-source.next c.args.annotations.now
       c.loop-source.moved.items c.loop-source.source MOVED c.index-annotations-source.result
       c.loop-source.invariant.moved (c.loop-source.auto.next ∙ c.loop-start.auto.next
@@ -50,4 +56,5 @@ loop-source-preserved g c = record {
 
 pub returns-clause-permutation : goal.returns-clause-permutation
 returns-clause-permutation g c =
-    λ all. AreKept-all is_moved c.args.next.now c.loop-start.next c.args.annotations.now c.loop-start.moved.items c.loop-start.invariant.moved all
+    λ all. AreKept-all is_moved c.args.next.now c.loop-start.next c.args.annotations.now
+    c.loop-start.moved.items c.loop-start.invariant.moved all

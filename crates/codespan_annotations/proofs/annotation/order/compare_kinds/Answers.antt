@@ -23,15 +23,19 @@ module _ (i j : ℕ) (x y : LabelModel) (o : Ordering) where
       → o ≡ kind_cmp (Single i x) (Single j y)
   by_starts s_is t_is starts different =
       let rest = ordering_then (nat_cmp x.end y.end) (nat_cmp j i) in
-      then_different o rest different ∙ ap (λ p. ordering_then p rest) (starts ∙ ap₂ nat_cmp s_is t_is)
+      then_different o rest different
+      ∙ ap (λ p. ordering_then p rest) (starts ∙ ap₂ nat_cmp s_is t_is)
 
   -- two single-line labels that start at one byte
-  by_ends : (ends indices : Ordering) {s t u v : ℕ} → s ≡ x.start → t ≡ y.start → u ≡ x.end → v ≡ y.end
-      → Equal ≡ nat_cmp s t → ends ≡ nat_cmp u v → indices ≡ nat_cmp j i → o ≡ ordering_then ends indices
+  by_ends : (ends indices : Ordering) {s t u v : ℕ} → s ≡ x.start → t ≡ y.start → u ≡ x.end
+      → v ≡ y.end
+      → Equal ≡ nat_cmp s t → ends ≡ nat_cmp u v → indices ≡ nat_cmp j i
+      → o ≡ ordering_then ends indices
       → o ≡ kind_cmp (Single i x) (Single j y)
   by_ends ends indices s_is t_is u_is v_is equal ends_are indices_are is =
       is ∙ ap₂ ordering_then (ends_are ∙ ap₂ nat_cmp u_is v_is) indices_are
-      ∙ ap (λ p. ordering_then p (ordering_then (nat_cmp x.end y.end) (nat_cmp j i))) (equal ∙ ap₂ nat_cmp s_is t_is)
+      ∙ ap (λ p. ordering_then p (ordering_then (nat_cmp x.end y.end) (nat_cmp j i)))
+      (equal ∙ ap₂ nat_cmp s_is t_is)
 
 -- ranges of one start are compared by their ends, and then their labels by their indices
 pub returns-in-Equal : goal.returns-in-Equal
@@ -54,7 +58,8 @@ returns-in_default-starts g c =
     let y = from_line_start c.args.right.now.line.start (label_of singles.other_label.now).label in
     rw (singles.is-0, singles.is-1)
     (by_starts singles.index singles.other_index x y c.cmp-starts.result
-    c.range_in_line-range.ensures.start c.range_in_line-other.ensures.start c.cmp-starts.ensures c.in_default-starts.not-Equal)
+    c.range_in_line-range.ensures.start c.range_in_line-other.ensures.start c.cmp-starts.ensures
+    c.in_default-starts.not-Equal)
 
 -- lane marks are compared by their lanes alone
 pub returns-in-Multi-Multi : goal.returns-in-Multi-Multi

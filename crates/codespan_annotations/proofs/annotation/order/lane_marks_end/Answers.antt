@@ -13,8 +13,10 @@ loop-end-init g c =
       after = omega arith;
       within = omega (arith, c.requires);
       sorted = λ k d from below. absurd (omega arith);
-      last = subst (λ e. IsLaneMarkOn first.file first.line.index c.in-Some.lane (annotation_view e))
-          (c.index-annotations-start.is ∙ ap (λ i. get_or xs i first) (omega arith)) c.in-Some.ensures;
+      last =
+          subst (λ e. IsLaneMarkOn first.file first.line.index c.in-Some.lane (annotation_view e))
+          (c.index-annotations-start.is ∙ ap (λ i. get_or xs i first) (omega arith))
+          c.in-Some.ensures;
     }
 
 pub loop-end-preserved : goal.loop-end-preserved
@@ -24,14 +26,25 @@ loop-end-preserved g c =
     let first = c.index-annotations-start.result in
     let last = get_or xs (end - 1) first in
     let new = c.index-annotations-end.result in
-    let mark : IsLaneMarkOn first.file first.line.index c.in-Some-lane_on.next (annotation_view new) = c.in-Some-lane_on.ensures in
+    let mark : IsLaneMarkOn first.file first.line.index c.in-Some-lane_on.next
+    (annotation_view new) =
+    c.in-Some-lane_on.ensures in
     record {
       after = omega arith;
       within = omega arith;
-      sorted = sorted-join (λ x y. is_before (annotation_view x) (annotation_view y)) xs c.args.start end (end + 1) last new
-          (get_or_default xs (end - 1) first last (omega arith)) c.index-annotations-end.is (omega arith)
-          (mark_rises first.file first.line.index c.loop-end.lane c.in-Some-lane_on.next (annotation_view last) (annotation_view new) c.loop-end.invariant.last mark c.if-lane-next.true)
+      sorted =
+          sorted-join (λ x y. is_before (annotation_view x) (annotation_view y)) xs c.args.start end
+          (end + 1) last new
+          (get_or_default xs (end - 1) first last (omega arith)) c.index-annotations-end.is
+          (omega arith)
+          (mark_rises first.file first.line.index c.loop-end.lane c.in-Some-lane_on.next
+          (annotation_view last) (annotation_view new) c.loop-end.invariant.last mark
+          c.if-lane-next.true)
           c.loop-end.invariant.sorted (λ k d from below. absurd (omega arith));
-      last = subst (λ e. IsLaneMarkOn first.file first.line.index c.in-Some-lane_on.next (annotation_view e))
-          (c.index-annotations-end.is ∙ get_or_default xs end new first (omega arith) ∙ ap (λ i. get_or xs i first) (omega arith)) mark;
+      last =
+          subst
+          (λ e. IsLaneMarkOn first.file first.line.index c.in-Some-lane_on.next (annotation_view e))
+          (c.index-annotations-end.is ∙ get_or_default xs end new first (omega arith)
+          ∙ ap (λ i. get_or xs i first) (omega arith))
+          mark;
     }

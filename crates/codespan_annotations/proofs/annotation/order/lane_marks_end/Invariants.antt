@@ -9,8 +9,10 @@ abbrev pub invariant-loop-end : goal.invariant-loop-end
 invariant-loop-end g l = record {
   after : l.start < l.end;
   within : l.end ≤ length l.annotations;
-  sorted : IsSortedWithin (λ x y. is_before (annotation_view x) (annotation_view y)) l.annotations l.start l.end;
-  last : IsLaneMarkOn l.first.file l.first.line.index l.lane (annotation_view (get_or l.annotations (l.end - 1) l.first));
+  sorted : IsSortedWithin (λ x y. is_before (annotation_view x) (annotation_view y)) l.annotations
+      l.start l.end;
+  last : IsLaneMarkOn l.first.file l.first.line.index l.lane
+      (annotation_view (get_or l.annotations (l.end - 1) l.first));
 }
 
 abbrev pub decreases-loop-end : goal.decreases-loop-end

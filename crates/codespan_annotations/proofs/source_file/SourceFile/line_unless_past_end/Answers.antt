@@ -21,7 +21,9 @@ returns-clause-found g c =
 pub returns-clause-succeeded : goal.returns-clause-succeeded
 returns-clause-succeeded g c =
     let failure = (g.F.Files.database c.args.self.now.files.now).failure c.args.self.now.file_id in
-    ap (λ o. or_failure o (or_failure (failure (LineNumber c.args.index)) None)) c.in-Ok.ensures.failed ∙ c.in_ok-number.ensures.failed
+    ap (λ o. or_failure o (or_failure (failure (LineNumber c.args.index)) None))
+    c.in-Ok.ensures.failed
+    ∙ c.in_ok-number.ensures.failed
 
 -- the line was found, so that nothing is said of where the file ends
 pub returns-clause-ended : goal.returns-clause-ended

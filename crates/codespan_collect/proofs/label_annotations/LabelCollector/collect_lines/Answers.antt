@@ -15,7 +15,9 @@ use Rattle.codespan_collect.proofs.label_annotations.LabelCollector.collect_line
 
 module _ (g : Over) where
   -- the label whose lines are looked up
-  abbrev collector_label : LabelCollector g.row.F.Denot g.row.F-FileId.Denot g.row.F-Name.Denot g.row.F-Source.Denot → Label g.row.F-FileId.Denot → CollectedLabel g.row.F-FileId.Denot
+  abbrev collector_label : LabelCollector g.row.F.Denot g.row.F-FileId.Denot g.row.F-Name.Denot
+      g.row.F-Source.Denot
+      → Label g.row.F-FileId.Denot → CollectedLabel g.row.F-FileId.Denot
   collector_label = label_of_collector g.F.Files.database
 
   -- its file has its first line and its last one
@@ -26,7 +28,12 @@ module _ (g : Over) where
   has_ends κs claim collector label =
       let x = collector_label collector label in
       let some = ((g.met.F.Files κs claim).lawful collector.file.files.now x.file_id).has_line in
-      record { first = line_of_below x.file.starts x.label.start some; last = line_of_below x.file.starts x.label.end some }
+      record {
+        first =
+            line_of_below x.file.starts x.label.start some;
+        last =
+            line_of_below x.file.starts x.label.end some;
+      }
 
 pub loop-index-init : goal.loop-index-init
 loop-index-init g c =
@@ -36,25 +43,32 @@ loop-index-init g c =
 
 -- a line that is far from the ends is inside the label
 is_far_inside : (g : Over) (c : goal.After-collect_line-arg-1 g) → c.if-far-index.is_far ≡ true
-    → IsFarInside c.args.self.now.config.now c.args.self.now.lines.first c.args.self.now.lines.last c.loop-index.index
+    → IsFarInside c.args.self.now.config.now c.args.self.now.lines.first c.args.self.now.lines.last
+    c.loop-index.index
 is_far_inside g c far = elim c.if-far-index.branch [
-  | then-far-index w ↦ c.far_lines-far.ensures c.loop-index.index w.if-far-index.true (ltb-true _ _ (sym w.is_far-is ∙ far))
+  | then-far-index w ↦ c.far_lines-far.ensures c.loop-index.index w.if-far-index.true
+      (ltb-true _ _ (sym w.is_far-is ∙ far))
   | else-far-index w ↦ absurd (true≢false (sym far ∙ w.is_far-is ∙ lt-leb _ _ w.if-far-index.false))
 ]
 
 pub collect_line-requires : goal.collect_line-requires
-collect_line-requires g c κs = ((refl, (refl, (refl, tt))), (is_far_inside g c, (c.requires.first, c.requires.last)))
+collect_line-requires g c κs =
+    ((refl, (refl, (refl, tt))), (is_far_inside g c, (c.requires.first, c.requires.last)))
 
 pub returns-in_err-collect_line-clause-failed : goal.returns-in_err-collect_line-clause-failed
 returns-in_err-collect_line-clause-failed g c =
     let x = collector_label g c.args.self.now c.args.label.now in
     let p = err_from_is_err_and c.from_residual.result c.from_residual.ensures.1 in
     rw (p.1 ∙ ap Err p.2) (λ known. let failed = c.in_err-collect_line.ensures.failed known in
-    collected-failed {x = x} c.loop-index.invariant (has_ends g c.lifetimes (search rules) c.args.self.now c.args.label.now) failed.0
-    (ap (λ k. line_failure x.file (x.failure x.file_id) k c.loop-index.index) c.requires.last ∙ failed.1))
+    collected-failed {x = x} c.loop-index.invariant
+    (has_ends g c.lifetimes (search rules) c.args.self.now c.args.label.now) failed.0
+    (ap (λ k. line_failure x.file (x.failure x.file_id) k c.loop-index.index) c.requires.last
+    ∙ failed.1))
 
 -- the file has no more lines
-no_more : (g : Over) (c : goal.Then-not-branch g) → CollectsLabel (collector_label g c.args.self.now c.args.label.now) c.args.found.now c.collect_line.new.found
+no_more : (g : Over) (c : goal.Then-not-branch g)
+    → CollectsLabel (collector_label g c.args.self.now c.args.label.now) c.args.found.now
+    c.collect_line.new.found
 no_more g c =
     let x = collector_label g c.args.self.now c.args.label.now in
     let ended = c.in_ok-collect_line.ensures.ended c.if-not-branch.true in
@@ -71,13 +85,22 @@ returns-then-not-branch-clause-failed g c = (no_more g c).succeeded
 
 -- one more line is done with
 one_more : (g : Over) (c : goal.Else-not-branch g)
-    → CollectsLines (collector_label g c.args.self.now c.args.label.now) c.args.found.now c.collect_line.new.found (c.loop-index.index + 1)
+    → CollectsLines (collector_label g c.args.self.now c.args.label.now) c.args.found.now
+    c.collect_line.new.found (c.loop-index.index + 1)
 one_more g c =
     let x = collector_label g c.args.self.now c.args.label.now in
     let on = c.if-not-branch.false in
     let known = c.in_ok-collect_line.ensures in
-    collected-line {x = x} c.loop-index.invariant (has_ends g c.lifetimes (search rules) c.args.self.now c.args.label.now)
-    (omega (arith, c.loop-index-test.true, c.max-index-end.ensures, c.saturating_add-last.ensures, c.requires.first, c.requires.last))
+    collected-line {x = x} c.loop-index.invariant
+    (has_ends g c.lifetimes (search rules) c.args.self.now c.args.label.now)
+    (omega (
+      arith,
+      c.loop-index-test.true,
+      c.max-index-end.ensures,
+      c.saturating_add-last.ensures,
+      c.requires.first,
+      c.requires.last,
+    ))
     (known.inside on) (known.added on) (known.padding on) (known.succeeded on)
 
 pub loop-index-preserved : goal.loop-index-preserved
@@ -85,22 +108,31 @@ loop-index-preserved g c = one_more g (goal.at.loop-index-preserved g c).Else-no
 
 -- the last line is done with
 all_done : (g : Over) (c : goal.Else-not-branch g) → c.max-index-end.result ≤ c.loop-index.index
-    → CollectsLabel (collector_label g c.args.self.now c.args.label.now) c.args.found.now c.collect_line.new.found
+    → CollectsLabel (collector_label g c.args.self.now c.args.label.now) c.args.found.now
+    c.collect_line.new.found
 all_done g c at_last =
     let x = collector_label g c.args.self.now c.args.label.now in
     let claim : g.claim c.lifetimes = search rules in
     let files = g.met.F.Files c.lifetimes claim in
     collected-reach {x = x} (one_more g c)
     (omega (arith, at_last, c.max-index-end.ensures, c.requires.first))
-    (omega (arith, at_last, c.max-index-end.ensures, c.saturating_add-last.ensures, c.requires.last))
+    (omega
+    (arith, at_last, c.max-index-end.ensures, c.saturating_add-last.ensures, c.requires.last))
     (omega (arith, c.max-index-end.ensures, c.loop-index-test.true))
-    (files.lawful c.args.self.now.file.files.now x.file_id) (files.past_end c.args.self.now.file.files.now x.file_id _)
+    (files.lawful c.args.self.now.file.files.now x.file_id)
+    (files.past_end c.args.self.now.file.files.now x.file_id _)
 
 pub returns-else-not-branch-clause-added : goal.returns-else-not-branch-clause-added
-returns-else-not-branch-clause-added g c = (all_done g (goal.at.returns-else-not-branch-clause-added g c).Else-not-branch (search rules)).added
+returns-else-not-branch-clause-added g c =
+    (all_done g (goal.at.returns-else-not-branch-clause-added g c).Else-not-branch
+    (search rules)).added
 
 pub returns-else-not-branch-clause-padding : goal.returns-else-not-branch-clause-padding
-returns-else-not-branch-clause-padding g c = (all_done g (goal.at.returns-else-not-branch-clause-padding g c).Else-not-branch (search rules)).counted
+returns-else-not-branch-clause-padding g c =
+    (all_done g (goal.at.returns-else-not-branch-clause-padding g c).Else-not-branch
+    (search rules)).counted
 
 pub returns-else-not-branch-clause-failed : goal.returns-else-not-branch-clause-failed
-returns-else-not-branch-clause-failed g c = (all_done g (goal.at.returns-else-not-branch-clause-failed g c).Else-not-branch (search rules)).succeeded
+returns-else-not-branch-clause-failed g c =
+    (all_done g (goal.at.returns-else-not-branch-clause-failed g c).Else-not-branch
+    (search rules)).succeeded

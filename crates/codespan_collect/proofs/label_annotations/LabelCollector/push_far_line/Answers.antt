@@ -10,6 +10,9 @@ returns-clause-added g c =
     let lines = c.args.self.now.lines in
     let line = c.args.line in
     Adds-as (annotation_if_any-line x c.requires.first c.requires.last c.requires.line
-    (far-kind x.config x.indices lines.first lines.last line.index line.start x.label c.requires.far)
-    (far-multi_label x.config x.indices lines.first lines.last line.index line.start c.args.label c.requires.far))
-    (Adds-weaker (λ e same. subst (IsLineOf x.file) (sym same) c.requires.line) c.in_ok-push_annotation.ensures.added)
+    (far-kind x.config x.indices lines.first lines.last line.index line.start x.label
+    c.requires.far)
+    (far-multi_label x.config x.indices lines.first lines.last line.index line.start c.args.label
+    c.requires.far))
+    (Adds-weaker (λ e same. subst (IsLineOf x.file) (sym same) c.requires.line)
+    c.in_ok-push_annotation.ensures.added)

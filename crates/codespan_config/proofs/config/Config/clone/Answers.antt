@@ -8,4 +8,6 @@ returns-clause-same c = record { chars = c.in_ok-clone.ensures.same; others = re
 
 -- a fixed text is kept
 pub returns-clause-fixed : goal.returns-clause-fixed
-returns-clause-fixed c = λ fixed. ap (result_map_both (λ chars. record c.args.self.now { chars = chars }) (λ e. e)) (c.in_ok-clone.ensures.fixed fixed)
+returns-clause-fixed c =
+    λ fixed. ap (result_map_both (λ chars. record c.args.self.now { chars = chars }) (λ e. e))
+    (c.in_ok-clone.ensures.fixed fixed)

@@ -3,4 +3,5 @@ use Rattle.codespan_diagnostics.specs.Diagnostics.{label_view}
 use Rattle.codespan_diagnostics.proofs.diagnostic.clones.clone_labels.Given as goal
 
 abbrev pub invariant-loop-label : goal.invariant-loop-label
-invariant-loop-label g l = map label_view l.copies.items ≡ map label_view (take l.label-index l.labels.items)
+invariant-loop-label g l =
+    map label_view l.copies.items ≡ map label_view (take l.label-index l.labels.items)

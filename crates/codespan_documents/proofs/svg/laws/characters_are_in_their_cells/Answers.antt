@@ -1,5 +1,5 @@
 use Rattle.codespan_documents.specs.Glyphs.{glyphs_of}
-use Rattle.codespan_documents.proofs.SvgPieces.{cells_of_pieces}
+use Rattle.codespan_documents.proofs.SvgCells.{cells_of_pieces}
 use Rattle.codespan_documents.proofs.svg.laws.characters_are_in_their_cells.Goals as goal
 
 pub returns : goal.returns

@@ -12,12 +12,21 @@ loop-glyph-preserved c =
       rows = omega arith;
       reached = omega arith;
       columns = omega arith;
-      last_row = next_row glyphs i _ inside c.loop-glyph.position c.after-position.result _ c.after-position.ensures.position c.loop-glyph.invariant.last_row;
-      widest = ap (λ columns. max columns (extent_from c.after-position.result (drop (i + 1) glyphs)).column) c.greater-columns.ensures
-          ∙ next_columns glyphs i _ inside c.loop-glyph.position c.after-position.result c.loop-glyph.columns _ c.after-position.ensures.position c.loop-glyph.invariant.reached c.loop-glyph.invariant.widest;
+      last_row =
+          next_row glyphs i _ inside c.loop-glyph.position c.after-position.result _
+          c.after-position.ensures.position c.loop-glyph.invariant.last_row;
+      widest =
+          ap
+          (λ columns. max columns
+          (extent_from c.after-position.result (drop (i + 1) glyphs)).column)
+          c.greater-columns.ensures
+          ∙ next_columns glyphs i _ inside c.loop-glyph.position c.after-position.result
+          c.loop-glyph.columns _ c.after-position.ensures.position c.loop-glyph.invariant.reached
+          c.loop-glyph.invariant.widest;
     }
 
 pub returns-clause-extent : goal.returns-clause-extent
 returns-clause-extent c =
-    all_glyphs c.args.glyphs.now c.loop-glyph.glyph-index c.loop-glyph.position c.loop-glyph.columns _ c.loop-glyph-test.false c.loop-glyph.invariant.reached
+    all_glyphs c.args.glyphs.now c.loop-glyph.glyph-index c.loop-glyph.position c.loop-glyph.columns
+    _ c.loop-glyph-test.false c.loop-glyph.invariant.reached
     c.loop-glyph.invariant.last_row c.loop-glyph.invariant.widest

@@ -5,10 +5,12 @@ use Rattle.codespan_files.proofs.files.defaults.default_line_number.Goals as goa
 -- the greatest index fails, and no other one
 pub returns-then-line_index-eq18446744073709551615-clause-failed :
     goal.returns-then-line_index-eq18446744073709551615-clause-failed
-returns-then-line_index-eq18446744073709551615-clause-failed c = λ _. rw c.if-line_index-eq18446744073709551615.true refl
+returns-then-line_index-eq18446744073709551615-clause-failed c =
+    λ _. rw c.if-line_index-eq18446744073709551615.true refl
 
 pub returns-clause-failed : goal.returns-clause-failed
-returns-clause-failed c = rw (ne_eqb c.args.line_index (2 ^ 64 - 1) c.if-line_index-eq18446744073709551615.false) refl
+returns-clause-failed c =
+    rw (ne_eqb c.args.line_index (2 ^ 64 - 1) c.if-line_index-eq18446744073709551615.false) refl
 
 pub returns-clause-value : goal.returns-clause-value
 returns-clause-value c = refl

@@ -6,7 +6,8 @@ use Rattle.codespan_files.proofs.files.lines.column_index.Given as goal
 
 abbrev pub invariant-loop-i : goal.invariant-loop-i
 invariant-loop-i l = record {
-  counted : l.count ≡ count_by (is_char_boundary l.source) (range_with_len (l.fn.line_range.start + 1) (l.i - l.fn.line_range.start));
+  counted : l.count ≡ count_by (is_char_boundary l.source)
+      (range_with_len (l.fn.line_range.start + 1) (l.i - l.fn.line_range.start));
   few : l.count ≤ l.i - l.fn.line_range.start;
   empty : l.end ≤ l.fn.line_range.start → l.i ≡ l.fn.line_range.start;
 }

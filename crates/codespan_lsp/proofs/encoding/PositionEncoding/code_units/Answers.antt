@@ -37,7 +37,13 @@ loop-c-preserved c =
         (char_units_bounds c.args.self c.in-Some.c).1,
         c.char_units-units.ensures,
       );
-      so_far = omega (arith, i.so_far, code_units-char c.args.self _ _ _ i.utf8 step, c.char_units-units.ensures);
+      so_far =
+          omega (
+            arith,
+            i.so_far,
+            code_units-char c.args.self _ _ _ i.utf8 step,
+            c.char_units-units.ensures,
+          );
     }
 
 pub returns : goal.returns

@@ -16,8 +16,10 @@ returns-clause-value g c =
     ∙ (ap (λ t. slice_range t line.start line.end) text
     ∙ (ap (λ a. slice_range f.text a line.end) is.start_is ∙ ap (λ b. slice_range f.text (line_start f p.line) b) is.end_is)) in
     let found = c.byte_of_character.ensures in
-    returned-is-at c.args.self f ((g.met.F.Files c.lifetimes (search rules)).lawful c.args.files.now c.args.id) p is.inside
-    line.start c.range-text.result.now is.start_is line_is c.byte_of_character.result found.value found.units
+    returned-is-at c.args.self f
+    ((g.met.F.Files c.lifetimes (search rules)).lawful c.args.files.now c.args.id) p is.inside
+    line.start c.range-text.result.now is.start_is line_is c.byte_of_character.result found.value
+    found.units
 
 -- the failure is that of the first call that fails
 pub returns-clause-failed : goal.returns-clause-failed

@@ -22,7 +22,8 @@ returns-in_err-range-clause-failed g c =
     let more = passing-more (λ label. not (is_primary_style label.style)) items i x inside is
     (ap not (sym c.is_primary.ensures ∙ c.if-not-is_primary.true)) in
     rw (p.1 ∙ ap Err p.2) (λ memory.
-    failure-here (label_range_failure c.args.self database) x _ _ _ _ c.loop-label.invariant.failure more (c.in_err-range.ensures.failed memory))
+    failure-here (label_range_failure c.args.self database) x _ _ _ _ c.loop-label.invariant.failure
+    more (c.in_err-range.ensures.failed memory))
 
 pub loop-label-preserved : goal.loop-label-preserved
 loop-label-preserved g c =
@@ -38,13 +39,24 @@ loop-label-preserved g c =
       | then-not-is_primary+in_ok-range+in_ok-message+in_ok-push w ↦
           let more = passing-more (λ label. not (is_primary_style label.style)) items i x inside is
           (ap not (sym c.is_primary.ensures ∙ w.if-not-is_primary.true)) in
-          let y : RelatedInformation g.row.F-FileId.Denot = record { file_id = x.file_id; range = w.in_ok-range.range; message = w.in_ok-message.message } in
-          let message : string_bytes w.in_ok-message.message ≡ string_bytes x.message = first_of (cc, search rules) in
+          let y : RelatedInformation g.row.F-FileId.Denot = record {
+            file_id =
+                x.file_id;
+            range = w.in_ok-range.range;
+            message = w.in_ok-message.message;
+          } in
+          let message : string_bytes w.in_ok-message.message ≡ string_bytes x.message =
+          first_of (cc, search rules) in
           record {
-            views = views-push related_view (related_view_for c.args.self database) c.loop-label.related.items c.if-not-is_primary.related.items y x _ _ _
+            views =
+                views-push related_view (related_view_for c.args.self database)
+                c.loop-label.related.items c.if-not-is_primary.related.items y x _ _ _
                 (ap (λ v. v.items) w.related-is ∙ w.in_ok-push.ensures.items)
-                (related-same c.args.self database x y refl w.in_ok-range.ensures.value message) more was.views;
-            failure = failure-more (label_range_failure c.args.self database) x _ _ _ was.failure more w.in_ok-range.ensures.failed;
+                (related-same c.args.self database x y refl w.in_ok-range.ensures.value message)
+                more was.views;
+            failure =
+                failure-more (label_range_failure c.args.self database) x _ _ _ was.failure more
+                w.in_ok-range.ensures.failed;
           }
       | else-not-is_primary w ↦
           let skip = passing-skip (λ label. not (is_primary_style label.style)) items i x inside is
@@ -58,6 +70,9 @@ loop-label-preserved g c =
 -- no label is left
 pub returns-clause-value : goal.returns-clause-value
 returns-clause-value g c =
-    let past : length c.args.labels.now.items ≤ c.loop-label.label-index = omega (arith, c.loop-label-test.false, ap length c.deref-label-items.ensures.value) in
-    views-end (λ label. not (is_primary_style label.style)) related_view (related_view_for c.args.self (g.F.Files.database c.args.files.now)) c.loop-label.related.items c.args.labels.now.items c.loop-label.label-index _ past
+    let past : length c.args.labels.now.items ≤ c.loop-label.label-index =
+    omega (arith, c.loop-label-test.false, ap length c.deref-label-items.ensures.value) in
+    views-end (λ label. not (is_primary_style label.style)) related_view
+    (related_view_for c.args.self (g.F.Files.database c.args.files.now))
+    c.loop-label.related.items c.args.labels.now.items c.loop-label.label-index _ past
     c.loop-label.invariant.views

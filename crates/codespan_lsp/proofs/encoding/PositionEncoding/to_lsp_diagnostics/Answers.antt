@@ -20,7 +20,8 @@ returns-in_err-lsp_diagnostic-clause-failed g c =
     let more = passing-more (λ label. is_primary_style label.style) items i x inside is
     (sym c.is_primary.ensures ∙ c.if-is_primary.true) in
     rw (p.1 ∙ ap Err p.2) (λ memory.
-    failure-here (lsp_failure c.args.self database c.args.diagnostic.now) x _ _ _ _ c.loop-label.invariant.failure more
+    failure-here (lsp_failure c.args.self database c.args.diagnostic.now) x _ _ _ _
+    c.loop-label.invariant.failure more
     (c.in_err-lsp_diagnostic.ensures.failed memory))
 
 pub loop-label-preserved : goal.loop-label-preserved
@@ -39,9 +40,14 @@ loop-label-preserved g c =
           let more = passing-more (λ label. is_primary_style label.style) items i x inside is
           (sym c.is_primary.ensures ∙ w.if-is_primary.true) in
           record {
-            views = views-push lsp_view (lsp_view_for c.args.self database d) c.loop-label.found.items c.if-is_primary.found.items _ x _ _ _
-                (ap (λ v. v.items) w.found-is ∙ w.in_ok-push.ensures.items) w.in_ok-lsp_diagnostic.ensures.value more was.views;
-            failure = failure-more (lsp_failure c.args.self database d) x _ _ _ was.failure more w.in_ok-lsp_diagnostic.ensures.failed;
+            views =
+                views-push lsp_view (lsp_view_for c.args.self database d) c.loop-label.found.items
+                c.if-is_primary.found.items _ x _ _ _
+                (ap (λ v. v.items) w.found-is ∙ w.in_ok-push.ensures.items)
+                w.in_ok-lsp_diagnostic.ensures.value more was.views;
+            failure =
+                failure-more (lsp_failure c.args.self database d) x _ _ _ was.failure more
+                w.in_ok-lsp_diagnostic.ensures.failed;
           }
       | else-is_primary w ↦
           let skip = passing-skip (λ label. is_primary_style label.style) items i x inside is
@@ -55,6 +61,9 @@ loop-label-preserved g c =
 -- no label is left
 pub returns-clause-value : goal.returns-clause-value
 returns-clause-value g c =
-    let past : length c.args.diagnostic.now.labels.items ≤ c.loop-label.label-index = omega (arith, c.loop-label-test.false, ap length c.deref-label-items.ensures.value) in
-    views-end (λ label. is_primary_style label.style) lsp_view (lsp_view_for c.args.self (g.F.Files.database c.args.files.now) c.args.diagnostic.now) c.loop-label.found.items c.args.diagnostic.now.labels.items c.loop-label.label-index _ past
+    let past : length c.args.diagnostic.now.labels.items ≤ c.loop-label.label-index =
+    omega (arith, c.loop-label-test.false, ap length c.deref-label-items.ensures.value) in
+    views-end (λ label. is_primary_style label.style) lsp_view
+    (lsp_view_for c.args.self (g.F.Files.database c.args.files.now) c.args.diagnostic.now)
+    c.loop-label.found.items c.args.diagnostic.now.labels.items c.loop-label.label-index _ past
     c.loop-label.invariant.views

@@ -10,6 +10,8 @@ invariant-loop-label g l =
     let all = primary_labels l.diagnostic.labels.items in
     let left = primary_labels (drop l.label-index l.diagnostic.labels.items) in
     record {
-      views : map lsp_view l.found.items ++ map (lsp_view_for l.self database l.diagnostic) left ≡ map (lsp_view_for l.self database l.diagnostic) all;
-      failure : first_failure (map (lsp_failure l.self database l.diagnostic) all) ≡ first_failure (map (lsp_failure l.self database l.diagnostic) left);
+      views : map lsp_view l.found.items ++ map (lsp_view_for l.self database l.diagnostic)
+          left ≡ map (lsp_view_for l.self database l.diagnostic) all;
+      failure : first_failure (map (lsp_failure l.self database l.diagnostic) all) ≡ first_failure
+          (map (lsp_failure l.self database l.diagnostic) left);
     }

@@ -6,5 +6,7 @@ use Rattle.codespan_native.proofs.style_mark_writer.StyleMarkWriterWriteStyle.se
 -- the bytes of the style mark are those of its number
 pub returns : goal.returns
 returns g c =
-    Writes-style_mark (style_mark_writer_sink g.W.Write.contents c.args.self.now) NoteBullet c.write_style_mark.result
-    (style_mark_writer_sink g.W.Write.contents c.write_style_mark.new.self) c.write_style_mark.ensures
+    Writes-style_mark (style_mark_writer_sink g.W.Write.contents c.args.self.now) NoteBullet
+    c.write_style_mark.result
+    (style_mark_writer_sink g.W.Write.contents c.write_style_mark.new.self)
+    c.write_style_mark.ensures

@@ -9,7 +9,8 @@ use Rattle.codespan_plan.proofs.plan.snippet_plans.plan_snippets.Given as goal
 abbrev pub invariant-loop-index : goal.invariant-loop-index
 invariant-loop-index g l = record {
   inside : l.start ≤ length l.collected.annotations.items;
-  left : drop l.start (map annotation_view l.collected.annotations.items) ≡ from_file l.index (map annotation_view l.collected.annotations.items);
+  left : drop l.start (map annotation_view l.collected.annotations.items) ≡ from_file l.index
+      (map annotation_view l.collected.annotations.items);
   planned : ArePlanned l.layout (((g.F.Files.database l.files).file))
       (map annotation_view l.collected.annotations.items) (((g.F.Files.database l.files).failure))
       (take l.index l.collected.files.items) l.snippet_plans.items l.snippet_lines.items l.located;

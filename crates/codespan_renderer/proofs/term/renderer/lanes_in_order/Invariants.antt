@@ -5,4 +5,5 @@ use Rattle.codespan_renderer.proofs.term.renderer.lanes_in_order.Given as goal
 -- the remaining lane marks decide
 abbrev pub invariant-loop-lane : goal.invariant-loop-lane
 invariant-loop-lane l =
-    ascend_from l.num_multi_labels l.least (map lane_mark_view (drop l.lane-index l.multi_labels)) ≡ lanes_in_order l.num_multi_labels l.multi_labels
+    ascend_from l.num_multi_labels l.least (map lane_mark_view (drop l.lane-index l.multi_labels))
+    ≡ lanes_in_order l.num_multi_labels l.multi_labels

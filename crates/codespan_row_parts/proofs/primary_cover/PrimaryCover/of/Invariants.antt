@@ -11,5 +11,8 @@ use Rattle.codespan_row_parts.proofs.primary_cover.PrimaryCover.of.Given as goal
 abbrev pub invariant-loop-lane_mark : goal.invariant-loop-lane_mark
 invariant-loop-lane_mark l =
     (c : Metrics) → 1 ≤ c.bytes
-    → (covers_char l.found c || list_any (λ (m : LaneMark). is_primary_style m.style && multi_label_covers c m.multi_label) (map lane_mark_view (drop l.lane_mark-index l.lane_marks)))
-    ≡ list_any (λ (m : LaneMark). is_primary_style m.style && multi_label_covers c m.multi_label) (map lane_mark_view l.lane_marks)
+    → (covers_char l.found c || list_any
+    (λ (m : LaneMark). is_primary_style m.style && multi_label_covers c m.multi_label)
+    (map lane_mark_view (drop l.lane_mark-index l.lane_marks)))
+    ≡ list_any (λ (m : LaneMark). is_primary_style m.style && multi_label_covers c m.multi_label)
+    (map lane_mark_view l.lane_marks)

@@ -7,7 +7,9 @@ use Rattle.codespan_structs.proofs.convert.diagnostic.first_byte_of.Goals as goa
 pub returns-in-Some : goal.returns-in-Some
 returns-in-Some c =
     ap (λ (found : Option RawFile). option_map_or (λ (f : RawFile). f.first_byte) found 0)
-    (sym (slice_get_read c.args.files.now (length c.args.files.now) c.args.id c.in-Some.file.now refl c.in-Some.ensures.lookup.3.0 c.in-Some.ensures.lookup.1))
+    (sym
+    (slice_get_read c.args.files.now (length c.args.files.now) c.args.id c.in-Some.file.now refl
+    c.in-Some.ensures.lookup.3.0 c.in-Some.ensures.lookup.1))
 
 pub returns-in-None : goal.returns-in-None
 returns-in-None c =

@@ -11,5 +11,6 @@ loop-label-preserved c =
     ap (map label_view) c.in_ok-push.ensures.items
     ∙ map-append label_view c.loop-label.labels.items (c.in_ok-converted_label.field-0 ∷ [])
     ∙ ap (λ views. views ++ label_view c.in_ok-converted_label.field-0 ∷ []) c.loop-label.invariant
-    ∙ ap (λ view. map (converted_label files) (take c.loop-label.label-index raw) ++ view ∷ []) c.in_ok-converted_label.ensures
+    ∙ ap (λ view. map (converted_label files) (take c.loop-label.label-index raw) ++ view ∷ [])
+    c.in_ok-converted_label.ensures
     ∙ sym (map_more (converted_label files) raw c.loop-label.label-index _ (omega arith))

@@ -5,4 +5,5 @@ use Rattle.codespan_structs.proofs.convert.diagnostic.labels_of.Given as goal
 
 -- the labels so far
 abbrev pub invariant-loop-label : goal.invariant-loop-label
-invariant-loop-label l = map label_view l.labels.items ≡ map (converted_label l.files) (take l.label-index l.raw)
+invariant-loop-label l =
+    map label_view l.labels.items ≡ map (converted_label l.files) (take l.label-index l.raw)

@@ -9,5 +9,6 @@ loop-note-preserved c =
     ap (map string_bytes) c.in_ok-push.ensures.items
     ∙ map-append string_bytes c.loop-note.notes.items (c.in_ok-string_of.field-0 ∷ [])
     ∙ ap (λ texts. texts ++ string_bytes c.in_ok-string_of.field-0 ∷ []) c.loop-note.invariant
-    ∙ ap (λ text. map bytes_of (take c.loop-note.note-index raw) ++ text ∷ []) c.in_ok-string_of.ensures
+    ∙ ap (λ text. map bytes_of (take c.loop-note.note-index raw) ++ text ∷ [])
+    c.in_ok-string_of.ensures
     ∙ sym (map_more bytes_of raw c.loop-note.note-index _ (omega arith))

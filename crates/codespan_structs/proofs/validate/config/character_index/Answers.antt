@@ -7,5 +7,7 @@ use Rattle.codespan_structs.proofs.validate.config.character_index.Goals as goal
 pub returns : goal.returns
 returns c =
     where_chosen _ _ _ (search rules)
-    (subst (λ codes. FindsInvalid (HoldsIfAt InScalarRange codes) c.code_point_index.result) c.code_points_of.ensures
-    (by_index InScalarRange c.code_points_of.result c.code_point_index.result c.code_point_index.ensures))
+    (subst (λ codes. FindsInvalid (HoldsIfAt InScalarRange codes) c.code_point_index.result)
+    c.code_points_of.ensures
+    (by_index InScalarRange c.code_points_of.result c.code_point_index.result
+    c.code_point_index.ensures))

@@ -5,4 +5,7 @@ use Rattle.std.specs.Char.{InScalarRange}
 use Rattle.codespan_structs.proofs.validate.config.code_point_index.Goals as goal
 
 pub returns : goal.returns
-returns c = IsFirst-from_position _ _ _ (λ x. ¬ InScalarRange x) InScalarRange c.position.ensures.ran (YieldsList-from_slice c.args.codes.now cc) (λ x q k. search (rules, tests)) (λ x q k. search (rules, tests))
+returns c =
+    IsFirst-from_position _ _ _ (λ x. ¬ InScalarRange x) InScalarRange c.position.ensures.ran
+    (YieldsList-from_slice c.args.codes.now cc) (λ x q k. search (rules, tests))
+    (λ x q k. search (rules, tests))

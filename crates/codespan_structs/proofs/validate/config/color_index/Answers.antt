@@ -6,5 +6,7 @@ use Rattle.codespan_structs.proofs.validate.config.color_index.Goals as goal
 pub returns : goal.returns
 returns c =
     where_chosen _ _ _ (search rules)
-    (subst (λ specs. FindsInvalid (HoldsIfAt IsColorSpec specs) c.color_spec_index.result) c.color_specs_of.ensures
-    (by_index IsColorSpec c.color_specs_of.result c.color_spec_index.result c.color_spec_index.ensures))
+    (subst (λ specs. FindsInvalid (HoldsIfAt IsColorSpec specs) c.color_spec_index.result)
+    c.color_specs_of.ensures
+    (by_index IsColorSpec c.color_specs_of.result c.color_spec_index.result
+    c.color_spec_index.ensures))

@@ -5,4 +5,7 @@ use Rattle.codespan_structs.specs.Validity.{IsColorSpec}
 use Rattle.codespan_structs.proofs.validate.config.color_spec_index.Goals as goal
 
 pub returns : goal.returns
-returns c = IsFirst-from_position _ _ _ (λ x. ¬ IsColorSpec x) IsColorSpec c.position.ensures.ran (YieldsList-from_slice c.args.specs.now cc) (λ x q k. search (rules, tests)) (λ x q k. search (rules, tests))
+returns c =
+    IsFirst-from_position _ _ _ (λ x. ¬ IsColorSpec x) IsColorSpec c.position.ensures.ran
+    (YieldsList-from_slice c.args.specs.now cc) (λ x q k. search (rules, tests))
+    (λ x q k. search (rules, tests))

@@ -5,4 +5,7 @@ use Rattle.codespan_structs.specs.Validity.{HasTextMessage}
 use Rattle.codespan_structs.proofs.validate.diagnostic.label_message_index.Goals as goal
 
 pub returns : goal.returns
-returns c = IsFirst-from_position _ _ _ (λ x. ¬ HasTextMessage x) HasTextMessage c.position.ensures.ran (YieldsList-from_slice c.args.labels.now cc) (λ x q k. search (rules, tests)) (λ x q k. search (rules, tests))
+returns c =
+    IsFirst-from_position _ _ _ (λ x. ¬ HasTextMessage x) HasTextMessage c.position.ensures.ran
+    (YieldsList-from_slice c.args.labels.now cc) (λ x q k. search (rules, tests))
+    (λ x q k. search (rules, tests))

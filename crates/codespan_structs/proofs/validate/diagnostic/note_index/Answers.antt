@@ -5,4 +5,7 @@ use Rattle.codespan_structs.specs.Validity.{IsValidText}
 use Rattle.codespan_structs.proofs.validate.diagnostic.note_index.Goals as goal
 
 pub returns : goal.returns
-returns c = IsFirst-from_position _ _ _ (λ x. ¬ IsValidText x) IsValidText c.position.ensures.ran (YieldsList-from_slice c.args.notes.now cc) (λ x q k. search (rules, tests)) (λ x q k. search (rules, tests))
+returns c =
+    IsFirst-from_position _ _ _ (λ x. ¬ IsValidText x) IsValidText c.position.ensures.ran
+    (YieldsList-from_slice c.args.notes.now cc) (λ x q k. search (rules, tests))
+    (λ x q k. search (rules, tests))

@@ -5,4 +5,7 @@ use Rattle.codespan_structs.specs.Validity.{HasValidLines}
 use Rattle.codespan_structs.proofs.validate.files.lines_index.Goals as goal
 
 pub returns : goal.returns
-returns c = IsFirst-from_position _ _ _ (λ x. ¬ HasValidLines x) HasValidLines c.position.ensures.ran (YieldsList-from_slice c.args.files.now cc) (λ x q k. search (rules, tests)) (λ x q k. search (rules, tests))
+returns c =
+    IsFirst-from_position _ _ _ (λ x. ¬ HasValidLines x) HasValidLines c.position.ensures.ran
+    (YieldsList-from_slice c.args.files.now cc) (λ x q k. search (rules, tests))
+    (λ x q k. search (rules, tests))

@@ -5,4 +5,7 @@ use Rattle.codespan_structs.specs.Validity.{HasValidLocations}
 use Rattle.codespan_structs.proofs.validate.files.locations_index.Goals as goal
 
 pub returns : goal.returns
-returns c = IsFirst-from_position _ _ _ (λ x. ¬ HasValidLocations x) HasValidLocations c.position.ensures.ran (YieldsList-from_slice c.args.files.now cc) (λ x q k. search (rules, tests)) (λ x q k. search (rules, tests))
+returns c =
+    IsFirst-from_position _ _ _ (λ x. ¬ HasValidLocations x) HasValidLocations
+    c.position.ensures.ran (YieldsList-from_slice c.args.files.now cc)
+    (λ x q k. search (rules, tests)) (λ x q k. search (rules, tests))

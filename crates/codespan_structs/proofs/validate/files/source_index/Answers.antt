@@ -5,4 +5,7 @@ use Rattle.codespan_structs.specs.Validity.{HasTextSource}
 use Rattle.codespan_structs.proofs.validate.files.source_index.Goals as goal
 
 pub returns : goal.returns
-returns c = IsFirst-from_position _ _ _ (λ x. ¬ HasTextSource x) HasTextSource c.position.ensures.ran (YieldsList-from_slice c.args.files.now cc) (λ x q k. search (rules, tests)) (λ x q k. search (rules, tests))
+returns c =
+    IsFirst-from_position _ _ _ (λ x. ¬ HasTextSource x) HasTextSource c.position.ensures.ran
+    (YieldsList-from_slice c.args.files.now cc) (λ x q k. search (rules, tests))
+    (λ x q k. search (rules, tests))

@@ -5,4 +5,7 @@ use Rattle.codespan_styled.proofs.recorder.RecorderWriteStyle.set_label.Goals as
 
 -- the number of the label's style is the spelling of its style mark
 pub returns : goal.returns
-returns c = Writes-style_mark (recorder_sink c.args.self.now) (LabelStyleMark c.args.severity c.args.label_style) c.start.result (recorder_sink c.start.new.self) c.start.ensures
+returns c =
+    Writes-style_mark (recorder_sink c.args.self.now)
+    (LabelStyleMark c.args.severity c.args.label_style) c.start.result
+    (recorder_sink c.start.new.self) c.start.ensures

@@ -13,19 +13,27 @@ use Rattle.codespan_views.proofs.RichParts.{bare-whole}
 use Rattle.codespan_views.proofs.rich.RichDiagnostic.render.Goals as goal
 
 -- what is written means the labels, whether there are any or not
-written : {Id : Type 0} {renderer_config view_config : Config} {files : FileDatabase Id} {equal : Id → Id → Bool} {d : Diagnostic Id} {old new : Sink} {r : Result (Unit {0}) Error}
-    → files.same ≡ equal → IsEquivalence equal → ((id : Id) → IsLawful (files.file id)) → WritesOutput Rich renderer_config view_config files d old r new → WritesStyled Rich renderer_config view_config files d old r new
+written : {Id : Type 0} {renderer_config view_config : Config} {files : FileDatabase Id}
+    {equal : Id → Id → Bool} {d : Diagnostic Id} {old new : Sink} {r : Result (Unit {0}) Error}
+    → files.same ≡ equal → IsEquivalence equal → ((id : Id) → IsLawful (files.file id))
+    → WritesOutput Rich renderer_config view_config files d old r new
+    → WritesStyled Rich renderer_config view_config files d old r new
 written is equal lawful writes = record {
   writes = writes;
-  means = λ rich. output_means_labels _ _ _ _ (subst IsEquivalence (sym is) equal) (λ i. (lawful i).has_line);
+  means =
+      λ rich. output_means_labels _ _ _ _ (subst IsEquivalence (sym is) equal)
+      (λ i. (lawful i).has_line);
 }
 
 pub returns-then-is_empty-clause-renders : goal.returns-then-is_empty-clause-renders
 returns-then-is_empty-clause-renders g c =
-    written ((g.met.F.Files c.lifetimes (search rules)).same_is c.args.files.now) g.met.FileId.Eq.laws ((g.met.F.Files c.lifetimes (search rules)).lawful c.args.files.now)
-    (bare-whole c.render_without_labels.result (search rules) c.render_without_labels.ensures.writes c.render_without_labels.ensures.io)
+    written ((g.met.F.Files c.lifetimes (search rules)).same_is c.args.files.now)
+    g.met.FileId.Eq.laws ((g.met.F.Files c.lifetimes (search rules)).lawful c.args.files.now)
+    (bare-whole c.render_without_labels.result (search rules) c.render_without_labels.ensures.writes
+    c.render_without_labels.ensures.io)
 
 pub returns-else-is_empty-clause-renders : goal.returns-else-is_empty-clause-renders
 returns-else-is_empty-clause-renders g c =
-    written ((g.met.F.Files c.lifetimes (search rules)).same_is c.args.files.now) g.met.FileId.Eq.laws ((g.met.F.Files c.lifetimes (search rules)).lawful c.args.files.now)
+    written ((g.met.F.Files c.lifetimes (search rules)).same_is c.args.files.now)
+    g.met.FileId.Eq.laws ((g.met.F.Files c.lifetimes (search rules)).lawful c.args.files.now)
     c.render_labels.ensures.renders

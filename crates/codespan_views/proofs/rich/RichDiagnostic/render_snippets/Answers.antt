@@ -7,26 +7,40 @@ use Rattle.codespan_views.proofs.RendererRuns.{same_renderer, same_twice}
 use Rattle.codespan_views.proofs.rich.RichDiagnostic.render_snippets.Goals as goal
 
 pub loop-index-init : goal.loop-index-init
-loop-index-init g c = record { same = same_renderer; files = record { inside = omega arith; are = c.requires.snippet_plans_are }; left = left-start }
+loop-index-init g c =
+    record {
+      same =
+          same_renderer;
+      files =
+          record { inside = omega arith; are = c.requires.snippet_plans_are };
+      left = left-start;
+    }
 
 pub lines_of_file-snippet_lines-requires : goal.lines_of_file-snippet_lines-requires
 lines_of_file-snippet_lines-requires g c =
-    let at = element-equal c.deref-snippet_plan-items.ensures.value c.loop-index-test.true c.snippet_plan-item.is in
+    let at = element-equal c.deref-snippet_plan-items.ensures.value c.loop-index-test.true
+    c.snippet_plan-item.is in
     own-inside at c.loop-index.invariant.files
 
 pub has_next_file-requires : goal.has_next_file-requires
-has_next_file-requires g c = (element-equal c.deref-snippet_plan-items.ensures.value c.loop-index-test.true c.snippet_plan-item.is).inside
+has_next_file-requires g c =
+    (element-equal c.deref-snippet_plan-items.ensures.value c.loop-index-test.true
+    c.snippet_plan-item.is).inside
 
 pub render_snippet-requires : goal.render_snippet-requires
 render_snippet-requires g c κs =
-    let at = element-equal c.deref-snippet_plan-items.ensures.value c.loop-index-test.true c.snippet_plan-item.is in
-    let own = own-snippet_lines at c.loop-index.invariant.files c.lines_of_file-snippet_lines.ensures in
+    let at = element-equal c.deref-snippet_plan-items.ensures.value c.loop-index-test.true
+    c.snippet_plan-item.is in
+    let own =
+    own-snippet_lines at c.loop-index.invariant.files c.lines_of_file-snippet_lines.ensures in
     ((refl, tt), record { each = own.each; fit = rw own.lanes_are own.fits })
 
 pub returns-in_err-render_snippet : goal.returns-in_err-render_snippet
 returns-in_err-render_snippet g c =
-    let at = element-equal c.deref-snippet_plan-items.ensures.value c.loop-index-test.true c.snippet_plan-item.is in
-    let own = own-snippet_lines at c.loop-index.invariant.files c.lines_of_file-snippet_lines.ensures in
+    let at = element-equal c.deref-snippet_plan-items.ensures.value c.loop-index-test.true
+    c.snippet_plan-item.is in
+    let own =
+    own-snippet_lines at c.loop-index.invariant.files c.lines_of_file-snippet_lines.ensures in
     let p = err_from_is_err_and c.from_residual.result c.from_residual.ensures.1 in
     rw (p.1 ∙ ap Err p.2) (record {
       same = same_twice c.loop-index.invariant.same c.in_err-render_snippet.ensures.same;
@@ -37,9 +51,12 @@ returns-in_err-render_snippet g c =
 
 pub returns-in_err-render_trailing_border : goal.returns-in_err-render_trailing_border
 returns-in_err-render_trailing_border g c =
-    let at = element-equal c.deref-snippet_plan-items.ensures.value c.loop-index-test.true c.snippet_plan-item.is in
-    let own = own-snippet_lines at c.loop-index.invariant.files c.lines_of_file-snippet_lines.ensures in
-    let p = err_from_is_err_and c.from_residual-in_err-render_trailing_border.result c.from_residual-in_err-render_trailing_border.ensures.1 in
+    let at = element-equal c.deref-snippet_plan-items.ensures.value c.loop-index-test.true
+    c.snippet_plan-item.is in
+    let own =
+    own-snippet_lines at c.loop-index.invariant.files c.lines_of_file-snippet_lines.ensures in
+    let p = err_from_is_err_and c.from_residual-in_err-render_trailing_border.result
+    c.from_residual-in_err-render_trailing_border.ensures.1 in
     let was = c.loop-index.invariant.same in
     let first = c.in_ok-render_snippet.ensures in
     let second = c.in_err-render_trailing_border.ensures in
@@ -52,20 +69,26 @@ returns-in_err-render_trailing_border g c =
 
 pub loop-index-preserved : goal.loop-index-preserved
 loop-index-preserved g c =
-    let at = element-equal c.deref-snippet_plan-items.ensures.value c.loop-index-test.true c.snippet_plan-item.is in
-    let own = own-snippet_lines at c.loop-index.invariant.files c.lines_of_file-snippet_lines.ensures in
+    let at = element-equal c.deref-snippet_plan-items.ensures.value c.loop-index-test.true
+    c.snippet_plan-item.is in
+    let own =
+    own-snippet_lines at c.loop-index.invariant.files c.lines_of_file-snippet_lines.ensures in
     let first = c.in_ok-render_snippet.ensures.same in
     let second = c.in_ok-render_trailing_border.ensures.same in
     let was = c.loop-index.invariant.same in
     record {
       same = same_twice was (same_twice first second);
       files = later-files at c.loop-index.invariant.files;
-      left = next-file c.requires c.loop-index.invariant.left at own c.has_notes-notes_follow.ensures c.has_next_file.ensures was.config c.in_ok-render_snippet.ensures.renders
+      left =
+          next-file c.requires c.loop-index.invariant.left at own c.has_notes-notes_follow.ensures
+          c.has_next_file.ensures was.config c.in_ok-render_snippet.ensures.renders
           first.config c.in_ok-render_trailing_border.ensures.writes;
     }
 
 pub returns : goal.returns
 returns g c = record {
   same = c.loop-index.invariant.same;
-  renders = left-end c.requires c.loop-index.invariant.left c.deref-snippet_plan-items.ensures.value c.loop-index-test.false;
+  renders =
+      left-end c.requires c.loop-index.invariant.left c.deref-snippet_plan-items.ensures.value
+      c.loop-index-test.false;
 }

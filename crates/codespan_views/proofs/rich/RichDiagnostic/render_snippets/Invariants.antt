@@ -10,7 +10,11 @@ use Rattle.codespan_views.proofs.rich.RichDiagnostic.render_snippets.Given as go
 abbrev pub invariant-loop-index : goal.invariant-loop-index
 invariant-loop-index g l = record {
   same : SameRenderer l.initial.renderer l.renderer;
-  files : AreFilesFrom (g.F.Files.database l.files) (view_config_of l.self) (labels_of (diagnostic_of l.self)) l.output_plan.snippet_plans.items l.index l.output_plan.snippet_lines.items l.start;
-  left : SnippetsLeft (g.F.Files.database l.files) l.self l.output_plan (config_of l.initial.renderer) l.index
-      (g.W.WriteStyle.sink (writer_of l.initial.renderer)) (g.W.WriteStyle.sink (writer_of l.renderer));
+  files : AreFilesFrom (g.F.Files.database l.files) (view_config_of l.self)
+      (labels_of (diagnostic_of l.self)) l.output_plan.snippet_plans.items l.index
+      l.output_plan.snippet_lines.items l.start;
+  left : SnippetsLeft (g.F.Files.database l.files) l.self l.output_plan
+      (config_of l.initial.renderer) l.index
+      (g.W.WriteStyle.sink (writer_of l.initial.renderer))
+      (g.W.WriteStyle.sink (writer_of l.renderer));
 }

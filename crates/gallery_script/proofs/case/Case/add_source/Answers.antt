@@ -4,4 +4,6 @@ use Rattle.gallery_script.proofs.case.Case.add_source.Goals as goal
 
 pub returns-clause-files : goal.returns-clause-files
 returns-clause-files c =
-    last_continues c.args.self.now.files.items _ c.args.text.now c.in-Some.file.now c.push_str.new.self c.args.self.now.files.ok.0 (c.in-Some.ensures.variant.0 refl) c.in-Some.ensures.value c.in_ok-push_str.ensures.bytes
+    last_continues c.args.self.now.files.items _ c.args.text.now c.in-Some.file.now
+    c.push_str.new.self c.args.self.now.files.ok.0 (c.in-Some.ensures.variant.0 refl)
+    c.in-Some.ensures.value c.in_ok-push_str.ensures.bytes

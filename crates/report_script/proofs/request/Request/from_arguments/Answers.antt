@@ -10,7 +10,8 @@ use Rattle.report_script.proofs.request.Request.from_arguments.Goals as goal
 pub returns-in_err-parse_display_style-in-len2 : goal.returns-in_err-parse_display_style-in-len2
 returns-in_err-parse_display_style-in-len2 c =
     ap (option_map request_view) c.from_residual.ensures
-    ∙ two_arguments string_bytes c.args.args.now _ c.name-item.result c.in-len2.len_at_least c.in-len2.len_below c.style-item.is c.name-item.is None
+    ∙ two_arguments string_bytes c.args.args.now _ c.name-item.result c.in-len2.len_at_least
+    c.in-len2.len_below c.style-item.is c.name-item.is None
     (c.in_err-parse_display_style-in-len2.ensures ∙ ap display_style_named c.as_str.ensures.value)
 
 pub returns-in_err-from_arguments-in_default : goal.returns-in_err-from_arguments-in_default
@@ -26,9 +27,13 @@ returns-in_err-from_arguments-in_default c =
 
 pub returns-in_ok-parse_display_style-in-len2 : goal.returns-in_ok-parse_display_style-in-len2
 returns-in_ok-parse_display_style-in-len2 c =
-    ap (λ name. Some (OfScript c.in_ok-parse_display_style-in-len2.field-0 name)) c.as_str-in-len2.ensures.value
-    ∙ two_arguments string_bytes c.args.args.now _ c.name-item.result c.in-len2.len_at_least c.in-len2.len_below c.style-item.is c.name-item.is
-    (Some c.in_ok-parse_display_style-in-len2.field-0) (c.in_ok-parse_display_style-in-len2.ensures ∙ ap display_style_named c.as_str.ensures.value)
+    ap (λ name. Some (OfScript c.in_ok-parse_display_style-in-len2.field-0 name))
+    c.as_str-in-len2.ensures.value
+    ∙ two_arguments string_bytes c.args.args.now _ c.name-item.result c.in-len2.len_at_least
+    c.in-len2.len_below c.style-item.is c.name-item.is
+    (Some c.in_ok-parse_display_style-in-len2.field-0)
+    (c.in_ok-parse_display_style-in-len2.ensures
+    ∙ ap display_style_named c.as_str.ensures.value)
 
 pub returns-in_ok-from_arguments-in_default : goal.returns-in_ok-from_arguments-in_default
 returns-in_ok-from_arguments-in_default c =
@@ -37,4 +42,5 @@ returns-in_ok-from_arguments-in_default c =
       | in_default-via-then-args-lt2 w ↦ inl (grind arith)
       | in_default-via-else-args-lt2+else-args-lt3 w ↦ inr (search (rules, tests))
     ] in
-    ap (option_map OneLabel) c.in_ok-from_arguments-in_default.ensures ∙ sym (other_arguments string_bytes c.args.args.now count)
+    ap (option_map OneLabel) c.in_ok-from_arguments-in_default.ensures
+    ∙ sym (other_arguments string_bytes c.args.args.now count)

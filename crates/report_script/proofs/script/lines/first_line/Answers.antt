@@ -5,9 +5,13 @@ use Rattle.report_script.proofs.script.lines.first_line.Goals as goal
 
 pub returns-in-Some-clause-line : goal.returns-in-Some-clause-line
 returns-in-Some-clause-line c =
-    let parts = split_parts 10 c.args.left.now (Some (c.in-Some.text, c.in-Some.after)) c.in-Some.ensures.cases (lit< tt) in
-    rw c.without_return.ensures.text (first_then c.args.size c.args.left.now c.in-Some.text.now c.in-Some.after.now c.requires parts.0 parts.1)
+    let parts = split_parts 10 c.args.left.now (Some (c.in-Some.text, c.in-Some.after))
+    c.in-Some.ensures.cases (lit< tt) in
+    rw c.without_return.ensures.text
+    (first_then c.args.size c.args.left.now c.in-Some.text.now c.in-Some.after.now c.requires
+    parts.0 parts.1)
 
 pub returns-in-None-clause-line : goal.returns-in-None-clause-line
 returns-in-None-clause-line c =
-    last_line c.args.size c.args.left.now c.requires (split_parts 10 c.args.left.now None c.in-None.ensures.cases (lit< tt))
+    last_line c.args.size c.args.left.now c.requires
+    (split_parts 10 c.args.left.now None c.in-None.ensures.cases (lit< tt))

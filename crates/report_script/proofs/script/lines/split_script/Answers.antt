@@ -12,6 +12,11 @@ lines-init c =
     record {
       within = omega arith;
       end = sym (ap (λ n. drop n input) none);
-      read = ap (λ contents. map script_line_view contents ++ body (script_lines_from (length input - length input) pieces)) c.new-lines.ensures.items ∙ ap (λ n. body (script_lines_from n pieces)) none;
+      read =
+          ap
+          (λ contents. map script_line_view contents
+          ++ body (script_lines_from (length input - length input) pieces))
+          c.new-lines.ensures.items
+          ∙ ap (λ n. body (script_lines_from n pieces)) none;
       source = ap (λ n. script_source input (script_lines_from n pieces)) none;
     }

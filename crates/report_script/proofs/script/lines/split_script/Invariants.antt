@@ -7,8 +7,12 @@ abbrev pub invariant-lines : goal.invariant-lines
 invariant-lines l = record {
   within : IfSome l.rest (λ left. length left.now ≤ length l.input);
   end : IfSome l.rest (λ left. left.now ≡ drop (length l.input - length left.now) l.input);
-  read : map script_line_view l.lines.items ++ body (lines_left (length l.input) (option_map (λ left. left.now) l.rest)) ≡ body (script_lines l.input);
-  source : script_source l.input (lines_left (length l.input) (option_map (λ left. left.now) l.rest)) ≡ script_source l.input (script_lines l.input);
+  read : map script_line_view l.lines.items ++ body
+      (lines_left (length l.input) (option_map (λ left. left.now) l.rest))
+      ≡ body (script_lines l.input);
+  source : script_source l.input
+      (lines_left (length l.input) (option_map (λ left. left.now) l.rest))
+      ≡ script_source l.input (script_lines l.input);
 }
 
 abbrev pub decreases-lines : goal.decreases-lines

@@ -4,7 +4,11 @@ use Rattle.report_script.proofs.ScriptCuts.{no_return, return_dropped}
 use Rattle.report_script.proofs.script.lines.without_return.Goals as goal
 
 pub returns-in-Some-clause-text : goal.returns-in-Some-clause-text
-returns-in-Some-clause-text c = return_dropped c.args.text.now c.in-Some.front.now (strip_suffix_char 13 c.args.text.now (Some c.in-Some.front) c.in-Some.ensures.cases (lit< tt))
+returns-in-Some-clause-text c =
+    return_dropped c.args.text.now c.in-Some.front.now
+    (strip_suffix_char 13 c.args.text.now (Some c.in-Some.front) c.in-Some.ensures.cases (lit< tt))
 
 pub returns-in-None-clause-text : goal.returns-in-None-clause-text
-returns-in-None-clause-text c = no_return c.args.text.now (strip_suffix_char 13 c.args.text.now None c.in-None.ensures.cases (lit< tt))
+returns-in-None-clause-text c =
+    no_return c.args.text.now
+    (strip_suffix_char 13 c.args.text.now None c.in-None.ensures.cases (lit< tt))

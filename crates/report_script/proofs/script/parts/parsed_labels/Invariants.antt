@@ -5,4 +5,6 @@ use Rattle.report_script.proofs.script.parts.parsed_labels.Given as goal
 
 abbrev pub invariant-loop-line : goal.invariant-loop-line
 invariant-loop-line l =
-    map script_label_view l.labels.items ++ parsed_labels (map script_line_view (drop l.line-index l.lines)) ≡ parsed_labels (map script_line_view l.lines)
+    map script_label_view l.labels.items
+    ++ parsed_labels (map script_line_view (drop l.line-index l.lines))
+    ≡ parsed_labels (map script_line_view l.lines)

@@ -5,4 +5,6 @@ use Rattle.report_script.proofs.script.parts.parsed_notes.Given as goal
 
 abbrev pub invariant-loop-line : goal.invariant-loop-line
 invariant-loop-line l =
-    map (λ note. note.now) l.notes.items ++ parsed_notes (map script_line_view (drop l.line-index l.lines)) ≡ parsed_notes (map script_line_view l.lines)
+    map (λ note. note.now) l.notes.items
+    ++ parsed_notes (map script_line_view (drop l.line-index l.lines))
+    ≡ parsed_notes (map script_line_view l.lines)

@@ -12,5 +12,10 @@ loop-i-preserved c =
     let more : (c.loop-i._i + 1) * n ≤ c.args.copies * n = mul-le-mul_right n (omega arith) in
     record {
       end = omega arith;
-      front = take-put_mid c.loop-i.end _ c.loop-i.run c.copy_from_slice.new.self _ (omega (arith, ap length after)) (omega (arith, c.requires)) ∙ ap (λ (l : List ℕ). take c.loop-i.end c.loop-i.run ++ l) after ∙ ap (λ (l : List ℕ). l ++ c.args.bytes.now) i.front ∙ sym (repeat-push c.loop-i._i c.args.bytes.now);
+      front =
+          take-put_mid c.loop-i.end _ c.loop-i.run c.copy_from_slice.new.self _
+          (omega (arith, ap length after)) (omega (arith, c.requires))
+          ∙ ap (λ (l : List ℕ). take c.loop-i.end c.loop-i.run ++ l) after
+          ∙ ap (λ (l : List ℕ). l ++ c.args.bytes.now) i.front
+          ∙ sym (repeat-push c.loop-i._i c.args.bytes.now);
     }

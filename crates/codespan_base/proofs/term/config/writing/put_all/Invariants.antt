@@ -4,7 +4,8 @@ use Rattle.codespan_base.proofs.Loops.{StillToWrite}
 use Rattle.codespan_base.proofs.term.config.writing.put_all.Given as goal
 
 abbrev pub invariant-loop-rest : goal.invariant-loop-rest
-invariant-loop-rest g l = StillToWrite (g.W.PutStyle.sink l.fn.w) (bytes l.text) (bytes l.rest) (g.W.PutStyle.sink l.w)
+invariant-loop-rest g l =
+    StillToWrite (g.W.PutStyle.sink l.fn.w) (bytes l.text) (bytes l.rest) (g.W.PutStyle.sink l.w)
 
 abbrev pub decreases-loop-rest : goal.decreases-loop-rest
 decreases-loop-rest g l = length l.rest

@@ -6,5 +6,6 @@ pub returns : goal.returns
 returns g c =
     let start = c.write_digits-start.result in
     let digits = c.write_digits-start.new.digits in
-    let whole : take (20 - start) (drop start digits) ≡ drop start digits = take_all (20 - start) (drop start digits) (omega (arith, length-drop start digits)) in
+    let whole : take (20 - start) (drop start digits) ≡ drop start digits =
+    take_all (20 - start) (drop start digits) (omega (arith, length-drop start digits)) in
     rw (whole, c.write_digits-start.ensures.value) at c.put_all.ensures

@@ -5,7 +5,9 @@ use Rattle.codespan_base.proofs.term.config.writing.put_pair.Goals as goal
 
 pub returns-in_err-put_char-in_default : goal.returns-in_err-put_char-in_default
 returns-in_err-put_char-in_default g c =
-    rw (repeated-two c.args.c) (failed _ _ _ _ _ c.from_residual.ensures.1 (failed-before _ c.in_err-put_char-in_default.ensures))
+    rw (repeated-two c.args.c)
+    (failed _ _ _ _ _ c.from_residual.ensures.1
+    (failed-before _ c.in_err-put_char-in_default.ensures))
 
 pub returns-in-len3 : goal.returns-in-len3
 returns-in-len3 g c =
@@ -14,4 +16,5 @@ returns-in-len3 g c =
 
 pub returns-in_ok-put_char-in_default : goal.returns-in_ok-put_char-in_default
 returns-in_ok-put_char-in_default g c =
-    rw (repeated-two c.args.c) (writes-last _ _ _ _ _ c.in_ok-put_char-in_default.ensures c.put_char-in_default.ensures)
+    rw (repeated-two c.args.c)
+    (writes-last _ _ _ _ _ c.in_ok-put_char-in_default.ensures c.put_char-in_default.ensures)

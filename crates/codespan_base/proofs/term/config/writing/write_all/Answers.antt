@@ -12,4 +12,5 @@ returns-then-is_empty-clause-appends g c = λ known.
 
 pub returns-clause-appends : goal.returns-clause-appends
 returns-clause-appends g c =
-    written_to_plain_ref g.W.Write.contents c.new.result c.put_all.new.w _ _ _ _ _ c.new.ensures.begins c.put_all.ensures (search rules)
+    written_to_plain_ref g.W.Write.contents c.new.result c.put_all.new.w _ _ _ _ _
+    c.new.ensures.begins c.put_all.ensures (search rules)

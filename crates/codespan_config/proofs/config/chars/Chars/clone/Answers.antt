@@ -8,4 +8,7 @@ returns-clause-same c = record { start = c.in_ok-clone.ensures.same; others = re
 
 -- a fixed text is kept
 pub returns-clause-fixed : goal.returns-clause-fixed
-returns-clause-fixed c = λ fixed. ap (result_map_both (λ start. record c.args.self.now { snippet_start = start }) (λ e. e)) (c.in_ok-clone.ensures.fixed fixed)
+returns-clause-fixed c =
+    λ fixed. ap
+    (result_map_both (λ start. record c.args.self.now { snippet_start = start }) (λ e. e))
+    (c.in_ok-clone.ensures.fixed fixed)

@@ -10,5 +10,6 @@ returns-clause-id g c = c.len-id.ensures ∙ c.args.self.now.files.ok.0 ∙ sym 
 -- the error is that of a failed allocation
 pub returns-in_err-push-clause-failed : goal.returns-in_err-push-clause-failed
 returns-in_err-push-clause-failed g c =
-    let p = err_from_is_err_and c.from_residual-in_err-push.result c.from_residual-in_err-push.ensures.1 in
+    let p = err_from_is_err_and c.from_residual-in_err-push.result
+    c.from_residual-in_err-push.ensures.1 in
     rw (p.1, p.2) refl

@@ -11,10 +11,18 @@ pub returns-clause-default : goal.returns-clause-default
 returns-clause-default g c = c.default_line_number.ensures.failed
 
 pub returns-clause-value : goal.returns-clause-value
-returns-clause-value g c = rw (numbered g.Name.Display.output g.Source.AsStr.text (slice_get (entries c.args.self.now) c.args.id) c.args.line_index) c.default_line_number.ensures.value
+returns-clause-value g c =
+    rw
+    (numbered g.Name.Display.output g.Source.AsStr.text
+    (slice_get (entries c.args.self.now) c.args.id) c.args.line_index)
+    c.default_line_number.ensures.value
 
 pub returns-clause-failed : goal.returns-clause-failed
-returns-clause-failed g c = rw (number_fails g.Source.AsStr.text (slice_get (entries c.args.self.now) c.args.id) c.args.line_index) c.default_line_number.ensures.failed
+returns-clause-failed g c =
+    rw
+    (number_fails g.Source.AsStr.text (slice_get (entries c.args.self.now) c.args.id)
+    c.args.line_index)
+    c.default_line_number.ensures.failed
 
 pub returns-clause-memory : goal.returns-clause-memory
 returns-clause-memory g c = c.default_line_number.ensures.memory

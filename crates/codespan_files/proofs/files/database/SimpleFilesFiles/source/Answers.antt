@@ -3,7 +3,8 @@ use Rattle.codespan_files.proofs.files.database.SimpleFilesFiles.source.Goals as
 
 -- the file of the id is the one that was found
 pub returns-clause-value : goal.returns-clause-value
-returns-clause-value g c = rw c.in_ok-get.ensures.found (c.as_str.ensures ∙ ap g.Source.AsStr.text c.source.ensures)
+returns-clause-value g c =
+    rw c.in_ok-get.ensures.found (c.as_str.ensures ∙ ap g.Source.AsStr.text c.source.ensures)
 
 pub returns-clause-failed : goal.returns-clause-failed
 returns-clause-failed g c = search rules depth 2 fits 100

@@ -11,18 +11,23 @@ returns-in-Ok-clause-value g c =
     ap Some (c.index.ensures ∙ read) ∙ sym is
 
 pub returns-in-Err-eq0-clause-value : goal.returns-in-Err-eq0-clause-value
-returns-in-Err-eq0-clause-value g c = sym (nearest_set_before_all _ _ _ c.in-Err-eq0.ensures.absent (omega arith))
+returns-in-Err-eq0-clause-value g c =
+    sym (nearest_set_before_all _ _ _ c.in-Err-eq0.ensures.absent (omega arith))
 
 pub returns-in-Err-clause-value : goal.returns-in-Err-clause-value
 returns-in-Err-clause-value g c =
     let gap = c.in-Err.ensures.absent in
     let is = nearest_set_before _ _ _ gap (omega arith) in
-    let read = get_or_default c.args.self.now.numbers.items (c.in-Err.at - 1) c.index-in-Err.result.now (0, 0) (omega (arith, gap.in_range)) in
+    let read =
+    get_or_default c.args.self.now.numbers.items (c.in-Err.at - 1) c.index-in-Err.result.now
+    (0, 0) (omega (arith, gap.in_range)) in
     ap Some (c.index-in-Err.ensures ∙ read) ∙ sym is
 
 pub returns-in-Err-clause-below : goal.returns-in-Err-clause-below
 returns-in-Err-clause-below g c =
     let gap = c.in-Err.ensures.absent in
     let less = gap.smaller_before (c.in-Err.at - 1) (omega arith) in
-    let read = get_or_default c.args.self.now.numbers.items (c.in-Err.at - 1) c.index-in-Err.result.now (0, 0) (omega (arith, gap.in_range)) in
+    let read =
+    get_or_default c.args.self.now.numbers.items (c.in-Err.at - 1) c.index-in-Err.result.now
+    (0, 0) (omega (arith, gap.in_range)) in
     omega (arith, less, ap (λ (s : ℕ × ℕ). s.0) (c.index-in-Err.ensures ∙ read))

@@ -5,26 +5,38 @@ use Rattle.codespan_files.proofs.PastEndFailures.{past_end_failure_late, past_en
 use Rattle.codespan_files.proofs.files.mapped.MappedFile.set_line.Goals as goal
 
 pub invariant_of-self-in-Err : goal.invariant_of-self-in-Err
-invariant_of-self-in-Err g c = record { sorted = sorted_either _ _ _ c.in-Err.ensures.absent _ c.args.self.now.sorted _ _ c.insert.ensures.items }
+invariant_of-self-in-Err g c =
+    record {
+      sorted =
+          sorted_either _ _ _ c.in-Err.ensures.absent _ c.args.self.now.sorted _ _ c.insert.ensures.items;
+    }
 
 pub returns-in-Ok-clause-ok : goal.returns-in-Ok-clause-ok
 returns-in-Ok-clause-ok g c = set_replaces _ c.args.self.now.sorted _ _ c.in-Ok.ensures.found _
 
 pub returns-in_ok-insert-in-Err-clause-ok : goal.returns-in_ok-insert-in-Err-clause-ok
-returns-in_ok-insert-in-Err-clause-ok g c = c.in_ok-insert-in-Err.ensures.items ∙ insert_adds _ _ _ c.in-Err.ensures.absent _
+returns-in_ok-insert-in-Err-clause-ok g c =
+    c.in_ok-insert-in-Err.ensures.items ∙ insert_adds _ _ _ c.in-Err.ensures.absent _
 
 pub invariant_of-self : goal.invariant_of-self
-invariant_of-self g c = record { sorted = sorted_set _ c.args.self.now.sorted _ _ c.in-Ok.ensures.found _ }
+invariant_of-self g c =
+    record { sorted = sorted_set _ c.args.self.now.sorted _ _ c.in-Ok.ensures.found _ }
 
 -- a line past the last fails, and no other one
 pub returns-then-line_index-lines-clause-failed : goal.returns-then-line_index-lines-clause-failed
-returns-then-line_index-lines-clause-failed g c = λ _. past_end_failure_late (mapped_text_of c.args.self.now) _ _ _ refl c.line_count-lines.ensures.value c.if-line_index-lines.true
+returns-then-line_index-lines-clause-failed g c =
+    λ _. past_end_failure_late (mapped_text_of c.args.self.now) _ _ _ refl
+    c.line_count-lines.ensures.value c.if-line_index-lines.true
 
 pub returns-in-Ok-clause-failed : goal.returns-in-Ok-clause-failed
-returns-in-Ok-clause-failed g c = past_end_failure_early (mapped_text_of c.args.self.now) _ c.args.line_index refl (omega (arith, c.line_count-lines.ensures.value))
+returns-in-Ok-clause-failed g c =
+    past_end_failure_early (mapped_text_of c.args.self.now) _ c.args.line_index refl
+    (omega (arith, c.line_count-lines.ensures.value))
 
 pub returns-in_ok-insert-in-Err-clause-failed : goal.returns-in_ok-insert-in-Err-clause-failed
-returns-in_ok-insert-in-Err-clause-failed g c = past_end_failure_early (mapped_text_of c.args.self.now) _ c.args.line_index refl (omega (arith, c.line_count-lines.ensures.value))
+returns-in_ok-insert-in-Err-clause-failed g c =
+    past_end_failure_early (mapped_text_of c.args.self.now) _ c.args.line_index refl
+    (omega (arith, c.line_count-lines.ensures.value))
 
 -- the file is the same
 pub returns-in-Ok-clause-name : goal.returns-in-Ok-clause-name

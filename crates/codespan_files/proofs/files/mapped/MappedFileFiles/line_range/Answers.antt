@@ -10,25 +10,39 @@ use Rattle.codespan_files.proofs.files.mapped.MappedFileFiles.line_range.Goals a
 pub overflow_sub-result : goal.overflow_sub-result
 overflow_sub-result g c =
     let text = mapped_text_of c.args.self.now in
-    let next : c.args.line_index + 1 < length (line_starts_of text) = omega (arith, c.line_count.ensures.value) in
-    omega (arith, c.in_ok-range.ensures.value.end_is, end_before_last text c.args.line_index next, next_above text c.args.line_index next)
+    let next : c.args.line_index + 1 < length (line_starts_of text) =
+    omega (arith, c.line_count.ensures.value) in
+    omega (
+      arith,
+      c.in_ok-range.ensures.value.end_is,
+      end_before_last text c.args.line_index next,
+      next_above text c.args.line_index next,
+    )
 
 -- a line before the last does not fail
 pub returns-then-line_index-line_count-clause-failed : goal.returns-then-line_index-line_count-clause-failed
 returns-then-line_index-line_count-clause-failed g c =
     let text = mapped_text_of c.args.self.now in
-    past_end_failure_early text (line_starts_of text) c.args.line_index refl (omega (arith, c.line_count.ensures.value))
+    past_end_failure_early text (line_starts_of text) c.args.line_index refl
+    (omega (arith, c.line_count.ensures.value))
 
 -- and its range leaves out the newline
 pub returns-then-line_index-line_count-clause-value : goal.returns-then-line_index-line_count-clause-value
 returns-then-line_index-line_count-clause-value g c =
     let text = mapped_text_of c.args.self.now in
-    let next : c.args.line_index + 1 < length (line_starts_of text) = omega (arith, c.line_count.ensures.value) in
+    let next : c.args.line_index + 1 < length (line_starts_of text) =
+    omega (arith, c.line_count.ensures.value) in
     let line = c.in_ok-range.ensures.value in
     record {
       inside = line.inside;
       start_is = line.start_is;
-      end_is = omega (arith, line.end_is, end_before_last text c.args.line_index next, mapped_end_before_last text c.args.line_index next);
+      end_is =
+          omega (
+            arith,
+            line.end_is,
+            end_before_last text c.args.line_index next,
+            mapped_end_before_last text c.args.line_index next,
+          );
     }
 
 pub returns-then-line_index-line_count-clause-memory : goal.returns-then-line_index-line_count-clause-memory

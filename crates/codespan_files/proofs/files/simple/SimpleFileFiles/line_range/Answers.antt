@@ -10,23 +10,32 @@ use Rattle.codespan_files.proofs.files.simple.SimpleFileFiles.line_range.Goals a
 -- a line past the last fails with the index of the last
 pub returns-then-line_index-count-clause-failed : goal.returns-then-line_index-count-clause-failed
 returns-then-line_index-count-clause-failed g c = λ _.
-    past_end_failure_late (g.Source.AsStr.text c.args.self.now.source) c.args.self.now.line_starts.items _ _ c.args.self.now.starts (omega (arith, c.args.self.now.line_starts.ok.0)) c.if-line_index-count.true
+    past_end_failure_late (g.Source.AsStr.text c.args.self.now.source)
+    c.args.self.now.line_starts.items _ _ c.args.self.now.starts
+    (omega (arith, c.args.self.now.line_starts.ok.0)) c.if-line_index-count.true
 
 -- the range between two starts that follow each other is that of a line
-range_between : (name : Option (List ℕ)) (text starts : List ℕ) (i a b : ℕ) → starts ≡ line_starts_of text → i + 1 < length starts → a ≡ get_or starts i a → b ≡ get_or starts (i + 1) b → IsLineRange (simple_file name text) i (record { start = a; end = b })
+range_between : (name : Option (List ℕ)) (text starts : List ℕ) (i a b : ℕ)
+    → starts ≡ line_starts_of text → i + 1 < length starts → a ≡ get_or starts i a
+    → b ≡ get_or starts (i + 1) b
+    → IsLineRange (simple_file name text) i (record { start = a; end = b })
 range_between name text starts i a b same next first last =
     let later = rw same at next in
     record {
       inside = omega (arith, later);
       start_is = rw same at (first ∙ get_or_default starts i a 0 (omega arith));
-      end_is = (rw same at (last ∙ get_or_default starts (i + 1) b 0 next)) ∙ sym (end_before_last text i later);
+      end_is =
+          (rw same at (last ∙ get_or_default starts (i + 1) b 0 next))
+          ∙ sym (end_before_last text i later);
     }
 
 -- a line before the last ends where the next one starts
 pub returns-then-line_index-count-2-clause-value : goal.returns-then-line_index-count-2-clause-value
 returns-then-line_index-count-2-clause-value g c =
     let file = c.args.self.now in
-    range_between (g.Name.Display.output file.name) (g.Source.AsStr.text file.source) file.line_starts.items _ _ _ file.starts (omega (arith, file.line_starts.ok.0)) c.index-start.ensures c.index.ensures
+    range_between (g.Name.Display.output file.name) (g.Source.AsStr.text file.source)
+    file.line_starts.items _ _ _ file.starts (omega (arith, file.line_starts.ok.0))
+    c.index-start.ensures c.index.ensures
 
 -- a call that fails returns no range
 pub returns-then-line_index-count-clause-value : goal.returns-then-line_index-count-clause-value
@@ -34,7 +43,13 @@ returns-then-line_index-count-clause-value g c = tt
 
 -- a line that exists does not fail
 pub returns-then-line_index-count-2-clause-failed : goal.returns-then-line_index-count-2-clause-failed
-returns-then-line_index-count-2-clause-failed g c = past_end_failure_early (g.Source.AsStr.text c.args.self.now.source) c.args.self.now.line_starts.items c.args.line_index c.args.self.now.starts (omega (arith, c.args.self.now.line_starts.ok.0))
+returns-then-line_index-count-2-clause-failed g c =
+    past_end_failure_early (g.Source.AsStr.text c.args.self.now.source)
+    c.args.self.now.line_starts.items c.args.line_index c.args.self.now.starts
+    (omega (arith, c.args.self.now.line_starts.ok.0))
 
 pub returns-else-line_index-count-2-clause-failed : goal.returns-else-line_index-count-2-clause-failed
-returns-else-line_index-count-2-clause-failed g c = past_end_failure_early (g.Source.AsStr.text c.args.self.now.source) c.args.self.now.line_starts.items c.args.line_index c.args.self.now.starts (omega (arith, c.args.self.now.line_starts.ok.0))
+returns-else-line_index-count-2-clause-failed g c =
+    past_end_failure_early (g.Source.AsStr.text c.args.self.now.source)
+    c.args.self.now.line_starts.items c.args.line_index c.args.self.now.starts
+    (omega (arith, c.args.self.now.line_starts.ok.0))

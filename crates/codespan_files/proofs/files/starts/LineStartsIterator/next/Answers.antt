@@ -6,10 +6,18 @@ use Rattle.codespan_files.proofs.files.starts.LineStartsIterator.next.Goals as g
 pub returns-then-bytes-i-eq10-clause-steps : goal.returns-then-bytes-i-eq10-clause-steps
 returns-then-bytes-i-eq10-clause-steps c =
     let invariant = c.loop-i.invariant in
-    rw (invariant.same, c.if-not-self.false, ← c.as_bytes-bytes.ensures.value) (invariant.left ∙ starts_after_newline _ _ c.loop-i-test.true c.if-bytes-i-eq10.true)
+    rw (invariant.same, c.if-not-self.false, ← c.as_bytes-bytes.ensures.value)
+    (invariant.left ∙ starts_after_newline _ _ c.loop-i-test.true c.if-bytes-i-eq10.true)
 
 -- any other byte starts no line
 pub loop-i-preserved : goal.loop-i-preserved
 loop-i-preserved c =
     let invariant = c.loop-i.invariant in
-    record { in_range = omega arith; same = invariant.same; left = invariant.left ∙ starts_after_other _ _ c.loop-i-test.true c.if-bytes-i-eq10.false }
+    record {
+      in_range =
+          omega arith;
+      same =
+          invariant.same;
+      left =
+          invariant.left ∙ starts_after_other _ _ c.loop-i-test.true c.if-bytes-i-eq10.false;
+    }

@@ -6,5 +6,6 @@ abbrev pub invariant-loop-i : goal.invariant-loop-i
 invariant-loop-i l = record {
   in_range : l.i ≤ length l.bytes;
   same : l.self ≡ l.fn.self;
-  left : starts_after l.fn.self.at (drop l.fn.self.at l.bytes) ≡ starts_after l.i (drop l.i l.bytes);
+  left : starts_after l.fn.self.at (drop l.fn.self.at l.bytes) ≡ starts_after l.i
+      (drop l.i l.bytes);
 }

@@ -11,7 +11,8 @@ abbrev pub invariant-loop-start : goal.invariant-loop-start
 invariant-loop-start g l = record {
   within : l.start ≤ length l.annotations;
   hidden_within : l.hidden ≤ l.start;
-  left : LinesLeft (g.F.Files.database l.self.file.files.now).failure l.self.file.file_id l.self.layout
+  left : LinesLeft (g.F.Files.database l.self.file.files.now).failure l.self.file.file_id
+      l.self.layout
       (model_of g.F.Files.database l.self.file) (lines_of (map annotation_view l.annotations))
       (lines_left l.annotations l.hidden l.start l.previous) l.fn.snippet_lines.items
       l.snippet_lines.items;

@@ -4,5 +4,7 @@ use Rattle.codespan_renderer.proofs.term.renderer.Renderer.render_snippet_empty.
 
 pub returns : goal.returns
 returns g c =
-    renders _ _ _ _ _ c.new-rows.result c.write_snippet_empty-written.new.w _ _ _ (rw c.context-context.ensures refl)
-    c.new-rows.ensures.reference c.new-rows.ensures.writer c.write_snippet_empty-written.ensures c.with_saved_error.ensures.same c.with_saved_error.ensures.io (search rules) (search rules)
+    renders _ _ _ _ _ c.new-rows.result c.write_snippet_empty-written.new.w _ _ _
+    (rw c.context-context.ensures refl)
+    c.new-rows.ensures.reference c.new-rows.ensures.writer c.write_snippet_empty-written.ensures
+    c.with_saved_error.ensures.same c.with_saved_error.ensures.io (search rules) (search rules)

@@ -9,5 +9,7 @@ use Rattle.codespan_renderer.proofs.term.renderer.label_styles.has_primary_label
 -- the remaining labels decide
 abbrev pub invariant-loop-label : goal.invariant-loop-label
 invariant-loop-label l =
-    list_any (λ (x : LabelModel). is_primary x && covers x l.metrics) (single_label_views (drop l.label-index l.labels))
-    ≡ list_any (λ (x : LabelModel). is_primary x && covers x l.metrics) (single_label_views l.labels)
+    list_any (λ (x : LabelModel). is_primary x && covers x l.metrics)
+    (single_label_views (drop l.label-index l.labels))
+    ≡ list_any (λ (x : LabelModel). is_primary x && covers x l.metrics)
+    (single_label_views l.labels)

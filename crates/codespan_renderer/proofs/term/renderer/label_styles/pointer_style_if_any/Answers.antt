@@ -5,4 +5,7 @@ use Rattle.codespan_renderer.proofs.term.renderer.label_styles.pointer_style_if_
 pub returns : goal.returns
 returns c =
     let first = c.start_style.ensures in
-    c.start_style-2.ensures ∙ rw first (pointer_is c.args.labels.now c.args.messages.before.now c.args.messages.after.now c.args.metrics c.requires)
+    c.start_style-2.ensures
+    ∙ rw first
+    (pointer_is c.args.labels.now c.args.messages.before.now c.args.messages.after.now
+    c.args.metrics c.requires)

@@ -8,5 +8,7 @@ use Rattle.codespan_renderer.proofs.term.renderer.label_styles.start_style.Given
 -- the remaining labels decide, with what was found
 abbrev pub invariant-loop-label : goal.invariant-loop-label
 invariant-loop-label l =
-    preferred_style (starts_in l.metrics) l.best (filter has_message (single_label_views (drop l.label-index l.labels)))
-    ≡ preferred_style (starts_in l.metrics) l.fn.found (filter has_message (single_label_views l.labels))
+    preferred_style (starts_in l.metrics) l.best
+    (filter has_message (single_label_views (drop l.label-index l.labels)))
+    ≡ preferred_style (starts_in l.metrics) l.fn.found
+    (filter has_message (single_label_views l.labels))

@@ -8,4 +8,5 @@ use Rattle.codespan_renderer.proofs.term.renderer.label_styles.style_under.Goals
 pub returns : goal.returns
 returns c =
     let none : drop c.loop-label.label-index c.args.labels.now ≡ [] = grind (arith, common_steps) in
-    rw none at c.loop-label.invariant.best ∙ preferred-none (λ x. covers x c.args.metrics) (single_label_views c.args.labels.now)
+    rw none at c.loop-label.invariant.best
+    ∙ preferred-none (λ x. covers x c.args.metrics) (single_label_views c.args.labels.now)

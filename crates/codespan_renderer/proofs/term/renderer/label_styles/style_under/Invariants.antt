@@ -8,6 +8,7 @@ use Rattle.codespan_renderer.proofs.term.renderer.label_styles.style_under.Given
 -- the remaining labels decide
 abbrev pub invariant-loop-label : goal.invariant-loop-label
 invariant-loop-label l = record {
-  best : preferred_style (λ (x : LabelModel). covers x l.metrics) l.found (single_label_views (drop l.label-index l.labels))
+  best : preferred_style (λ (x : LabelModel). covers x l.metrics) l.found
+      (single_label_views (drop l.label-index l.labels))
       ≡ preferred_style (λ (x : LabelModel). covers x l.metrics) None (single_label_views l.labels);
 }

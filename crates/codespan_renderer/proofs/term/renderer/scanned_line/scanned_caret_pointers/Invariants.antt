@@ -13,6 +13,11 @@ use Rattle.codespan_renderer.proofs.term.renderer.scanned_line.scanned_caret_poi
 abbrev pub invariant-loop-metrics : goal.invariant-loop-metrics
 invariant-loop-metrics g l = record {
   scan_state : ScanState (length l.line.text.now) l.pending (metrics_left l.metrics-iterator);
-  with_written : StillToWrite (g.W.PutStyle.sink l.fn.w) (pointers (context_view l.context) (single_label_views l.line.labels.now) (metrics_before l.before (char_metrics l.context.tab_width l.line.text.now)))
-      (spaces l.pending ++ pointers (context_view l.context) (single_label_views l.line.labels.now) (metrics_before l.before (metrics_left l.metrics-iterator))) (g.W.PutStyle.sink l.w);
+  with_written : StillToWrite (g.W.PutStyle.sink l.fn.w)
+      (pointers (context_view l.context) (single_label_views l.line.labels.now)
+      (metrics_before l.before (char_metrics l.context.tab_width l.line.text.now)))
+      (spaces l.pending
+      ++ pointers (context_view l.context) (single_label_views l.line.labels.now)
+      (metrics_before l.before (metrics_left l.metrics-iterator)))
+      (g.W.PutStyle.sink l.w);
 }

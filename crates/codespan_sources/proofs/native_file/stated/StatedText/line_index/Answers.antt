@@ -10,12 +10,24 @@ pub overflow_sub-result : goal.overflow_sub-result
 overflow_sub-result c =
     let t = c.args.self.now in
     let law = stated_is_lawful t (λ _. None) in
-    let point = IsPartitionPoint-from_clause (λ (l : RawLine). leb (l.start - t.first_byte) c.args.byte_index) _ _ c.partition_point.ensures.partitioned (parted t.first_byte t.lines.now law.ascending c.args.byte_index) (λ a r q k. search rules) in
-    (line_found t.first_byte t.lines.now c.args.byte_index _ c.partition_point.ensures.bound (rw (length-map t.lines.now (λ (l : RawLine). l.start - t.first_byte)) at law.has_line) law.first point).0
+    let point = IsPartitionPoint-from_clause
+    (λ (l : RawLine). leb (l.start - t.first_byte) c.args.byte_index) _ _
+    c.partition_point.ensures.partitioned
+    (parted t.first_byte t.lines.now law.ascending c.args.byte_index)
+    (λ a r q k. search rules) in
+    (line_found t.first_byte t.lines.now c.args.byte_index _ c.partition_point.ensures.bound
+    (rw (length-map t.lines.now (λ (l : RawLine). l.start - t.first_byte)) at law.has_line)
+    law.first point).0
 
 pub returns : goal.returns
 returns c =
     let t = c.args.self.now in
     let law = stated_is_lawful t (λ _. None) in
-    let point = IsPartitionPoint-from_clause (λ (l : RawLine). leb (l.start - t.first_byte) c.args.byte_index) _ _ c.partition_point.ensures.partitioned (parted t.first_byte t.lines.now law.ascending c.args.byte_index) (λ a r q k. search rules) in
-    (line_found t.first_byte t.lines.now c.args.byte_index _ c.partition_point.ensures.bound (rw (length-map t.lines.now (λ (l : RawLine). l.start - t.first_byte)) at law.has_line) law.first point).1
+    let point = IsPartitionPoint-from_clause
+    (λ (l : RawLine). leb (l.start - t.first_byte) c.args.byte_index) _ _
+    c.partition_point.ensures.partitioned
+    (parted t.first_byte t.lines.now law.ascending c.args.byte_index)
+    (λ a r q k. search rules) in
+    (line_found t.first_byte t.lines.now c.args.byte_index _ c.partition_point.ensures.bound
+    (rw (length-map t.lines.now (λ (l : RawLine). l.start - t.first_byte)) at law.has_line)
+    law.first point).1

@@ -4,9 +4,11 @@ use Rattle.codespan_sources.proofs.native_file.stated.StatedText.line_number.Goa
 
 pub returns-in-Some : goal.returns-in-Some
 returns-in-Some c =
-    number_there (λ (l : RawLine). l.number) c.args.self.now.lines.now c.args.line_index c.in-Some.line.now
+    number_there (λ (l : RawLine). l.number) c.args.self.now.lines.now c.args.line_index
+    c.in-Some.line.now
     c.in-Some.ensures.lookup.3.0 c.in-Some.ensures.lookup.1
 
 pub returns-in-None : goal.returns-in-None
 returns-in-None c =
-    number_missing (λ (l : RawLine). l.number) c.args.self.now.lines.now c.args.line_index c.in-None.ensures.lookup.3
+    number_missing (λ (l : RawLine). l.number) c.args.self.now.lines.now c.args.line_index
+    c.in-None.ensures.lookup.3

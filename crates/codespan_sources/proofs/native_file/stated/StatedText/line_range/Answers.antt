@@ -11,7 +11,9 @@ returns-in-Some-clause-value c =
     record {
       inside = simp length-map c.in-Some.ensures.lookup.3.0;
       start_is = c.saturating_sub-start.ensures
-          ∙ number_there (λ (l : RawLine). l.start - t.first_byte) t.lines.now c.args.line_index c.in-Some.line.now c.in-Some.ensures.lookup.3.0 c.in-Some.ensures.lookup.1;
+          ∙ number_there (λ (l : RawLine). l.start - t.first_byte) t.lines.now c.args.line_index
+          c.in-Some.line.now c.in-Some.ensures.lookup.3.0 c.in-Some.ensures.lookup.1;
       end_is = c.saturating_sub-end.ensures
-          ∙ number_there (λ (l : RawLine). l.end - t.first_byte) t.lines.now c.args.line_index c.in-Some.line.now c.in-Some.ensures.lookup.3.0 c.in-Some.ensures.lookup.1;
+          ∙ number_there (λ (l : RawLine). l.end - t.first_byte) t.lines.now c.args.line_index
+          c.in-Some.line.now c.in-Some.ensures.lookup.3.0 c.in-Some.ensures.lookup.1;
     }

@@ -26,6 +26,15 @@ render_snippet_break-requires g c = lanes_fit c.args.self.now.num_multi_labels
 pub returns : goal.returns
 returns g c =
     let snippet = c.args.self.now in
-    let context = context_of (config_of c.args.renderer.now) snippet.context.now.severity snippet.context.now.padding in
-    let lane_marks = ap (map lane_mark_view) c.as_slice.ensures.value ∙ c.in_ok-fill_multi_labels.ensures.multi_labels in
-    renders_alone (renders_as (ap (λ (ms : List LaneMark). break_row context (record { count = snippet.num_multi_labels; lane_marks = ms }) ++ newline) lane_marks ∙ sym (append-nil _)) c.render_snippet_break.ensures)
+    let context = context_of (config_of c.args.renderer.now) snippet.context.now.severity
+    snippet.context.now.padding in
+    let lane_marks = ap (map lane_mark_view) c.as_slice.ensures.value
+    ∙ c.in_ok-fill_multi_labels.ensures.multi_labels in
+    renders_alone
+    (renders_as
+    (ap
+    (λ (ms : List LaneMark). break_row context
+    (record { count = snippet.num_multi_labels; lane_marks = ms }) ++ newline)
+    lane_marks
+    ∙ sym (append-nil _))
+    c.render_snippet_break.ensures)

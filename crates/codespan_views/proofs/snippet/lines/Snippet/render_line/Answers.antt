@@ -17,23 +17,31 @@ returns-in_err-refill g c =
 
 pub invariant_of-lanes : goal.invariant_of-lanes
 invariant_of-lanes g c =
-    let lane_marks = ap (map lane_mark_view) c.as_slice.ensures.value ∙ c.in_ok-refill.ensures.multi_labels in
+    let lane_marks =
+    ap (map lane_mark_view) c.as_slice.ensures.value ∙ c.in_ok-refill.ensures.multi_labels in
     record {
       in_order = lanes_fit c.args.self.now.num_multi_labels
           (map annotation_view c.args.annotations.now) _ lane_marks
-          (both-true (starts_in_order (single_labels_in (map annotation_view c.args.annotations.now)))
+          (both-true
+          (starts_in_order (single_labels_in (map annotation_view c.args.annotations.now)))
           _ c.requires.fits).1;
     }
 
 pub returns-in_err-cached : goal.returns-in_err-cached
 returns-in_err-cached g c =
-    let p = err_from_is_err_and c.from_residual-in_err-cached.result c.from_residual-in_err-cached.ensures.1 in
+    let p = err_from_is_err_and c.from_residual-in_err-cached.result
+    c.from_residual-in_err-cached.ensures.1 in
     rw p.1 (allocation_failed (out_of_memory p.2 c.in_err-cached.ensures.failed))
 
 pub returns : goal.returns
 returns g c =
     let annotations = map annotation_view c.args.annotations.now in
-    let labels = ap single_label_views c.as_slice-2.ensures.value ∙ c.in_ok-refill.ensures.single_labels in
-    let lane_marks = ap (map lane_mark_view) c.as_slice.ensures.value ∙ c.in_ok-refill.ensures.multi_labels in
+    let labels =
+    ap single_label_views c.as_slice-2.ensures.value ∙ c.in_ok-refill.ensures.single_labels in
+    let lane_marks =
+    ap (map lane_mark_view) c.as_slice.ensures.value ∙ c.in_ok-refill.ensures.multi_labels in
     line-rendered g.F.Files.database c.args.self.now c.args.line.index annotations
-    (ap line_view c.in_ok-cached.ensures.line ∙ c.new-line.ensures.line ∙ line-shown annotations _ _ c.requires.line c.requires.text c.range-source.ensures.value labels lane_marks) c.render.ensures
+    (ap line_view c.in_ok-cached.ensures.line ∙ c.new-line.ensures.line
+    ∙ line-shown annotations _ _ c.requires.line c.requires.text c.range-source.ensures.value
+    labels lane_marks)
+    c.render.ensures

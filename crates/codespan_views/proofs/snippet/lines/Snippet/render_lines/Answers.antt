@@ -19,7 +19,9 @@ loop-snippet_line-init g c = record {
 }
 
 -- it is the snippet line's turn
-turn : (g : Over) (c : After-render_snippet_line g) → IsElementAt c.args.snippet_lines.now c.loop-snippet_line.snippet_line-index c.snippet_line-item.result
+turn : (g : Over) (c : After-render_snippet_line g)
+    → IsElementAt c.args.snippet_lines.now c.loop-snippet_line.snippet_line-index
+    c.snippet_line-item.result
 turn g c = record { inside = c.loop-snippet_line-test.true; is = c.snippet_line-item.is }
 
 pub render_snippet_line-requires : goal.render_snippet_line-requires
@@ -31,10 +33,23 @@ render_snippet_line-requires g c κs =
       (refl, (refl, tt)),
       record {
         text = c.requires.text;
-        is = subst (IsSnippetLineOf f) (sym c.snippet_line-item.is) (All-from_recursion (IsSnippetLineOf f) snippet_lines c.requires.are.each i _ c.loop-snippet_line-test.true);
-        fits = ap (λ snippet_line. is_line_in_order snippet.num_multi_labels (snippet_line_view snippet_line)) c.snippet_line-item.is
-            ∙ All-from_recursion (λ snippet_line. is_line_in_order snippet.num_multi_labels (snippet_line_view snippet_line) ≡ true) snippet_lines
-            (all-mapped snippet_line_view (λ snippet_line. is_line_in_order snippet.num_multi_labels snippet_line ≡ true) snippet_lines c.requires.are.fit) i _ c.loop-snippet_line-test.true;
+        is =
+            subst (IsSnippetLineOf f) (sym c.snippet_line-item.is)
+            (All-from_recursion (IsSnippetLineOf f) snippet_lines c.requires.are.each i _
+            c.loop-snippet_line-test.true);
+        fits =
+            ap
+            (λ snippet_line. is_line_in_order snippet.num_multi_labels
+            (snippet_line_view snippet_line))
+            c.snippet_line-item.is
+            ∙ All-from_recursion
+            (λ snippet_line. is_line_in_order snippet.num_multi_labels
+            (snippet_line_view snippet_line) ≡ true)
+            snippet_lines
+            (all-mapped snippet_line_view
+            (λ snippet_line. is_line_in_order snippet.num_multi_labels snippet_line ≡ true)
+            snippet_lines c.requires.are.fit)
+            i _ c.loop-snippet_line-test.true;
       },
     )
 
@@ -55,7 +70,9 @@ loop-snippet_line-preserved g c =
     let was = c.loop-snippet_line.invariant in
     record {
       same = same_twice was.same c.in_ok-render_snippet_line.ensures.same;
-      rendered = rendered-next (turn g (goal.at.loop-snippet_line-preserved g c).After-render_snippet_line) was.rendered was.same.config c.in_ok-render_snippet_line.ensures.renders;
+      rendered =
+          rendered-next (turn g (goal.at.loop-snippet_line-preserved g c).After-render_snippet_line)
+          was.rendered was.same.config c.in_ok-render_snippet_line.ensures.renders;
     }
 
 pub returns : goal.returns
@@ -63,4 +80,10 @@ returns g c =
     let snippet_lines = c.args.snippet_lines.now in
     let i = c.loop-snippet_line.snippet_line-index in
     let past : length snippet_lines ≤ i = omega (arith, c.loop-snippet_line-test.false) in
-    record { same = c.loop-snippet_line.invariant.same; renders = (rendered-all snippet_lines i past c.loop-snippet_line.invariant.rendered).rendered.renders }
+    record {
+      same =
+          c.loop-snippet_line.invariant.same;
+      renders =
+          (rendered-all snippet_lines i past
+          c.loop-snippet_line.invariant.rendered).rendered.renders;
+    }

@@ -4,4 +4,11 @@ use Rattle.codespan_base.specs.Writers.{borrow_name}
 use Rattle.codespan_base.proofs.term.config.plain_ref.PlainWriterRefWriteStyle.put.Goals as goal
 
 pub returns-clause-took : goal.returns-clause-took
-returns-clause-took g c = c.forward_put.ensures.took (record { spelling = plain_spelling; failed = false; through = borrow_name c.args.self.now ∷ [] })
+returns-clause-took g c =
+    c.forward_put.ensures.took
+    (record {
+      spelling =
+          plain_spelling;
+      failed = false;
+      through = borrow_name c.args.self.now ∷ [];
+    })

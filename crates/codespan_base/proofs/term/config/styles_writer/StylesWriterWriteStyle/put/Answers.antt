@@ -2,4 +2,7 @@ use Rattle.codespan_base.specs.Writers.{styles_sink}
 use Rattle.codespan_base.proofs.term.config.styles_writer.StylesWriterWriteStyle.put.Goals as goal
 
 pub returns-clause-took : goal.returns-clause-took
-returns-clause-took g c = let sink = styles_sink g.W.Write.contents g.W.WriteColor.color_bytes g.W.WriteColor.reset_bytes c.args.self.now in c.forward_put.ensures.took sink.frame
+returns-clause-took g c =
+    let sink = styles_sink g.W.Write.contents g.W.WriteColor.color_bytes g.W.WriteColor.reset_bytes
+    c.args.self.now in
+    c.forward_put.ensures.took sink.frame

@@ -13,14 +13,21 @@ use Rattle.codespan_renderer.proofs.term.renderer.cached.pointers.find_pointers.
 pub returns-then-not-has_any_message-2-clause-found : goal.returns-then-not-has_any_message-2-clause-found
 returns-then-not-has_any_message-2-clause-found c =
     let early = sym c.has_any_message.ensures ∙ c.if-not-has_any_message.true in
-    let late = sym c.has_any_message-then-not-has_any_message.ensures ∙ c.if-not-has_any_message-2.true in
-    rw (c.clear.ensures.items, none_hangs _ _ _ c.requires.hanging_labels early late) (sym (no-pointers (char_metrics c.args.tab_width c.args.line.text.now)))
+    let late =
+    sym c.has_any_message-then-not-has_any_message.ensures ∙ c.if-not-has_any_message-2.true in
+    rw (c.clear.ensures.items, none_hangs _ _ _ c.requires.hanging_labels early late)
+    (sym (no-pointers (char_metrics c.args.tab_width c.args.line.text.now)))
 
 pub loop-metrics-init : goal.loop-metrics-init
 loop-metrics-init c =
-    let all : cached_left c.into_iter-metrics-iterator.result ≡ char_metrics c.args.tab_width c.args.line.text.now = ap cached_left c.into_iter-metrics-iterator.ensures.into_iter_gives ∙ c.requires.characters in
+    let all : cached_left c.into_iter-metrics-iterator.result
+    ≡ char_metrics c.args.tab_width c.args.line.text.now =
+    ap cached_left c.into_iter-metrics-iterator.ensures.into_iter_gives
+    ∙ c.requires.characters in
     rw (all, c.clear.ensures.items) record {
-      cursor = passing-start _ _ _ _ _ c.new-before.ensures.passed c.new-after.ensures.passed c.new-before.ensures.labels c.new-after.ensures.labels
+      cursor =
+          passing-start _ _ _ _ _ c.new-before.ensures.passed c.new-after.ensures.passed
+          c.new-before.ensures.labels c.new-after.ensures.labels
           (char_metrics-consecutive c.args.tab_width 0 0 (chars c.args.line.text.now));
       scan_state = scan_state-char_metrics _ _ (IsUtf8-had _ c.args.line.utf8);
       found = refl;
@@ -29,8 +36,11 @@ loop-metrics-init c =
 pub returns-then-metrics-last-clause-found : goal.returns-then-metrics-last-clause-found
 returns-then-metrics-last-clause-found c =
     let i = c.loop-metrics.invariant in
-    let none = pointers-past-at c.args.line.labels.now _ _ _ _ c.max_label_start-last.result _ _ c.in-Some.metrics c.in-Some.ensures.steps i.cursor c.if-metrics-last.true c.max_label_start-last.ensures in
-    sym (append-nil c.loop-metrics.pointers.items) ∙ ap (λ ps. c.loop-metrics.pointers.items ++ ps) (sym none) ∙ i.found
+    let none = pointers-past-at c.args.line.labels.now _ _ _ _ c.max_label_start-last.result _ _
+    c.in-Some.metrics c.in-Some.ensures.steps i.cursor c.if-metrics-last.true
+    c.max_label_start-last.ensures in
+    sym (append-nil c.loop-metrics.pointers.items)
+    ∙ ap (λ ps. c.loop-metrics.pointers.items ++ ps) (sym none) ∙ i.found
 
 pub loop-metrics-preserved-in-Continue-1 : goal.loop-metrics-preserved-in-Continue-1
 loop-metrics-preserved-in-Continue-1 c =
@@ -38,12 +48,19 @@ loop-metrics-preserved-in-Continue-1 c =
     let step = c.in-Some.ensures.steps in
     let early = c.start_style-early.ensures in
     let late = c.start_style.ensures in
-    let style = found-style c.args.line.labels.now _ _ _ _ c.in-Some.metrics _ _ c.requires.hanging_labels i.cursor.same_early i.cursor.same_late early.style late.style in
+    let style =
+    found-style c.args.line.labels.now _ _ _ _ c.in-Some.metrics _ _ c.requires.hanging_labels
+    i.cursor.same_early i.cursor.same_late early.style late.style in
     record {
-      cursor = passing-more _ _ _ _ _ _ _ _ (passing-at _ _ _ _ _ _ c.in-Some.metrics step i.cursor) early.passed late.passed early.labels late.labels;
-      scan_state = scan_state-more _ _ _ c.in-Some.metrics _ (omega arith) (omega arith) (rw step at i.scan_state);
+      cursor =
+          passing-more _ _ _ _ _ _ _ _ (passing-at _ _ _ _ _ _ c.in-Some.metrics step i.cursor)
+          early.passed late.passed early.labels late.labels;
+      scan_state =
+          scan_state-more _ _ _ c.in-Some.metrics _ (omega arith) (omega arith)
+          (rw step at i.scan_state);
       found = rw (c.in_ok-push.ensures.items, c.pointer_under.ensures)
-          (found-some (single_label_views c.args.line.labels.now) c.loop-metrics.pointers.items _ _ c.in-Some.metrics _ step (sym style ∙ c.in-Some-start_style.is) ∙ i.found);
+          (found-some (single_label_views c.args.line.labels.now) c.loop-metrics.pointers.items _ _
+          c.in-Some.metrics _ step (sym style ∙ c.in-Some-start_style.is) ∙ i.found);
     }
 
 pub loop-metrics-preserved : goal.loop-metrics-preserved
@@ -52,9 +69,18 @@ loop-metrics-preserved c =
     let step = c.in-Some.ensures.steps in
     let early = c.start_style-early.ensures in
     let late = c.start_style.ensures in
-    let style = found-style c.args.line.labels.now _ _ _ _ c.in-Some.metrics _ _ c.requires.hanging_labels i.cursor.same_early i.cursor.same_late early.style late.style in
+    let style =
+    found-style c.args.line.labels.now _ _ _ _ c.in-Some.metrics _ _ c.requires.hanging_labels
+    i.cursor.same_early i.cursor.same_late early.style late.style in
     record {
-      cursor = passing-more _ _ _ _ _ _ _ _ (passing-at _ _ _ _ _ _ c.in-Some.metrics step i.cursor) early.passed late.passed early.labels late.labels;
-      scan_state = scan_state-more _ _ _ c.in-Some.metrics _ (omega arith) (omega arith) (rw step at i.scan_state);
-      found = found-none (single_label_views c.args.line.labels.now) c.loop-metrics.pointers.items _ _ c.in-Some.metrics step (sym style ∙ c.in_default.is) ∙ i.found;
+      cursor =
+          passing-more _ _ _ _ _ _ _ _ (passing-at _ _ _ _ _ _ c.in-Some.metrics step i.cursor)
+          early.passed late.passed early.labels late.labels;
+      scan_state =
+          scan_state-more _ _ _ c.in-Some.metrics _ (omega arith) (omega arith)
+          (rw step at i.scan_state);
+      found =
+          found-none (single_label_views c.args.line.labels.now) c.loop-metrics.pointers.items _ _
+          c.in-Some.metrics step (sym style ∙ c.in_default.is)
+          ∙ i.found;
     }

@@ -11,8 +11,11 @@ use Rattle.codespan_renderer.proofs.term.renderer.cached.pointers.find_pointers.
 -- the pointers of the characters that are left are still to be found
 abbrev pub invariant-loop-metrics : goal.invariant-loop-metrics
 invariant-loop-metrics l = record {
-  cursor : IsPassing l.messages.before.now l.messages.after.now l.before l.after (cached_left l.metrics-iterator);
+  cursor : IsPassing l.messages.before.now l.messages.after.now l.before l.after
+      (cached_left l.metrics-iterator);
   scan_state : ScanState (length l.line.text.now) 0 (cached_left l.metrics-iterator);
-  found : l.pointers.items ++ pointers_in (hanging_labels (single_label_views l.line.labels.now)) (cached_left l.metrics-iterator)
-      ≡ pointers_in (hanging_labels (single_label_views l.line.labels.now)) (char_metrics l.tab_width l.line.text.now);
+  found : l.pointers.items ++ pointers_in (hanging_labels (single_label_views l.line.labels.now))
+      (cached_left l.metrics-iterator)
+      ≡ pointers_in (hanging_labels (single_label_views l.line.labels.now))
+      (char_metrics l.tab_width l.line.text.now);
 }

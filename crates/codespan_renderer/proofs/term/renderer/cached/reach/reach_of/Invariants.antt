@@ -7,11 +7,14 @@ use Rattle.codespan_renderer.proofs.term.renderer.cached.reach.reach_of.Given as
 -- the labels that are left, and then the lane marks, are still to count
 abbrev pub invariant-loop-label : goal.invariant-loop-label
 invariant-loop-label l =
-    fold (λ reach (x : LabelModel). farther (farther reach x.start) x.end) l.reach (single_label_views (drop l.label-index l.line.labels.now))
+    fold (λ reach (x : LabelModel). farther (farther reach x.start) x.end) l.reach
+    (single_label_views (drop l.label-index l.line.labels.now))
     ≡ reach_of (single_label_views l.line.labels.now) []
 
 -- the lane marks that are left are
 abbrev pub invariant-loop-lane_mark : goal.invariant-loop-lane_mark
 invariant-loop-lane_mark l =
-    fold (λ reach (m : LaneMark). farther_lane_mark reach m.multi_label) l.reach (map lane_mark_view (drop l.lane_mark-index l.line.lanes.lane_marks.now))
-    ≡ reach_of (single_label_views l.line.labels.now) (map lane_mark_view l.line.lanes.lane_marks.now)
+    fold (λ reach (m : LaneMark). farther_lane_mark reach m.multi_label) l.reach
+    (map lane_mark_view (drop l.lane_mark-index l.line.lanes.lane_marks.now))
+    ≡ reach_of (single_label_views l.line.labels.now)
+    (map lane_mark_view l.line.lanes.lane_marks.now)

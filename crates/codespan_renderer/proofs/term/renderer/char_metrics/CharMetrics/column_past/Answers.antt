@@ -11,5 +11,14 @@ returns-then-metrics-byte_index c =
     let over = c.in-Some.ensures.yields in
     let rest = metrics_from no_more c.next_metrics.new.self in
     let step = ap (λ cs. width_of (metrics_up_to c.args.byte_index cs)) (over.yields no_more) in
-    let none = ap width_of (past-scan c.args.byte_index c.in-Some.metrics c.loop-metrics.scan c.next_metrics.new.self over c.if-metrics-byte_index.true) in
-    omega (arith, c.loop-metrics.invariant, over.at, step, width-out c.args.byte_index c.in-Some.metrics rest c.if-metrics-byte_index.true, none)
+    let none = ap width_of
+    (past-scan c.args.byte_index c.in-Some.metrics c.loop-metrics.scan c.next_metrics.new.self
+    over c.if-metrics-byte_index.true) in
+    omega (
+      arith,
+      c.loop-metrics.invariant,
+      over.at,
+      step,
+      width-out c.args.byte_index c.in-Some.metrics rest c.if-metrics-byte_index.true,
+      none,
+    )

@@ -10,10 +10,14 @@ pub invariant_of-self : goal.invariant_of-self
 invariant_of-self c =
     let step = c.in-Some.ensures.steps.0 in
     let whole = sym c.args.self.now.left ∙ step in
-    let bytes = bytes-taken c.as_str-left.result.now c.as_str.result.now _ _ c.in-Some.ch c.as_str-left.ensures c.as_str.ensures step in
-    let room = bytes_left c.args.self.now.text.now (chars_rest c.next.new.self) c.args.self.now.byte_index c.in-Some.ch whole in
+    let bytes = bytes-taken c.as_str-left.result.now c.as_str.result.now _ _ c.in-Some.ch
+    c.as_str-left.ensures c.as_str.ensures step in
+    let room =
+    bytes_left c.args.self.now.text.now (chars_rest c.next.new.self) c.args.self.now.byte_index
+    c.in-Some.ch whole in
     let some = len_utf8_bounds c.in-Some.ch in
-    let next = drop_past_char c.args.self.now.text.now (chars_rest c.next.new.self) c.args.self.now.byte_index c.in-Some.ch whole in
+    let next = drop_past_char c.args.self.now.text.now (chars_rest c.next.new.self)
+    c.args.self.now.byte_index c.in-Some.ch whole in
     record {
       left = sym (rw bytes next);
       utf8 = ∣ IsUtf8-past_char _ _ _ (IsUtf8-had _ c.args.self.now.utf8) step ∣₁;
@@ -24,9 +28,12 @@ invariant_of-self c =
 pub returns-in-Some-clause-yields : goal.returns-in-Some-clause-yields
 returns-in-Some-clause-yields c =
     let step = c.in-Some.ensures.steps.0 in
-    let bytes = bytes-taken c.as_str-left.result.now c.as_str.result.now _ _ c.in-Some.ch c.as_str-left.ensures c.as_str.ensures step in
+    let bytes = bytes-taken c.as_str-left.result.now c.as_str.result.now _ _ c.in-Some.ch
+    c.as_str-left.ensures c.as_str.ensures step in
     record {
-      yields = λ after. metrics_then-char after _ _ _ _ _ _ _ _ (IsUtf8-had _ c.args.self.now.utf8) step bytes c.width_at.ensures;
+      yields =
+          λ after. metrics_then-char after _ _ _ _ _ _ _ _ (IsUtf8-had _ c.args.self.now.utf8) step
+          bytes c.width_at.ensures;
       here = refl;
       at = refl;
       some = omega (arith, bytes, (len_utf8_bounds c.in-Some.ch).0);
@@ -37,8 +44,10 @@ returns-in-Some-clause-yields c =
 pub returns-in-None-clause-yields : goal.returns-in-None-clause-yields
 returns-in-None-clause-yields c =
     let none = c.in-None.ensures.steps.0 in
-    let end : (after : MetricsAfterEnd) → metrics_from after c.args.self.now ≡ after c.args.self.now.byte_index c.args.self.now.column =
-    λ after. metrics_then-end after c.args.self.now.tab_width c.args.self.now.byte_index c.args.self.now.column (chars_rest c.args.self.now.chars) none.0 in
+    let end : (after : MetricsAfterEnd) → metrics_from after c.args.self.now
+    ≡ after c.args.self.now.byte_index c.args.self.now.column =
+    λ after. metrics_then-end after c.args.self.now.tab_width c.args.self.now.byte_index
+    c.args.self.now.column (chars_rest c.args.self.now.chars) none.0 in
     record {
       none = end;
       still = rw none.1 end;

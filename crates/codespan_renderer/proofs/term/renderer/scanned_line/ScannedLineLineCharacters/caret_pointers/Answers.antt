@@ -6,5 +6,8 @@ use Rattle.codespan_renderer.proofs.term.renderer.scanned_line.ScannedLineLineCh
 
 pub returns : goal.returns
 returns g c =
-    let all : metrics_before (2 ^ 64 - 1) (char_metrics c.args.context.tab_width c.args.line.text.now) ≡ char_metrics c.args.context.tab_width c.args.line.text.now = grind (arith, all_before) in
+    let all : metrics_before (2 ^ 64 - 1)
+    (char_metrics c.args.context.tab_width c.args.line.text.now)
+    ≡ char_metrics c.args.context.tab_width c.args.line.text.now =
+    grind (arith, all_before) in
     rw all at c.scanned_caret_pointers.ensures

@@ -2,7 +2,9 @@ use Rattle.codespan_renderer.proofs.LabelCursorSteps.{cursor-passed, returned-pa
 use Rattle.codespan_renderer.proofs.term.renderer.cached.cached_line.CachedCursorCharCursor.has_primary.Goals as goal
 
 pub has_primary-requires : goal.has_primary-requires
-has_primary-requires c = record { some = returned-some _ _ _ c.requires; passed = returned-passed _ _ _ c.requires }
+has_primary-requires c =
+    record { some = returned-some _ _ _ c.requires; passed = returned-passed _ _ _ c.requires }
 
 pub invariant_of-self : goal.invariant_of-self
-invariant_of-self c = record { state = cursor-passed _ _ _ _ c.requires c.has_primary.ensures.passed }
+invariant_of-self c =
+    record { state = cursor-passed _ _ _ _ c.requires c.has_primary.ensures.passed }

@@ -8,17 +8,33 @@ use Rattle.codespan_renderer.proofs.term.renderer.cached.cached_line.CachedLineL
 pub returns-in-Some : goal.returns-in-Some
 returns-in-Some c =
     let s = c.args.self.now in
-    let rises = IsNonDecreasingBy-from_default (λ (x : Metrics). x.byte_index) s.cached.now default_metrics (cached-ascends s.tab_width s.line.text.now s.cached.now s.rest s.metrics_are) in
-    let parted = IsPartitionedBy-leb (λ (x : Metrics). x.byte_index) s.cached.now c.args.byte_index rises in
-    let point = IsPartitionPoint-from_clause (λ (x : Metrics). leb x.byte_index c.args.byte_index) _ _ c.partition_point-count.ensures.partitioned parted (λ a r q k. search rules) in
+    let rises =
+    IsNonDecreasingBy-from_default (λ (x : Metrics). x.byte_index) s.cached.now default_metrics
+    (cached-ascends s.tab_width s.line.text.now s.cached.now s.rest s.metrics_are) in
+    let parted =
+    IsPartitionedBy-leb (λ (x : Metrics). x.byte_index) s.cached.now c.args.byte_index rises in
+    let point =
+    IsPartitionPoint-from_clause (λ (x : Metrics). leb x.byte_index c.args.byte_index) _ _
+    c.partition_point-count.ensures.partitioned parted (λ a r q k. search rules) in
     let found = c.in-Some.ensures.lookup in
-    ap (λ (x : Metrics). x.column) found.1 ∙ cached-cut s.tab_width s.line.text.now s.cached.now s.rest c.args.byte_index c.partition_point-count.result _ s.metrics_are point (let test = found.0 in grind (arith, nat_tests))
+    ap (λ (x : Metrics). x.column) found.1
+    ∙ cached-cut s.tab_width s.line.text.now s.cached.now s.rest c.args.byte_index
+    c.partition_point-count.result _ s.metrics_are point
+    (let test = found.0 in grind (arith, nat_tests))
 
 pub returns-in-None : goal.returns-in-None
 returns-in-None c =
     let s = c.args.self.now in
-    let rises = IsNonDecreasingBy-from_default (λ (x : Metrics). x.byte_index) s.cached.now default_metrics (cached-ascends s.tab_width s.line.text.now s.cached.now s.rest s.metrics_are) in
-    let parted = IsPartitionedBy-leb (λ (x : Metrics). x.byte_index) s.cached.now c.args.byte_index rises in
-    let point = IsPartitionPoint-from_clause (λ (x : Metrics). leb x.byte_index c.args.byte_index) _ _ c.partition_point-count.ensures.partitioned parted (λ a r q k. search rules) in
+    let rises =
+    IsNonDecreasingBy-from_default (λ (x : Metrics). x.byte_index) s.cached.now default_metrics
+    (cached-ascends s.tab_width s.line.text.now s.cached.now s.rest s.metrics_are) in
+    let parted =
+    IsPartitionedBy-leb (λ (x : Metrics). x.byte_index) s.cached.now c.args.byte_index rises in
+    let point =
+    IsPartitionPoint-from_clause (λ (x : Metrics). leb x.byte_index c.args.byte_index) _ _
+    c.partition_point-count.ensures.partitioned parted (λ a r q k. search rules) in
     let found = c.in-None.ensures.lookup in
-    c.column_past.ensures ∙ cached-past s.tab_width s.line.text.now s.cached.now s.rest c.args.byte_index c.partition_point-count.result default_metrics s.metrics_are point (let test = found.0 in grind (arith, nat_tests))
+    c.column_past.ensures
+    ∙ cached-past s.tab_width s.line.text.now s.cached.now s.rest c.args.byte_index
+    c.partition_point-count.result default_metrics s.metrics_are point
+    (let test = found.0 in grind (arith, nat_tests))

@@ -8,12 +8,20 @@ pub loop-self-preserved : goal.loop-self-preserved
 loop-self-preserved c =
     let i = c.loop-self.invariant in
     let e = c.pass.ensures in
-    let step = labels-step _ c.args.self.now.labels.now c.loop-self.self.next _ c.loop-self.invariant.same (omega arith) in
+    let step =
+    labels-step _ c.args.self.now.labels.now c.loop-self.self.next _ c.loop-self.invariant.same
+    (omega arith) in
     let prefix = sym c.starts_before_end.ensures ∙ c.if-starts_before_end.true in
     record {
       passed = record {
-        primary = rw (e.labels, e.next, e.primary) (reached-more is_primary _ _ _ _ _ _ step (grind (arith, nat_tests, prefix)) i.passed.primary);
-        any = rw (e.labels, e.next, e.any) (reached-more (λ _. true) _ _ _ _ _ _ step (grind (arith, nat_tests, prefix)) i.passed.any);
+        primary =
+            rw (e.labels, e.next, e.primary)
+            (reached-more is_primary _ _ _ _ _ _ step (grind (arith, nat_tests, prefix))
+            i.passed.primary);
+        any =
+            rw (e.labels, e.next, e.any)
+            (reached-more (λ _. true) _ _ _ _ _ _ step (grind (arith, nat_tests, prefix))
+            i.passed.any);
         ordered = rw (e.labels, e.next) (starts-next 0 _ _ _ step i.passed.ordered);
       };
       same = e.labels ∙ i.same;
@@ -23,10 +31,12 @@ pub returns-else-starts_before_end-clause-primary : goal.returns-else-starts_bef
 returns-else-starts_before_end-clause-primary c =
     let i = c.loop-self.invariant in
     let late = sym c.starts_before_end.ensures ∙ c.if-starts_before_end.false in
-    reached-here is_primary _ _ _ _ c.args.metrics refl c.requires.some (starts-past 0 _ _ _ _ _ i.same (omega arith) late i.passed.ordered) i.passed.primary
+    reached-here is_primary _ _ _ _ c.args.metrics refl c.requires.some
+    (starts-past 0 _ _ _ _ _ i.same (omega arith) late i.passed.ordered) i.passed.primary
 
 pub returns-else-starts_before_end-clause-any : goal.returns-else-starts_before_end-clause-any
 returns-else-starts_before_end-clause-any c =
     let i = c.loop-self.invariant in
     let late = sym c.starts_before_end.ensures ∙ c.if-starts_before_end.false in
-    reached-here (λ _. true) _ _ _ _ c.args.metrics refl c.requires.some (starts-past 0 _ _ _ _ _ i.same (omega arith) late i.passed.ordered) i.passed.any
+    reached-here (λ _. true) _ _ _ _ c.args.metrics refl c.requires.some
+    (starts-past 0 _ _ _ _ _ i.same (omega arith) late i.passed.ordered) i.passed.any

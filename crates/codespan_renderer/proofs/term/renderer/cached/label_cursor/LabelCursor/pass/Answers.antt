@@ -9,5 +9,6 @@ use Rattle.codespan_renderer.proofs.term.renderer.cached.label_cursor.LabelCurso
 pub returns-then-eq-clause-primary : goal.returns-then-eq-clause-primary
 returns-then-eq-clause-primary c =
     let label = c.args.label.now in
-    let primary : label.0 ≡ Primary = same_true the_type (search rules) _ _ (sym c.eq.ensures ∙ c.if-eq.true) in
+    let primary : label.0 ≡ Primary =
+    same_true the_type (search rules) _ _ (sym c.eq.ensures ∙ c.if-eq.true) in
     rw (primary, lt-ltb label.1.start label.1.end c.if-label.true) c.max-self-then-eq.ensures

@@ -11,9 +11,15 @@ use Rattle.codespan_renderer.proofs.term.renderer.cached.label_cursor.StartCurso
 -- the remaining labels decide, with what was found; those passed start in no later character
 abbrev pub invariant-loop-self : goal.invariant-loop-self
 invariant-loop-self l = record {
-  here : preferred_style (starts_in l.metrics) l.best (filter has_message (label_starts_left l.self)) ≡ preferred_style (starts_in l.metrics) l.fn.found (filter has_message (single_label_views l.fn.self.labels.now));
-  later : (c : Metrics) (found : Option LabelStyle) → l.metrics.byte_index + l.metrics.bytes ≤ c.byte_index
-      → preferred_style (starts_in c) found (filter has_message (single_label_views l.fn.self.labels.now)) ≡ preferred_style (starts_in c) found (filter has_message (label_starts_left l.self));
+  here : preferred_style (starts_in l.metrics) l.best
+      (filter has_message (label_starts_left l.self))
+      ≡ preferred_style (starts_in l.metrics) l.fn.found
+      (filter has_message (single_label_views l.fn.self.labels.now));
+  later : (c : Metrics) (found : Option LabelStyle)
+      → l.metrics.byte_index + l.metrics.bytes ≤ c.byte_index
+      → preferred_style (starts_in c) found
+      (filter has_message (single_label_views l.fn.self.labels.now))
+      ≡ preferred_style (starts_in c) found (filter has_message (label_starts_left l.self));
   ordered : starts_from l.metrics.byte_index (label_starts_left l.self) ≡ true;
   same : l.self.labels.now ≡ l.fn.self.labels.now;
 }
