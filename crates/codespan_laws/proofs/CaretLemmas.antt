@@ -17,26 +17,26 @@ use Rattle.codespan_picture.proofs.CaretEnds.{style_under-below}
 use Rattle.codespan_picture.specs.Carets.{style_under, caret_for, max_label_end, owns, style_at, caret_cells}
 use Rattle.codespan_laws.proofs.Texts.{text_of-append, encode_utf8_all-append, encode_utf8_all-spaces, text_of-spaces, text_of-style_mark, text_of-repeated}
 use Rattle.codespan_picture.specs.Rows.{RowContext, Line}
-use Rattle.codespan_picture.specs.RowParts.{line_metrics_to_end, change, styled, caret_glyphs, carets}
+use Rattle.codespan_picture.specs.RowParts.{line_metrics_to_end, style_change, styled, caret_glyphs, carets}
 
-pub text_of-change : (severity : Severity) (previous now : Option LabelStyle)
-    → text_of (change severity previous now) ≡ []
-unfolding change
-text_of-change severity None None = refl
-text_of-change severity None (Some style) = text_of-style_mark _
-text_of-change severity (Some style) None = text_of-style_mark _
-text_of-change severity (Some Primary) (Some Primary) = refl
-text_of-change severity (Some Primary) (Some Secondary) = text_of-style_mark _
-text_of-change severity (Some Secondary) (Some Primary) = text_of-style_mark _
-text_of-change severity (Some Secondary) (Some Secondary) = refl
+pub text_of-style_change : (severity : Severity) (previous now : Option LabelStyle)
+    → text_of (style_change severity previous now) ≡ []
+unfolding style_change
+text_of-style_change severity None None = refl
+text_of-style_change severity None (Some style) = text_of-style_mark _
+text_of-style_change severity (Some style) None = text_of-style_mark _
+text_of-style_change severity (Some Primary) (Some Primary) = refl
+text_of-style_change severity (Some Primary) (Some Secondary) = text_of-style_mark _
+text_of-style_change severity (Some Secondary) (Some Primary) = text_of-style_mark _
+text_of-style_change severity (Some Secondary) (Some Secondary) = refl
 
 -- styles do not change the text
 pub text_of-styled : (severity : Severity) (style : Metrics → Option LabelStyle)
     (shown : Metrics → Stream) (previous : Option LabelStyle) (cs : List Metrics)
     → text_of (styled severity style shown previous cs) ≡ flat_map (λ c. text_of (shown c)) cs
-text_of-styled severity style shown previous [] = text_of-change severity previous None
+text_of-styled severity style shown previous [] = text_of-style_change severity previous None
 text_of-styled severity style shown previous (c ∷ cs) =
-    simp (text_of-append, text_of-change)
+    simp (text_of-append, text_of-style_change)
     (ap (λ s. text_of (shown c) ++ s) (text_of-styled severity style shown (style c) cs))
 
 -- ---- consecutive numbers

@@ -13,7 +13,7 @@ use Rattle.codespan_picture.specs.declared.char_metrics.Metrics.{Metrics}
 use Rattle.codespan_picture.specs.Carets.{style_under, max_label_end}
 use Rattle.codespan_picture.specs.Lanes.{label_glyph}
 use Rattle.codespan_picture.specs.Rows.{RowContext, Locus, Lanes, Line, Row, HeaderRow, SnippetStartRow, EmptyRow, BreakRow, SourceRow, CaretRow, PointerRow, HangingRow, UnderlineRow, FirstNoteRow, LaterNoteRow, FinalRow, hanging_labels, trailing_label}
-use Rattle.codespan_picture.specs.RowParts.{outer_gutter, outer_gutter_number, border_left, border_left_break, change, styled, lanes_in, locus, line_metrics, line_metrics_to_end, inner_gutter, colored_text, caret_glyphs, carets, trailing_message, label_message, starts_in, max_label_start, spaces_up_to, pointer_style, pointer_at, pointers, metrics_before, underline, underline_message}
+use Rattle.codespan_picture.specs.RowParts.{outer_gutter, outer_gutter_number, border_left, border_left_break, style_change, styled, lanes_in, locus, line_metrics, line_metrics_to_end, inner_gutter, colored_text, caret_glyphs, carets, trailing_message, label_message, starts_in, max_label_start, spaces_up_to, pointer_style, pointer_at, pointers, metrics_before, underline, underline_message}
 use Rattle.codespan_picture.specs.RowStreams.{stream_of, snippet_start_row, empty_row, break_row, source_row, row_start, caret_row, pointer_row, hanging_row, underline_row, first_note_row}
 use Rattle.codespan_laws.proofs.Texts.{row_length-append, row_length-glyph, row_length-repeated, text_of-bytes}
 use Rattle.codespan_laws.proofs.LaneWidths.{row_length-lanes_in, row_length-label_glyph}
@@ -113,11 +113,11 @@ module _ (context : RowContext) (chars : Chars) where
       → (previous : Option LabelStyle) (cs : List Metrics)
       → AreAsLong (styled context.severity style shown previous cs)
       (styled context.severity style shown' previous cs)
-  styled_as_long style shown shown' e previous [] = as_long (change context.severity previous None)
+  styled_as_long style shown shown' e previous [] = as_long (style_change context.severity previous None)
   styled_as_long style shown shown' e previous (c ∷ cs) =
-      joined (change context.severity previous (style c) ++ shown c)
-      (change context.severity previous (style c) ++ shown' c) _ _
-      (same_after (change context.severity previous (style c)) (shown c) (shown' c) (e c))
+      joined (style_change context.severity previous (style c) ++ shown c)
+      (style_change context.severity previous (style c) ++ shown' c) _ _
+      (same_after (style_change context.severity previous (style c)) (shown c) (shown' c) (e c))
       (styled_as_long style shown shown' e (style c) cs)
 
   caret_glyphs_as_long : (end : ℕ) (style : Option LabelStyle) (c : Metrics)

@@ -31,7 +31,7 @@ use Rattle.codespan_laws.proofs.LineSlots.{sum-zero, sum-map, sum-filter, label_
 use Rattle.codespan_laws.proofs.FileSlots.{file_slots, lines_sum, rich_sum}
 use Rattle.codespan_laws.proofs.SlotSums.{slotted_slots, slotted_from, slotted_sum, one_here, each_once}
 use Rattle.codespan_laws.proofs.RefillRows.{fill, fill-is, fill_same, keeps, fill-rows}
-use Rattle.codespan_laws.proofs.RefillPicture.{re_file, re_in, rich-re, padding-re, files-re}
+use Rattle.codespan_laws.proofs.RefillPicture.{refilled_file, refilled_in, rich-refilled, padding-refilled, files-refilled}
 
 -- ---- a slot that no label has is in no row
 
@@ -159,17 +159,17 @@ refill_one m k (b ∷ bs) message is at =
     ap (λ (s : Stream). with_messages m (if is_empty_stream s then [] else Slot k ∷ [])) is
     ∙ append-nil (map Byte (m k)) ∙ ap (map Byte) at ∙ sym is
 
-refilled : {Id : Type 0} (φ : Stream → Stream) (k n : ℕ) (xs : List (InFile Id))
+slots-refilled : {Id : Type 0} (φ : Stream → Stream) (k n : ℕ) (xs : List (InFile Id))
     → ((j i : ℕ) (x : InFile Id) → n + j ≡ i → slice_get xs j ≡ Some x
     → φ (if is_empty_stream x.label.message then [] else Slot i ∷ []) ≡ x.label.message)
-    → map (re_in φ) (slotted_from k n xs) ≡ xs
-refilled φ k n [] h = refl
-refilled {Id = Id} φ k n (x ∷ xs) h =
+    → map (refilled_in φ) (slotted_from k n xs) ≡ xs
+slots-refilled φ k n [] h = refl
+slots-refilled {Id = Id} φ k n (x ∷ xs) h =
     ap₂ {C = List (InFile Id)}
     (λ (s : Stream) ys. record { file_id = x.file_id; label = record x.label { message = s } }
     ∷ ys)
     (h 0 n x (omega arith) refl)
-    (refilled φ k (n + 1) xs (λ j i y e at. h (suc j) i y (omega arith) at))
+    (slots-refilled φ k (n + 1) xs (λ j i y e at. h (suc j) i y (omega arith) at))
 
 -- the labels' files do not depend on the messages
 ids_kept : {Id : Type 0} (k n : ℕ) (xs : List (InFile Id))
@@ -206,13 +206,13 @@ filled_output {Id = Id} renderer_config view_config same file severity header_te
     (rendered Rich renderer_config view_config severity header_text loci ss notes)
     (λ k some. by_text k (message_text xs k) refl some)
     ∙ fill-rows (full_text xs) (full xs) context (rich_rows view_config header_text loci ss notes)
-    ∙ ap (stream_of_rows context) (rich-re φ kept view_config header_text loci ss notes)
+    ∙ ap (stream_of_rows context) (rich-refilled φ kept view_config header_text loci ss notes)
     ∙ ap
     (λ n. stream_of_rows (context_of renderer_config severity n)
-    (rich_rows view_config header_text loci (map (re_file φ) ss) notes))
-    (sym (padding-re φ kept view_config ss))
+    (rich_rows view_config header_text loci (map (refilled_file φ) ss) notes))
+    (sym (padding-refilled φ kept view_config ss))
     ∙ ap (λ ts. rendered Rich renderer_config view_config severity header_text loci ts notes)
-    (sym (files-re φ kept same file (all_slotted xs)) ∙ ap (labeled_file_models same file) whole)
+    (sym (files-refilled φ kept same file (all_slotted xs)) ∙ ap (labeled_file_models same file) whole)
   where
     ss : List LabeledFileModel
     ss = labeled_file_models same file (all_slotted xs)
@@ -226,9 +226,9 @@ filled_output {Id = Id} renderer_config view_config same file severity header_te
     kept : (s : Stream) → is_empty_stream (φ s) ≡ is_empty_stream s
     kept = keeps (full_text xs) (full xs)
 
-    whole : map (re_in φ) (all_slotted xs) ≡ xs
+    whole : map (refilled_in φ) (all_slotted xs) ≡ xs
     whole =
-        refilled φ 0 0 xs
+        slots-refilled φ 0 0 xs
         (λ j i x e at. refill_one (full_text xs) i (text_of x.label.message) x.label.message
         (plain j x at)
         (ap (λ n. full_text xs n) (sym e ∙ zero_plus j)

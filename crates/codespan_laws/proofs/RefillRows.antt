@@ -15,7 +15,7 @@ use Rattle.codespan_picture.specs.RowStreams.{empty_row, break_row, source_row, 
 use Rattle.codespan_laws.specs.MessageLaws.{is_slot}
 use Rattle.codespan_laws.proofs.SlotLemmas as slot
 use Rattle.codespan_laws.proofs.SlotLemmas.{slots}
-use Rattle.codespan_laws.proofs.RefillLemmas.{re, re_multi_label, re_lane_mark, re_lanes, re_line, source_lanes-re, plain_lanes-re, below_lanes-re, underline_lanes-re, colored_text-re, carets-re, pointers-re, trailing_label-re}
+use Rattle.codespan_laws.proofs.RefillLemmas.{refilled, refilled_multi_label, refilled_lane_mark, refilled_lanes, refilled_line, source_lanes-refilled, plain_lanes-refilled, below_lanes-refilled, underline_lanes-refilled, colored_text-refilled, carets-refilled, pointers-refilled, trailing_label-refilled}
 use Rattle.codespan_picture.specs.Lanes.{Underline}
 
 -- the stream with each slot filled, folded unless a proof unfolds it
@@ -72,19 +72,19 @@ fill_without_slots m (Mark a ∷ s) h =
     (fill_without_slots m s (λ k. let e = h k in omega (arith, e, slots-cons k (Mark a) s)))
 fill_without_slots m (Slot j ∷ s) h = let e = h j in absurd (omega (arith, e, slots-slot j s))
 
-abbrev pub re_row : (Stream → Stream) → Row → Row
-re_row φ (HeaderRow at header_text) = HeaderRow at header_text
-re_row φ (SnippetStartRow at) = SnippetStartRow at
-re_row φ (EmptyRow lanes) = EmptyRow (re_lanes φ lanes)
-re_row φ (BreakRow lanes) = BreakRow (re_lanes φ lanes)
-re_row φ (SourceRow line) = SourceRow (re_line φ line)
-re_row φ (CaretRow line) = CaretRow (re_line φ line)
-re_row φ (PointerRow line) = PointerRow (re_line φ line)
-re_row φ (HangingRow line x) = HangingRow (re_line φ line) (re φ x)
-re_row φ (UnderlineRow line m) = UnderlineRow (re_line φ line) (re_lane_mark φ m)
-re_row φ (FirstNoteRow note_line) = FirstNoteRow note_line
-re_row φ (LaterNoteRow note_line) = LaterNoteRow note_line
-re_row φ FinalRow = FinalRow
+abbrev pub refilled_row : (Stream → Stream) → Row → Row
+refilled_row φ (HeaderRow at header_text) = HeaderRow at header_text
+refilled_row φ (SnippetStartRow at) = SnippetStartRow at
+refilled_row φ (EmptyRow lanes) = EmptyRow (refilled_lanes φ lanes)
+refilled_row φ (BreakRow lanes) = BreakRow (refilled_lanes φ lanes)
+refilled_row φ (SourceRow line) = SourceRow (refilled_line φ line)
+refilled_row φ (CaretRow line) = CaretRow (refilled_line φ line)
+refilled_row φ (PointerRow line) = PointerRow (refilled_line φ line)
+refilled_row φ (HangingRow line x) = HangingRow (refilled_line φ line) (refilled φ x)
+refilled_row φ (UnderlineRow line m) = UnderlineRow (refilled_line φ line) (refilled_lane_mark φ m)
+refilled_row φ (FirstNoteRow note_line) = FirstNoteRow note_line
+refilled_row φ (LaterNoteRow note_line) = LaterNoteRow note_line
+refilled_row φ FinalRow = FinalRow
 
 not_empty-append : (s t : Stream) → is_empty_stream s ≡ false → is_empty_stream (s ++ t) ≡ false
 not_empty-append [] t h = cc
@@ -105,18 +105,18 @@ module _ (m : ℕ → List ℕ) (full : (k : ℕ) → is_empty_stream (map Byte 
   without_slots : (s : Stream) {s' : Stream} → ((k : ℕ) → slots k s ≡ 0) → s' ≡ s → fill m s ≡ s'
   without_slots s h e = fill_without_slots m s h ∙ sym e
 
-  row_start-re : (context : RowContext) (line : Line)
-      → row_start context (re_line (fill m) line) ≡ row_start context line
+  row_start-refilled : (context : RowContext) (line : Line)
+      → row_start context (refilled_line (fill m) line) ≡ row_start context line
   unfolding row_start
-  row_start-re context line =
+  row_start-refilled context line =
       ap (λ s. outer_gutter context.padding ++ border_left context.chars ++ s ++ space)
-      (below_lanes-re (fill m) keeps context (leading_of line) line.lanes)
+      (below_lanes-refilled (fill m) keeps context (leading_of line) line.lanes)
 
   opened : (context : RowContext) (line : Line)
-      → fill m (row_start context line) ≡ row_start context (re_line (fill m) line)
+      → fill m (row_start context line) ≡ row_start context (refilled_line (fill m) line)
   opened context line =
       without_slots (row_start context line) (λ k. slot.slots-row_start k context line)
-      (row_start-re context line)
+      (row_start-refilled context line)
 
   one-style_mark : (a : _) → fill m (style_mark a) ≡ style_mark a
   one-style_mark a = without_slots (style_mark a) (λ k. slot.slots-style_mark k a) refl
@@ -124,55 +124,55 @@ module _ (m : ℕ → List ℕ) (full : (k : ℕ) → is_empty_stream (map Byte 
   one-space : fill m space ≡ space
   one-space = without_slots space (λ k. slot.slots-bytes k (32 ∷ [])) refl
 
-  message-re : (severity : Severity) (style : LabelStyle) (message : Stream)
+  message-refilled : (severity : Severity) (style : LabelStyle) (message : Stream)
       → fill m (label_message severity style message) ≡ label_message severity style
       (fill m message)
   unfolding label_message
-  message-re severity style message =
+  message-refilled severity style message =
       join _ _ (join _ _ (one-style_mark (LabelStyleMark severity style)) refl)
       (one-style_mark Reset)
 
-  trailing_label-message-re : (severity : Severity) (x : Option LabelModel)
+  trailing_label-message-refilled : (severity : Severity) (x : Option LabelModel)
       → fill m (trailing_message severity x) ≡ trailing_message severity
-      (option_map (re (fill m)) x)
+      (option_map (refilled (fill m)) x)
   unfolding trailing_message
-  trailing_label-message-re severity None = without_slots [] (λ k. slot.slots-nil k) refl
-  trailing_label-message-re severity (Some x) =
-      join _ _ one-space (message-re severity x.style x.message)
+  trailing_label-message-refilled severity None = without_slots [] (λ k. slot.slots-nil k) refl
+  trailing_label-message-refilled severity (Some x) =
+      join _ _ one-space (message-refilled severity x.style x.message)
 
   some_message : (s : Stream) → is_empty_stream s ≡ false → underline_message s ≡ space ++ s
   unfolding underline_message
   some_message [] h = cc
   some_message (p ∷ s) h = refl
 
-  underline-message-re : (s : Stream) → fill m (underline_message s) ≡ underline_message (fill m s)
+  underline-message-refilled : (s : Stream) → fill m (underline_message s) ≡ underline_message (fill m s)
   unfolding fill underline_message
-  underline-message-re [] = refl
-  underline-message-re (p ∷ s) =
+  underline-message-refilled [] = refl
+  underline-message-refilled (p ∷ s) =
       join space (p ∷ s) one-space refl ∙ sym (some_message (fill m (p ∷ s)) (keeps (p ∷ s)))
 
-  underline-re : (chars : Chars) (style : LabelStyle) (cs : List Metrics) (multi_label : MultiLabel)
+  underline-refilled : (chars : Chars) (style : LabelStyle) (cs : List Metrics) (multi_label : MultiLabel)
       → fill m (underline chars style cs multi_label) ≡ underline chars style cs
-      (re_multi_label (fill m) multi_label)
+      (refilled_multi_label (fill m) multi_label)
   unfolding underline
-  underline-re chars style cs (Top start) =
+  underline-refilled chars style cs (Top start) =
       join _ _
       (without_slots
       (repeated (width_of (filter (λ (c : Metrics). nat_le c.byte_index start) cs))
       chars.multi_top)
       (λ k. slot.slots-repeated k _ _) refl)
       (without_slots (glyph _) (λ k. slot.slots-bytes k _) refl)
-  underline-re chars style cs Left = without_slots [] (λ k. slot.slots-nil k) refl
-  underline-re chars style cs (Bottom end message) =
+  underline-refilled chars style cs Left = without_slots [] (λ k. slot.slots-nil k) refl
+  underline-refilled chars style cs (Bottom end message) =
       join _ _
       (join _ _
       (without_slots (repeated (width_of (metrics_before end cs)) chars.multi_bottom)
       (λ k. slot.slots-repeated k _ _) refl)
       (without_slots (glyph (end_caret chars style)) (λ k. slot.slots-bytes k _) refl))
-      (underline-message-re message)
+      (underline-message-refilled message)
 
   pub fill-row : (context : RowContext) (row : Row)
-      → fill m (stream_of context row) ≡ stream_of context (re_row (fill m) row)
+      → fill m (stream_of context row) ≡ stream_of context (refilled_row (fill m) row)
   unfolding empty_row break_row source_row caret_row pointer_row hanging_row underline_row
   fill-row context (HeaderRow at header_text) =
       without_slots _ (λ k. slot.slots-stream_of k context (HeaderRow at header_text)) refl
@@ -181,40 +181,40 @@ module _ (m : ℕ → List ℕ) (full : (k : ℕ) → is_empty_stream (map Byte 
   fill-row context (EmptyRow lanes) =
       without_slots (empty_row context lanes) (λ k. slot.slots-stream_of k context (EmptyRow lanes))
       (ap (λ s. outer_gutter context.padding ++ border_left context.chars ++ s)
-      (plain_lanes-re (fill m) keeps context lanes))
+      (plain_lanes-refilled (fill m) keeps context lanes))
   fill-row context (BreakRow lanes) =
       without_slots (break_row context lanes) (λ k. slot.slots-stream_of k context (BreakRow lanes))
       (ap (λ s. outer_gutter context.padding ++ border_left_break context.chars ++ s)
-      (plain_lanes-re (fill m) keeps context lanes))
+      (plain_lanes-refilled (fill m) keeps context lanes))
   fill-row context (SourceRow line) =
       without_slots (source_row context line) (λ k. slot.slots-stream_of k context (SourceRow line))
       (ap₂
       (λ a b. outer_gutter_number context.padding line.number ++ border_left context.chars ++ a
       ++ space ++ b)
-      (source_lanes-re (fill m) keeps context (leading_of line) line.lanes)
-      (colored_text-re (fill m) keeps context line))
+      (source_lanes-refilled (fill m) keeps context (leading_of line) line.lanes)
+      (colored_text-refilled (fill m) keeps context line))
   fill-row context (CaretRow line) =
       join _ _ (join _ _ (opened context line)
       (without_slots (carets context line.labels (line_metrics_to_end context line))
       (λ k. slot.slots-carets k context line.labels (line_metrics_to_end context line))
-      (carets-re (fill m) keeps context line.labels (line_metrics_to_end context line))))
-      (trailing_label-message-re context.severity (trailing_label line.labels)
+      (carets-refilled (fill m) keeps context line.labels (line_metrics_to_end context line))))
+      (trailing_label-message-refilled context.severity (trailing_label line.labels)
       ∙ ap (trailing_message context.severity)
-      (sym (trailing_label-re (fill m) keeps line.labels)))
+      (sym (trailing_label-refilled (fill m) keeps line.labels)))
   fill-row context (PointerRow line) =
       join _ _ (opened context line)
       (without_slots (pointers context line.labels (line_metrics context line))
       (λ k. slot.slots-pointers k context line.labels (line_metrics context line))
-      (pointers-re (fill m) keeps context line.labels (line_metrics context line)))
+      (pointers-refilled (fill m) keeps context line.labels (line_metrics context line)))
   fill-row context (HangingRow line x) =
       join _ _ (join _ _ (opened context line)
       (without_slots
       (pointers context line.labels (metrics_before x.start (line_metrics context line)))
       (λ k. slot.slots-pointers k context line.labels
       (metrics_before x.start (line_metrics context line)))
-      (pointers-re (fill m) keeps context line.labels
+      (pointers-refilled (fill m) keeps context line.labels
       (metrics_before x.start (line_metrics context line)))))
-      (message-re context.severity x.style x.message)
+      (message-refilled context.severity x.style x.message)
   fill-row context (UnderlineRow line a) =
       join _ _ (join _ _ (join _ _ (join _ _ (join _ _
       (without_slots (outer_gutter context.padding) (λ k. slot.slots-outer_gutter k context.padding)
@@ -223,9 +223,9 @@ module _ (m : ℕ → List ℕ) (full : (k : ℕ) → is_empty_stream (map Byte 
       refl))
       (without_slots (inner_gutter context (leading_of line) (Underline a) line.lanes)
       (λ k. slot.slots-inner_gutter k context (leading_of line) (Underline a) line.lanes)
-      (underline_lanes-re (fill m) keeps context (leading_of line) a line.lanes)))
+      (underline_lanes-refilled (fill m) keeps context (leading_of line) a line.lanes)))
       (one-style_mark (LabelStyleMark context.severity a.style)))
-      (underline-re context.chars a.style (line_metrics context line) a.multi_label))
+      (underline-refilled context.chars a.style (line_metrics context line) a.multi_label))
       (one-style_mark Reset)
   fill-row context (FirstNoteRow note_line) =
       without_slots _ (λ k. slot.slots-stream_of k context (FirstNoteRow note_line)) refl
@@ -234,7 +234,7 @@ module _ (m : ℕ → List ℕ) (full : (k : ℕ) → is_empty_stream (map Byte 
   fill-row context FinalRow = without_slots [] (λ k. slot.slots-nil k) refl
 
   pub fill-rows : (context : RowContext) (rows : List Row)
-      → fill m (stream_of_rows context rows) ≡ stream_of_rows context (map (re_row (fill m)) rows)
+      → fill m (stream_of_rows context rows) ≡ stream_of_rows context (map (refilled_row (fill m)) rows)
   fill-rows context [] = without_slots [] (λ k. slot.slots-nil k) refl
   fill-rows context (row ∷ rows) =
       join _ _

@@ -12,7 +12,7 @@ use Rattle.codespan_picture.specs.declared.lanes.Shape.{Shape}
 use Rattle.codespan_picture.specs.declared.lanes.Shape.TheVariants.{Space, Bar, TopCorner, BottomCorner}
 use Rattle.codespan_picture.specs.Lanes.{crossing_cells, label_glyph, lane_cells, lane_mark_in}
 use Rattle.codespan_picture.specs.Rows.{RowContext, Lanes}
-use Rattle.codespan_picture.specs.RowParts.{change, styled, inner_gutter_column, lanes_in}
+use Rattle.codespan_picture.specs.RowParts.{style_change, styled, inner_gutter_column, lanes_in}
 use Rattle.codespan_laws.specs.RowLaws.{is_reset, ends_reset}
 
 -- one stream after another
@@ -122,28 +122,28 @@ abbrev pub is_none : Option LabelStyle → Bool
 is_none None = true
 is_none (Some style) = false
 
-ends_reset-change : (severity : Severity) (previous now : Option LabelStyle)
-    → ends_reset (is_none previous) (change severity previous now) ≡ is_none now
-unfolding change style_mark
-ends_reset-change severity None None = refl
-ends_reset-change severity None (Some style) = refl
-ends_reset-change severity (Some style) None = refl
-ends_reset-change severity (Some Primary) (Some Primary) = refl
-ends_reset-change severity (Some Primary) (Some Secondary) = refl
-ends_reset-change severity (Some Secondary) (Some Primary) = refl
-ends_reset-change severity (Some Secondary) (Some Secondary) = refl
+ends_reset-style_change : (severity : Severity) (previous now : Option LabelStyle)
+    → ends_reset (is_none previous) (style_change severity previous now) ≡ is_none now
+unfolding style_change style_mark
+ends_reset-style_change severity None None = refl
+ends_reset-style_change severity None (Some style) = refl
+ends_reset-style_change severity (Some style) None = refl
+ends_reset-style_change severity (Some Primary) (Some Primary) = refl
+ends_reset-style_change severity (Some Primary) (Some Secondary) = refl
+ends_reset-style_change severity (Some Secondary) (Some Primary) = refl
+ends_reset-style_change severity (Some Secondary) (Some Secondary) = refl
 
 pub ends_reset-styled : (severity : Severity) (style : Metrics → Option LabelStyle)
     (shown : Metrics → Stream)
     → ((closed : Bool) (c : Metrics) → ends_reset closed (shown c) ≡ closed)
     → (previous : Option LabelStyle) (cs : List Metrics)
     → ends_reset (is_none previous) (styled severity style shown previous cs) ≡ true
-ends_reset-styled severity style shown plain previous [] = ends_reset-change severity previous None
+ends_reset-styled severity style shown plain previous [] = ends_reset-style_change severity previous None
 ends_reset-styled severity style shown plain previous (c ∷ cs) =
     let rest = styled severity style shown (style c) cs in
-    let first = change severity previous (style c) in
+    let first = style_change severity previous (style c) in
     ends_reset-append (is_none previous) (first ++ shown c) rest
     ∙ ap (λ o. ends_reset o rest)
     (ends_reset-append (is_none previous) first (shown c)
-    ∙ plain (ends_reset (is_none previous) first) c ∙ ends_reset-change severity previous (style c))
+    ∙ plain (ends_reset (is_none previous) first) c ∙ ends_reset-style_change severity previous (style c))
     ∙ ends_reset-styled severity style shown plain (style c) cs

@@ -15,7 +15,7 @@ use Rattle.codespan_picture.specs.declared.lanes.Shape.{Shape}
 use Rattle.codespan_picture.specs.declared.lanes.Shape.TheVariants.{Space, Bar, TopCorner, BottomCorner}
 use Rattle.codespan_picture.specs.Lanes.{lane_mark_in, label_glyph, crossing_cells, lane_cells, LaneRow}
 use Rattle.codespan_picture.specs.Rows.{Locus, RowContext, Lanes, Line, Row, HeaderRow, SnippetStartRow, EmptyRow, BreakRow, SourceRow, CaretRow, PointerRow, HangingRow, UnderlineRow, FirstNoteRow, LaterNoteRow, FinalRow, trailing_label, hanging_labels}
-use Rattle.codespan_picture.specs.RowParts.{locus, outer_gutter, outer_gutter_number, border_left, border_left_break, change, styled, label_message, inner_gutter_column, lanes_in, inner_gutter, line_metrics, source_style, source_glyph, colored_text, caret_glyphs, carets, trailing_message, spaces_up_to, pointer_at, pointers, pointer_style, starts_in, max_label_start, underline_message, underline}
+use Rattle.codespan_picture.specs.RowParts.{locus, outer_gutter, outer_gutter_number, border_left, border_left_break, style_change, styled, label_message, inner_gutter_column, lanes_in, inner_gutter, line_metrics, source_style, source_glyph, colored_text, caret_glyphs, carets, trailing_message, spaces_up_to, pointer_at, pointers, pointer_style, starts_in, max_label_start, underline_message, underline}
 use Rattle.codespan_picture.specs.RowStreams.{bracketed, leading_locus, header_row, snippet_start_row, empty_row, break_row, source_row, row_start, caret_row, pointer_row, hanging_row, underline_row, first_note_row, later_note_row, stream_of, stream_of_rows}
 use Rattle.codespan_laws.specs.MessageLaws.{is_slot}
 use Rattle.codespan_laws.proofs.MessageLemmas.{weight_of}
@@ -125,26 +125,26 @@ pub slots-border_left_break : (k : ℕ) (chars : Chars) → slots k (border_left
 unfolding border_left_break
 slots-border_left_break k chars = simp slots_of_parts
 
-pub slots-change : (k : ℕ) (severity : Severity) (a b : Option LabelStyle)
-    → slots k (change severity a b) ≡ 0
-unfolding change
-slots-change k severity None None = slots-nil k
-slots-change k severity None (Some style) = slots-style_mark k _
-slots-change k severity (Some style) None = slots-style_mark k _
-slots-change k severity (Some Primary) (Some Primary) = slots-nil k
-slots-change k severity (Some Secondary) (Some Secondary) = slots-nil k
-slots-change k severity (Some Primary) (Some Secondary) = slots-style_mark k _
-slots-change k severity (Some Secondary) (Some Primary) = slots-style_mark k _
+pub slots-style_change : (k : ℕ) (severity : Severity) (a b : Option LabelStyle)
+    → slots k (style_change severity a b) ≡ 0
+unfolding style_change
+slots-style_change k severity None None = slots-nil k
+slots-style_change k severity None (Some style) = slots-style_mark k _
+slots-style_change k severity (Some style) None = slots-style_mark k _
+slots-style_change k severity (Some Primary) (Some Primary) = slots-nil k
+slots-style_change k severity (Some Secondary) (Some Secondary) = slots-nil k
+slots-style_change k severity (Some Primary) (Some Secondary) = slots-style_mark k _
+slots-style_change k severity (Some Secondary) (Some Primary) = slots-style_mark k _
 
 pub slots-styled : (k : ℕ) (severity : Severity) (style : Metrics → Option LabelStyle)
     (shown : Metrics → Stream)
     → ((c : Metrics) → slots k (shown c) ≡ 0)
     → (previous : Option LabelStyle) (cs : List Metrics)
     → slots k (styled severity style shown previous cs) ≡ 0
-slots-styled k severity style shown h previous [] = slots-change k severity previous None
+slots-styled k severity style shown h previous [] = slots-style_change k severity previous None
 slots-styled k severity style shown h previous (c ∷ cs) =
     let rest = slots-styled k severity style shown h (style c) cs in
-    simp (slots-append, slots-change, h, rest)
+    simp (slots-append, slots-style_change, h, rest)
 
 pub slots-source_glyph : (k : ℕ) (c : Metrics) → slots k (source_glyph c) ≡ 0
 unfolding source_glyph

@@ -17,7 +17,7 @@ use Rattle.codespan_base.specs.declared.term.config.chars.Chars.{Chars}
 use Rattle.codespan_base.specs.Streams.{Stream, Byte, Mark, Slot, StyleMark, LabelStyleMark, Reset, style_mark, glyph, bytes, spaces, space, repeated, newline, text_of}
 use Rattle.codespan_picture.specs.declared.char_metrics.Metrics.{Metrics}
 use Rattle.codespan_picture.specs.Rows.{Locus}
-use Rattle.codespan_picture.specs.RowParts.{severity_name, locus, outer_gutter, outer_gutter_number, border_left, border_left_break, change, styled, label_message}
+use Rattle.codespan_picture.specs.RowParts.{severity_name, locus, outer_gutter, outer_gutter_number, border_left, border_left_break, style_change, styled, label_message}
 use Rattle.codespan_laws.specs.TextLaws.{AreTextsAfter, IsText, AreCharacters}
 use Rattle.codespan_laws.proofs.Texts.{text_of-append, text_of-bytes, text_of-style_mark}
 
@@ -211,26 +211,26 @@ pub text-border_left_break : (chars : Chars) → AreCharacters chars
 unfolding border_left_break
 text-border_left_break chars ok = search (pieces, ok.source_border_left_break)
 
-text-change : (severity : Severity) (a b : Option LabelStyle) → IsText (change severity a b)
-unfolding change
-text-change severity None None = text-none
-text-change severity None (Some style) = text-style_mark (LabelStyleMark severity style)
-text-change severity (Some style) None = text-style_mark Reset
-text-change severity (Some Primary) (Some Primary) = text-none
-text-change severity (Some Secondary) (Some Secondary) = text-none
-text-change severity (Some Primary) (Some Secondary) =
+text-style_change : (severity : Severity) (a b : Option LabelStyle) → IsText (style_change severity a b)
+unfolding style_change
+text-style_change severity None None = text-none
+text-style_change severity None (Some style) = text-style_mark (LabelStyleMark severity style)
+text-style_change severity (Some style) None = text-style_mark Reset
+text-style_change severity (Some Primary) (Some Primary) = text-none
+text-style_change severity (Some Secondary) (Some Secondary) = text-none
+text-style_change severity (Some Primary) (Some Secondary) =
     text-style_mark (LabelStyleMark severity Secondary)
-text-change severity (Some Secondary) (Some Primary) =
+text-style_change severity (Some Secondary) (Some Primary) =
     text-style_mark (LabelStyleMark severity Primary)
 
 pub text-styled : (severity : Severity) (style : Metrics → Option LabelStyle)
     (shown : Metrics → Stream) (previous : Option LabelStyle) (cs : List Metrics)
     → AllByRecursion (λ c. IsText (shown c)) cs → IsText (styled severity style shown previous cs)
-text-styled severity style shown previous [] h = text-change severity previous None
+text-styled severity style shown previous [] h = text-style_change severity previous None
 text-styled severity style shown previous (c ∷ cs) h =
-    text-both (change severity previous (style c) ++ shown c) _
-    (text-both (change severity previous (style c)) (shown c)
-    (text-change severity previous (style c)) h.0)
+    text-both (style_change severity previous (style c) ++ shown c) _
+    (text-both (style_change severity previous (style c)) (shown c)
+    (text-style_change severity previous (style c)) h.0)
     (text-styled severity style shown (style c) cs h.1)
 
 pub text-label_message : (severity : Severity) (style : LabelStyle) (message : Stream)

@@ -49,20 +49,20 @@ border_left_break chars =
     style_mark SourceBorder ++ glyph chars.source_border_left_break ++ style_mark Reset
 
 -- between two styles: the style mark of the second, or a reset for none; nothing if they are equal
-unfoldable pub change : Severity → Option LabelStyle → Option LabelStyle → Stream
-change severity None None = []
-change severity None (Some style) = style_mark (LabelStyleMark severity style)
-change severity (Some style) None = style_mark Reset
-change severity (Some Primary) (Some Primary) = []
-change severity (Some Secondary) (Some Secondary) = []
-change severity (Some _) (Some style) = style_mark (LabelStyleMark severity style)
+unfoldable pub style_change : Severity → Option LabelStyle → Option LabelStyle → Stream
+style_change severity None None = []
+style_change severity None (Some style) = style_mark (LabelStyleMark severity style)
+style_change severity (Some style) None = style_mark Reset
+style_change severity (Some Primary) (Some Primary) = []
+style_change severity (Some Secondary) (Some Secondary) = []
+style_change severity (Some _) (Some style) = style_mark (LabelStyleMark severity style)
 
 -- these characters, each as `shown` shows it and in its style; `previous` is the style before them
 abbrev pub styled : Severity
     → (Metrics → Option LabelStyle) → (Metrics → Stream) → Option LabelStyle → List Metrics → Stream
-styled severity style shown previous [] = change severity previous None
+styled severity style shown previous [] = style_change severity previous None
 styled severity style shown previous (c ∷ cs) =
-    change severity previous (style c) ++ shown c ++ styled severity style shown (style c) cs
+    style_change severity previous (style c) ++ shown c ++ styled severity style shown (style c) cs
 
 -- a label's message in its style
 unfoldable pub label_message : Severity → LabelStyle → Stream → Stream

@@ -9,10 +9,10 @@ use Rattle.codespan_base.specs.Streams.{Stream, spaces, bytes, repeated}
 use Rattle.codespan_picture.specs.declared.char_metrics.Metrics.{Metrics}
 use Rattle.codespan_picture.specs.Carets.{style_under, caret_for, max_label_end}
 use Rattle.codespan_picture.specs.Rows.{RowContext}
-use Rattle.codespan_picture.specs.RowParts.{change, styled, caret_glyphs, carets}
+use Rattle.codespan_picture.specs.RowParts.{style_change, styled, caret_glyphs, carets}
 use Rattle.codespan_row_parts.specs.Runs.{caret_run}
 use Rattle.codespan_picture.proofs.CaretEnds.{style_under-below}
-use Rattle.codespan_row_parts.proofs.RowEquations.{spaces-add, repeated-add, change-same, regroup}
+use Rattle.codespan_row_parts.proofs.RowEquations.{spaces-add, repeated-add, style_change-same, regroup}
 use Rattle.codespan_row_parts.specs.CharCursors.{AreContiguous}
 
 -- the carets of the remaining characters
@@ -89,9 +89,9 @@ goes_on context labels run c cs =
 
 unchanged : (chars : Chars) (severity : Severity) (previous style : Option LabelStyle) (run : ℕ)
     → previous ≡ style
-    → caret_run chars previous run ++ change severity previous style ≡ caret_run chars style run
+    → caret_run chars previous run ++ style_change severity previous style ≡ caret_run chars style run
 unchanged chars severity previous style run e =
-    rw (e, change-same severity style) (append-nil (caret_run chars style run))
+    rw (e, style_change-same severity style) (append-nil (caret_run chars style run))
 
 -- the next character continues the run
 pub carets-same : (context : RowContext) (labels : List LabelModel)
@@ -103,7 +103,7 @@ pub carets-same : (context : RowContext) (labels : List LabelModel)
 carets-same context labels previous style run count c left cs l s n e =
     rw (l, n, s)
     (regroup (caret_run context.chars previous run)
-    (change context.severity previous (style_under labels c))
+    (style_change context.severity previous (style_under labels c))
     (caret_glyphs context.chars (max_label_end labels) (style_under labels c) c)
     (glyphs_left context labels (style_under labels c) cs)
     ∙ ap
@@ -128,24 +128,24 @@ pub carets-turn : (context : RowContext) (labels : List LabelModel)
     (previous style : Option LabelStyle) (run count : ℕ) (c : Metrics) (left cs : List Metrics)
     → left ≡ c ∷ cs → style ≡ style_under labels c
     → count ≡ caret_count (max_label_end labels) style c
-    → carets_left context labels previous run left ≡ caret_run context.chars previous run ++ change
+    → carets_left context labels previous run left ≡ caret_run context.chars previous run ++ style_change
     context.severity previous style ++ carets_left context labels style (0 + count) cs
 carets-turn context labels previous style run count c left cs l s n =
     rw (l, n, s)
     (regroup (caret_run context.chars previous run)
-    (change context.severity previous (style_under labels c))
+    (style_change context.severity previous (style_under labels c))
     (caret_glyphs context.chars (max_label_end labels) (style_under labels c) c)
     (glyphs_left context labels (style_under labels c) cs)
     ∙ ap
     (λ (l : Stream). caret_run context.chars previous run
-    ++ change context.severity previous (style_under labels c) ++ l)
+    ++ style_change context.severity previous (style_under labels c) ++ l)
     (begins context labels c cs))
 
 -- none remains
 pub carets-end : (context : RowContext) (labels : List LabelModel) (previous : Option LabelStyle)
     (run : ℕ) (left : List Metrics)
     → left ≡ []
-    → caret_run context.chars previous run ++ change context.severity previous None ≡ carets_left
+    → caret_run context.chars previous run ++ style_change context.severity previous None ≡ carets_left
     context labels previous run left
 carets-end context labels previous run left e = rw e refl
 
@@ -174,19 +174,19 @@ glyphs-past chars end c past =
 glyphs_left-past : (context : RowContext) (labels : List LabelModel) (previous : Option LabelStyle)
     (byte_index : ℕ) (cs : List Metrics)
     → AreContiguous byte_index cs → max_label_end labels ≤ byte_index
-    → glyphs_left context labels previous cs ≡ change context.severity previous None
+    → glyphs_left context labels previous cs ≡ style_change context.severity previous None
 glyphs_left-past context labels previous byte_index [] follow past = refl
 glyphs_left-past context labels previous byte_index (c ∷ cs) follow past =
     let there : max_label_end labels ≤ c.byte_index = omega (arith, follow.0) in
-    rw (none-past labels c there, glyphs-past context.chars (max_label_end labels) c there, glyphs_left-past context labels None (byte_index + c.bytes) cs follow.2 (omega arith), change-same context.severity None)
-    (append-nil (change context.severity previous None ++ [])
-    ∙ append-nil (change context.severity previous None))
+    rw (none-past labels c there, glyphs-past context.chars (max_label_end labels) c there, glyphs_left-past context labels None (byte_index + c.bytes) cs follow.2 (omega arith), style_change-same context.severity None)
+    (append-nil (style_change context.severity previous None ++ [])
+    ∙ append-nil (style_change context.severity previous None))
 
 -- the run that has begun is the last one
 pub carets-past : (context : RowContext) (labels : List LabelModel) (previous : Option LabelStyle)
     (run byte_index : ℕ) (left : List Metrics)
     → AreContiguous byte_index left → max_label_end labels ≤ byte_index
-    → caret_run context.chars previous run ++ change context.severity previous None ≡ carets_left
+    → caret_run context.chars previous run ++ style_change context.severity previous None ≡ carets_left
     context labels previous run left
 carets-past context labels previous run byte_index left follow past =
     ap (λ (l : Stream). caret_run context.chars previous run ++ l)

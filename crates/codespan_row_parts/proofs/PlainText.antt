@@ -19,11 +19,11 @@ use Rattle.codespan_picture.specs.Types.{LabelStyle, Primary}
 use Rattle.codespan_picture.proofs.CaretEnds.{style_under-below}
 use Rattle.codespan_row_parts.specs.declared.primary_cover.PrimaryCover.{PrimaryCover}
 use Rattle.codespan_row_parts.specs.PrimaryCover.{CoversAsLaneMarks, covers_char}
-use Rattle.codespan_row_parts.proofs.RowEquations.{change-same}
+use Rattle.codespan_row_parts.proofs.RowEquations.{style_change-same}
 use Rattle.codespan_row_parts.proofs.TextRuns.{IsOver, text-end, text_rest}
 use Rattle.codespan_picture.specs.CharMetrics.{metrics_then, width_at}
 use Rattle.codespan_picture.specs.Rows.{Line, RowContext}
-use Rattle.codespan_picture.specs.RowParts.{change, colored_text, source_glyph, source_style, styled, multi_label_covers}
+use Rattle.codespan_picture.specs.RowParts.{style_change, colored_text, source_glyph, source_style, styled, multi_label_covers}
 
 -- ---- no label is primary
 
@@ -83,7 +83,7 @@ plain-left : (context : RowContext) (line : Line) (tab byte_index column : ℕ) 
     → ((c : Metrics) → source_style line c ≡ None) → list_any (λ b. b == 9) (encodes cs) ≡ false
     → styled context.severity (source_style line) source_glyph None
     (metrics_then (λ _ _. []) tab byte_index column cs) ≡ bytes (encodes cs)
-unfolding change bytes
+unfolding style_change bytes
 plain-left context line tab byte_index column [] none e = refl
 plain-left context line tab byte_index column (c ∷ cs) none e =
     let here : Metrics = record {
@@ -170,11 +170,11 @@ plain-past : (context : RowContext) (line : Line) (tab byte_index column from to
     → source_style line c ≡ None)
     → list_any (λ b. b == 9) (encodes cs) ≡ false
     → styled context.severity (source_style line) source_glyph previous
-    (metrics_then (λ _ _. []) tab byte_index column cs) ≡ change context.severity previous None
+    (metrics_then (λ _ _. []) tab byte_index column cs) ≡ style_change context.severity previous None
     ++ bytes (encodes cs)
 unfolding bytes
 plain-past context line tab byte_index column from top previous [] low high none e =
-    sym (append-nil (change context.severity previous None))
+    sym (append-nil (style_change context.severity previous None))
 plain-past context line tab byte_index column from top previous (c ∷ cs) low high none e =
     let here : Metrics = record {
       ch =
@@ -191,9 +191,9 @@ plain-past context line tab byte_index column from top previous (c ∷ cs) low h
     let rest =
     plain-past context line tab (byte_index + len_utf8 c) (column + width_at tab column c) from
     top None cs (omega arith) (omega (arith, high, size, length-encode c)) none parts.1 in
-    rw (bare, as_is here parts.0, rest, change-same context.severity None)
-    (append_assoc (change context.severity previous None) (glyph c) (bytes (encodes cs))
-    ∙ ap (λ l. change context.severity previous None ++ l)
+    rw (bare, as_is here parts.0, rest, style_change-same context.severity None)
+    (append_assoc (style_change context.severity previous None) (glyph c) (bytes (encodes cs))
+    ∙ ap (λ l. style_change context.severity previous None ++ l)
     (sym (bytes-append (encode_utf8 c) (encodes cs))))
 
 -- what is left of a text after a run
@@ -204,7 +204,7 @@ pub text-past : (context : RowContext) (line : Line) (previous : Option LabelSty
     → ((c : Metrics) → from ≤ c.byte_index → c.byte_index < length line.text → 1 ≤ c.bytes
     → source_style line c ≡ None)
     → list_any (λ b. b == 9) (drop from line.text) ≡ false
-    → (bytes run ++ change context.severity previous None) ++ bytes
+    → (bytes run ++ style_change context.severity previous None) ++ bytes
     (drop byte_index line.text) ≡ text_rest context line previous run left
 text-past context line previous run from byte_index left over low none tab =
     let rest =
@@ -213,9 +213,9 @@ text-past context line previous run from byte_index left over low none tab =
     (omega (arith, ap length over.text_left, length-drop byte_index line.text, over.within)) none
     (ap (list_any (λ b. b == 9)) (sym over.text_left)
     ∙ no-tab-later from byte_index line.text low tab) in
-    append_assoc (bytes run) (change context.severity previous None)
+    append_assoc (bytes run) (style_change context.severity previous None)
     (bytes (drop byte_index line.text))
-    ∙ ap (λ l. bytes run ++ (change context.severity previous None ++ bytes l)) over.text_left
+    ∙ ap (λ l. bytes run ++ (style_change context.severity previous None ++ bytes l)) over.text_left
     ∙ ap (λ l. bytes run ++ l) (sym rest)
     ∙ ap (λ cs. bytes run ++ styled context.severity (source_style line) source_glyph previous cs)
     (sym over.char_metrics)
@@ -224,7 +224,7 @@ text-past context line previous run from byte_index left over low none tab =
 pub text-over : (context : RowContext) (line : Line) (previous : Option LabelStyle) (run : List ℕ)
     (byte_index : ℕ) (left : List Metrics)
     → IsOver context.tab_width line.text byte_index left → left ≡ []
-    → (bytes run ++ change context.severity previous None) ++ bytes
+    → (bytes run ++ style_change context.severity previous None) ++ bytes
     (drop byte_index line.text) ≡ text_rest context line previous run left
 unfolding bytes
 text-over context line previous run byte_index left over ends =
@@ -233,10 +233,10 @@ text-over context line previous run byte_index left over ends =
     by_codes : (codes : List ℕ)
         → metrics_then (λ _ _. []) context.tab_width byte_index over.column codes ≡ []
         → drop byte_index line.text ≡ encodes codes
-        → (bytes run ++ change context.severity previous None) ++ bytes
+        → (bytes run ++ style_change context.severity previous None) ++ bytes
         (drop byte_index line.text) ≡ text_rest context line previous run left
     by_codes [] none rest =
-        rw rest (append-nil (bytes run ++ change context.severity previous None))
+        rw rest (append-nil (bytes run ++ style_change context.severity previous None))
         ∙ text-end context line previous run left ends
     by_codes (c ∷ cs) none rest = absurd (omega (arith, ap length none))
 

@@ -20,7 +20,7 @@ use Rattle.codespan_picture.specs.declared.char_metrics.Metrics.{Metrics}
 use Rattle.codespan_picture.specs.CharMetrics.{char_metrics}
 use Rattle.codespan_row_parts.proofs.ScanState.{ConsecutiveWithin, scan_state-char_metrics}
 use Rattle.codespan_picture.specs.Lanes as kind
-use Rattle.codespan_picture.specs.RowParts.{metrics_before, change, outer_gutter, inner_gutter}
+use Rattle.codespan_picture.specs.RowParts.{metrics_before, style_change, outer_gutter, inner_gutter}
 
 -- a gutter is the padding's spaces and one more
 pub gutter_spaces : (n : ℕ) → outer_gutter n ≡ spaces (n + 1)
@@ -77,12 +77,12 @@ repeated-past k n c h = let e : n ≡ k + (n - k) = omega arith in
 -- ---- styles
 
 -- where the style stays, nothing is written
-pub change-same : (severity : Severity) (style : Option LabelStyle)
-    → change severity style style ≡ []
-unfolding change
-change-same severity None = refl
-change-same severity (Some Primary) = refl
-change-same severity (Some Secondary) = refl
+pub style_change-same : (severity : Severity) (style : Option LabelStyle)
+    → style_change severity style style ≡ []
+unfolding style_change
+style_change-same severity None = refl
+style_change-same severity (Some Primary) = refl
+style_change-same severity (Some Secondary) = refl
 
 -- a run, the change after it, what a character shows, and the rest
 pub regroup : (run ended shown rest : Stream)

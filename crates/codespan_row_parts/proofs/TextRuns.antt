@@ -12,10 +12,10 @@ use Rattle.codespan_base.specs.Streams.{Stream, bytes, spaces, glyph}
 use Rattle.codespan_base.proofs.Writes.{bytes-append}
 use Rattle.codespan_picture.specs.declared.char_metrics.Metrics.{Metrics}
 use Rattle.codespan_row_parts.proofs.CharSteps.{bytes_left}
-use Rattle.codespan_row_parts.proofs.RowEquations.{change-same, regroup}
+use Rattle.codespan_row_parts.proofs.RowEquations.{style_change-same, regroup}
 use Rattle.codespan_picture.specs.CharMetrics.{metrics_then, char_metrics, width_at}
 use Rattle.codespan_picture.specs.Rows.{RowContext, Line}
-use Rattle.codespan_picture.specs.RowParts.{change, styled, source_glyph, source_style, colored_text}
+use Rattle.codespan_picture.specs.RowParts.{style_change, styled, source_glyph, source_style, colored_text}
 
 -- ---- where a loop is in the text
 
@@ -137,14 +137,14 @@ tab_shown c h = rw (eq-eqb c.ch 9 h) refl
 pub text-turn : (context : RowContext) (line : Line) (previous style : Option LabelStyle)
     (run : List ℕ) (c : Metrics) (left cs : List Metrics)
     → left ≡ c ∷ cs → style ≡ source_style line c → (c.ch ≡ 9 → ⊥)
-    → text_rest context line previous run left ≡ bytes run ++ change context.severity previous
+    → text_rest context line previous run left ≡ bytes run ++ style_change context.severity previous
     style ++ text_rest context line style (encode_utf8 c.ch) cs
 text-turn context line previous style run c left cs l s h =
     rw (l, s)
-    (regroup (bytes run) (change context.severity previous (source_style line c)) (source_glyph c)
+    (regroup (bytes run) (style_change context.severity previous (source_style line c)) (source_glyph c)
     (styled context.severity (source_style line) source_glyph (source_style line c) cs)
     ∙ ap
-    (λ (g : Stream). bytes run ++ change context.severity previous (source_style line c)
+    (λ (g : Stream). bytes run ++ style_change context.severity previous (source_style line c)
     ++ (g ++ styled context.severity (source_style line) source_glyph (source_style line c) cs))
     (shown c h))
 
@@ -159,7 +159,7 @@ text-same context line previous style run c left cs l s h e =
     text-turn context line previous style run c left cs l s h
     ∙ ap (λ (g : Stream). g ++ text_rest context line style (encode_utf8 c.ch) cs)
     (ap (λ (g : Stream). bytes run ++ g)
-    (ap (λ o. change context.severity o style) e ∙ change-same context.severity style)
+    (ap (λ o. style_change context.severity o style) e ∙ style_change-same context.severity style)
     ∙ append-nil (bytes run))
     ∙ sym (append_assoc (bytes run) (glyph c.ch) st)
     ∙ ap (λ (g : Stream). g ++ st) (sym (bytes-append run (encode_utf8 c.ch)))
@@ -168,25 +168,25 @@ text-same context line previous style run c left cs l s h e =
 pub text-tab : (context : RowContext) (line : Line) (previous style : Option LabelStyle)
     (run : List ℕ) (c : Metrics) (left cs : List Metrics)
     → left ≡ c ∷ cs → style ≡ source_style line c → c.ch ≡ 9
-    → text_rest context line previous run left ≡ bytes run ++ change context.severity previous
+    → text_rest context line previous run left ≡ bytes run ++ style_change context.severity previous
     style ++ spaces c.unicode_width ++ text_rest context line style [] cs
 unfolding bytes
 text-tab context line previous style run c left cs l s h =
     let st = styled context.severity (source_style line) source_glyph (source_style line c) cs in
     rw (l, s)
-    (regroup (bytes run) (change context.severity previous (source_style line c)) (source_glyph
+    (regroup (bytes run) (style_change context.severity previous (source_style line c)) (source_glyph
     c) st
     ∙ ap
-    (λ (g : Stream). bytes run ++ change context.severity previous (source_style line c)
+    (λ (g : Stream). bytes run ++ style_change context.severity previous (source_style line c)
     ++ (g ++ st))
     (tab_shown c h)
     ∙ sym
-    (append_assoc (bytes run ++ change context.severity previous (source_style line c))
+    (append_assoc (bytes run ++ style_change context.severity previous (source_style line c))
     (spaces c.unicode_width) st))
 
 -- none remains
 pub text-end : (context : RowContext) (line : Line) (previous : Option LabelStyle) (run : List ℕ)
     (left : List Metrics)
     → left ≡ []
-    → bytes run ++ change context.severity previous None ≡ text_rest context line previous run left
+    → bytes run ++ style_change context.severity previous None ≡ text_rest context line previous run left
 text-end context line previous run left e = rw e refl

@@ -8,7 +8,7 @@ ghost use Rattle.codespan_picture.specs.Arguments.{single_label_view, single_lab
 ghost use Rattle.codespan_row_parts.specs.Runs.{caret_run, optional_label_view};
 ghost use Rattle.codespan_row_parts.specs.LineViews.{context_view, line_view};
 ghost use Rattle.codespan_row_parts.specs.RowViews.{carets_view, line_metrics_to_end_view, label_message_view};
-ghost use Rattle.codespan_picture.specs.RowParts.{carets, change, trailing_message};
+ghost use Rattle.codespan_picture.specs.RowParts.{carets, style_change, trailing_message};
 ghost use Rattle.codespan_picture.specs.RowStreams.{caret_row};
 ghost use Rattle.codespan_picture.specs.Rows.{trailing_label};
 ghost use Rattle.codespan_row_parts.specs.LineCharacters.{char_input};
@@ -74,7 +74,7 @@ fn end_caret_run<W: PutStyle>(
 ) -> Result<(), W::Error>
     ensures { Writes (W.sink w.old)
         (caret_run context.entry.chars.now previous count
-        ++ change context.entry.severity previous style)
+        ++ style_change context.entry.severity previous style)
         result (W.sink w.new) }
 {
     write_caret_run(w, context.chars, previous, count)?;

@@ -5,7 +5,7 @@ ghost use Rattle.codespan_base.specs.WriterLaw.{Writes};
 ghost use Rattle.codespan_picture.specs.Arguments.{locus_view};
 ghost use Rattle.codespan_row_parts.specs.LineViews.{context_view, line_view};
 ghost use Rattle.codespan_picture.specs.Lanes.{label_glyph};
-ghost use Rattle.codespan_picture.specs.RowParts.{outer_gutter, outer_gutter_number, border_left, border_left_break, locus, change};
+ghost use Rattle.codespan_picture.specs.RowParts.{outer_gutter, outer_gutter_number, border_left, border_left_break, locus, style_change};
 ghost use Rattle.codespan_picture.specs.RowStreams.{row_start};
 
 use crate::lanes::{LaneRow, inner_gutter};
@@ -124,14 +124,14 @@ pub fn write_label_glyph<W: PutStyle>(
 /// # Errors
 ///
 /// The writer's error; a prefix has then been written.
-#[tactic(auto, using(codespan_base::proofs::Writes::write_chains), unfolding(codespan_picture::specs::RowParts::change))]
+#[tactic(auto, using(codespan_base::proofs::Writes::write_chains), unfolding(codespan_picture::specs::RowParts::style_change))]
 pub fn change_style<W: PutStyle>(
     w: &mut W,
     severity: Severity,
     previous: Option<LabelStyle>,
     style: Option<LabelStyle>,
 ) -> Result<(), W::Error>
-    ensures { Writes (W.sink w.old) (change severity previous style) result (W.sink w.new) }
+    ensures { Writes (W.sink w.old) (style_change severity previous style) result (W.sink w.new) }
 {
     match (previous, style) {
         (None, None)

@@ -7,7 +7,7 @@ ghost use Rattle.codespan_picture.specs.CharMetrics.{char_metrics};
 ghost use Rattle.codespan_row_parts.specs.LineViews.{context_view, line_view};
 ghost use Rattle.codespan_row_parts.specs.RowViews.{source_lanes_view};
 ghost use Rattle.codespan_row_parts.specs.LineCharacters.{char_input};
-ghost use Rattle.codespan_picture.specs.RowParts.{change, colored_text};
+ghost use Rattle.codespan_picture.specs.RowParts.{style_change, colored_text};
 ghost use Rattle.codespan_picture.specs.RowStreams.{source_row};
 
 use codespan_base::diagnostic::LabelStyle;
@@ -93,7 +93,8 @@ fn end_text_run<W: PutStyle>(
     previous: Option<LabelStyle>,
     style: Option<LabelStyle>,
 ) -> Result<(), W::Error>
-    ensures { Writes (W.sink w.old) (bytes text.now ++ change context.entry.severity previous style)
+    ensures { Writes (W.sink w.old)
+        (bytes text.now ++ style_change context.entry.severity previous style)
         result (W.sink w.new) }
 {
     put_all(w, text)?;

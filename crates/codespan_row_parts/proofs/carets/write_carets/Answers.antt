@@ -1,7 +1,7 @@
 use mir.Syntax.{w128}
 use Rattle.std.proofs.Common.{rules, Fits, List, ◌≡◌, ◌+◌, ◌<◌, ◌≤◌, ◌∷◌, ◌++◌, None, length, refl, ap, subst, ◌∙◌, arith}
 use Rattle.codespan_picture.specs.Carets.{max_label_end, style_under}
-use Rattle.codespan_picture.specs.RowParts.{change}
+use Rattle.codespan_picture.specs.RowParts.{style_change}
 use Rattle.std.proofs.lemmas.Result.{err_from_is_err_and}
 use Rattle.std.proofs.lemmas.Str.{IsUtf8-had}
 use Rattle.codespan_base.proofs.Loops.{StillToWrite-start, StillToWrite-more, StillToWrite-failed, StillToWrite-last}
@@ -122,7 +122,7 @@ returns g c =
     let at = c.loop-metrics in
     let context = context_view c.args.context in
     let labels = single_label_views c.args.line.labels.now in
-    let end : caret_run context.chars at.previous at.run ++ change context.severity at.previous None
+    let end : caret_run context.chars at.previous at.run ++ style_change context.severity at.previous None
     ≡ carets_left context labels at.previous at.run (g.S.Cursor.CharCursor.left at.cursor) =
     elim c.match-next_metrics.branch [
       | in_default w ↦ carets-end context labels at.previous at.run _ w.in_default.ensures.next.0

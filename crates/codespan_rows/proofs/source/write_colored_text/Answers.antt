@@ -6,7 +6,7 @@ use Rattle.codespan_base.specs.Streams.{bytes}
 use Rattle.codespan_base.proofs.Chains.{failed-before, failed-then, written-then}
 use Rattle.codespan_base.proofs.Loops.{StillToWrite-start, StillToWrite-more, StillToWrite-failed, StillToWrite-last}
 use Rattle.codespan_row_parts.specs.LineViews.{context_view, line_view}
-use Rattle.codespan_picture.specs.RowParts.{change}
+use Rattle.codespan_picture.specs.RowParts.{style_change}
 use Rattle.codespan_row_parts.proofs.TextRuns.{over-start, over-next, piece, piece-grows, text-start, text-turn, text-same, text-tab, text_rest}
 use Rattle.codespan_row_parts.proofs.PlainText.{tail-taken, text-over, text-past}
 use Rattle.codespan_rows.proofs.source.write_colored_text.Goals.{in-Some+then-end-plain, in_default}
@@ -155,7 +155,7 @@ returns g c =
     let context = context_view c.args.context in
     let line = line_view c.args.line in
     let run = piece c.as_bytes-text.result.now at.start at.end in
-    let rest : (bytes run ++ change context.severity at.previous None)
+    let rest : (bytes run ++ style_change context.severity at.previous None)
     ++ bytes (drop at.end line.text)
     ≡ text_rest context line at.previous run (g.C.CharCursor.left at.characters) =
     elim c.match-next_metrics.branch [
@@ -168,7 +168,7 @@ returns g c =
     let taken =
     tail-taken at.end line.text c.as_bytes-text.result.now c.as_bytes-text.ensures.value in
     let last =
-    ap (λ l. (bytes run ++ change context.severity at.previous None) ++ bytes l) taken ∙ rest in
+    ap (λ l. (bytes run ++ style_change context.severity at.previous None) ++ bytes l) taken ∙ rest in
     StillToWrite-last _ _ _ _ _ _
     (StillToWrite-more _ _ _ _ _ _ _ at.invariant.written_so_far c.in_ok-end_text_run-3.ensures
     (sym last))
@@ -180,7 +180,7 @@ returns-in_err-end_text_run-3 g c =
     let context = context_view c.args.context in
     let line = line_view c.args.line in
     let run = piece c.as_bytes-text.result.now at.start at.end in
-    let rest : (bytes run ++ change context.severity at.previous None)
+    let rest : (bytes run ++ style_change context.severity at.previous None)
     ++ bytes (drop at.end line.text)
     ≡ text_rest context line at.previous run (g.C.CharCursor.left at.characters) =
     elim c.match-next_metrics.branch [
