@@ -54,7 +54,7 @@ impl<'row, 'd> LabelCursor<'row, 'd> {
     ///
     /// The character has a byte, and the cursor has passed the labels that start before it.
     pub fn advance(&mut self, metrics: Metrics)
-        requires some { 1 ≤ metrics.bytes }
+        requires has_byte { 1 ≤ metrics.bytes }
         requires passed { HasPassedLabels metrics.byte_index self.old }
         ensures passed { HasPassedLabels (metrics.byte_index + metrics.bytes) self.new }
         ensures labels { self.new.labels.now ≡ self.old.labels.now }
@@ -77,7 +77,7 @@ impl<'row, 'd> LabelCursor<'row, 'd> {
     ///
     /// The character has a byte, and the cursor has passed the labels that start before it.
     pub fn style_under(&mut self, metrics: Metrics) -> Option<LabelStyle>
-        requires some { 1 ≤ metrics.bytes }
+        requires has_byte { 1 ≤ metrics.bytes }
         requires passed { HasPassedLabels metrics.byte_index self.old }
         ensures passed { HasPassedLabels (metrics.byte_index + metrics.bytes) self.new }
         ensures labels { self.new.labels.now ≡ self.old.labels.now }
@@ -100,7 +100,7 @@ impl<'row, 'd> LabelCursor<'row, 'd> {
     ///
     /// The character has a byte, and the cursor has passed the labels that start before it.
     pub fn has_primary(&mut self, metrics: Metrics) -> bool
-        requires some { 1 ≤ metrics.bytes }
+        requires has_byte { 1 ≤ metrics.bytes }
         requires passed { HasPassedLabels metrics.byte_index self.old }
         ensures passed { HasPassedLabels (metrics.byte_index + metrics.bytes) self.new }
         ensures labels { self.new.labels.now ≡ self.old.labels.now }
@@ -160,7 +160,7 @@ impl<'row, 'd> StartCursor<'row, 'd> {
     ///
     /// The character has a byte, and the cursor has passed the labels that start before it.
     pub fn start_style(&mut self, found: Option<LabelStyle>, metrics: Metrics) -> Option<LabelStyle>
-        requires some { 1 ≤ metrics.bytes }
+        requires has_byte { 1 ≤ metrics.bytes }
         requires passed { HasPassedStarts metrics.byte_index self.old }
         ensures passed { HasPassedStarts (metrics.byte_index + metrics.bytes) self.new }
         ensures labels { self.new.labels.now ≡ self.old.labels.now }

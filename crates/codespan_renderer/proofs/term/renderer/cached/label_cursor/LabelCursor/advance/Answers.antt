@@ -31,12 +31,12 @@ pub returns-else-starts_before_end-clause-primary : goal.returns-else-starts_bef
 returns-else-starts_before_end-clause-primary c =
     let i = c.loop-self.invariant in
     let late = sym c.starts_before_end.ensures ∙ c.if-starts_before_end.false in
-    reached-here is_primary _ _ _ _ c.args.metrics refl c.requires.some
+    reached-here is_primary _ _ _ _ c.args.metrics refl c.requires.has_byte
     (starts-past 0 _ _ _ _ _ i.same (omega arith) late i.passed.ordered) i.passed.primary
 
 pub returns-else-starts_before_end-clause-any : goal.returns-else-starts_before_end-clause-any
 returns-else-starts_before_end-clause-any c =
     let i = c.loop-self.invariant in
     let late = sym c.starts_before_end.ensures ∙ c.if-starts_before_end.false in
-    reached-here (λ _. true) _ _ _ _ c.args.metrics refl c.requires.some
+    reached-here (λ _. true) _ _ _ _ c.args.metrics refl c.requires.has_byte
     (starts-past 0 _ _ _ _ _ i.same (omega arith) late i.passed.ordered) i.passed.any
