@@ -12,4 +12,4 @@ pub mod FileLaws
 pub mod DatabaseViews
 pub mod Lemmas
 -- what the clauses of `worked` unfold
-pub mod Worked
+pub mod FileDefinitions

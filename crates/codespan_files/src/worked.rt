@@ -1,6 +1,6 @@
 //! Lookups and columns of small texts: each function does nothing, and its contract is what the
 //! definitions compute to.
-#![tactic(auto, unfolding(crate::specs::Worked::file_definitions))]
+#![tactic(auto, unfolding(crate::specs::FileDefinitions::file_definitions))]
 
 ghost use Rattle.std.specs.Prelude.{◌≡◌, ◌^◌, ◌-◌, [], ◌∷◌, map, codes, encode_utf8_all, Some, None};
 ghost use Rattle.codespan_files.specs.FileModel.{line_of, line_text};

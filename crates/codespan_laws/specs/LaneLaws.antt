@@ -53,7 +53,8 @@ HasLane s lane x = slice_get (multi_line_labels s.file s.labels) lane ≡ Some x
 abbrev pub IsBarLine : FileModel → LabelModel → ℕ → Type 0
 IsBarLine f x l = (first_line f x < l) × (l ≤ last_line f x)
 
--- on the source row and the break row of a line a lane has a bar exactly where it is a bar line
+-- on source and break rows a lane has a bar exactly on the lines after its label's first,
+-- up to its last
 abbrev pub BarsAreLabels : Layout → LabeledFileModel → Type 0
 BarsAreLabels layout s = (l lane : ℕ) (x : LabelModel) → HasLane s lane x
     → ((shape_in layout (SourceRow (line_at s l)) lane ≡ Bar) ↔ IsBarLine s.file x l)

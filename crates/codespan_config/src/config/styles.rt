@@ -29,7 +29,8 @@ pub struct Styles {
     pub header_warning: ColorSpec,
     /// The severity and the code in the header of a note. By default green, bold and intense.
     pub header_note: ColorSpec,
-    /// The severity and the code in the header of a help. By default cyan, bold and intense.
+    /// The severity and the code in the header of a help message. By default cyan, bold and
+    /// intense.
     pub header_help: ColorSpec,
     /// The message of a header, with the colon before it. By default bold and intense.
     pub header_message: ColorSpec,
@@ -42,7 +43,7 @@ pub struct Styles {
     pub primary_label_warning: ColorSpec,
     /// Primary labels of a note. By default green.
     pub primary_label_note: ColorSpec,
-    /// Primary labels of a help. By default cyan.
+    /// Primary labels of a help message. By default cyan.
     pub primary_label_help: ColorSpec,
     /// Secondary labels. By default cyan.
     pub secondary_label: ColorSpec,
