@@ -13,7 +13,7 @@ use Rattle.codespan_documents.specs.declared.svg.ink.Ink.{Ink}
 use Rattle.codespan_documents.specs.declared.svg.position.CellPosition.{CellPosition}
 use Rattle.codespan_documents.specs.HtmlReading.{InTag, InText, Tag, TextByte, tokens_from}
 use Rattle.codespan_documents.specs.Svg.{y_of, color_attribute, font_attributes, height, is_forbidden_in_xml, x_of, svg_tag_start, svg_tag_content, text_tag_content, weight_attribute, width, xml_character}
-use Rattle.codespan_documents.specs.SvgReading.{svg_shown}
+use Rattle.codespan_documents.specs.SvgReading.{shown_in_svg}
 use Rattle.codespan_documents.proofs.HtmlReading.{IsTextByte, and_true, bytes-read, character-bytes, is_code}
 
 -- ---- tags
@@ -158,15 +158,15 @@ module _ (c : ℕ) (rest : List ℕ) (ends : (c == 10) ≡ false) where
   -- bytes read as the character
   abbrev ReadsAs : List ℕ → Type 0
   ReadsAs bs =
-      tokens_from InText (bs ++ rest) ≡ map TextByte (svg_shown c) ++ tokens_from InText rest
+      tokens_from InText (bs ++ rest) ≡ map TextByte (shown_in_svg c) ++ tokens_from InText rest
 
   -- bytes read as the character of this code
   by_code : (n : ℕ) (bs : List ℕ)
-      → tokens_from InText (bs ++ rest) ≡ map TextByte (svg_shown n) ++ tokens_from InText rest
+      → tokens_from InText (bs ++ rest) ≡ map TextByte (shown_in_svg n) ++ tokens_from InText rest
       → (c == n) ≡ true → ReadsAs bs
   by_code n bs is t =
       subst
-      (λ k. tokens_from InText (bs ++ rest) ≡ map TextByte (svg_shown k) ++ tokens_from InText rest)
+      (λ k. tokens_from InText (bs ++ rest) ≡ map TextByte (shown_in_svg k) ++ tokens_from InText rest)
       (sym (is_code c n t)) is
 
   -- a character that is neither spelled by an entity nor by a backslash
@@ -175,7 +175,7 @@ module _ (c : ℕ) (rest : List ℕ) (ends : (c == 10) ≡ false) where
       → ReadsAs (if is_forbidden_in_xml c then encode_utf8 65533 else encode_utf8 c)
   other amp lt escape null return tab =
       let contents = if is_forbidden_in_xml c then encode_utf8 65533 else encode_utf8 c in
-      let shown : svg_shown c ≡ contents =
+      let shown : shown_in_svg c ≡ contents =
       ap (λ t. if t then 10 ∷ [] else if c == 27 then codes "\\e" else if c == 0 then codes "\\0" else if c == 13 then codes "\\r" else if c == 9 then codes "\\t" else contents) ends
       ∙ ap
       (λ t. if t then codes "\\e" else if c == 0 then codes "\\0" else if c == 13 then codes "\\r"

@@ -10,7 +10,7 @@ use Rattle.codespan_documents.specs.Glyphs.{cells_of, follows, joins_next, is_na
 use Rattle.codespan_documents.specs.HtmlReading.{Token, Tag, TextByte}
 use Rattle.codespan_documents.specs.Inks.{same_ink}
 use Rattle.codespan_documents.specs.Svg.{first_pen, next_pen, text_tag_content}
-use Rattle.codespan_documents.specs.SvgReading.{Piece, RowEnd, Text, joined_glyphs, piece_tokens, pieces_from, shown_glyphs, svg_shown, text_width}
+use Rattle.codespan_documents.specs.SvgReading.{Piece, RowEnd, Text, joined_glyphs, piece_tokens, pieces_from, shown_glyphs, shown_in_svg, text_width}
 
 -- ---- glyph by glyph
 
@@ -26,7 +26,7 @@ glyph_tokens pen glyph others =
     else Tag
     (text_tag_content pen.position (cells_of glyph + joined_cells glyph others) glyph.ink)
     ∷ [])
-    ++ map TextByte (svg_shown glyph.character) ++ (if joins_next glyph others then [] else end_tag)
+    ++ map TextByte (shown_in_svg glyph.character) ++ (if joins_next glyph others then [] else end_tag)
 
 -- the tokens of glyphs
 abbrev pub tokens_of_glyphs : Pen → List Glyph → List Token
@@ -130,7 +130,7 @@ tokens_by_pieces pen (glyph ∷ glyphs) = all (tokens_by_pieces (next_pen pen gl
     tag cells = Tag (text_tag_content pen.position cells glyph.ink) ∷ []
 
     shown : List Token
-    shown = map TextByte (svg_shown glyph.character)
+    shown = map TextByte (shown_in_svg glyph.character)
 
     joined : List Token
     joined = map TextByte (shown_glyphs (joined_glyphs glyph glyphs))
@@ -159,7 +159,7 @@ tokens_by_pieces pen (glyph ∷ glyphs) = all (tokens_by_pieces (next_pen pen gl
         ∙ regrouped shown ended left joined tokens (ended_tokens glyph glyphs)
         ∙ ap (λ (ps : List Token). (ps ++ end_tag) ++ tokens)
         (sym
-        (map-append TextByte (svg_shown glyph.character)
+        (map-append TextByte (shown_in_svg glyph.character)
         (shown_glyphs (joined_glyphs glyph glyphs))))
 
     character : Rest

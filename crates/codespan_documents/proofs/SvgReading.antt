@@ -13,7 +13,7 @@ use Rattle.codespan_documents.specs.Glyphs.{cells_of, extent_from, follows, glyp
 use Rattle.codespan_documents.specs.HtmlReading.{InText, Token, Tag, TextByte, html_tokens, tokens_from, text_of_tokens}
 use Rattle.codespan_documents.specs.Runs.{StyledRun, run_characters}
 use Rattle.codespan_documents.specs.Svg.{first_pen, glyph_text, background_tag_content, next_pen, svg_document, svg_tag_content, text_tag_content, text_tag, texts_from, xml_character}
-use Rattle.codespan_documents.specs.SvgReading.{piece_tokens, pieces_from, svg_tokens, svg_shown, svg_text}
+use Rattle.codespan_documents.specs.SvgReading.{piece_tokens, pieces_from, svg_tokens, shown_in_svg, svg_text}
 use Rattle.codespan_documents.proofs.HtmlReading.{text_of-append, text_of-bytes}
 use Rattle.codespan_documents.proofs.SvgPieces.{glyph_tokens, tokens_of_glyphs, tokens_of_pieces, two_ifs}
 use Rattle.codespan_documents.proofs.SvgElements.{is_inside, text-inside, svg-inside, tag-read, character-read}
@@ -42,7 +42,7 @@ character-glyph : (pen : Pen) (glyph : Glyph) (others : List Glyph) (rest : List
     (((if follows pen.before glyph then []
     else text_tag pen.position (cells_of glyph + joined_cells glyph others) glyph.ink) ++ xml_character glyph.character ++ (if joins_next glyph others then [] else codes "</text>")) ++ rest)
     ≡ ((if follows pen.before glyph then []
-    else Tag (text_tag_content pen.position (cells_of glyph + joined_cells glyph others) glyph.ink) ∷ []) ++ map TextByte (svg_shown glyph.character) ++ (if joins_next glyph others then [] else Tag (codes "/text") ∷ []))
+    else Tag (text_tag_content pen.position (cells_of glyph + joined_cells glyph others) glyph.ink) ∷ []) ++ map TextByte (shown_in_svg glyph.character) ++ (if joins_next glyph others then [] else Tag (codes "/text") ∷ []))
     ++ tokens_from InText rest
 character-glyph pen glyph others rest ends =
     let content =
@@ -51,7 +51,7 @@ character-glyph pen glyph others rest ends =
     let character = xml_character glyph.character in
     let ended = if joins_next glyph others then [] else codes "</text>" in
     let opening_tokens : List Token = if follows pen.before glyph then [] else Tag content ∷ [] in
-    let shown : List Token = map TextByte (svg_shown glyph.character) in
+    let shown : List Token = map TextByte (shown_in_svg glyph.character) in
     let ended_tokens : List Token =
     if joins_next glyph others then [] else Tag (codes "/text") ∷ [] in
     ap (tokens_from InText)
@@ -74,7 +74,7 @@ glyph-read pen glyph others rest =
     else text_tag pen.position (cells_of glyph + joined_cells glyph others) glyph.ink) ++ xml_character glyph.character ++ (if joins_next glyph others then [] else codes "</text>"))
     (TextByte 10 ∷ [])
     ((if follows pen.before glyph then []
-    else Tag (text_tag_content pen.position (cells_of glyph + joined_cells glyph others) glyph.ink) ∷ []) ++ map TextByte (svg_shown glyph.character) ++ (if joins_next glyph others then [] else Tag (codes "/text") ∷ []))
+    else Tag (text_tag_content pen.position (cells_of glyph + joined_cells glyph others) glyph.ink) ∷ []) ++ map TextByte (shown_in_svg glyph.character) ++ (if joins_next glyph others then [] else Tag (codes "/text") ∷ []))
     (λ bytes tokens. tokens_from InText (bytes ++ rest) ≡ tokens ++ tokens_from InText rest)
     (λ _. refl) (character-glyph pen glyph others rest)
 
@@ -128,7 +128,7 @@ svg-read glyphs =
 
 -- the text of the tokens of a glyph
 glyph-text : (pen : Pen) (glyph : Glyph) (others : List Glyph)
-    → text_of_tokens (glyph_tokens pen glyph others) ≡ svg_shown glyph.character
+    → text_of_tokens (glyph_tokens pen glyph others) ≡ shown_in_svg glyph.character
 glyph-text pen glyph others = at (is_newline_glyph glyph) refl
   where
     prefix : Bool → List Token
@@ -143,37 +143,37 @@ glyph-text pen glyph others = at (is_newline_glyph glyph) refl
 
     between : (f o : Bool)
         → text_of_tokens
-        (prefix f ++ map TextByte (svg_shown glyph.character) ++ ended o)
-        ≡ svg_shown glyph.character
+        (prefix f ++ map TextByte (shown_in_svg glyph.character) ++ ended o)
+        ≡ shown_in_svg glyph.character
     between true true =
-        ap text_of_tokens (append-nil (map TextByte (svg_shown glyph.character)))
-        ∙ text_of-bytes (svg_shown glyph.character)
+        ap text_of_tokens (append-nil (map TextByte (shown_in_svg glyph.character)))
+        ∙ text_of-bytes (shown_in_svg glyph.character)
     between true false =
-        text_of-append (map TextByte (svg_shown glyph.character)) (Tag (codes "/text") ∷ [])
-        ∙ append-nil _ ∙ text_of-bytes (svg_shown glyph.character)
+        text_of-append (map TextByte (shown_in_svg glyph.character)) (Tag (codes "/text") ∷ [])
+        ∙ append-nil _ ∙ text_of-bytes (shown_in_svg glyph.character)
     between false true =
-        ap text_of_tokens (append-nil (map TextByte (svg_shown glyph.character)))
-        ∙ text_of-bytes (svg_shown glyph.character)
+        ap text_of_tokens (append-nil (map TextByte (shown_in_svg glyph.character)))
+        ∙ text_of-bytes (shown_in_svg glyph.character)
     between false false =
-        text_of-append (map TextByte (svg_shown glyph.character)) (Tag (codes "/text") ∷ [])
-        ∙ append-nil _ ∙ text_of-bytes (svg_shown glyph.character)
+        text_of-append (map TextByte (shown_in_svg glyph.character)) (Tag (codes "/text") ∷ [])
+        ∙ append-nil _ ∙ text_of-bytes (shown_in_svg glyph.character)
 
     at : (n : Bool) → is_newline_glyph glyph ≡ n
-        → text_of_tokens (glyph_tokens pen glyph others) ≡ svg_shown glyph.character
+        → text_of_tokens (glyph_tokens pen glyph others) ≡ shown_in_svg glyph.character
     at true e = rw e refl
     at false e =
-        ap (λ t. text_of_tokens (if t then TextByte 10 ∷ [] else prefix (follows pen.before glyph) ++ map TextByte (svg_shown glyph.character) ++ ended (joins_next glyph others))) e
+        ap (λ t. text_of_tokens (if t then TextByte 10 ∷ [] else prefix (follows pen.before glyph) ++ map TextByte (shown_in_svg glyph.character) ++ ended (joins_next glyph others))) e
         ∙ between (follows pen.before glyph) (joins_next glyph others)
 
 glyphs-text : (pen : Pen) (glyphs : List Glyph)
-    → text_of_tokens (tokens_of_glyphs pen glyphs) ≡ flat_map svg_shown
+    → text_of_tokens (tokens_of_glyphs pen glyphs) ≡ flat_map shown_in_svg
     (map (λ (glyph : Glyph). glyph.character) glyphs)
 glyphs-text pen [] = refl
 glyphs-text pen (glyph ∷ glyphs) =
     text_of-append (glyph_tokens pen glyph glyphs) (tokens_of_glyphs (next_pen pen glyph) glyphs)
     ∙ ap (λ bs. bs ++ text_of_tokens (tokens_of_glyphs (next_pen pen glyph) glyphs))
     (glyph-text pen glyph glyphs)
-    ∙ ap (λ bs. svg_shown glyph.character ++ bs) (glyphs-text (next_pen pen glyph) glyphs)
+    ∙ ap (λ bs. shown_in_svg glyph.character ++ bs) (glyphs-text (next_pen pen glyph) glyphs)
 
 -- the characters of the glyphs of runs
 run-characters : (ink : Ink) (cs : List ℕ)
@@ -203,4 +203,4 @@ svg-text styles runs =
     (ap (λ (tokens : List Token). text_of_tokens (tokens ++ last)) (sym (tokens_of_pieces glyphs))
     ∙ text_of-append (tokens_of_glyphs first_pen glyphs) last
     ∙ ap (λ bs. bs ++ 10 ∷ [])
-    (glyphs-text first_pen glyphs ∙ ap (flat_map svg_shown) (characters-are styles runs)))
+    (glyphs-text first_pen glyphs ∙ ap (flat_map shown_in_svg) (characters-are styles runs)))

@@ -15,8 +15,8 @@ use Rattle.codespan_documents.specs.Svg.{first_pen, background_tag_content, is_f
 
 -- a character as a document shows it: four control characters by a backslash and a letter or
 -- digit, and any other that XML can not hold as U+FFFD
-abbrev pub svg_shown : ℕ → List ℕ
-svg_shown c =
+abbrev pub shown_in_svg : ℕ → List ℕ
+shown_in_svg c =
     if c == 10 then 10 ∷ []
     else if c == 27 then codes "\\e"
     else if c == 0 then codes "\\0"
@@ -27,11 +27,11 @@ svg_shown c =
 
 -- glyphs as a document shows them
 abbrev pub shown_glyphs : List Glyph → List ℕ
-shown_glyphs glyphs = flat_map (λ (glyph : Glyph). svg_shown glyph.character) glyphs
+shown_glyphs glyphs = flat_map (λ (glyph : Glyph). shown_in_svg glyph.character) glyphs
 
 -- the text of a document of runs: theirs, after two line ends of its head and before one
 abbrev pub svg_text : List StyledRun → List ℕ
-svg_text runs = 10 ∷ 10 ∷ flat_map svg_shown (run_characters runs) ++ 10 ∷ []
+svg_text runs = 10 ∷ 10 ∷ flat_map shown_in_svg (run_characters runs) ++ 10 ∷ []
 
 -- ---- pieces
 
