@@ -18,10 +18,7 @@ pub fn is_primary<FileId>(label: &Label<FileId>) -> bool
 fn least(known: Option<usize>, start: usize) -> usize
     ensures { result ≡ least_with known start }
 {
-    match known {
-        Some(byte) => byte.min(start),
-        None => start,
-    }
+    known.map_or(start, |byte| byte.min(start))
 }
 
 /// The byte of a file's locus, by the labels that were added. Byte indices are 0-based.
@@ -65,9 +62,6 @@ impl LocusStart {
     pub fn byte(self) -> usize
         ensures { result ≡ locus_byte self }
     {
-        match self.primary {
-            Some(byte) => byte,
-            None => self.any.unwrap_or(0),
-        }
+        self.primary.or(self.any).unwrap_or(0)
     }
 }

@@ -2,7 +2,7 @@
 use Rattle.std.specs.Prelude.{◌≡◌, ℕ, ◌<◌, Bool, true, false, List, ◌++◌, flat_map, fold, max, Option, Some, IfOk, Result}
 use Rattle.codespan_picture.specs.Types.{Label, Error, Config}
 use Rattle.codespan_base.specs.FileModel.{FileDatabase, FileModel, line_count, Lookup}
-use Rattle.codespan_base.specs.Labels.{LabelModel}
+use Rattle.codespan_base.specs.Labels.{LabelModel, first_line, last_line}
 use Rattle.codespan_picture.specs.Lookups.{Failures, looked_up_lines, lookups_of_file, first_error, is_looked_up, label_lookups, label_line_lookups, line_lookups, lookup_past_end}
 use Rattle.codespan_picture.specs.OutputStreams.{label_of}
 use Rattle.codespan_picture.specs.Snippets.{InFile}
@@ -54,15 +54,23 @@ collected_label database config indices label = record {
 
 -- the label whose lines a collector looks up
 abbrev pub label_of_collector : {F Id Name Source : Type 0} → (F → FileDatabase Id)
-    → LabelCollector F Id Name Source → Label Id → CollectedLabel Id
-label_of_collector database collector label = record {
+    → LabelCollector F Id Name Source → CollectedLabel Id
+label_of_collector database collector = record {
   file_id = collector.file.file_id;
   file = model_of database collector.file;
   failure = (database collector.file.files.now).failure;
   config = collector.config.now;
   indices = collector.indices;
-  label = (label_of label).label;
+  label = (label_of collector.label.now).label;
 }
+
+-- the collector has the lines on which its label starts and ends
+pub record HasLabelLines {F Id Name Source : Type 0} (database : F → FileDatabase Id)
+    (collector : LabelCollector F Id Name Source) : Type 0 where
+  pub first : first_line (model_of database collector.file) (label_of collector.label.now).label
+      ≡ collector.lines.first
+  pub last : last_line (model_of database collector.file) (label_of collector.label.now).label
+      ≡ collector.lines.last
 
 module _ {Id : Type 0} (x : CollectedLabel Id) where
   -- ---- one line
@@ -129,24 +137,22 @@ abbrev pub IfEnded : Result Bool Error → Type 0 → Type 0
 IfEnded r P = IfOk r (λ goes_on. goes_on ≡ false → P)
 
 -- what a label does on a line, by the lines of its ends
-abbrev pub kind_by : {F Id Name Source : Type 0} → LabelCollector F Id Name Source → Label Id
-    → LineInfo
+abbrev pub kind_by : {F Id Name Source : Type 0} → LabelCollector F Id Name Source → LineInfo
     → Option AnnotationKind
-kind_by collector label line =
+kind_by collector line =
     kind_at collector.config.now collector.indices collector.lines.first collector.lines.last
-    line.index line.start (label_of label).label
+    line.index line.start (label_of collector.label.now).label
 
 -- its lane mark on a line, by the lines of its ends
-abbrev pub lane_mark_by : {F Id Name Source : Type 0} → LabelCollector F Id Name Source → Label Id
-    → LineInfo
+abbrev pub lane_mark_by : {F Id Name Source : Type 0} → LabelCollector F Id Name Source → LineInfo
     → Option AnnotationKind
-lane_mark_by collector label line =
+lane_mark_by collector line =
     lane_mark_at collector.indices collector.lines.first collector.lines.last line.index line.start
-    (label_of label).label
+    (label_of collector.label.now).label
 
 -- a line is looked up for the label, and its lookups fail with this error
 abbrev pub FailsLine : {F Id Name Source : Type 0} → (F → FileDatabase Id)
-    → LabelCollector F Id Name Source → Label Id → ℕ → Error → Type 0
-FailsLine database collector label l e =
-    IsLookedUp (label_of_collector database collector label) l
+    → LabelCollector F Id Name Source → ℕ → Error → Type 0
+FailsLine database collector l e =
+    IsLookedUp (label_of_collector database collector) l
     × (failure_unless_past_end database collector.file collector.lines.last l ≡ Some e)

@@ -3,9 +3,7 @@
 ghost use Rattle.std.specs.Prelude.{◌≡◌, ◌≢◌, true, None, IfErr, IfOk, OnOk, OnErr, IsErrOf};
 ghost use Rattle.std.specs.Option.{option_map};
 ghost use Rattle.codespan_base.specs.LawfulFiles.{FailsBy};
-ghost use Rattle.codespan_base.specs.Labels.{first_line, last_line};
-ghost use Rattle.codespan_picture.specs.OutputStreams.{label_of};
-ghost use Rattle.codespan_collect.specs.CollectedLabels.{AddsLine, FindsLine, FindsLines, HasLineLookedUp, IfEnded, IfContinues, ExtendsPadding, ExtendsPaddingForLine, FailsLine, label_of_collector, collected_label, label_failure, lines_failure, failure_on, lane_mark_by, kind_by};
+ghost use Rattle.codespan_collect.specs.CollectedLabels.{AddsLine, FindsLine, FindsLines, HasLineLookedUp, IfEnded, IfContinues, ExtendsPadding, ExtendsPaddingForLine, FailsLine, HasLabelLines, label_of_collector, collected_label, label_failure, lines_failure, failure_on, lane_mark_by, kind_by};
 ghost use Rattle.codespan_annotations.specs.SourceFiles.{EndsBefore, model_of};
 ghost use Rattle.codespan_annotations.specs.AnnotationViews.{IsLineOf, kind_view};
 ghost use Rattle.codespan_annotations.specs.LabelSpans.{IsFarInside, line_of_end, line_of_start};
@@ -42,8 +40,10 @@ pub struct FoundAnnotations<'d, FileId> {
 
 /// Looks up the lines of a label and makes its annotations.
 #[derive(Drop)]
-struct LabelCollector<'a, 'c, 'files, F: Files<'files>> {
-    /// The label's file.
+struct LabelCollector<'a, 'c, 'd, 'files, F: Files<'files>> {
+    /// The label.
+    label: &'d Label<F::FileId>,
+    /// Its file.
     file: SourceFile<'files, F>,
     /// The configuration, which has the numbers of context lines.
     config: &'a Config<'c>,
@@ -53,20 +53,16 @@ struct LabelCollector<'a, 'c, 'files, F: Files<'files>> {
     lines: LabelSpan,
 }
 
-impl<'a, 'c, 'files, F: Files<'files>> LabelCollector<'a, 'c, 'files, F> {
+impl<'a, 'c, 'd, 'files, F: Files<'files>> LabelCollector<'a, 'c, 'd, 'files, F> {
     /// Returns what the label does on a line, its lane mark aside: it is a single-line label on it,
     /// or makes it shown, or neither.
-    fn kind_on_line<'d>(
-        &self,
-        label: &'d Label<F::FileId>,
-        line: LineInfo,
-    ) -> Option<AnnotationKind<'d, F::FileId>>
-        ensures { option_map (kind_view line.start) result ≡ kind_by self.now label.now line }
+    fn kind_on_line(&self, line: LineInfo) -> Option<AnnotationKind<'d, F::FileId>>
+        ensures { option_map (kind_view line.start) result ≡ kind_by self.now line }
     {
         if self.lines.is_single() && self.lines.first == line.index {
             Some(AnnotationKind::Single {
                 index: self.indices.index,
-                label,
+                label: self.label,
             })
         } else if self.lines.shows(self.config, line.index) {
             Some(AnnotationKind::Shown)
@@ -76,19 +72,15 @@ impl<'a, 'c, 'files, F: Files<'files>> LabelCollector<'a, 'c, 'files, F> {
     }
 
     /// Returns the label's lane mark on a line, if it is a multi-line label that has one.
-    fn lane_mark_on_line<'d>(
-        &self,
-        label: &'d Label<F::FileId>,
-        line: LineInfo,
-    ) -> Option<AnnotationKind<'d, F::FileId>>
-        ensures { option_map (kind_view line.start) result ≡ lane_mark_by self.now label.now line }
+    fn lane_mark_on_line(&self, line: LineInfo) -> Option<AnnotationKind<'d, F::FileId>>
+        ensures { option_map (kind_view line.start) result ≡ lane_mark_by self.now line }
     {
         match self.lines.multi_label_kind(line.index) {
             None => None,
             Some(kind) => Some(AnnotationKind::Multi {
                 kind,
                 lane: self.indices.lane,
-                label,
+                label: self.label,
             }),
         }
     }
@@ -104,27 +96,23 @@ impl<'a, 'c, 'files, F: Files<'files>> LabelCollector<'a, 'c, 'files, F> {
     /// The label starts and ends on the lines of this collector, and the line is one of the file's,
     /// inside the label and past the context lines of both ends.
     #[inline(always)]
-    fn push_far_line<'d>(
+    fn push_far_line(
         &self,
-        label: &'d Label<F::FileId>,
         line: LineInfo,
         annotations: &mut Vec<Annotation<'d, F::FileId>>,
     ) -> Result<(), Error>
         requires far { IsFarInside self.now.config.now self.now.lines.first self.now.lines.last
             line.index }
-        requires first { first_line (model_of F.database self.now.file) (label_of label.now).label
-            ≡ self.now.lines.first }
-        requires last { last_line (model_of F.database self.now.file) (label_of label.now).label
-            ≡ self.now.lines.last }
+        requires lines { HasLabelLines F.database self.now }
         requires line { IsLineOf (model_of F.database self.now.file) line }
-        ensures added { OnOk result (AddsLine (label_of_collector F.database self.now label.now)
+        ensures added { OnOk result (AddsLine (label_of_collector F.database self.now)
             annotations.old.items annotations.new.items line.index) }
         ensures failed { OnErr result (IsErrOf result Error.OutOfMemory) }
     {
         let kind = AnnotationKind::Multi {
             kind: MultiLabelKind::Left,
             lane: self.indices.lane,
-            label,
+            label: self.label,
         };
         push_annotation(self.indices.file, line, Some(kind), annotations)?;
         Ok(())
@@ -141,39 +129,26 @@ impl<'a, 'c, 'files, F: Files<'files>> LabelCollector<'a, 'c, 'files, F> {
     ///
     /// The label starts and ends on the lines of this collector, and the line is one of the file's.
     /// Where `is_far` is set, it is inside the label and past the context lines of both ends.
-    fn push_line<'d>(
+    fn push_line(
         &self,
-        label: &'d Label<F::FileId>,
         line: LineInfo,
         is_far: bool,
         annotations: &mut Vec<Annotation<'d, F::FileId>>,
     ) -> Result<(), Error>
         requires far { is_far ≡ true → IsFarInside self.now.config.now self.now.lines.first
             self.now.lines.last line.index }
-        requires first { first_line (model_of F.database self.now.file) (label_of label.now).label
-            ≡ self.now.lines.first }
-        requires last { last_line (model_of F.database self.now.file) (label_of label.now).label
-            ≡ self.now.lines.last }
+        requires lines { HasLabelLines F.database self.now }
         requires line { IsLineOf (model_of F.database self.now.file) line }
-        ensures added { OnOk result (AddsLine (label_of_collector F.database self.now label.now)
+        ensures added { OnOk result (AddsLine (label_of_collector F.database self.now)
             annotations.old.items annotations.new.items line.index) }
         ensures failed { OnErr result (IsErrOf result Error.OutOfMemory) }
     {
         if is_far {
-            return self.push_far_line(label, line, annotations);
+            return self.push_far_line(line, annotations);
         }
-        push_annotation(
-            self.indices.file,
-            line,
-            self.kind_on_line(label, line),
-            annotations,
-        )?;
-        push_annotation(
-            self.indices.file,
-            line,
-            self.lane_mark_on_line(label, line),
-            annotations,
-        )?;
+        let file = self.indices.file;
+        push_annotation(file, line, self.kind_on_line(line), annotations)?;
+        push_annotation(file, line, self.lane_mark_on_line(line), annotations)?;
         Ok(())
     }
 
@@ -191,33 +166,27 @@ impl<'a, 'c, 'files, F: Files<'files>> LabelCollector<'a, 'c, 'files, F> {
     ///
     /// The label starts and ends on the lines of this collector. Where `is_far` is set, the line is
     /// inside the label and past the context lines of both ends.
-    fn collect_line<'d>(
+    fn collect_line(
         &self,
-        label: &'d Label<F::FileId>,
         index: usize,
         is_far: bool,
         found: &mut FoundAnnotations<'d, F::FileId>,
     ) -> Result<bool, Error>
         requires far { is_far ≡ true → IsFarInside self.now.config.now self.now.lines.first
             self.now.lines.last index }
-        requires first { first_line (model_of F.database self.now.file) (label_of label.now).label
-            ≡ self.now.lines.first }
-        requires last { last_line (model_of F.database self.now.file) (label_of label.now).label
-            ≡ self.now.lines.last }
+        requires lines { HasLabelLines F.database self.now }
         ensures inside { IfContinues result
-            (HasLineLookedUp (label_of_collector F.database self.now label.now) index) }
+            (HasLineLookedUp (label_of_collector F.database self.now) index) }
         ensures added { IfContinues result
-            (FindsLine (label_of_collector F.database self.now label.now) found.old
-            found.new index) }
-        ensures padding { IfContinues result
-            (ExtendsPaddingForLine (label_of_collector F.database self.now label.now)
-            found.old found.new index) }
+            (FindsLine (label_of_collector F.database self.now) found.old found.new index) }
+        ensures padding { IfContinues result (ExtendsPaddingForLine
+            (label_of_collector F.database self.now) found.old found.new index) }
         ensures succeeded { IfContinues result
-            (failure_on (label_of_collector F.database self.now label.now) index ≡ None) }
+            (failure_on (label_of_collector F.database self.now) index ≡ None) }
         ensures ended { IfEnded result ((found.new ≡ found.old)
             × EndsBefore F.database self.now.file index) }
         ensures failed { IfErr result (λ e. e ≢ Error.OutOfMemory
-            → FailsLine F.database self.now label.now index e) }
+            → FailsLine F.database self.now index e) }
     {
         let is_spanned = is_far || self.lines.spans(index);
         if !is_spanned && !self.lines.is_around(self.config, index) {
@@ -229,7 +198,7 @@ impl<'a, 'c, 'files, F: Files<'files>> LabelCollector<'a, 'c, 'files, F> {
         if is_spanned {
             found.padding.fit(line.number);
         }
-        self.push_line(label, line, is_far, &mut found.annotations)?;
+        self.push_line(line, is_far, &mut found.annotations)?;
         Ok(true)
     }
 
@@ -243,31 +212,20 @@ impl<'a, 'c, 'files, F: Files<'files>> LabelCollector<'a, 'c, 'files, F> {
     /// # Requires
     ///
     /// The label starts and ends on the lines of this collector.
-    fn collect_lines<'d>(
-        &self,
-        label: &'d Label<F::FileId>,
-        found: &mut FoundAnnotations<'d, F::FileId>,
-    ) -> Result<(), Error>
-        requires first { first_line (model_of F.database self.now.file) (label_of label.now).label
-            ≡ self.now.lines.first }
-        requires last { last_line (model_of F.database self.now.file) (label_of label.now).label
-            ≡ self.now.lines.last }
+    fn collect_lines(&self, found: &mut FoundAnnotations<'d, F::FileId>) -> Result<(), Error>
+        requires { HasLabelLines F.database self.now }
         ensures added { OnOk result
-            (FindsLines (label_of_collector F.database self.now label.now) found.old
-            found.new) }
+            (FindsLines (label_of_collector F.database self.now) found.old found.new) }
         ensures padding { OnOk result
-            (ExtendsPadding (label_of_collector F.database self.now label.now) found.old
-            found.new) }
-        ensures failed { FailsBy (lines_failure (label_of_collector F.database self.now label.now))
-            result }
+            (ExtendsPadding (label_of_collector F.database self.now) found.old found.new) }
+        ensures failed { FailsBy (lines_failure (label_of_collector F.database self.now)) result }
     {
         let lines = self.lines;
         let first = lines.first.saturating_sub(self.config.before_label_lines);
         let last = lines.last.saturating_add(self.config.after_label_lines);
         let far = lines.far_lines(self.config);
         for index in first.min(lines.last)..=last.max(lines.first) {
-            let is_far = far.start <= index && index < far.end;
-            if !self.collect_line(label, index, is_far, found)? {
+            if !self.collect_line(index, far.contains(&index), found)? {
                 return Ok(());
             }
         }
@@ -305,6 +263,7 @@ pub fn collect_label<'files, 'd, F: Files<'files>>(
         .annotations
         .reserve(lines.annotation_capacity(config))?;
     let collector = LabelCollector {
+        label,
         file: SourceFile {
             files,
             file_id: label.file_id,
@@ -313,6 +272,6 @@ pub fn collect_label<'files, 'd, F: Files<'files>>(
         indices,
         lines,
     };
-    collector.collect_lines(label, found)?;
+    collector.collect_lines(found)?;
     Ok(lines)
 }

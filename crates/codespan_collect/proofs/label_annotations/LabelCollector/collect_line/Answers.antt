@@ -18,7 +18,7 @@ use Rattle.codespan_collect.proofs.label_annotations.LabelCollector.collect_line
 pub returns-then-not-is_around-clause-added : goal.returns-then-not-is_around-clause-added
 returns-then-not-is_around-clause-added g c =
     let f = model_of g.F.Files.database c.args.self.now.file in
-    let x = (label_of c.args.label.now).label in
+    let x = (label_of c.args.self.now.label.now).label in
     let not_looked_up : is_looked_up c.args.self.now.config.now f x c.args.index ≡ false =
     search rules in
     λ _. Adds-as
@@ -47,16 +47,17 @@ is_spanned g c =
 -- the line is one that the label has looked up
 looked_up : (g : Over) (c : In_ok-push_line g)
     → is_looked_up c.args.self.now.config.now (model_of g.F.Files.database c.args.self.now.file)
-    (label_of c.args.label.now).label c.args.index ≡ true
+    (label_of c.args.self.now.label.now).label c.args.index ≡ true
 looked_up g c =
-    let x = label_of_collector g.F.Files.database c.args.self.now c.args.label.now in
-    let lines = c.args.self.now.lines in
+    let collector = c.args.self.now in
+    let x = label_of_collector g.F.Files.database collector in
+    let lines = collector.lines in
     elim c.else-not-is_spanned.branch [
       | else-not-is_spanned-via-then-not-is_spanned+else-not-is_around w ↦
-          looked_up-around x lines.first lines.last c.args.index c.requires.first c.requires.last
-          (sym w.is_around.ensures ∙ w.if-not-is_around.false)
+          looked_up-around x lines.first lines.last c.args.index c.requires.lines.first
+          c.requires.lines.last (sym w.is_around.ensures ∙ w.if-not-is_around.false)
       | else-not-is_spanned-via-else-not-is_spanned w ↦ looked_up-spanned x lines.first lines.last
-          c.args.index c.requires.first c.requires.last
+          c.args.index c.requires.lines.first c.requires.lines.last
           (sym (is_spanned g c) ∙ w.if-not-is_spanned.false)
     ]
 
@@ -78,7 +79,7 @@ returns-clause-inside g c =
 
 pub returns-clause-added : goal.returns-clause-added
 returns-clause-added g c =
-    let x = label_of_collector g.F.Files.database c.args.self.now c.args.label.now in
+    let x = label_of_collector g.F.Files.database c.args.self.now in
     λ _. added-looked_up x c.args.index (looked_up g c)
     (subst (λ l. AddsLine x c.args.found.now.annotations.items c.push_line.new.annotations.items l)
     (line_found g c).0
@@ -87,23 +88,24 @@ returns-clause-added g c =
 
 pub returns-clause-padding : goal.returns-clause-padding
 returns-clause-padding g c =
-    let x = label_of_collector g.F.Files.database c.args.self.now c.args.label.now in
-    let lines = c.args.self.now.lines in
+    let collector = c.args.self.now in
+    let x = label_of_collector g.F.Files.database collector in
+    let lines = collector.lines in
     let found = line_found g c in
     let number = found.1.number_is ∙ ap x.file.line_number found.0 in
     let digits : FoundAnnotations g.row.F-FileId.Denot → ℕ = λ f. f.padding.digits in
     λ _. elim c.if-is_spanned.branch [
-      | then-is_spanned w ↦ padding-spanned x lines.first lines.last c.args.index c.requires.first
-          c.requires.last _ c.args.found.now.padding.digits
+      | then-is_spanned w ↦ padding-spanned x lines.first lines.last c.args.index c.requires.lines.first
+          c.requires.lines.last _ c.args.found.now.padding.digits
           (sym (is_spanned g c) ∙ w.if-is_spanned.true)
           (ap digits w.found-is ∙ rw number at w.fit.ensures)
-      | else-is_spanned w ↦ padding-unspanned x lines.first lines.last c.args.index c.requires.first
-          c.requires.last _ c.args.found.now.padding.digits
+      | else-is_spanned w ↦ padding-unspanned x lines.first lines.last c.args.index
+          c.requires.lines.first c.requires.lines.last _ c.args.found.now.padding.digits
           (sym (is_spanned g c) ∙ w.if-is_spanned.false) (ap digits w.found-is)
     ]
 
 pub returns-clause-succeeded : goal.returns-clause-succeeded
 returns-clause-succeeded g c =
-    let x = label_of_collector g.F.Files.database c.args.self.now c.args.label.now in
+    let x = label_of_collector g.F.Files.database c.args.self.now in
     λ _. succeeded-looked_up x c.args.index (looked_up g c)
     (rw c.in-Some.is at c.in_ok-line.ensures.succeeded)

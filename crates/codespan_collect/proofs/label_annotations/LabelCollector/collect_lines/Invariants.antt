@@ -5,5 +5,4 @@ use Rattle.codespan_collect.proofs.label_annotations.LabelCollector.collect_line
 -- the lines below this one are done with
 abbrev pub invariant-loop-index : goal.invariant-loop-index
 invariant-loop-index g l =
-    CollectsLines (label_of_collector g.F.Files.database l.self l.label) l.initial.found l.found
-    l.index
+    CollectsLines (label_of_collector g.F.Files.database l.self) l.initial.found l.found l.index-counter

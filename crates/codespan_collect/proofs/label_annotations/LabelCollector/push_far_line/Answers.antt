@@ -6,13 +6,14 @@ use Rattle.codespan_collect.proofs.label_annotations.LabelCollector.push_far_lin
 
 pub returns-clause-added : goal.returns-clause-added
 returns-clause-added g c =
-    let x = label_of_collector g.F.Files.database c.args.self.now c.args.label.now in
-    let lines = c.args.self.now.lines in
+    let collector = c.args.self.now in
+    let x = label_of_collector g.F.Files.database collector in
+    let lines = collector.lines in
     let line = c.args.line in
-    Adds-as (annotation_if_any-line x c.requires.first c.requires.last c.requires.line
+    Adds-as (annotation_if_any-line x c.requires.lines.first c.requires.lines.last c.requires.line
     (far-kind x.config x.indices lines.first lines.last line.index line.start x.label
     c.requires.far)
-    (far-multi_label x.config x.indices lines.first lines.last line.index line.start c.args.label
+    (far-multi_label x.config x.indices lines.first lines.last line.index line.start collector.label
     c.requires.far))
     (Adds-weaker (λ e same. subst (IsLineOf x.file) (sym same) c.requires.line)
     c.in_ok-push_annotation.ensures.added)

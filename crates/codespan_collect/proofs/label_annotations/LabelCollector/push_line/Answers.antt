@@ -6,9 +6,10 @@ use Rattle.codespan_collect.proofs.label_annotations.LabelCollector.push_line.Go
 
 pub returns-clause-added : goal.returns-clause-added
 returns-clause-added g c =
-    let x = label_of_collector g.F.Files.database c.args.self.now c.args.label.now in
+    let collector = c.args.self.now in
+    let x = label_of_collector g.F.Files.database collector in
     Adds-as
-    (annotation_if_any-line x c.requires.first c.requires.last c.requires.line
+    (annotation_if_any-line x c.requires.lines.first c.requires.lines.last c.requires.line
     c.kind_on_line.ensures c.lane_mark_on_line.ensures)
     (Adds-weaker (λ e same. subst (IsLineOf x.file) (sym same) c.requires.line)
     (Adds-both c.in_ok-push_annotation.ensures.added c.in_ok-push_annotation-2.ensures.added))
