@@ -81,13 +81,7 @@ impl<Name, Source: AsStr> MappedFile<Name, Source> {
         ensures err { OnErr result (set_numbers_of self.new ≡ set_numbers_of self.old) }
         ensures failed { FailsBy (past_end_failure (mapped_text_of self.old) line_index) result }
     {
-        let lines = self.file.line_count();
-        if line_index >= lines {
-            return Err(Error::LineTooLarge {
-                given: line_index,
-                max: lines - 1,
-            });
-        }
+        self.file.check_line(line_index)?;
         match self.search(line_index) {
             Ok(at) => {
                 self.numbers[at] = (line_index, number);

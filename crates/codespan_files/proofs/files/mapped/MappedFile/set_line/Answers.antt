@@ -1,7 +1,5 @@
-use Rattle.std.proofs.Common.{◌∙◌, refl, arith}
-use Rattle.codespan_files.specs.DatabaseViews.{mapped_text_of}
+use Rattle.std.proofs.Common.{◌∙◌, refl}
 use Rattle.codespan_files.proofs.SetLineNumbers.{set_replaces, sorted_set, insert_adds, sorted_either}
-use Rattle.codespan_files.proofs.PastEndFailures.{past_end_failure_late, past_end_failure_early}
 use Rattle.codespan_files.proofs.files.mapped.MappedFile.set_line.Goals as goal
 
 pub invariant_of-self-in-Err : goal.invariant_of-self-in-Err
@@ -22,21 +20,12 @@ pub invariant_of-self : goal.invariant_of-self
 invariant_of-self g c =
     record { sorted = sorted_set _ c.args.self.now.sorted _ _ c.in-Ok.ensures.found _ }
 
--- a line past the last fails, and no other one
-pub returns-then-line_index-lines-clause-failed : goal.returns-then-line_index-lines-clause-failed
-returns-then-line_index-lines-clause-failed g c =
-    λ _. past_end_failure_late (mapped_text_of c.args.self.now) _ _ _ refl
-    c.line_count-lines.ensures.value c.if-line_index-lines.true
-
+-- a line that exists does not fail
 pub returns-in-Ok-clause-failed : goal.returns-in-Ok-clause-failed
-returns-in-Ok-clause-failed g c =
-    past_end_failure_early (mapped_text_of c.args.self.now) _ c.args.line_index refl
-    (omega (arith, c.line_count-lines.ensures.value))
+returns-in-Ok-clause-failed g c = c.in_ok-check_line.ensures.failed
 
 pub returns-in_ok-insert-in-Err-clause-failed : goal.returns-in_ok-insert-in-Err-clause-failed
-returns-in_ok-insert-in-Err-clause-failed g c =
-    past_end_failure_early (mapped_text_of c.args.self.now) _ c.args.line_index refl
-    (omega (arith, c.line_count-lines.ensures.value))
+returns-in_ok-insert-in-Err-clause-failed g c = c.in_ok-check_line.ensures.failed
 
 -- the file is the same
 pub returns-in-Ok-clause-name : goal.returns-in-Ok-clause-name
