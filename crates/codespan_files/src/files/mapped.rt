@@ -83,15 +83,10 @@ impl<Name, Source: AsStr> MappedFile<Name, Source> {
     {
         self.file.check_line(line_index)?;
         match self.search(line_index) {
-            Ok(at) => {
-                self.numbers[at] = (line_index, number);
-                Ok(())
-            }
-            Err(at) => {
-                self.numbers.insert(at, (line_index, number))?;
-                Ok(())
-            }
+            Ok(at) => self.numbers[at] = (line_index, number),
+            Err(at) => self.numbers.insert(at, (line_index, number))?,
         }
+        Ok(())
     }
 
     /// Returns the index of the line's number among the set numbers, or, as `Err`, the index at
@@ -201,15 +196,15 @@ impl<'a, Name: Display + 'a, Source: AsStr + 'a> Files<'a> for MappedFile<Name, 
         ensures failed { FailsBy (mapped_failure_of self.now (LineNumber line_index)) result }
         ensures memory { NeedsNoMemory result }
     {
-        match self.nearest(line_index) {
-            None => default_line_number(line_index),
-            Some((index, number)) => match number.checked_add(line_index - index) {
-                Some(counted) => Ok(counted),
-                None => Err(Error::LineTooLarge {
-                    given: line_index,
-                    max: index + (usize::MAX - number),
-                }),
-            },
+        let Some((index, number)) = self.nearest(line_index) else {
+            return default_line_number(line_index);
+        };
+        match number.checked_add(line_index - index) {
+            Some(counted) => Ok(counted),
+            None => Err(Error::LineTooLarge {
+                given: line_index,
+                max: index + (usize::MAX - number),
+            }),
         }
     }
 
