@@ -13,4 +13,4 @@ too_large s i past = rw (lt-leb (suc (s.1 + (i - s.0))) (2 ^ 64) (omega (arith, 
 pub returns-in-None-clause-failed : goal.returns-in-None-clause-failed
 returns-in-None-clause-failed g c =
     λ _. rw (← c.in-Some.ensures.value)
-    (too_large (c.in-Some.index, c.in-Some.number) c.args.line_index c.in-None.ensures)
+    (too_large (c.in-Some.nearest.line_index, c.in-Some.nearest.number) c.args.line_index c.in-None.ensures)
