@@ -1,8 +1,8 @@
 -- For the clauses of the style marks of each `WriteStyle`: a style mark as the bytes that spell it,
 -- and bytes that a writer of colors writes.
-use Rattle.std.proofs.Common.{◌≡◌, ℕ, true, List, [], Option, append-nil, Result, Ok, Err, refl, sym, ap, ◌∙◌}
+use Rattle.std.proofs.Common.{◌≡◌, ℕ, Bool, true, List, [], Option, append-nil, Result, Ok, Err, MatchResult, refl, sym, ap, ◌∙◌}
 use Rattle.codespan_base.specs.Streams.{StyleMark, style_mark, bytes}
-use Rattle.codespan_base.specs.WriterLaw.{Frame, Sink, is_known, are_known, extended, PrefixAppended, with_written, PrefixWritten, Writes}
+use Rattle.codespan_base.specs.WriterLaw.{Frame, Sink, is_known, are_known, extended, PrefixAppended, AppendsBytes, with_written, with_flag, PrefixWritten, Writes}
 use Rattle.codespan_base.proofs.KnownBytes.{extended-nil}
 use Rattle.codespan_base.proofs.Writes.{spelled-bytes}
 
@@ -74,3 +74,23 @@ prefix_written s t bs p =
       whole = p.whole ∙ sym (spelled-bytes s.frame.spelling bs);
       contents = p.contents;
     }
+
+-- a call that writes these bytes, and whose failure sets the flag, writes them as a stream
+pub Writes-noted : {E : Type 0} (f : Frame) (old new : Bool) (before after : Option (List ℕ))
+    (bs : List ℕ) (returned r : Result (Unit {0}) E)
+    → AppendsBytes before bs returned after → r ≡ returned
+    → MatchResult r (λ _. new ≡ old) (λ _. new ≡ true)
+    → Writes (with_flag f old before) (bytes bs) r (with_flag f new after)
+Writes-noted f old new before after bs returned (Ok x) appends same flag =
+    let frames = ap (λ (b : Bool). record f { failed = b }) flag in
+    let appended = rw (← same) at appends in (
+      frames,
+      λ known. appended_written (with_flag f old before) (with_flag f new after) bs frames
+          (appended (is_known_contents (with_flag f old before) known)),
+    )
+Writes-noted f old new before after bs returned (Err e) appends same flag =
+    let appended = rw (← same) at appends in (
+      ap (λ (b : Bool). record f { failed = b }) flag,
+      λ known. prefix_written (with_flag f old before) (with_flag f new after) bs
+          (appended (is_known_contents (with_flag f old before) known)),
+    )

@@ -1,6 +1,6 @@
 -- For the clauses `failed` of the file databases: a line past the last fails, and the line of a
 -- byte is never past the last.
-use Rattle.std.proofs.Common.{◌≡◌, ◌≢◌, ℕ, suc, ◌-◌, ◌^◌, ◌<◌, ◌≤◌, List, length, refl, ap, ◌∙◌, arith, Option, Some, None}
+use Rattle.std.proofs.Common.{◌≡◌, ◌≢◌, ℕ, suc, ◌-◌, ◌^◌, ◌<◌, ◌≤◌, List, length, refl, ap, arith, Option, Some, None}
 use Rattle.std.proofs.lemmas.Bool.{lt-leb, le-leb, ne_eqb}
 use Rattle.codespan_files.specs.declared.files.error.Error.{Error}
 use Rattle.codespan_files.specs.declared.files.error.Error.TheVariants.{LineTooLarge, OutOfMemory}
@@ -10,18 +10,16 @@ use Rattle.codespan_files.specs.Lines.{line_starts_of}
 use Rattle.codespan_files.specs.Lemmas.Lines.{line_of_below}
 use Rattle.codespan_files.specs.SimpleModel.{past_end_failure}
 
--- a line that is not below the number of starts fails, with the index of the last line
-pub past_end_failure_late : (text starts : List ℕ) (i n : ℕ) → starts ≡ line_starts_of text
-    → n ≡ length starts → n ≤ i → past_end_failure text i ≡ Some (LineTooLarge i (n - 1))
-past_end_failure_late text starts i n same count late =
-    let e : n ≡ length (line_starts_of text) = count ∙ ap length same in
-    rw e (rw (lt-leb (suc i) (length (line_starts_of text)) (omega arith)) refl)
+-- a line that is not below the number of lines fails, with the index of the last line
+pub past_end_failure_late : (text : List ℕ) (i n : ℕ) → n ≡ length (line_starts_of text) → n ≤ i
+    → past_end_failure text i ≡ Some (LineTooLarge i (n - 1))
+past_end_failure_late text i n count late =
+    rw count (rw (lt-leb (suc i) (length (line_starts_of text)) (omega arith)) refl)
 
--- a line that is below the number of starts does not fail
-pub past_end_failure_early : (text starts : List ℕ) (i : ℕ) → starts ≡ line_starts_of text
-    → i < length starts → past_end_failure text i ≡ None
-past_end_failure_early text starts i same early =
-    let e : length starts ≡ length (line_starts_of text) = ap length same in
+-- a line that is below it does not fail
+pub past_end_failure_early : (text : List ℕ) (i : ℕ) → i < length (line_starts_of text)
+    → past_end_failure text i ≡ None
+past_end_failure_early text i early =
     rw (le-leb (suc i) (length (line_starts_of text)) (omega arith)) refl
 
 -- the line of a byte exists
@@ -33,7 +31,7 @@ byte_line_below text byte i line = rw line (line_of_below (line_starts_of text) 
 pub byte_line_exists : (text : List ℕ) (byte i : ℕ) → i ≡ line_of (line_starts_of text) byte
     → past_end_failure text i ≡ None
 byte_line_exists text byte i line =
-    past_end_failure_early text (line_starts_of text) i refl (byte_line_below text byte i line)
+    past_end_failure_early text i (byte_line_below text byte i line)
 
 -- and has a number, where there are fewer than 2^64 starts
 pub byte_line_numbered : (text starts : List ℕ) (byte i : ℕ) → starts ≡ line_starts_of text

@@ -8,38 +8,66 @@ use Rattle.std.proofs.lemmas.Cmp.{ranked}
 use Rattle.std.proofs.lemmas.List.Sorted.{IsNonDecreasingBy-from_default}
 use Rattle.std.proofs.lemmas.List.Edits.{length-insert, get_or-insert_below, get_or-insert_at, get_or-insert_above}
 use Rattle.std.proofs.lemmas.Bool.Decides.{nat_tests}
-use Rattle.codespan_files.specs.SetLineNumbers.{set_index_at, IsStrictlySorted, IsSetAt, IsInsertionPoint}
+use Rattle.std.proofs.lemmas.List.{length-map}
+use Rattle.codespan_files.specs.SetLineNumbers.{set_pair, set_pairs, set_index_at, IsStrictlySorted, IsSetAt, IsInsertionPoint}
+use Rattle.codespan_files.specs.declared.files.mapped.SetNumber.{SetNumber}
 use Rattle.codespan_files.specs.MappedModel.{nearest_set, with_set_number}
 
-module _ (l : List (ℕ × ℕ)) (sorted : IsStrictlySorted l) (k : ℕ) where
+-- in place of a set number where there is none
+none_there : SetNumber
+none_there = record { line_index = 0; number = 0 }
+
+-- a line index of the pairs
+index_at : (l : List SetNumber) (i : ℕ)
+    → set_index_at (set_pairs l) i ≡ (get_or l i none_there).line_index
+unfolding none_there
+index_at [] i = refl
+index_at (x ∷ l) zero = refl
+index_at (x ∷ l) (suc i) = index_at l i
+
+module _ (l : List SetNumber) (sorted : IsStrictlySorted (set_pairs l)) (k : ℕ) where
   -- the comparisons with k ascend along the list, as a binary search requires
-  comparisons_rise : IsNonDecreasingBy (λ pair. ordering_index (nat_cmp pair.0 k)) l
+  comparisons_rise : IsNonDecreasingBy (λ s. ordering_index (nat_cmp s.line_index k)) l
   comparisons_rise =
-      IsNonDecreasingBy-from_default (λ pair. ordering_index (nat_cmp pair.0 k)) l (0, 0)
+      IsNonDecreasingBy-from_default (λ s. ordering_index (nat_cmp s.line_index k)) l none_there
       (λ i j le in_range.
-      let keys_rise : set_index_at l i ≤ set_index_at l j =
-      grind (arith, sorted i j, λ (same : i ≡ j). ap (set_index_at l) same) in
+      let count = length-map l set_pair in
+      let keys_rise : set_index_at (set_pairs l) i ≤ set_index_at (set_pairs l) j =
+      grind (arith, sorted i j, λ (same : i ≡ j). ap (set_index_at (set_pairs l)) same) in
+      let first = index_at l i in
+      let second = index_at l j in
       grind (arith, nat_tests))
 
   -- a binary search ends at the index, or at the point where it would be inserted
   pub searched : (r : Result ℕ ℕ) → IsSearchInRange r (length l)
-      → IsBinarySearchResult (λ pair. nat_cmp pair.0 k) l r
-      → record { found : IfOk r (IsSetAt l k); absent : IfErr r (IsInsertionPoint l k) }
+      → IsBinarySearchResult (λ s. nat_cmp s.line_index k) l r
+      → record {
+        found : IfOk r (IsSetAt (set_pairs l) k);
+        absent : IfErr r (IsInsertionPoint (set_pairs l) k);
+      }
   searched (Ok at) in_range equal =
+      let here = ranked _ k _ (sym (equal none_there)) in
       record {
-        found =
-            record { in_range = in_range; has_index = ranked _ k _ (sym (equal (0, 0))) };
+        found = record {
+          in_range = omega (arith, length-map l set_pair);
+          has_index = rw (index_at l at) here;
+        };
         absent = tt;
       }
-  searched (Err at) in_range parted = record {
-    found = tt;
-    absent = record {
-      in_range = in_range;
-      smaller_before =
-          λ j lt. ranked _ k _ (sym ((parted comparisons_rise).0 j (0, 0) (omega arith) lt));
-      greater_after = λ j le lt. ranked _ k _ (sym ((parted comparisons_rise).1 j (0, 0) le lt));
-    };
-  }
+  searched (Err at) in_range parted =
+      let parts = parted comparisons_rise in
+      let count = length-map l set_pair in
+      record {
+        found = tt;
+        absent = record {
+          in_range = omega (arith, count);
+          smaller_before = λ j lt.
+              rw (index_at l j) (ranked _ k _ (sym (parts.0 j none_there (omega arith) lt)));
+          greater_after = λ j le lt.
+              rw (index_at l j)
+              (ranked _ k _ (sym (parts.1 j none_there le (omega (arith, count)))));
+        };
+      }
 
 -- writing over the set number of an index
 replaced : (l : List (ℕ × ℕ)) (k v at : ℕ) → at < length l
@@ -168,11 +196,22 @@ module _ (l : List (ℕ × ℕ)) (k at : ℕ) (point : IsInsertionPoint l k at) 
         point.greater_after (j - 1),
       )
 
-  -- whether the insert succeeds or fails, the order is kept
-  pub sorted_either : (v : ℕ) → IsStrictlySorted l → (b : Bool) (xs : List (ℕ × ℕ))
-      → xs ≡ (if b then insert l at (k, v) else l) → IsStrictlySorted xs
-  sorted_either v sorted true xs e = rw e (sorted_insert v sorted)
-  sorted_either v sorted false xs e = rw e sorted
+-- inserting among set numbers is inserting among their pairs
+pub pairs-insert : (l : List SetNumber) (at : ℕ) (s : SetNumber)
+    → set_pairs (insert l at s) ≡ insert (set_pairs l) at (set_pair s)
+pairs-insert l zero s = refl
+pairs-insert [] (suc at) s = refl
+pairs-insert (x ∷ l) (suc at) s = ap (λ (ps : List (ℕ × ℕ)). set_pair x ∷ ps) (pairs-insert l at s)
+
+-- whether the insert succeeds or fails, the order is kept
+pub sorted_either : (l : List SetNumber) (at : ℕ) (s : SetNumber)
+    → IsInsertionPoint (set_pairs l) s.line_index at → IsStrictlySorted (set_pairs l) → (b : Bool)
+    (xs : List SetNumber) → xs ≡ (if b then insert l at s else l)
+    → IsStrictlySorted (set_pairs xs)
+sorted_either l at s point sorted true xs e =
+    rw (e, pairs-insert l at s)
+    (sorted_insert (set_pairs l) s.line_index at point s.number sorted)
+sorted_either l at s point sorted false xs e = rw e sorted
 
 -- an empty list is sorted
 pub sorted_none : (l : List (ℕ × ℕ)) → l ≡ [] → IsStrictlySorted l

@@ -6,6 +6,7 @@ use Rattle.codespan_files.specs.declared.files.simple.SimpleFile.{SimpleFile}
 use Rattle.codespan_files.specs.declared.files.database.SimpleFiles.{SimpleFiles}
 use Rattle.codespan_files.specs.declared.files.mapped.MappedFile.{MappedFile}
 use Rattle.codespan_files.specs.FileModel.{FileModel, Lookup}
+use Rattle.codespan_files.specs.SetLineNumbers.{set_pairs}
 use Rattle.codespan_files.specs.SimpleModel.{simple_file, database_file, database_failure}
 use Rattle.codespan_files.specs.MappedModel.{mapped_file, mapped_failure}
 
@@ -53,7 +54,7 @@ module _ {Name Source : Type 0} {texts : Ghosts Source} where
 
   -- the line indices whose numbers are set in a `MappedFile`, ascending, each with its number
   abbrev pub set_numbers_of : MappedFile Name Source texts → List (ℕ × ℕ)
-  set_numbers_of file = file.numbers.items
+  set_numbers_of file = set_pairs file.numbers.items
 
   -- the file that the lookups of a `MappedFile` describe, where `output` is what names display
   abbrev pub mapped_file_of : (Name → Option (List ℕ)) → MappedFile Name Source texts → FileModel

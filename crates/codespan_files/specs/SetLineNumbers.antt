@@ -1,5 +1,14 @@
 -- Set line numbers: pairs of a line index and a number, in the order of the line indices.
-use Rattle.std.specs.Prelude.{◌≡◌, ℕ, ◌<◌, ◌≤◌, List, length, slice_index_or}
+use Rattle.std.specs.Prelude.{◌≡◌, ℕ, ◌<◌, ◌≤◌, List, map, length, slice_index_or}
+use Rattle.codespan_files.specs.declared.files.mapped.SetNumber.{SetNumber}
+
+-- a set number as such a pair
+abbrev pub set_pair : SetNumber → ℕ × ℕ
+set_pair set_number = (set_number.line_index, set_number.number)
+
+-- set numbers as such pairs
+abbrev pub set_pairs : List SetNumber → List (ℕ × ℕ)
+set_pairs set_numbers = map set_pair set_numbers
 
 -- the line index of the set number at a position of the list
 abbrev pub set_index_at : List (ℕ × ℕ) → ℕ → ℕ

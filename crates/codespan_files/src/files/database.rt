@@ -70,10 +70,7 @@ impl<Name, Source: AsStr> SimpleFiles<Name, Source> {
         ensures missing { IfErr result (λ e.
             (slice_get (entries self.now) id ≡ None) × (e ≡ FileMissing)) }
     {
-        match self.files.get(id) {
-            Some(file) => Ok(file),
-            None => Err(Error::FileMissing),
-        }
+        self.files.get(id).ok_or(Error::FileMissing)
     }
 }
 

@@ -1,8 +1,8 @@
 //! A file database of one text whose line numbers can be set, as `#line` does in C.
 
-ghost use Rattle.std.specs.Prelude.{◌≡◌, ◌≤◌, [], refl, IfOk, IsOk, IfErr, IfSome, OnOk, OnErr, IsErrOf, None};
+ghost use Rattle.std.specs.Prelude.{◌≡◌, ◌≤◌, [], refl, IfOk, IsOk, IfErr, IfSome, OnOk, OnErr, IsErrOf, None, option_map};
 ghost use Rattle.codespan_files.specs.Lines.{line_starts_of};
-ghost use Rattle.codespan_files.specs.SetLineNumbers.{IsStrictlySorted, IsSetAt, IsInsertionPoint};
+ghost use Rattle.codespan_files.specs.SetLineNumbers.{set_pair, set_pairs, IsStrictlySorted, IsSetAt, IsInsertionPoint};
 
 use crate::files::{Error, Files, Location, SimpleFile, column_index, default_line_number};
 use std::alloc::Global;
@@ -30,9 +30,18 @@ use std::ops::Range;
 #[derive(Debug, Drop)]
 pub struct MappedFile<Name, Source: AsStr> {
     file: SimpleFile<Name, Source>,
-    // The line indices whose numbers are set, in ascending order, with these numbers.
-    numbers: Vec<(usize, usize)>,
-    ghost sorted: { IsStrictlySorted numbers.items },
+    // In the order of their line indices.
+    numbers: Vec<SetNumber>,
+    ghost sorted: { IsStrictlySorted (set_pairs numbers.items) },
+}
+
+/// A set line number.
+#[derive(Clone, Copy, Debug)]
+struct SetNumber {
+    /// The index of the line, from 0.
+    line_index: usize,
+    /// The number of the line.
+    number: usize,
 }
 
 impl<Name: Drop, Source: AsStr + Drop> MappedFile<Name, Source> {
@@ -81,23 +90,13 @@ impl<Name, Source: AsStr> MappedFile<Name, Source> {
         ensures err { OnErr result (set_numbers_of self.new ≡ set_numbers_of self.old) }
         ensures failed { FailsBy (past_end_failure (mapped_text_of self.old) line_index) result }
     {
-        let lines = self.file.line_count();
-        if line_index >= lines {
-            return Err(Error::LineTooLarge {
-                given: line_index,
-                max: lines - 1,
-            });
-        }
+        self.file.check_line(line_index)?;
+        let set_number = SetNumber { line_index, number };
         match self.search(line_index) {
-            Ok(at) => {
-                self.numbers[at] = (line_index, number);
-                Ok(())
-            }
-            Err(at) => {
-                self.numbers.insert(at, (line_index, number))?;
-                Ok(())
-            }
+            Ok(at) => self.numbers[at] = set_number,
+            Err(at) => self.numbers.insert(at, set_number)?,
         }
+        Ok(())
     }
 
     /// Returns the index of the line's number among the set numbers, or, as `Err`, the index at
@@ -107,14 +106,15 @@ impl<Name, Source: AsStr> MappedFile<Name, Source> {
         ensures absent { IfErr result (IsInsertionPoint (set_numbers_of self.now) line_index) }
     {
         self.numbers
-            .binary_search_by_key(&line_index, |&(index, _)| index)
+            .binary_search_by_key(&line_index, |set_number| set_number.line_index)
     }
 
-    /// Returns the set number that this line counts from, after its line index; `None` where no
-    /// number is set at the line or above it.
-    fn nearest(&self, line_index: usize) -> Option<(usize, usize)>
-        ensures value { result ≡ nearest_set (set_numbers_of self.now) line_index }
-        ensures below { IfSome result (λ s. s.0 ≤ line_index) }
+    /// Returns the set number that this line counts from; `None` where no number is set at the line
+    /// or above it.
+    fn nearest(&self, line_index: usize) -> Option<SetNumber>
+        ensures value { option_map set_pair result
+            ≡ nearest_set (set_numbers_of self.now) line_index }
+        ensures below { IfSome result (λ set_number. set_number.line_index ≤ line_index) }
     {
         match self.search(line_index) {
             Ok(at) => Some(self.numbers[at]),
@@ -207,15 +207,15 @@ impl<'a, Name: Display + 'a, Source: AsStr + 'a> Files<'a> for MappedFile<Name, 
         ensures failed { FailsBy (mapped_failure_of self.now (LineNumber line_index)) result }
         ensures memory { NeedsNoMemory result }
     {
-        match self.nearest(line_index) {
-            None => default_line_number(line_index),
-            Some((index, number)) => match number.checked_add(line_index - index) {
-                Some(counted) => Ok(counted),
-                None => Err(Error::LineTooLarge {
-                    given: line_index,
-                    max: index + (usize::MAX - number),
-                }),
-            },
+        let Some(nearest) = self.nearest(line_index) else {
+            return default_line_number(line_index);
+        };
+        match nearest.number.checked_add(line_index - nearest.line_index) {
+            Some(number) => Ok(number),
+            None => Err(Error::LineTooLarge {
+                given: line_index,
+                max: nearest.line_index + (usize::MAX - nearest.number),
+            }),
         }
     }
 

@@ -1,6 +1,6 @@
 //! A file database of one text.
 
-ghost use Rattle.std.specs.Prelude.{◌≡◌, ◌-◌, ◌+◌, ◌^◌, ◌<◌, ◌≤◌, length, refl, IfOk, IsOk, OnErr, IsErrOf, None};
+ghost use Rattle.std.specs.Prelude.{◌≡◌, ◌-◌, ◌+◌, ◌^◌, ◌<◌, ◌≤◌, length, refl, IfOk, IsOk, OnOk, OnErr, IsErrOf, None};
 ghost use Rattle.std.specs.Str.{IsUtf8};
 ghost use Rattle.codespan_files.specs.Lines.{line_starts_of};
 
@@ -66,6 +66,8 @@ impl<Name: Drop, Source: AsStr + Drop> SimpleFile<Name, Source> {
 
 impl<Name, Source: AsStr> SimpleFile<Name, Source> {
     ghost use Rattle.codespan_files.specs.DatabaseViews.{name_of, source_of, file_text_of};
+    ghost use Rattle.codespan_files.specs.SimpleModel.{past_end_failure};
+    ghost use Rattle.codespan_files.specs.LawfulFiles.{NeedsNoMemory, FailsBy};
 
     /// Borrows the name.
     pub fn name(&self) -> &Name
@@ -87,6 +89,28 @@ impl<Name, Source: AsStr> SimpleFile<Name, Source> {
         ensures some { 1 ≤ result }
     {
         self.line_starts.len()
+    }
+
+    /// Checks that the text has a line of this index, from 0.
+    ///
+    /// # Errors
+    ///
+    /// [`Error::LineTooLarge`] with `given` the index and `max` that of the last line, where the
+    /// text has no such line.
+    pub(super) fn check_line(&self, line_index: usize) -> Result<(), Error>
+        ensures exists { OnOk result
+            (line_index < length (line_starts_of (file_text_of self.now))) }
+        ensures failed { FailsBy (past_end_failure (file_text_of self.now) line_index) result }
+        ensures memory { NeedsNoMemory result }
+    {
+        let count = self.line_count();
+        if line_index >= count {
+            return Err(Error::LineTooLarge {
+                given: line_index,
+                max: count - 1,
+            });
+        }
+        Ok(())
     }
 }
 
@@ -213,15 +237,9 @@ impl<'a, Name: Display + 'a, Source: AsStr + 'a> Files<'a> for SimpleFile<Name, 
         ensures failed { FailsBy (past_end_failure (file_text_of self.now) line_index) result }
         ensures memory { NeedsNoMemory result }
     {
-        let count = self.line_starts.len();
-        if line_index >= count {
-            return Err(Error::LineTooLarge {
-                given: line_index,
-                max: count - 1,
-            });
-        }
+        self.check_line(line_index)?;
         let start = self.line_starts[line_index];
-        let end = if line_index + 1 < count {
+        let end = if line_index + 1 < self.line_starts.len() {
             self.line_starts[line_index + 1]
         } else {
             self.source.as_str().len()

@@ -61,8 +61,7 @@ impl<W: Write> PlainWriter<W> {
     pub fn into_inner(self) -> W
         ensures { result ≡ plain_inner self }
     {
-        let PlainWriter { inner, .. } = self;
-        inner
+        self.inner
     }
 }
 

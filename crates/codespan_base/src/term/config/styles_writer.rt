@@ -7,7 +7,7 @@ ghost use Rattle.codespan_base.specs.WriterLaw.{Writes};
 use crate::term::config::color::{ColorSpec, WriteColor};
 use crate::term::config::styles::Styles;
 use crate::term::config::write_style::WriteStyle;
-use crate::term::config::writing::forward_put;
+use crate::term::config::writing::{forward_put, note_failure};
 use codespan_diagnostics::diagnostic::{LabelStyle, Severity};
 use std::io;
 use std::io::Write;
@@ -56,8 +56,7 @@ impl<'a, W: WriteColor> StylesWriter<'a, W> {
     pub fn into_inner(self) -> W
         ensures { result ≡ styles_inner self.entry }
     {
-        let StylesWriter { inner, .. } = self;
-        inner
+        self.inner
     }
 
     /// Writes the bytes of a style, and sets the flag where that fails.
@@ -66,13 +65,7 @@ impl<'a, W: WriteColor> StylesWriter<'a, W> {
             (bytes (W.color_bytes spec.now)) result
             (styles_sink W.contents W.color_bytes W.reset_bytes self.new) }
     {
-        match self.inner.set_color(spec) {
-            Ok(()) => Ok(()),
-            Err(error) => {
-                self.failed = true;
-                Err(error)
-            }
-        }
+        note_failure(self.inner.set_color(spec), &mut self.failed)
     }
 
     /// Writes the bytes of the reset, and sets the flag where that fails.
@@ -81,13 +74,7 @@ impl<'a, W: WriteColor> StylesWriter<'a, W> {
             (bytes W.reset_bytes) result
             (styles_sink W.contents W.color_bytes W.reset_bytes self.new) }
     {
-        match self.inner.reset() {
-            Ok(()) => Ok(()),
-            Err(error) => {
-                self.failed = true;
-                Err(error)
-            }
-        }
+        note_failure(self.inner.reset(), &mut self.failed)
     }
 }
 

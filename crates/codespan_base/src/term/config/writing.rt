@@ -3,7 +3,7 @@
 //!
 //! These functions are this project's own. They do not allocate.
 
-ghost use Rattle.std.specs.Prelude.{◌≡◌, ◌≤◌, ◌*◌, [], length, take, drop, decimal};
+ghost use Rattle.std.specs.Prelude.{◌≡◌, ◌≤◌, ◌*◌, [], true, length, take, drop, decimal, MatchResult};
 ghost use Rattle.std.specs.List.{repeat};
 ghost use Rattle.std.specs.Io.{WritesAtMost};
 ghost use Rattle.codespan_base.specs.Streams.{bytes, glyph, spaces, repeated};
@@ -236,11 +236,16 @@ pub fn forward_all<W: Write>(writer: &mut W, failed: &mut bool, text: &[u8]) -> 
     ensures { (f : Frame) → Writes (with_flag f failed.old (W.contents writer.old)) (bytes text.now)
         result (with_flag f failed.new (W.contents writer.new)) }
 {
-    match write_all(writer, text) {
-        Ok(()) => Ok(()),
-        Err(error) => {
-            *failed = true;
-            Err(error)
-        }
+    note_failure(write_all(writer, text), failed)
+}
+
+/// Returns what a call of the inner writer returned, and sets the flag where it is an error.
+pub(super) fn note_failure(returned: io::Result<()>, failed: &mut bool) -> io::Result<()>
+    ensures same { result ≡ returned }
+    ensures flag { MatchResult result (λ _. failed.new ≡ failed.old) (λ _. failed.new ≡ true) }
+{
+    if returned.is_err() {
+        *failed = true;
     }
+    returned
 }

@@ -1,38 +1,40 @@
-use Rattle.std.proofs.Common.{◌<◌, ◌≤◌, length, ap, refl, ◌∙◌, arith}
-use Rattle.std.specs.Option.{option_map}
+use Rattle.std.proofs.Common.{◌≡◌, ℕ, ◌<◌, ◌≤◌, ◌↔◌, List, length, map, slice_get, Option, Some, None, ok_or, option_map, Result, IsOk, IfOk, IfErr, Bor, refl, ap, ◌∙◌, arith}
+use Rattle.std.specs.Slice.{IsItemAt}
 use Rattle.std.proofs.lemmas.Bool.{false≢true}
-use Rattle.std.proofs.lemmas.Bool.Decides.{nat_tests}
 use Rattle.std.proofs.lemmas.List.{length-map}
 use Rattle.std.proofs.lemmas.Option.{slice_get-map, slice_get_past, slice_get_read}
+use Rattle.codespan_files.specs.declared.files.error.Error.{Error}
+use Rattle.codespan_files.specs.declared.files.error.Error.TheVariants.{FileMissing}
 use Rattle.codespan_files.proofs.files.database.SimpleFiles.get.Goals as goal
 
-pub returns-in-Some-clause-found : goal.returns-in-Some-clause-found
-returns-in-Some-clause-found g c =
-    let within : c.args.id < length c.args.self.now.files.items =
-    grind (arith, nat_tests, c.deref.ensures.len, c.in-Some.ensures.lookup.0) in
-    slice_get-map _ c.args.self.now.files.items c.args.id
-    ∙ ap (option_map _)
-    (slice_get_read _ _ _ _ refl within (rw c.deref.ensures.value at c.in-Some.ensures.lookup.1))
+-- a lookup in a list, with the error of an index that is not below its length
+looked_up : {A B : Type 0} (view : A → B) (items : List A) (id : ℕ) (found : Option (Bor A))
+    (r : Result (Bor A) Error) → IsItemAt items id found → r ≡ ok_or found FileMissing
+    → record {
+      succeeds : IsOk r ↔ (id < length (map view items));
+      found : IfOk r (λ item. slice_get (map view items) id ≡ Some (view item.now));
+      missing : IfErr r (λ e. (slice_get (map view items) id ≡ None) × (e ≡ FileMissing));
+    }
+looked_up view items id (Some item) r is_item is =
+    let within : id < length items = is_item.3.0 in
+    rw is (record {
+      succeeds = (λ _. omega (arith, length-map items view), λ _. refl);
+      found =
+          slice_get-map view items id
+          ∙ ap (option_map view) (slice_get_read items _ id item.now refl within is_item.1);
+      missing = tt;
+    })
+looked_up view items id None r is_item is =
+    let past : length items ≤ id = is_item.3 in
+    rw is (record {
+      succeeds =
+          (λ ok. absurd (false≢true ok), λ within. absurd (omega (arith, length-map items view)));
+      found = tt;
+      missing =
+          (slice_get-map view items id ∙ ap (option_map view) (slice_get_past items id past), refl);
+    })
 
-pub returns-in-None-clause-missing : goal.returns-in-None-clause-missing
-returns-in-None-clause-missing g c =
-    let past : length c.args.self.now.files.items ≤ c.args.id =
-    grind (arith, nat_tests, c.deref.ensures.len, c.in-None.ensures.lookup.0) in (
-      slice_get-map _ c.args.self.now.files.items c.args.id
-          ∙ ap (option_map _) (slice_get_past _ _ past),
-      refl,
-    )
-
--- there are as many entries as files
-pub returns-in-Some-clause-succeeds : goal.returns-in-Some-clause-succeeds
-returns-in-Some-clause-succeeds g c = (
-  λ _. simp length-map (grind (arith, nat_tests, c.deref.ensures.len, c.in-Some.ensures.lookup.0)),
-  λ _. refl,
-)
-
-pub returns-in-None-clause-succeeds : goal.returns-in-None-clause-succeeds
-returns-in-None-clause-succeeds g c = (
-  λ some. absurd (false≢true some),
-  λ within. absurd
-      (grind (arith, nat_tests, length-map, c.deref.ensures.len, c.in-None.ensures.lookup.0)),
-)
+pub returns : goal.returns
+returns g c =
+    looked_up _ c.args.self.now.files.items c.args.id c.get.result _
+    (rw c.deref.ensures.value at c.get.ensures.lookup) c.ok_or.ensures.value

@@ -1,4 +1,5 @@
-use Rattle.std.proofs.Common.{rules}
+use Rattle.std.proofs.Common.{ap}
+use Rattle.codespan_files.specs.SetLineNumbers.{set_pairs}
 use Rattle.codespan_files.proofs.SetLineNumbers.{sorted_none}
 use Rattle.codespan_files.proofs.files.mapped.MappedFile.new.Goals as goal
 
@@ -10,8 +11,9 @@ pub returns-clause-source : goal.returns-clause-source
 returns-clause-source g c = c.in_ok-new.ensures.source
 
 pub returns-clause-numbers : goal.returns-clause-numbers
-returns-clause-numbers g c = c.new-2.ensures.items
+returns-clause-numbers g c = ap set_pairs c.new-2.ensures.items
 
 -- no number is set
 pub invariant_of-result : goal.invariant_of-result
-invariant_of-result g c = search (rules, sorted_none) depth 2 fits 100
+invariant_of-result g c =
+    record { sorted = sorted_none _ (ap set_pairs c.new-2.ensures.items) }

@@ -8,7 +8,7 @@ pub returns : goal.returns
 returns g c =
     let facts = c.binary_search_by_key.ensures in
     let by_key =
-    facts.position (λ pair. pair.0) (answers_always _ _ _ (λ f a r g called. search rules)) in
+    facts.position (λ set_number. set_number.line_index) (answers_always _ _ _ (λ f a r g called. search rules)) in
     rw (← c.deref.ensures.value)
     (searched c.deref.result.now (rw c.deref.ensures.value c.args.self.now.sorted)
     c.args.line_index _ facts.bound by_key)

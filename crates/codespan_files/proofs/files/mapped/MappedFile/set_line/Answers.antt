@@ -1,42 +1,42 @@
-use Rattle.std.proofs.Common.{◌∙◌, refl, arith}
-use Rattle.codespan_files.specs.DatabaseViews.{mapped_text_of}
-use Rattle.codespan_files.proofs.SetLineNumbers.{set_replaces, sorted_set, insert_adds, sorted_either}
-use Rattle.codespan_files.proofs.PastEndFailures.{past_end_failure_late, past_end_failure_early}
+use Rattle.std.proofs.Common.{ap, ◌∙◌, refl}
+use Rattle.std.proofs.lemmas.List.{map-set}
+use Rattle.codespan_files.specs.SetLineNumbers.{set_pair, set_pairs}
+use Rattle.codespan_files.proofs.SetLineNumbers.{set_replaces, sorted_set, insert_adds, pairs-insert, sorted_either}
 use Rattle.codespan_files.proofs.files.mapped.MappedFile.set_line.Goals as goal
 
 pub invariant_of-self-in-Err : goal.invariant_of-self-in-Err
 invariant_of-self-in-Err g c =
     record {
       sorted =
-          sorted_either _ _ _ c.in-Err.ensures.absent _ c.args.self.now.sorted _ _ c.insert.ensures.items;
+          sorted_either _ _ _ c.in-Err.ensures.absent c.args.self.now.sorted _ _
+          c.insert.ensures.items;
     }
 
 pub returns-in-Ok-clause-ok : goal.returns-in-Ok-clause-ok
-returns-in-Ok-clause-ok g c = set_replaces _ c.args.self.now.sorted _ _ c.in-Ok.ensures.found _
+returns-in-Ok-clause-ok g c =
+    map-set set_pair c.args.self.now.numbers.items _ _
+    ∙ set_replaces _ c.args.self.now.sorted _ _ c.in-Ok.ensures.found _
 
 pub returns-in_ok-insert-in-Err-clause-ok : goal.returns-in_ok-insert-in-Err-clause-ok
 returns-in_ok-insert-in-Err-clause-ok g c =
-    c.in_ok-insert-in-Err.ensures.items ∙ insert_adds _ _ _ c.in-Err.ensures.absent _
+    ap set_pairs c.in_ok-insert-in-Err.ensures.items
+    ∙ pairs-insert c.args.self.now.numbers.items _ _
+    ∙ insert_adds _ _ _ c.in-Err.ensures.absent _
 
 pub invariant_of-self : goal.invariant_of-self
 invariant_of-self g c =
-    record { sorted = sorted_set _ c.args.self.now.sorted _ _ c.in-Ok.ensures.found _ }
+    record {
+      sorted =
+          rw (map-set set_pair c.args.self.now.numbers.items c.in-Ok.at)
+          (sorted_set _ c.args.self.now.sorted _ _ c.in-Ok.ensures.found _);
+    }
 
--- a line past the last fails, and no other one
-pub returns-then-line_index-lines-clause-failed : goal.returns-then-line_index-lines-clause-failed
-returns-then-line_index-lines-clause-failed g c =
-    λ _. past_end_failure_late (mapped_text_of c.args.self.now) _ _ _ refl
-    c.line_count-lines.ensures.value c.if-line_index-lines.true
-
+-- a line that exists does not fail
 pub returns-in-Ok-clause-failed : goal.returns-in-Ok-clause-failed
-returns-in-Ok-clause-failed g c =
-    past_end_failure_early (mapped_text_of c.args.self.now) _ c.args.line_index refl
-    (omega (arith, c.line_count-lines.ensures.value))
+returns-in-Ok-clause-failed g c = c.in_ok-check_line.ensures.failed
 
 pub returns-in_ok-insert-in-Err-clause-failed : goal.returns-in_ok-insert-in-Err-clause-failed
-returns-in_ok-insert-in-Err-clause-failed g c =
-    past_end_failure_early (mapped_text_of c.args.self.now) _ c.args.line_index refl
-    (omega (arith, c.line_count-lines.ensures.value))
+returns-in_ok-insert-in-Err-clause-failed g c = c.in_ok-check_line.ensures.failed
 
 -- the file is the same
 pub returns-in-Ok-clause-name : goal.returns-in-Ok-clause-name

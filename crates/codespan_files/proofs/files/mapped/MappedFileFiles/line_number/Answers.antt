@@ -10,7 +10,7 @@ too_large : (s : ℕ × ℕ) (i : ℕ) → ¬ (s.1 + (i - s.0) < 2 ^ 64)
 too_large s i past = rw (lt-leb (suc (s.1 + (i - s.0))) (2 ^ 64) (omega (arith, past))) refl
 
 -- the number that is counted from the nearest set number is too large
-pub returns-in-None-checked_add-clause-failed : goal.returns-in-None-checked_add-clause-failed
-returns-in-None-checked_add-clause-failed g c =
+pub returns-in-None-clause-failed : goal.returns-in-None-clause-failed
+returns-in-None-clause-failed g c =
     λ _. rw (← c.in-Some.ensures.value)
-    (too_large (c.in-Some.index, c.in-Some.number) c.args.line_index c.in-None-checked_add.ensures)
+    (too_large (c.in-Some.nearest.line_index, c.in-Some.nearest.number) c.args.line_index c.in-None.ensures)

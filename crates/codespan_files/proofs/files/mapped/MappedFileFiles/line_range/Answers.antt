@@ -1,4 +1,4 @@
-use Rattle.std.proofs.Common.{◌+◌, ◌<◌, length, refl, arith}
+use Rattle.std.proofs.Common.{◌+◌, ◌<◌, length, arith}
 use Rattle.codespan_files.specs.DatabaseViews.{mapped_text_of}
 use Rattle.codespan_files.specs.Lemmas.Mapped.{mapped_end_before_last, next_above}
 use Rattle.codespan_files.specs.Lemmas.Simple.{end_before_last}
@@ -23,8 +23,7 @@ overflow_sub-result g c =
 pub returns-then-line_index-line_count-clause-failed : goal.returns-then-line_index-line_count-clause-failed
 returns-then-line_index-line_count-clause-failed g c =
     let text = mapped_text_of c.args.self.now in
-    past_end_failure_early text (line_starts_of text) c.args.line_index refl
-    (omega (arith, c.line_count.ensures.value))
+    past_end_failure_early text c.args.line_index (omega (arith, c.line_count.ensures.value))
 
 -- and its range leaves out the newline
 pub returns-then-line_index-line_count-clause-value : goal.returns-then-line_index-line_count-clause-value

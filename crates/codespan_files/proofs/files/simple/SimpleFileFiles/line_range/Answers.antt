@@ -4,15 +4,7 @@ use Rattle.codespan_files.specs.LawfulFiles.{IsLineRange}
 use Rattle.codespan_files.specs.Lemmas.Simple.{end_before_last}
 use Rattle.codespan_files.specs.Lines.{line_starts_of}
 use Rattle.codespan_files.specs.SimpleModel.{simple_file}
-use Rattle.codespan_files.proofs.PastEndFailures.{past_end_failure_late, past_end_failure_early}
 use Rattle.codespan_files.proofs.files.simple.SimpleFileFiles.line_range.Goals as goal
-
--- a line past the last fails with the index of the last
-pub returns-then-line_index-count-clause-failed : goal.returns-then-line_index-count-clause-failed
-returns-then-line_index-count-clause-failed g c = λ _.
-    past_end_failure_late (g.Source.AsStr.text c.args.self.now.source)
-    c.args.self.now.line_starts.items _ _ c.args.self.now.starts
-    (omega (arith, c.args.self.now.line_starts.ok.0)) c.if-line_index-count.true
 
 -- the range between two starts that follow each other is that of a line
 range_between : (name : Option (List ℕ)) (text starts : List ℕ) (i a b : ℕ)
@@ -30,26 +22,16 @@ range_between name text starts i a b same next first last =
     }
 
 -- a line before the last ends where the next one starts
-pub returns-then-line_index-count-2-clause-value : goal.returns-then-line_index-count-2-clause-value
-returns-then-line_index-count-2-clause-value g c =
+pub returns-then-line_index-len-clause-value : goal.returns-then-line_index-len-clause-value
+returns-then-line_index-len-clause-value g c =
     let file = c.args.self.now in
     range_between (g.Name.Display.output file.name) (g.Source.AsStr.text file.source)
     file.line_starts.items _ _ _ file.starts (omega (arith, file.line_starts.ok.0))
     c.index-start.ensures c.index.ensures
 
--- a call that fails returns no range
-pub returns-then-line_index-count-clause-value : goal.returns-then-line_index-count-clause-value
-returns-then-line_index-count-clause-value g c = tt
-
 -- a line that exists does not fail
-pub returns-then-line_index-count-2-clause-failed : goal.returns-then-line_index-count-2-clause-failed
-returns-then-line_index-count-2-clause-failed g c =
-    past_end_failure_early (g.Source.AsStr.text c.args.self.now.source)
-    c.args.self.now.line_starts.items c.args.line_index c.args.self.now.starts
-    (omega (arith, c.args.self.now.line_starts.ok.0))
+pub returns-then-line_index-len-clause-failed : goal.returns-then-line_index-len-clause-failed
+returns-then-line_index-len-clause-failed g c = c.in_ok-check_line.ensures.failed
 
-pub returns-else-line_index-count-2-clause-failed : goal.returns-else-line_index-count-2-clause-failed
-returns-else-line_index-count-2-clause-failed g c =
-    past_end_failure_early (g.Source.AsStr.text c.args.self.now.source)
-    c.args.self.now.line_starts.items c.args.line_index c.args.self.now.starts
-    (omega (arith, c.args.self.now.line_starts.ok.0))
+pub returns-else-line_index-len-clause-failed : goal.returns-else-line_index-len-clause-failed
+returns-else-line_index-len-clause-failed g c = c.in_ok-check_line.ensures.failed

@@ -1,11 +1,8 @@
-use Rattle.std.proofs.Common.{refl}
-use Rattle.codespan_base.proofs.StyleMarks.{is_known_contents, appended_written, prefix_written}
+use Rattle.std.proofs.Common.{false, []}
+use Rattle.codespan_base.proofs.StyleMarks.{Writes-noted}
 use Rattle.codespan_base.proofs.term.config.styles_writer.StylesWriter.reset_color.Goals as goal
 
-pub returns-in-Ok : goal.returns-in-Ok
-returns-in-Ok g c =
-    (refl, λ known. appended_written _ _ _ refl (c.in-Ok.ensures (is_known_contents _ known)))
-
-pub returns-in-Err : goal.returns-in-Err
-returns-in-Err g c =
-    (refl, λ known. prefix_written _ _ _ (c.in-Err.ensures (is_known_contents _ known)))
+pub returns : goal.returns
+returns g c =
+    Writes-noted (record { spelling = _; failed = false; through = [] }) _ _ _ _ _ _ _
+    c.reset.ensures c.note_failure.ensures.same c.note_failure.ensures.flag
