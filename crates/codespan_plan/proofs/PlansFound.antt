@@ -28,7 +28,7 @@ use Rattle.codespan_plan.specs.SnippetLines.{SnippetLine, filled_lines_of, lines
 use Rattle.codespan_collect.proofs.FirstErrors.{first_error-append, or_failure-succeeded, or_failure-none, or_failure-some, first_error-none, first_error-some}
 use Rattle.codespan_plan.proofs.FileSlices.{next_slice}
 use Rattle.codespan_annotations.proofs.IndexedElements.{IsElementAt, take-at}
-use Rattle.codespan_plan.proofs.FileTurns.{flat_map_indexed-append, flat_map_indexed-more, IsAtFile, inside, counted, within, here, own_snippet_lines}
+use Rattle.codespan_plan.proofs.FileTurns.{flat_map_indexed-append, flat_map_indexed-more, IsAtFile, own_snippet_lines}
 
 -- ---- plans
 

@@ -201,26 +201,22 @@ impl<'files, F: Files<'files>> LinePlanner<'files, F> {
         ensures failed { FailsBy (numbers_failure F.database self.now
             (filled_lines_of (lines_of (map annotation_view annotations.now)))) result }
     {
+        let none = &annotations[..0];
         let mut previous = None;
-        let mut hidden = 0;
-        let mut start = 0;
-        while start < annotations.len() {
-            let line = annotations[start].line;
-            let end = start + count_on_line(&annotations[start..], line.index);
-            if shows_line(&annotations[start]) {
-                self.push_shown(
-                    previous,
-                    &annotations[hidden..start],
-                    line,
-                    &annotations[start..end],
-                    snippet_lines,
-                )?;
-                previous = Some(line.index);
-                hidden = end;
+        let mut hidden = none;
+        let mut rest = annotations;
+        while let Some(first) = rest.first() {
+            let count = count_on_line(rest, first.line.index);
+            let group = &rest[..count];
+            let later = &rest[count..];
+            if shows_line(first) {
+                self.push_shown(previous, hidden, first.line, group, snippet_lines)?;
+                previous = Some(first.line.index);
+                hidden = none;
             } else {
-                hidden = start;
+                hidden = group;
             }
-            start = end;
+            rest = later;
         }
         Ok(())
     }
