@@ -14,7 +14,7 @@ use Rattle.codespan_picture.specs.Rows.{Locus, RowContext, Line, Row, HeaderRow,
 use Rattle.codespan_picture.specs.RowParts.{inner_gutter, source_glyph, source_style, colored_text, caret_glyphs, carets, trailing_message, label_message, spaces_up_to, pointer_at, pointer_style, pointers, starts_in, max_label_start, outer_gutter, outer_gutter_number, border_left, border_left_break, locus, line_metrics}
 use Rattle.codespan_picture.specs.RowStreams.{stream_of, header_row, snippet_start_row, empty_row, break_row, source_row, row_start, caret_row, pointer_row, hanging_row, underline_row, first_note_row, later_note_row}
 use Rattle.codespan_laws.specs.RowLaws.{ends_reset, RowsEndReset}
-use Rattle.codespan_laws.proofs.ResetLemmas.{Closes, closed, closes-append, closes-reset, ends_reset-bytes, ends_reset-spaces, ends_reset-repeated, closes-in_style, closes-label_glyph, closes-flat_map, closes-lanes_in, ends_reset-styled}
+use Rattle.codespan_laws.proofs.ResetLemmas.{Closes, closes-append, closes-reset, ends_reset-bytes, ends_reset-spaces, ends_reset-repeated, closes-in_style, closes-label_glyph, closes-flat_map, closes-lanes_in, ends_reset-styled}
 
 -- ---- rows
 

@@ -1,5 +1,5 @@
 -- For `Messages::of` and `write_hanging`: which message trails, and which hang.
-use Rattle.std.proofs.Common.{◌≡◌, ℕ, ◌+◌, ◌-◌, ◌<◌, Bool, true, false, cond, ◌==◌, List, [], ◌∷◌, ◌++◌, length, get_or, take, drop, map, filter, reverse, Option, Some, None, refl, sym, ap, subst, ◌∙◌, arith, length-drop, append_assoc, append-nil, ◌⊎◌, ⊎_elim}
+use Rattle.std.proofs.Common.{◌||◌, ◌≡◌, ℕ, ◌+◌, ◌-◌, ◌<◌, Bool, true, false, cond, ◌==◌, List, [], ◌∷◌, ◌++◌, length, get_or, take, drop, map, filter, reverse, Option, Some, None, refl, sym, ap, subst, ◌∙◌, arith, length-drop, append_assoc, append-nil, ◌⊎◌, ⊎_elim}
 use Rattle.std.proofs.Math.Seq.{take-length}
 use Rattle.std.specs.Prelude.{not}
 use Rattle.std.specs.List.{list_any, push, remove}

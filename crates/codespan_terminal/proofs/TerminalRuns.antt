@@ -23,7 +23,7 @@ use Rattle.codespan_documents.specs.declared.style.Style.TheVariants as Kinds
 use Rattle.codespan_base.specs.StyleTables.{ansi_spelling}
 use Rattle.codespan_terminal.specs.Terminal.{columns, is_safe, style_mark_of, first_sequences, state_after, run_bytes, runs_bytes, safe_characters, safe_text, visible, terminal_text, ShowsSafe, Text, Parameters}
 use Rattle.codespan_terminal.proofs.UnsafeCells.{columns_stay}
-use Rattle.codespan_terminal.proofs.TerminalStates.{after, shows, is_parameter, parameters_after, parameters_show, ReadsText, reads, ReadsText-nil, ReadsText-append, ReadsText-ascii, ReadsText-safe}
+use Rattle.codespan_terminal.proofs.TerminalStates.{is_parameter, parameters_after, parameters_show, ReadsText, ReadsText-nil, ReadsText-append, ReadsText-ascii, ReadsText-safe}
 
 -- ---- the sequences of a style
 
