@@ -31,13 +31,6 @@ invariant_of-self g c =
           (sorted_set _ c.args.self.now.sorted _ _ c.in-Ok.ensures.found _);
     }
 
--- a line that exists does not fail
-pub returns-in-Ok-clause-failed : goal.returns-in-Ok-clause-failed
-returns-in-Ok-clause-failed g c = c.in_ok-check_line.ensures.failed
-
-pub returns-in_ok-insert-in-Err-clause-failed : goal.returns-in_ok-insert-in-Err-clause-failed
-returns-in_ok-insert-in-Err-clause-failed g c = c.in_ok-check_line.ensures.failed
-
 -- the file is the same
 pub returns-in-Ok-clause-name : goal.returns-in-Ok-clause-name
 returns-in-Ok-clause-name g c = refl

@@ -3,7 +3,6 @@ use Rattle.codespan_files.specs.DatabaseViews.{mapped_text_of}
 use Rattle.codespan_files.specs.Lemmas.Mapped.{mapped_end_before_last, next_above}
 use Rattle.codespan_files.specs.Lemmas.Simple.{end_before_last}
 use Rattle.codespan_files.specs.Lines.{line_starts_of}
-use Rattle.codespan_files.proofs.PastEndFailures.{past_end_failure_early}
 use Rattle.codespan_files.proofs.files.mapped.MappedFileFiles.line_range.Goals as goal
 
 -- the next line starts after a newline
@@ -19,13 +18,7 @@ overflow_sub-result g c =
       next_above text c.args.line_index next,
     )
 
--- a line before the last does not fail
-pub returns-then-line_index-line_count-clause-failed : goal.returns-then-line_index-line_count-clause-failed
-returns-then-line_index-line_count-clause-failed g c =
-    let text = mapped_text_of c.args.self.now in
-    past_end_failure_early text c.args.line_index (omega (arith, c.line_count.ensures.value))
-
--- and its range leaves out the newline
+-- the range of a line before the last leaves out the newline
 pub returns-then-line_index-line_count-clause-value : goal.returns-then-line_index-line_count-clause-value
 returns-then-line_index-line_count-clause-value g c =
     let text = mapped_text_of c.args.self.now in

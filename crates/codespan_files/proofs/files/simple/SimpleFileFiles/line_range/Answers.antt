@@ -28,10 +28,3 @@ returns-then-line_index-len-clause-value g c =
     range_between (g.Name.Display.output file.name) (g.Source.AsStr.text file.source)
     file.line_starts.items _ _ _ file.starts (omega (arith, file.line_starts.ok.0))
     c.index-start.ensures c.index.ensures
-
--- a line that exists does not fail
-pub returns-then-line_index-len-clause-failed : goal.returns-then-line_index-len-clause-failed
-returns-then-line_index-len-clause-failed g c = c.in_ok-check_line.ensures.failed
-
-pub returns-else-line_index-len-clause-failed : goal.returns-else-line_index-len-clause-failed
-returns-else-line_index-len-clause-failed g c = c.in_ok-check_line.ensures.failed
