@@ -32,7 +32,7 @@ use Rattle.codespan_structs.specs.declared.raw.RawStyles.{RawStyles}
 use Rattle.codespan_structs.specs.declared.raw.RawText.{RawText}
 use Rattle.codespan_structs.specs.StyleMarkBytes.{style_mark_spelling}
 use Rattle.codespan_sources.specs.StatedLines.{location_at}
-use Rattle.codespan_sources.specs.SourceTexts.{CutText, NativeFileView, native_database, stated_text, newline_text}
+use Rattle.codespan_sources.specs.SourceTexts.{SourceTextView, NativeFileView, native_database, stated_text, newline_text}
 
 -- ---- numbers of the header
 
@@ -178,14 +178,15 @@ spelling_of c =
 -- ---- the files
 
 -- a text cut into the lines that the caller states, or at newlines where there are none
-abbrev pub cut_by : List ℕ → List ℕ → ℕ → ℕ → List RawLine → CutText
-cut_by name text first_byte first_line [] = newline_text name text first_line
-cut_by name text first_byte first_line (l ∷ ls) = stated_text name text first_byte (l ∷ ls)
+abbrev pub converted_text : List ℕ → List ℕ → ℕ → ℕ → List RawLine → SourceTextView
+converted_text name source first_byte first_line [] = newline_text name source first_line
+converted_text name source first_byte first_line (l ∷ ls) =
+    stated_text name source first_byte (l ∷ ls)
 
 -- a file
 abbrev pub converted_file : RawFile → NativeFileView
 converted_file f = record {
-  cut = cut_by f.name.now f.source.now f.first_byte f.first_line f.lines.now;
+  text = converted_text f.name.now f.source.now f.first_byte f.first_line f.lines.now;
   stated_location = location_at f.first_byte f.locations.now;
 }
 

@@ -19,11 +19,11 @@ use Rattle.codespan_sources.specs.SourceTexts.{native_file_model, stated_text, n
 pub newline_lawful : (name text : List ℕ) (first_line : ℕ) (stated : ℕ → Option Location)
     → IsUtf8 text → length text < 2 ^ 64
     → IsLawful (native_file_model
-    (record { cut = newline_text name text first_line; stated_location = stated }))
+    (record { text = newline_text name text first_line; stated_location = stated }))
 newline_lawful name text first_line stated u fits =
     let f : FileModel =
     native_file_model (record {
-      cut = newline_text name text first_line;
+      text = newline_text name text first_line;
       stated_location = stated;
     }) in
     renumbered_lawful (simple_file (Some name) text) f.line_number f.column_number f.location
@@ -160,7 +160,7 @@ pub stated_lawful : (name text : List ℕ) (first : ℕ) (lines : List RawLine)
     (stated : ℕ → Option Location) → IsUtf8 text → length text < 2 ^ 64
     → are_lines text first lines ≡ true
     → IsLawful (native_file_model
-    (record { cut = stated_text name text first lines; stated_location = stated }))
+    (record { text = stated_text name text first lines; stated_location = stated }))
 stated_lawful name text first [] stated u fits t = absurd (cc)
 stated_lawful name text first (l ∷ ls) stated u fits t =
     let a = both text first (eqb (l.start - first) 0) _ t in
