@@ -18,7 +18,7 @@ use Rattle.codespan_base.specs.Lemmas.Lines.{count_split}
 use Rattle.codespan_sources.specs.declared.raw.RawLine.{RawLine}
 use Rattle.codespan_sources.specs.declared.raw.RawLocation.{RawLocation}
 use Rattle.codespan_base.specs.Lines.{is_char_boundary}
-use Rattle.codespan_sources.specs.StatedLines.{bytes_ascend_from, locations_ascend, follow, location_at, starts_of}
+use Rattle.codespan_sources.specs.StatedLines.{are_next_lines, bytes_ascend_from, location_at, locations_ascend, starts_of}
 
 -- ---- lines
 
@@ -198,15 +198,15 @@ locations_ascend-more first locations i d byte next whole inside is later before
     ∙ before
 
 -- a line that follows the last one, so that the others decide
-pub follow-more : (text : List ℕ) (first : ℕ) (lines : List RawLine) (i : ℕ) (d : RawLine)
+pub are_next_lines-more : (text : List ℕ) (first : ℕ) (lines : List RawLine) (i : ℕ) (d : RawLine)
     (start end next_start next_end : ℕ) (whole : Bool) → i < length lines
     → next_start ≡ (get_or lines i d).start - first → next_end ≡ (get_or lines i d).end - first
     → start < next_start → end ≤ next_start → next_start ≤ next_end
     → true ≡ is_char_boundary text next_start → true ≡ is_char_boundary text next_end
-    → follow text first start end (drop i lines) ≡ whole
-    → follow text first next_start next_end (drop (i + 1) lines) ≡ whole
-follow-more text first lines i d start end next_start next_end whole inside starts ends after apart
-    in_order starts_char ends_char before =
+    → are_next_lines text first start end (drop i lines) ≡ whole
+    → are_next_lines text first next_start next_end (drop (i + 1) lines) ≡ whole
+are_next_lines-more text first lines i d start end next_start next_end whole inside starts ends
+    after apart in_order starts_char ends_char before =
     rw (
       drop_more lines i d inside,
       ← starts,

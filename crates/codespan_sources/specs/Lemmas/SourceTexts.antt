@@ -12,7 +12,7 @@ use Rattle.codespan_base.specs.Lines.{is_char_boundary}
 use Rattle.codespan_base.specs.SimpleModel.{simple_file}
 use Rattle.codespan_base.specs.Lemmas.Simple.{renumbered_lawful, simple_lawful}
 use Rattle.codespan_sources.specs.declared.raw.RawLine.{RawLine}
-use Rattle.codespan_sources.specs.StatedLines.{are_lines, ends_of, follow, starts_of}
+use Rattle.codespan_sources.specs.StatedLines.{are_lines, are_next_lines, ends_of, starts_of}
 use Rattle.codespan_sources.specs.SourceTexts.{native_file_model, stated_text, newline_text}
 
 -- a text cut at newlines makes a lawful file
@@ -47,21 +47,21 @@ module _ (text : List ℕ) (first : ℕ) where
     pub ends_before_next : (i : ℕ) → i + 1 < length (starts_of first ls)
         → slice_index (ends_of first ls) i ≤ slice_index (starts_of first ls) (i + 1)
 
-  -- what `follow` says of the first of some lines, and of those after it
+  -- what `are_next_lines` says of the first of some lines, and of those after it
   record Step (start end : ℕ) (l : RawLine) (ls : List RawLine) : Type 0 where
     pub later : start < l.start - first
     pub apart : end ≤ l.start - first
     pub inside : l.start - first ≤ l.end - first
     pub start_cut : IsCharBoundary text (l.start - first)
     pub end_cut : IsCharBoundary text (l.end - first)
-    pub rest : follow text first (l.start - first) (l.end - first) ls ≡ true
+    pub rest : are_next_lines text first (l.start - first) (l.end - first) ls ≡ true
 
   both : (a b : Bool) → (a && b) ≡ true → (a ≡ true) × (b ≡ true)
   both true b e = (refl, e)
   both false b e = absurd (cc)
 
   step : (start end : ℕ) (l : RawLine) (ls : List RawLine)
-      → follow text first start end (l ∷ ls) ≡ true → Step start end l ls
+      → are_next_lines text first start end (l ∷ ls) ≡ true → Step start end l ls
   step start end l ls e =
       let a = both (nat_lt start (l.start - first)) _ e in
       let b = both (nat_le end (l.start - first)) _ a.1 in
@@ -146,10 +146,10 @@ module _ (text : List ℕ) (first : ℕ) where
           let q : suc k + 1 ≡ suc (k + 1) = omega arith in
           rw q (c.ends_before_next k (omega (arith, p)))
 
-  -- lines for which `follow` holds are a chain
+  -- lines for which `are_next_lines` holds are a chain
   chain : (l : RawLine) (ls : List RawLine) → IsCharBoundary text (l.start - first)
       → IsCharBoundary text (l.end - first) → l.start - first ≤ l.end - first
-      → follow text first (l.start - first) (l.end - first) ls ≡ true → Chain (l ∷ ls)
+      → are_next_lines text first (l.start - first) (l.end - first) ls ≡ true → Chain (l ∷ ls)
   chain l [] s e h t = chain_one l s e h
   chain l (m ∷ ms) s e h t =
       let x = step (l.start - first) (l.end - first) m ms t in

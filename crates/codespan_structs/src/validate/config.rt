@@ -3,7 +3,7 @@
 ghost use Rattle.std.specs.Prelude.{◌≡◌, IsTrue, ◌↔◌};
 ghost use Rattle.std.specs.Char.{InScalarRange};
 ghost use Rattle.std.specs.Str.{IsUtf8};
-ghost use Rattle.codespan_structs.specs.Validity.{code_points_of, color_specs_of, FindsInvalid, FindsWithout, HoldsIfAt, IsColorSpec};
+ghost use Rattle.codespan_structs.specs.Validity.{code_points_of, color_specs_of, FindsFirstInvalid, FindsFirstWithout, HoldsIfAt, IsColorSpec};
 
 use crate::raw::{ABI, RawChars, RawColorSpec, RawConfig, RawStyles};
 use crate::validate::values::{is_color_spec, is_scalar_value, is_utf8};
@@ -33,7 +33,7 @@ pub fn is_snippet_start_valid(config: &RawConfig<'_>) -> bool
 /// Returns the index of the first of the caller's characters that is invalid, where they are
 /// chosen.
 pub fn character_index(config: &RawConfig<'_>) -> Option<usize>
-    ensures { FindsInvalid (λ i. config.now.characters ≡ 2
+    ensures { FindsFirstInvalid (λ i. config.now.characters ≡ 2
         → HoldsIfAt InScalarRange (code_points_of config.now.chars) i) result }
 {
     if config.characters != CUSTOM_CHARACTERS {
@@ -45,7 +45,7 @@ pub fn character_index(config: &RawConfig<'_>) -> Option<usize>
 /// Returns the index of the first of the caller's styles with a color that is invalid, where they
 /// are chosen.
 pub fn color_index(config: &RawConfig<'_>) -> Option<usize>
-    ensures { FindsInvalid (λ i. config.now.spelling ≡ 2
+    ensures { FindsFirstInvalid (λ i. config.now.spelling ≡ 2
         → HoldsIfAt IsColorSpec (color_specs_of config.now.styles) i) result }
 {
     if config.spelling != CUSTOM_STYLES {
@@ -56,14 +56,14 @@ pub fn color_index(config: &RawConfig<'_>) -> Option<usize>
 
 /// Returns the index of the first code point that is not a Unicode scalar value.
 fn code_point_index(codes: &[u32]) -> Option<usize>
-    ensures { FindsWithout InScalarRange codes.now result }
+    ensures { FindsFirstWithout InScalarRange codes.now result }
 {
     codes.iter().position(|code| !is_scalar_value(*code))
 }
 
 /// Returns the index of the first style with a color that is invalid.
 fn color_spec_index(specs: &[RawColorSpec]) -> Option<usize>
-    ensures { FindsWithout IsColorSpec specs.now result }
+    ensures { FindsFirstWithout IsColorSpec specs.now result }
 {
     specs.iter().position(|spec| !is_color_spec(spec))
 }
