@@ -8,7 +8,7 @@ use Rattle.std.proofs.Common.{eq-eqb}
 use Rattle.std.proofs.lemmas.Bool.Decides.{eqb_tells}
 use Rattle.std.specs.List.{slice_index_or}
 use Rattle.std.specs.List.Sorted.{IsBinarySearchResult, IsNonDecreasingBy, IsPartitionedBy, IsPartitionPoint, IsSearchInRange}
-use Rattle.std.proofs.lemmas.Bool.{cases_lt}
+use Rattle.std.proofs.lemmas.Bool.{and_parts, cases_lt}
 use Rattle.std.proofs.lemmas.Bool.Decides.{nat_tests}
 use Rattle.std.proofs.lemmas.List.{drop_more, length-map}
 use Rattle.std.proofs.lemmas.List.Sorted.{IsNonDecreasingBy-from_default, IsPartitionedBy-leb}
@@ -103,18 +103,14 @@ module _ (first : ℕ) where
   abbrev pub byte_at : List RawLocation → ℕ → ℕ
   byte_at locations i = (slice_index_or locations i no_location).byte - first
 
-  both : (a b : Bool) → (a && b) ≡ true → (a ≡ true) × (b ≡ true)
-  both true b e = (refl, e)
-  both false b e = absurd (cc)
-
   -- locations that ascend from a byte on lie after it, and ascend
   after : (byte : ℕ) (ls : List RawLocation) → bytes_ascend_from first byte ls ≡ true
       → (k : ℕ) → k < length ls → byte < byte_at ls k
   after byte [] e k h = absurd (omega (arith, h))
   after byte (l ∷ ls) e zero h =
-      let a = both (nat_lt byte (l.byte - first)) _ e in grind (arith, nat_tests, a.0)
+      let a = and_parts (nat_lt byte (l.byte - first)) _ e in grind (arith, nat_tests, a.0)
   after byte (l ∷ ls) e (suc k) h =
-      let a = both (nat_lt byte (l.byte - first)) _ e in
+      let a = and_parts (nat_lt byte (l.byte - first)) _ e in
       let here : byte < l.byte - first = grind (arith, nat_tests, a.0) in
       let later = after (l.byte - first) ls a.1 k (omega (arith, h)) in
       omega (arith, here, later)
@@ -122,7 +118,7 @@ module _ (first : ℕ) where
   rest_ascends : (byte : ℕ) (ls : List RawLocation) → bytes_ascend_from first byte ls ≡ true
       → locations_ascend first ls ≡ true
   rest_ascends byte [] e = refl
-  rest_ascends byte (l ∷ ls) e = (both (nat_lt byte (l.byte - first)) _ e).1
+  rest_ascends byte (l ∷ ls) e = (and_parts (nat_lt byte (l.byte - first)) _ e).1
 
   -- a location before another is of a lower byte
   sorted : (ls : List RawLocation) → locations_ascend first ls ≡ true → (i j : ℕ) → i < j

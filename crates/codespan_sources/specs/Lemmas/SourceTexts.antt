@@ -1,6 +1,7 @@
 -- Texts cut at newlines, and texts cut into lines for which `are_lines` holds, make lawful files.
-use Rattle.std.proofs.Common.{◌≡◌, ℕ, zero, suc, ◌+◌, ◌-◌, ◌^◌, ◌<◌, ◌≤◌, Bool, true, false, List, [], ◌∷◌, length, refl, arith, Option, eqb}
-use Rattle.std.specs.Prelude.{◌&&◌, nat_lt, nat_le, slice_index, Some}
+use Rattle.std.proofs.Common.{◌≡◌, ℕ, zero, suc, ◌+◌, ◌-◌, ◌^◌, ◌<◌, ◌≤◌, true, List, [], ◌∷◌, length, refl, arith, Option, eqb}
+use Rattle.std.specs.Prelude.{nat_lt, nat_le, slice_index, Some}
+use Rattle.std.proofs.lemmas.Bool.{and_parts}
 use Rattle.std.proofs.lemmas.Bool.Decides.{nat_tests}
 use Rattle.std.specs.Str.{IsUtf8, IsCharBoundary}
 use Rattle.std.proofs.lemmas.Str.{IsCharBoundary-start}
@@ -56,18 +57,14 @@ module _ (text : List ℕ) (first : ℕ) where
     pub end_cut : IsCharBoundary text (l.end - first)
     pub rest : are_next_lines text first (l.start - first) (l.end - first) ls ≡ true
 
-  both : (a b : Bool) → (a && b) ≡ true → (a ≡ true) × (b ≡ true)
-  both true b e = (refl, e)
-  both false b e = absurd (cc)
-
   step : (start end : ℕ) (l : RawLine) (ls : List RawLine)
       → are_next_lines text first start end (l ∷ ls) ≡ true → Step start end l ls
   step start end l ls e =
-      let a = both (nat_lt start (l.start - first)) _ e in
-      let b = both (nat_le end (l.start - first)) _ a.1 in
-      let c = both (nat_le (l.start - first) (l.end - first)) _ b.1 in
-      let d = both (is_char_boundary text (l.start - first)) _ c.1 in
-      let f = both (is_char_boundary text (l.end - first)) _ d.1 in
+      let a = and_parts (nat_lt start (l.start - first)) _ e in
+      let b = and_parts (nat_le end (l.start - first)) _ a.1 in
+      let c = and_parts (nat_le (l.start - first) (l.end - first)) _ b.1 in
+      let d = and_parts (is_char_boundary text (l.start - first)) _ c.1 in
+      let f = and_parts (is_char_boundary text (l.end - first)) _ d.1 in
       record {
         later = grind (arith, nat_tests, a.0);
         apart = grind (arith, nat_tests, b.0);
@@ -163,8 +160,8 @@ pub stated_lawful : (name text : List ℕ) (first : ℕ) (lines : List RawLine)
     (record { text = stated_text name text first lines; stated_location = stated }))
 stated_lawful name text first [] stated u fits t = absurd (cc)
 stated_lawful name text first (l ∷ ls) stated u fits t =
-    let a = both text first (eqb (l.start - first) 0) _ t in
-    let b = both text first (is_char_boundary text (l.end - first)) _ a.1 in
+    let a = and_parts (eqb (l.start - first) 0) _ t in
+    let b = and_parts (is_char_boundary text (l.end - first)) _ a.1 in
     let zero_start : l.start - first ≡ 0 = grind (arith, nat_tests, a.0) in
     let c = chain text first l ls (rw zero_start (IsCharBoundary-start text u))
     (boundary text (l.end - first) b.0) (omega (arith, zero_start)) b.1 in
