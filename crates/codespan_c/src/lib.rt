@@ -4,10 +4,11 @@
 
 ghost use Rattle.std.specs.Prelude.{◌≡◌, ◌≢◌, ◌≤◌, ◌↔◌};
 ghost use Rattle.codespan_native.specs.declared.error.Argument.TheVariants.{LabelFile};
+ghost use Rattle.codespan_native.specs.Constants.{ABI, STATUS_TEXT_MAX};
 ghost use Rattle.codespan_native.specs.Meaning.{Means, NoLookupFails, output_bytes};
 ghost use Rattle.codespan_native.specs.Results.{IsTooSmall, IsUnchanged, IsWritten};
 ghost use Rattle.codespan_native.specs.Statuses.{OK, TOO_SMALL, OUT_OF_MEMORY, FILE_MISSING, INVALID};
-ghost use Rattle.codespan_native.specs.StatusTexts.{STATUS_TEXT_MAX, text_for};
+ghost use Rattle.codespan_native.specs.StatusTexts.{text_for};
 ghost use Rattle.codespan_native.specs.Validity.{AreValid, FirstInvalidIs, NamesFirstInvalid, no_detail};
 
 use codespan_native::emit::emit;
@@ -55,7 +56,7 @@ pub extern "C" fn codespan_emit(
 /// Returns the ABI version, which fixes the layouts of the structs.
 #[unsafe(no_mangle)]
 pub extern "C" fn codespan_abi_version() -> u32
-    ensures { result ≡ 1 }
+    ensures { result ≡ ABI }
 {
     ABI
 }

@@ -1,5 +1,6 @@
 -- What the contracts of this crate cite.
 -- re-exports: the structs of C, and the files of a call
+pub use Rattle.codespan_structs.specs.Constants
 pub use Rattle.codespan_structs.specs.StyleMarkBytes
 pub use Rattle.codespan_sources.specs.StatedLines
 pub use Rattle.codespan_sources.specs.SourceTexts

@@ -30,6 +30,7 @@ use Rattle.codespan_structs.specs.declared.raw.RawLabel.{RawLabel}
 use Rattle.codespan_sources.specs.declared.raw.RawLine.{RawLine}
 use Rattle.codespan_structs.specs.declared.raw.RawStyles.{RawStyles}
 use Rattle.codespan_structs.specs.declared.raw.RawText.{RawText}
+use Rattle.codespan_structs.specs.Constants.{TAB_WIDTH_MAX}
 use Rattle.codespan_structs.specs.StyleMarkBytes.{style_mark_spelling}
 use Rattle.codespan_sources.specs.StatedLines.{location_at}
 use Rattle.codespan_sources.specs.SourceTexts.{SourceTextView, NativeFileView, native_database, stated_text, newline_text}
@@ -127,11 +128,11 @@ converted_chars c =
     if c.characters == 0 then box_drawing else if c.characters == 1 then ascii
     else custom_chars c.chars
 
--- the configuration; a tab width above 1024 is taken as 1024
+-- the configuration; a tab width above the greatest one is taken as that
 abbrev pub converted_config : RawConfig → Config
 converted_config c = record {
   display_style = display_style_of c.display_style;
-  tab_width = min c.tab_width 1024;
+  tab_width = min c.tab_width TAB_WIDTH_MAX;
   chars = converted_chars c;
   start_context_lines = c.start_context_lines;
   end_context_lines = c.end_context_lines;

@@ -16,6 +16,7 @@ use Rattle.codespan_sources.specs.declared.raw.RawLine.{RawLine}
 use Rattle.codespan_structs.specs.declared.raw.RawStyles.{RawStyles}
 use Rattle.codespan_structs.specs.declared.raw.RawText.{RawText}
 use Rattle.codespan_sources.specs.StatedLines.{are_lines, locations_ascend}
+use Rattle.codespan_structs.specs.Constants.{ABI}
 use Rattle.codespan_structs.specs.Statuses.{FILE_MISSING, INVALID}
 
 -- ---- values
@@ -120,7 +121,7 @@ FindsFirstInvalid Valid r = MatchOption r ((i : ℕ) → Valid i) (IsFirstInvali
 module _ (files : List RawFile) (d : RawDiagnostic) (c : RawConfig) where
   -- the argument is valid; of several, the one of this index
   abbrev pub IsValidAt : Argument → ℕ → Type 0
-  IsValidAt Abi i = c.abi ≡ 1
+  IsValidAt Abi i = c.abi ≡ ABI
   IsValidAt DisplayStyle i = c.display_style ≤ 2
   IsValidAt Layout i = c.layout ≤ 1
   IsValidAt Spelling i = c.spelling ≤ 3

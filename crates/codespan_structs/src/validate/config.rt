@@ -3,6 +3,7 @@
 ghost use Rattle.std.specs.Prelude.{◌≡◌, IsTrue, ◌↔◌};
 ghost use Rattle.std.specs.Char.{InScalarRange};
 ghost use Rattle.std.specs.Str.{IsUtf8};
+ghost use Rattle.codespan_structs.specs.Constants.{ABI};
 ghost use Rattle.codespan_structs.specs.Validity.{code_points_of, color_specs_of, FindsFirstInvalid, FindsFirstWithout, HoldsIfAt, IsColorSpec};
 
 use crate::raw::{ABI, RawChars, RawColorSpec, RawConfig, RawStyles};
@@ -16,7 +17,7 @@ const CUSTOM_STYLES: u32 = 2;
 
 /// Returns whether the layouts of the structs are those of this library.
 pub fn is_abi_valid(config: &RawConfig<'_>) -> bool
-    ensures { IsTrue result ↔ (config.now.abi ≡ 1) }
+    ensures { IsTrue result ↔ (config.now.abi ≡ ABI) }
 {
     config.abi == ABI
 }
