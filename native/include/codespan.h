@@ -145,7 +145,7 @@ enum {
 enum {
     CODESPAN_BOX_CHARS = 0,   /* box drawing */
     CODESPAN_ASCII_CHARS = 1, /* ASCII */
-    CODESPAN_OWN_CHARS = 2    /* those of `chars` */
+    CODESPAN_CUSTOM_CHARS = 2 /* those of `chars` */
 };
 
 /* How style marks, the changes of style between texts, are spelled. */
@@ -153,25 +153,25 @@ enum {
     CODESPAN_PLAIN = 0,       /* not at all */
     CODESPAN_ANSI = 1,        /* by escape sequences, in the default styles */
     CODESPAN_ANSI_STYLES = 2, /* by escape sequences, in those of `styles` */
-    CODESPAN_MARKED = 3       /* by the byte 255, which UTF-8 never has, and the number of the
+    CODESPAN_STYLE_MARKS = 3  /* by the byte 255, which UTF-8 never has, and the number of the
                                * style mark */
 };
 
-/* The numbers of style marks, for CODESPAN_MARKED. To those of headers and labels the number of the
- * severity is added. A reset ends each style. */
+/* The numbers of style marks, for CODESPAN_STYLE_MARKS. To those of headers and labels the number
+ * of the severity is added. A reset ends each style. */
 enum {
-    CODESPAN_MARK_HEADER = 0, /* 0 to 4 */
-    CODESPAN_MARK_HEADER_MESSAGE = 5,
-    CODESPAN_MARK_LINE_NUMBER = 6,
-    CODESPAN_MARK_NOTE_BULLET = 7,
-    CODESPAN_MARK_SOURCE_BORDER = 8,
-    CODESPAN_MARK_PRIMARY_LABEL = 9,    /* 9 to 13 */
-    CODESPAN_MARK_SECONDARY_LABEL = 14, /* 14 to 18 */
-    CODESPAN_MARK_RESET = 19
+    CODESPAN_STYLE_MARK_HEADER = 0, /* 0 to 4 */
+    CODESPAN_STYLE_MARK_HEADER_MESSAGE = 5,
+    CODESPAN_STYLE_MARK_LINE_NUMBER = 6,
+    CODESPAN_STYLE_MARK_NOTE_BULLET = 7,
+    CODESPAN_STYLE_MARK_SOURCE_BORDER = 8,
+    CODESPAN_STYLE_MARK_PRIMARY_LABEL = 9,    /* 9 to 13 */
+    CODESPAN_STYLE_MARK_SECONDARY_LABEL = 14, /* 14 to 18 */
+    CODESPAN_STYLE_MARK_RESET = 19
 };
 
 /* The byte before the number of a style mark. */
-#define CODESPAN_MARK_BYTE 255u
+#define CODESPAN_STYLE_MARK_BYTE 255u
 
 /* The characters of the output, each by its code point. codespan_box_chars has those of box
  * drawing. */
@@ -236,17 +236,17 @@ typedef struct codespan_styles {
 
 /* A configuration. codespan_default_config returns one that a caller may change. */
 typedef struct codespan_config {
-    uint32_t abi;           /* CODESPAN_ABI, for all structs that are passed */
-    uint32_t display_style; /* CODESPAN_RICH to CODESPAN_SHORT */
-    uint32_t layout;        /* CODESPAN_CLASSIC or CODESPAN_UNBROKEN */
-    uint32_t spelling;      /* CODESPAN_PLAIN to CODESPAN_MARKED */
-    uint32_t characters;    /* CODESPAN_BOX_CHARS to CODESPAN_OWN_CHARS */
-    size_t tab_width;       /* cells between tab stops, up to CODESPAN_TAB_WIDTH_MAX */
+    uint32_t abi;               /* CODESPAN_ABI, for all structs that are passed */
+    uint32_t display_style;     /* CODESPAN_RICH to CODESPAN_SHORT */
+    uint32_t layout;            /* CODESPAN_CLASSIC or CODESPAN_UNBROKEN */
+    uint32_t spelling;          /* CODESPAN_PLAIN to CODESPAN_STYLE_MARKS */
+    uint32_t characters;        /* CODESPAN_BOX_CHARS to CODESPAN_CUSTOM_CHARS */
+    size_t tab_width;           /* cells between tab stops, up to CODESPAN_TAB_WIDTH_MAX */
     size_t start_context_lines; /* lines shown after the first line of a multi-line label */
     size_t end_context_lines;   /* lines shown before its last line */
     size_t before_label_lines;  /* lines shown before a label */
     size_t after_label_lines;   /* lines shown after a label */
-    codespan_chars chars;       /* read only for CODESPAN_OWN_CHARS */
+    codespan_chars chars;       /* read only for CODESPAN_CUSTOM_CHARS */
     codespan_styles styles;     /* read only for CODESPAN_ANSI_STYLES */
 } codespan_config;
 
@@ -320,8 +320,8 @@ uint32_t codespan_abi_version(void);
  * CODESPAN_INVALID it writes what the argument must be; `argument` is that of a codespan_detail,
  * and is read for this status alone. Returns CODESPAN_OK or CODESPAN_TOO_SMALL and sets *written,
  * as codespan_emit does. */
-uint32_t codespan_status_text(uint32_t status, uint32_t argument, uint8_t *text,
-                              size_t text_length, size_t *written);
+uint32_t codespan_status_text(uint32_t status, uint32_t argument, uint8_t *text, size_t text_length,
+                              size_t *written);
 
 /* The greatest length of a text of codespan_status_text, in bytes. */
 #define CODESPAN_STATUS_TEXT_MAX 128u

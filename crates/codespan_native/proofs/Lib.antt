@@ -3,3 +3,5 @@ pub mod Parts
 -- what is rendered
 pub mod Rendered
 pub mod LookupsFound
+-- what the call does
+pub mod Emitted

@@ -92,8 +92,8 @@ record LookupsSucceed (failure : Lookup → Option Error) (f : FileModel) : Type
 
 lookups_succeed_of : (s : NativeFileView) → LookupsSucceed (native_failure s) (native_file_model s)
 lookups_succeed_of s = record {
-  line_range = λ i h. rw (le-leb (suc i) (length s.cut.starts) (omega (arith, h))) refl;
-  past_end = rw (lt-leb (suc (length s.cut.starts)) (length s.cut.starts) (omega arith)) refl;
+  line_range = λ i h. rw (le-leb (suc i) (length s.text.starts) (omega (arith, h))) refl;
+  past_end = rw (lt-leb (suc (length s.text.starts)) (length s.text.starts) (omega arith)) refl;
   name = refl;
   source = refl;
   line_index = λ byte. refl;

@@ -1,5 +1,5 @@
--- What is rendered, for the clauses `value` of `render` and of `output_of`.
-use Rattle.std.proofs.Common.{◌≡◌, ℕ, true, List, ◌++◌, map, IsSome, None, Some, Result, Ok, Err, OnOk, IfOk, Vec, Global, refl, sym, subst, ◌∙◌, ap}
+-- What is rendered, for the clauses of `render` and of `output_of`.
+use Rattle.std.proofs.Common.{◌≡◌, ℕ, true, List, [], ◌++◌, map, IsSome, None, Some, Result, Ok, Err, OnOk, IfOk, Vec, Global, refl, sym, subst, ◌∙◌, ap}
 use Rattle.std.specs.List.{slice_get}
 use Rattle.std.specs.Option.{option_map_or}
 use Rattle.codespan_base.specs.declared.diagnostic.Diagnostic.{Diagnostic}
@@ -25,7 +25,7 @@ use Rattle.codespan_structs.specs.declared.raw.RawFile.{RawFile}
 use Rattle.codespan_native.specs.Meaning.{Means, output_bytes}
 use Rattle.codespan_structs.specs.Converted.{converted_config, display_style_of, converted_file, spelling_of, converted_diagnostic}
 use Rattle.codespan_sources.specs.SourceTexts.{NativeFileView, native_database, native_file_model}
-use Rattle.codespan_native.specs.RenderedStreams.{stream_of_output}
+use Rattle.codespan_native.specs.RenderedStreams.{IsRendered, stream_of_output}
 
 -- the names of the files are stated
 pub stated : (ss : List NativeFileView) (d : Diagnostic ℕ) → NamesAreStated (native_database ss) d
@@ -102,23 +102,27 @@ pub result_is : (spelling : Spelling) (config : Config) (ss : List NativeFileVie
     (d : Diagnostic ℕ)
     (files : List RawFile) (diagnostic : RawDiagnostic) (raw : RawConfig)
     (r : Result (Vec ℕ Global) OutOfMemory)
-    → IfOk r (λ output. output.items ≡ spelled spelling (stream_of_output config ss d))
+    → IfOk r (λ output. IsRendered config ss d spelling [] output.items)
     → spelling ≡ spelling_of raw → IsEqualConfig (converted_config raw) config
     → ss ≡ map converted_file files
     → diagnostic_view d ≡ converted_diagnostic files diagnostic
     → IfOk r (λ output. output.items ≡ output_bytes files diagnostic raw)
-result_is spelling config ss d files diagnostic raw (Ok output) are spells alike same viewed =
-    bytes_are spelling config ss d files diagnostic raw output.items are spells alike same viewed
-result_is spelling config ss d files diagnostic raw (Err e) are spells alike same viewed = tt
+result_is spelling config ss d files diagnostic raw (Ok output) rendered spells alike same viewed =
+    bytes_are spelling config ss d files diagnostic raw output.items rendered.value spells alike
+    same viewed
+result_is spelling config ss d files diagnostic raw (Err e) rendered spells alike same viewed = tt
 
 -- what the output means, of the structs
-pub means_is : {T : Type 0} (config : Config) (ss : List NativeFileView) (d : Diagnostic ℕ)
-    (files : List RawFile) (diagnostic : RawDiagnostic) (raw : RawConfig) (r : Result T OutOfMemory)
-    → IfOk r (λ _. config.display_style ≡ Rich → MeansLabels config config (native_database ss) d)
+pub means_is : (spelling : Spelling) (config : Config) (ss : List NativeFileView)
+    (d : Diagnostic ℕ)
+    (files : List RawFile) (diagnostic : RawDiagnostic) (raw : RawConfig)
+    (r : Result (Vec ℕ Global) OutOfMemory)
+    → IfOk r (λ output. IsRendered config ss d spelling [] output.items)
     → IsEqualConfig (converted_config raw) config → ss ≡ map converted_file files
     → diagnostic_view d ≡ converted_diagnostic files diagnostic
     → IfOk r (λ _. raw.display_style ≡ 0 → Means files diagnostic raw)
-means_is config ss d files diagnostic raw (Ok output) means alike same viewed = λ zero_style.
+means_is spelling config ss d files diagnostic raw (Ok output) rendered alike same viewed =
+    λ zero_style.
     let rich : config.display_style ≡ Rich =
     ap (λ (c : Config). c.display_style) alike.others ∙ ap display_style_of zero_style in
     record {
@@ -126,6 +130,7 @@ means_is config ss d files diagnostic raw (Ok output) means alike same viewed = 
       c = config;
       is_diagnostic = viewed;
       is_config = alike;
-      means = subst (λ ts. MeansLabels config config (native_database ts) d) same (means rich);
+      means =
+          subst (λ ts. MeansLabels config config (native_database ts) d) same (rendered.means rich);
     }
-means_is config ss d files diagnostic raw (Err e) means alike same viewed = tt
+means_is spelling config ss d files diagnostic raw (Err e) rendered alike same viewed = tt

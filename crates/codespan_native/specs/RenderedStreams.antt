@@ -1,12 +1,23 @@
 -- What the Rust values of a configuration, files and a diagnostic render.
-use Rattle.std.specs.Prelude.{ℕ, List}
+use Rattle.std.specs.Prelude.{◌≡◌, ◌++◌, ℕ, List}
 use Rattle.codespan_base.specs.declared.diagnostic.Diagnostic.{Diagnostic}
 use Rattle.codespan_base.specs.declared.term.config.Config.{Config}
-use Rattle.codespan_base.specs.Streams.{Stream}
+use Rattle.codespan_base.specs.declared.term.config.DisplayStyle.TheVariants.{Rich}
+use Rattle.codespan_base.specs.Streams.{Spelling, Stream, spelled}
+use Rattle.codespan_laws.specs.RichLaws.{MeansLabels}
 use Rattle.codespan_picture.specs.Picture.{picture}
 use Rattle.codespan_sources.specs.SourceTexts.{NativeFileView, native_database}
 
--- the output of a diagnostic over files, with the names that the files have
-abbrev pub stream_of_output : Config → List NativeFileView → Diagnostic ℕ → Stream
-stream_of_output config files d =
-    picture config.display_style config config (native_database files) d
+module _ (config : Config) (files : List NativeFileView) (d : Diagnostic ℕ) where
+  -- the output of a diagnostic over files, with the names that the files have
+  abbrev pub stream_of_output : Stream
+  stream_of_output = picture config.display_style config config (native_database files) d
+
+  -- in rich style the output means the labels
+  abbrev pub MeansIfRich : Type 0
+  MeansIfRich = config.display_style ≡ Rich → MeansLabels config config (native_database files) d
+
+  -- the bytes are those in front, and then the output, its style marks spelled so
+  pub record IsRendered (spelling : Spelling) (front bytes : List ℕ) : Type 0 where
+    pub value : bytes ≡ front ++ spelled spelling stream_of_output
+    pub means : MeansIfRich

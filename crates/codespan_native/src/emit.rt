@@ -1,11 +1,9 @@
 //! The call that renders for C.
 
-ghost use Rattle.std.specs.Prelude.{◌≡◌, ◌≢◌, ◌≤◌, ◌↔◌, IfOk};
-ghost use Rattle.codespan_structs.specs.declared.error.Argument.TheVariants.{LabelFile};
-ghost use Rattle.codespan_native.specs.Meaning.{Means, NoLookupFails, output_bytes};
-ghost use Rattle.codespan_structs.specs.Results.{IsTooSmall, IsUnchanged, IsWritten};
-ghost use Rattle.codespan_structs.specs.Statuses.{OK, TOO_SMALL, OUT_OF_MEMORY, FILE_MISSING, INVALID};
-ghost use Rattle.codespan_structs.specs.Validity.{AreValid, FirstInvalidIs, NamesFirstInvalid, no_detail};
+ghost use Rattle.std.specs.Prelude.{◌≡◌, IfOk};
+ghost use Rattle.codespan_native.specs.EmitCalls.{EmitsToBuffer};
+ghost use Rattle.codespan_native.specs.Meaning.{Means, output_bytes};
+ghost use Rattle.codespan_structs.specs.Validity.{AreValid};
 
 use crate::render::render;
 use codespan_structs::buffer::copy_out;
@@ -45,27 +43,8 @@ pub fn emit(
     config: &RawConfig<'_>,
     out: &mut [u8],
 ) -> Outcome
-    ensures ok { result.status ≡ OK
-        → IsWritten (output_bytes files.now diagnostic.now config.now)
-        out.old out.new result.written }
-    ensures too_small { result.status ≡ TOO_SMALL
-        → IsTooSmall (output_bytes files.now diagnostic.now config.now)
-        out.old out.new result.written }
-    ensures unchanged { OUT_OF_MEMORY ≤ result.status
-        → IsUnchanged out.old out.new result.written }
-    ensures valid { (result.status ≤ OUT_OF_MEMORY)
-        ↔ AreValid files.now diagnostic.now config.now }
-    ensures missing { (result.status ≡ FILE_MISSING)
-        ↔ FirstInvalidIs files.now diagnostic.now config.now (λ a. a ≡ LabelFile) }
-    ensures invalid { (result.status ≡ INVALID)
-        ↔ FirstInvalidIs files.now diagnostic.now config.now (λ a. a ≢ LabelFile) }
-    ensures named { FILE_MISSING ≤ result.status
-        → NamesFirstInvalid files.now diagnostic.now config.now result.detail }
-    ensures none_named { result.status ≤ OUT_OF_MEMORY → result.detail ≡ no_detail }
-    ensures found { result.status ≤ OUT_OF_MEMORY → NoLookupFails files.now diagnostic.now }
-    ensures means { result.status ≤ TOO_SMALL → config.now.display_style ≡ 0
-        → Means files.now diagnostic.now config.now }
-    ensures status { result.status ≤ INVALID }
+    ensures { EmitsToBuffer files.now diagnostic.now config.now
+        out.old out.new result.status result.written result.detail }
 {
     if let Some(invalid) = first_invalid(files, diagnostic, config) {
         return Outcome {

@@ -1,16 +1,13 @@
 //! Renders an output to bytes.
 
-ghost use Rattle.std.specs.Prelude.{◌≡◌, ◌++◌, true, IfOk, OnOk};
-ghost use Rattle.codespan_base.specs.Streams.{plain_spelling, spelled};
+ghost use Rattle.std.specs.Prelude.{◌≡◌, [], true, IfOk, OnOk};
+ghost use Rattle.codespan_base.specs.Streams.{plain_spelling};
 ghost use Rattle.codespan_base.specs.WriterLaw.{is_known, with_written};
-ghost use Rattle.codespan_base.specs.declared.term.config.DisplayStyle.TheVariants.{Rich};
-ghost use Rattle.codespan_laws.specs.RichLaws.{MeansLabels};
 ghost use Rattle.codespan_structs.specs.StyleMarkBytes.{style_mark_spelling};
 ghost use Rattle.codespan_base.specs.StyleTables.{ansi_spelling};
 ghost use Rattle.codespan_sources.specs.SourceModel.{native_file_views};
-ghost use Rattle.codespan_sources.specs.SourceTexts.{native_database};
 ghost use Rattle.codespan_structs.specs.Spellings.{spelling_by_kind};
-ghost use Rattle.codespan_native.specs.RenderedStreams.{stream_of_output};
+ghost use Rattle.codespan_native.specs.RenderedStreams.{IsRendered, MeansIfRich, stream_of_output};
 
 use crate::style_mark_writer::StyleMarkWriter;
 use codespan_base::diagnostic::Diagnostic;
@@ -36,12 +33,8 @@ pub fn render(
     files: &NativeFiles<'_>,
     diagnostic: &Diagnostic<usize>,
 ) -> Result<Vec<u8>, OutOfMemory>
-    ensures value { IfOk result (λ bytes. bytes.items ≡ spelled
-        (spelling_by_kind settings.now.spelling)
-        (stream_of_output settings.now.config (native_file_views files.now) diagnostic.now)) }
-    ensures means { IfOk result (λ _. settings.now.config.display_style ≡ Rich
-        → MeansLabels settings.now.config settings.now.config
-        (native_database (native_file_views files.now)) diagnostic.now) }
+    ensures { IfOk result (λ bytes. IsRendered settings.now.config (native_file_views files.now)
+        diagnostic.now (spelling_by_kind settings.now.spelling) [] bytes.items) }
 {
     let buffer = Vec::with_capacity(alloc, INITIAL_CAPACITY)?;
     match &settings.spelling {
@@ -64,11 +57,8 @@ fn render_plain(
     files: &NativeFiles<'_>,
     diagnostic: &Diagnostic<usize>,
 ) -> Result<Vec<u8>, OutOfMemory>
-    ensures value { IfOk result (λ bytes. bytes.items ≡ buffer.items ++ spelled plain_spelling
-        (stream_of_output config.now (native_file_views files.now) diagnostic.now)) }
-    ensures means { IfOk result (λ _. config.now.display_style ≡ Rich
-        → MeansLabels config.now config.now
-        (native_database (native_file_views files.now)) diagnostic.now) }
+    ensures { IfOk result (λ bytes. IsRendered config.now (native_file_views files.now)
+        diagnostic.now plain_spelling buffer.items bytes.items) }
 {
     let mut writer = PlainWriter::new(buffer);
     write_to(&mut writer, config, files, diagnostic)?;
@@ -83,12 +73,8 @@ fn render_ansi(
     files: &NativeFiles<'_>,
     diagnostic: &Diagnostic<usize>,
 ) -> Result<Vec<u8>, OutOfMemory>
-    ensures value { IfOk result (λ bytes. bytes.items ≡ buffer.items
-        ++ spelled (ansi_spelling styles.now)
-        (stream_of_output config.now (native_file_views files.now) diagnostic.now)) }
-    ensures means { IfOk result (λ _. config.now.display_style ≡ Rich
-        → MeansLabels config.now config.now
-        (native_database (native_file_views files.now)) diagnostic.now) }
+    ensures { IfOk result (λ bytes. IsRendered config.now (native_file_views files.now)
+        diagnostic.now (ansi_spelling styles.now) buffer.items bytes.items) }
 {
     let mut writer = StylesWriter::new(Ansi::new(buffer), styles);
     write_to(&mut writer, config, files, diagnostic)?;
@@ -103,11 +89,8 @@ fn render_style_marks(
     files: &NativeFiles<'_>,
     diagnostic: &Diagnostic<usize>,
 ) -> Result<Vec<u8>, OutOfMemory>
-    ensures value { IfOk result (λ bytes. bytes.items ≡ buffer.items ++ spelled style_mark_spelling
-        (stream_of_output config.now (native_file_views files.now) diagnostic.now)) }
-    ensures means { IfOk result (λ _. config.now.display_style ≡ Rich
-        → MeansLabels config.now config.now
-        (native_database (native_file_views files.now)) diagnostic.now) }
+    ensures { IfOk result (λ bytes. IsRendered config.now (native_file_views files.now)
+        diagnostic.now style_mark_spelling buffer.items bytes.items) }
 {
     let mut writer = StyleMarkWriter::new(buffer);
     write_to(&mut writer, config, files, diagnostic)?;
@@ -129,9 +112,8 @@ fn write_to<W: WriteStyle>(
     ensures value { is_known (W.sink writer.old) ≡ true → OnOk result (W.sink writer.new
         ≡ with_written (W.sink writer.old)
         (stream_of_output config.now (native_file_views files.now) diagnostic.now)) }
-    ensures means { IfOk result (λ _. config.now.display_style ≡ Rich
-        → MeansLabels config.now config.now
-        (native_database (native_file_views files.now)) diagnostic.now) }
+    ensures means { IfOk result (λ _.
+        MeansIfRich config.now (native_file_views files.now) diagnostic.now) }
 {
     match emit_to_write_style(writer, config, files, diagnostic) {
         Ok(()) => Ok(()),

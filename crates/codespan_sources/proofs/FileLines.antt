@@ -6,15 +6,15 @@ use Rattle.codespan_base.specs.Lemmas.Lines.{line_of_below}
 use Rattle.codespan_sources.specs.declared.native_file.NativeFile.{NativeFile}
 use Rattle.codespan_sources.specs.Lemmas.NativeFiles.{text_is_lawful}
 use Rattle.codespan_sources.specs.SourceModel.{native_file_view}
-use Rattle.codespan_sources.specs.SourceTexts.{cut_line_failure}
+use Rattle.codespan_sources.specs.SourceTexts.{source_line_failure}
 use Rattle.codespan_sources.specs.StatedLines.{location_at}
 
 -- the line of a byte exists
 pub byte_has_line : (f : NativeFile) (byte : ℕ)
-    → cut_line_failure (native_file_view f).cut.starts
-    (line_of (native_file_view f).cut.starts byte) ≡ None
+    → source_line_failure (native_file_view f).text.starts
+    (line_of (native_file_view f).text.starts byte) ≡ None
 byte_has_line f byte =
-    let starts = (native_file_view f).cut.starts in
+    let starts = (native_file_view f).text.starts in
     let law = text_is_lawful f.text (location_at f.first_byte f.locations.now) in
     let h : line_of starts byte < length starts = line_of_below starts byte law.has_line in
     rw (le-leb (suc (line_of starts byte)) (length starts) (omega (arith, h))) refl

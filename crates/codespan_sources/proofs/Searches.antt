@@ -8,7 +8,7 @@ use Rattle.std.proofs.Common.{eq-eqb}
 use Rattle.std.proofs.lemmas.Bool.Decides.{eqb_tells}
 use Rattle.std.specs.List.{slice_index_or}
 use Rattle.std.specs.List.Sorted.{IsBinarySearchResult, IsNonDecreasingBy, IsPartitionedBy, IsPartitionPoint, IsSearchInRange}
-use Rattle.std.proofs.lemmas.Bool.{cases_lt}
+use Rattle.std.proofs.lemmas.Bool.{and_parts, cases_lt}
 use Rattle.std.proofs.lemmas.Bool.Decides.{nat_tests}
 use Rattle.std.proofs.lemmas.List.{drop_more, length-map}
 use Rattle.std.proofs.lemmas.List.Sorted.{IsNonDecreasingBy-from_default, IsPartitionedBy-leb}
@@ -18,7 +18,7 @@ use Rattle.codespan_base.specs.Lemmas.Lines.{count_split}
 use Rattle.codespan_sources.specs.declared.raw.RawLine.{RawLine}
 use Rattle.codespan_sources.specs.declared.raw.RawLocation.{RawLocation}
 use Rattle.codespan_base.specs.Lines.{is_char_boundary}
-use Rattle.codespan_sources.specs.StatedLines.{bytes_ascend_from, locations_ascend, follow, location_at, starts_of}
+use Rattle.codespan_sources.specs.StatedLines.{are_next_lines, bytes_ascend_from, location_at, locations_ascend, starts_of}
 
 -- ---- lines
 
@@ -103,18 +103,14 @@ module _ (first : ℕ) where
   abbrev pub byte_at : List RawLocation → ℕ → ℕ
   byte_at locations i = (slice_index_or locations i no_location).byte - first
 
-  both : (a b : Bool) → (a && b) ≡ true → (a ≡ true) × (b ≡ true)
-  both true b e = (refl, e)
-  both false b e = absurd (cc)
-
   -- locations that ascend from a byte on lie after it, and ascend
   after : (byte : ℕ) (ls : List RawLocation) → bytes_ascend_from first byte ls ≡ true
       → (k : ℕ) → k < length ls → byte < byte_at ls k
   after byte [] e k h = absurd (omega (arith, h))
   after byte (l ∷ ls) e zero h =
-      let a = both (nat_lt byte (l.byte - first)) _ e in grind (arith, nat_tests, a.0)
+      let a = and_parts (nat_lt byte (l.byte - first)) _ e in grind (arith, nat_tests, a.0)
   after byte (l ∷ ls) e (suc k) h =
-      let a = both (nat_lt byte (l.byte - first)) _ e in
+      let a = and_parts (nat_lt byte (l.byte - first)) _ e in
       let here : byte < l.byte - first = grind (arith, nat_tests, a.0) in
       let later = after (l.byte - first) ls a.1 k (omega (arith, h)) in
       omega (arith, here, later)
@@ -122,7 +118,7 @@ module _ (first : ℕ) where
   rest_ascends : (byte : ℕ) (ls : List RawLocation) → bytes_ascend_from first byte ls ≡ true
       → locations_ascend first ls ≡ true
   rest_ascends byte [] e = refl
-  rest_ascends byte (l ∷ ls) e = (both (nat_lt byte (l.byte - first)) _ e).1
+  rest_ascends byte (l ∷ ls) e = (and_parts (nat_lt byte (l.byte - first)) _ e).1
 
   -- a location before another is of a lower byte
   sorted : (ls : List RawLocation) → locations_ascend first ls ≡ true → (i j : ℕ) → i < j
@@ -198,15 +194,15 @@ locations_ascend-more first locations i d byte next whole inside is later before
     ∙ before
 
 -- a line that follows the last one, so that the others decide
-pub follow-more : (text : List ℕ) (first : ℕ) (lines : List RawLine) (i : ℕ) (d : RawLine)
+pub are_next_lines-more : (text : List ℕ) (first : ℕ) (lines : List RawLine) (i : ℕ) (d : RawLine)
     (start end next_start next_end : ℕ) (whole : Bool) → i < length lines
     → next_start ≡ (get_or lines i d).start - first → next_end ≡ (get_or lines i d).end - first
     → start < next_start → end ≤ next_start → next_start ≤ next_end
     → true ≡ is_char_boundary text next_start → true ≡ is_char_boundary text next_end
-    → follow text first start end (drop i lines) ≡ whole
-    → follow text first next_start next_end (drop (i + 1) lines) ≡ whole
-follow-more text first lines i d start end next_start next_end whole inside starts ends after apart
-    in_order starts_char ends_char before =
+    → are_next_lines text first start end (drop i lines) ≡ whole
+    → are_next_lines text first next_start next_end (drop (i + 1) lines) ≡ whole
+are_next_lines-more text first lines i d start end next_start next_end whole inside starts ends
+    after apart in_order starts_char ends_char before =
     rw (
       drop_more lines i d inside,
       ← starts,

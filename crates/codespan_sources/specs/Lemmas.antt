@@ -1,4 +1,4 @@
 -- Lemmas by which `NativeFiles` proves the law of `Files`. A reader may skip them: no clause names
 -- what is defined here.
-pub mod CutTexts
+pub mod SourceTexts
 pub mod NativeFiles

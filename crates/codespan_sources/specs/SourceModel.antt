@@ -8,25 +8,25 @@ use Rattle.codespan_sources.specs.declared.native_file.text.SourceText.{SourceTe
 use Rattle.codespan_sources.specs.declared.native_file.text.SourceText.TheVariants.{Newline, Stated}
 use Rattle.codespan_sources.specs.declared.native_files.NativeFiles.{NativeFiles}
 use Rattle.codespan_sources.specs.StatedLines.{location_at}
-use Rattle.codespan_sources.specs.SourceTexts.{CutText, NativeFileView, stated_text, newline_text}
+use Rattle.codespan_sources.specs.SourceTexts.{SourceTextView, NativeFileView, stated_text, newline_text}
 
 -- a text cut at newlines
-abbrev pub newline_view : NewlineText → CutText
+abbrev pub newline_view : NewlineText → SourceTextView
 newline_view t = newline_text (name_of t.file).now (simple_source_of t.file).now t.first_line
 
 -- a text of stated lines
-abbrev pub stated_view : StatedText → CutText
+abbrev pub stated_view : StatedText → SourceTextView
 stated_view t = stated_text t.name.now t.source.now t.first_byte t.lines.now
 
 -- either
-abbrev pub cut_view : SourceText → CutText
-cut_view (Newline t) = newline_view t
-cut_view (Stated t) = stated_view t
+abbrev pub source_text_view : SourceText → SourceTextView
+source_text_view (Newline t) = newline_view t
+source_text_view (Stated t) = stated_view t
 
 -- a file
 abbrev pub native_file_view : NativeFile → NativeFileView
 native_file_view f = record {
-  cut = cut_view f.text;
+  text = source_text_view f.text;
   stated_location = location_at f.first_byte f.locations.now;
 }
 

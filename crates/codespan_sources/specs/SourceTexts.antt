@@ -16,29 +16,29 @@ use Rattle.codespan_sources.specs.StatedLines.{ends_of, numbers_of, starts_of}
 -- ---- texts
 
 -- a text cut into lines, with their numbers
-pub record CutText : Type 0 where
+pub record SourceTextView : Type 0 where
   pub name : List ℕ
-  pub text : List ℕ
+  pub source : List ℕ
   pub starts : List ℕ
   pub ends : List ℕ
   pub number : ℕ → ℕ
 
 -- a text whose lines start after newlines, and whose line numbers count on from the lines before
 -- it, up to the greatest usize
-abbrev pub newline_text : List ℕ → List ℕ → ℕ → CutText
-newline_text name text first_line = record {
+abbrev pub newline_text : List ℕ → List ℕ → ℕ → SourceTextView
+newline_text name source first_line = record {
   name = name;
-  text = text;
-  starts = line_starts_of text;
-  ends = line_ends text;
+  source = source;
+  starts = line_starts_of source;
+  ends = line_ends source;
   number = λ i. min (first_line + i + 1) (2 ^ 64 - 1);
 }
 
 -- a text of stated lines
-abbrev pub stated_text : List ℕ → List ℕ → ℕ → List RawLine → CutText
-stated_text name text first lines = record {
+abbrev pub stated_text : List ℕ → List ℕ → ℕ → List RawLine → SourceTextView
+stated_text name source first lines = record {
   name = name;
-  text = text;
+  source = source;
   starts = starts_of first lines;
   ends = ends_of first lines;
   number = λ i. slice_index (numbers_of lines) i;
@@ -47,49 +47,49 @@ stated_text name text first lines = record {
 -- ---- files
 
 -- the column number of a byte on a line, in characters from 1
-abbrev pub cut_column : CutText → ℕ → ℕ → ℕ
-cut_column t i byte =
-    column_index_of t.text (slice_index t.starts i) (slice_index t.ends i) byte + 1
+abbrev pub source_column : SourceTextView → ℕ → ℕ → ℕ
+source_column t i byte =
+    column_index_of t.source (slice_index t.starts i) (slice_index t.ends i) byte + 1
 
 -- the location of a byte, as it is computed
-abbrev pub cut_location : CutText → ℕ → Location
-cut_location t byte =
+abbrev pub source_location : SourceTextView → ℕ → Location
+source_location t byte =
     let i = line_of t.starts byte in
-    record { line_number = t.number i; column_number = cut_column t i byte }
+    record { line_number = t.number i; column_number = source_column t i byte }
 
 -- a text with the locations that are stated for some of its bytes
 pub record NativeFileView : Type 0 where
-  pub cut : CutText
+  pub text : SourceTextView
   pub stated_location : ℕ → Option Location
 
 -- the file that has it; a location that is stated is used in place of the computed one
 abbrev pub native_file_model : NativeFileView → FileModel
 native_file_model view = record {
   exists = true;
-  name = Some view.cut.name;
-  text = view.cut.text;
-  starts = view.cut.starts;
-  ends = view.cut.ends;
-  line_number = view.cut.number;
-  column_number = cut_column view.cut;
-  location = λ byte. unwrap_or (view.stated_location byte) (cut_location view.cut byte);
+  name = Some view.text.name;
+  text = view.text.source;
+  starts = view.text.starts;
+  ends = view.text.ends;
+  line_number = view.text.number;
+  column_number = source_column view.text;
+  location = λ byte. unwrap_or (view.stated_location byte) (source_location view.text byte);
 }
 
 -- the range of line i
-pub record IsCutLineRange (t : CutText) (i : ℕ) (r : Range ℕ) : Type 0 where
+pub record IsSourceLineRange (t : SourceTextView) (i : ℕ) (r : Range ℕ) : Type 0 where
   pub inside : i < length t.starts
   pub start_is : r.start ≡ slice_index t.starts i
   pub end_is : r.end ≡ slice_index t.ends i
 
 -- the error of the lookup of line i: it is past the last one
-abbrev pub cut_line_failure : List ℕ → ℕ → Option Error
-cut_line_failure starts i =
+abbrev pub source_line_failure : List ℕ → ℕ → Option Error
+source_line_failure starts i =
     if nat_lt i (length starts) then None else Some (LineTooLarge i (length starts - 1))
 
 -- the error of a lookup: only that of a range or a column of a line past the last one
 abbrev pub native_failure : NativeFileView → Lookup → Option Error
-native_failure view (LineRange i) = cut_line_failure view.cut.starts i
-native_failure view (ColumnNumber i byte) = cut_line_failure view.cut.starts i
+native_failure view (LineRange i) = source_line_failure view.text.starts i
+native_failure view (ColumnNumber i byte) = source_line_failure view.text.starts i
 native_failure view _ = None
 
 -- the files, by their indices

@@ -8,15 +8,15 @@ use Rattle.codespan_sources.specs.declared.raw.RawLocation.{RawLocation}
 
 -- whether lines follow one that has this start and this end: each starts after the start of the one
 -- before it, and not before its end
-abbrev pub follow : List ℕ → ℕ → ℕ → ℕ → List RawLine → Bool
-follow text first_byte start end [] = true
-follow text first_byte start end (l ∷ ls) =
+abbrev pub are_next_lines : List ℕ → ℕ → ℕ → ℕ → List RawLine → Bool
+are_next_lines text first_byte start end [] = true
+are_next_lines text first_byte start end (l ∷ ls) =
     nat_lt start (l.start - first_byte)
     && (nat_le end (l.start - first_byte)
     && (nat_le (l.start - first_byte) (l.end - first_byte)
     && (is_char_boundary text (l.start - first_byte)
     && (is_char_boundary text (l.end - first_byte)
-    && follow text first_byte (l.start - first_byte) (l.end - first_byte) ls))))
+    && are_next_lines text first_byte (l.start - first_byte) (l.end - first_byte) ls))))
 
 -- whether the text is cut into these lines
 abbrev pub are_lines : List ℕ → ℕ → List RawLine → Bool
@@ -24,7 +24,7 @@ are_lines text first_byte [] = false
 are_lines text first_byte (l ∷ ls) =
     (l.start - first_byte) == 0
     && (is_char_boundary text (l.end - first_byte)
-    && follow text first_byte (l.start - first_byte) (l.end - first_byte) ls)
+    && are_next_lines text first_byte (l.start - first_byte) (l.end - first_byte) ls)
 
 -- where the lines start, where they end, and their numbers
 abbrev pub starts_of : ℕ → List RawLine → List ℕ

@@ -4,7 +4,7 @@ ghost use Rattle.std.specs.Prelude.{◌≡◌, true, IfOk, None};
 ghost use Rattle.codespan_base.specs.FileModel.{line_of};
 ghost use Rattle.codespan_base.specs.LawfulFiles.{FailsBy};
 ghost use Rattle.codespan_sources.specs.StatedLines.{locations_ascend, location_at};
-ghost use Rattle.codespan_sources.specs.SourceTexts.{IsCutLineRange, cut_column, native_file_model, cut_line_failure};
+ghost use Rattle.codespan_sources.specs.SourceTexts.{IsSourceLineRange, source_column, native_file_model, source_line_failure};
 
 mod newline;
 mod stated;
@@ -30,7 +30,7 @@ pub struct NativeFile<'a> {
 }
 
 impl<'a> NativeFile<'a> {
-    ghost use Rattle.codespan_sources.specs.SourceModel.{cut_view, native_file_view};
+    ghost use Rattle.codespan_sources.specs.SourceModel.{source_text_view, native_file_view};
 
     /// Returns the file of a text, which starts at the byte `first_byte` of the file, with these
     /// locations.
@@ -45,7 +45,7 @@ impl<'a> NativeFile<'a> {
         locations: &'a [RawLocation],
     ) -> NativeFile<'a>
         requires { locations_ascend first_byte locations.now ≡ true }
-        ensures cut { (native_file_view result).cut ≡ cut_view text.entry }
+        ensures text { (native_file_view result).text ≡ source_text_view text.entry }
         ensures stated { (native_file_view result).stated_location
             ≡ location_at first_byte locations.now }
     {
@@ -58,28 +58,28 @@ impl<'a> NativeFile<'a> {
 
     /// Returns the name.
     pub fn name(&self) -> &'a str
-        ensures { result.now ≡ (native_file_view self.now).cut.name }
+        ensures { result.now ≡ (native_file_view self.now).text.name }
     {
         self.text.name()
     }
 
     /// Returns the source.
     pub fn source(&self) -> &'a str
-        ensures { result.now ≡ (native_file_view self.now).cut.text }
+        ensures { result.now ≡ (native_file_view self.now).text.source }
     {
         self.text.source()
     }
 
     /// Returns the index of the byte's line, from 0. The byte index counts from 0, in the source.
     pub fn line_index(&self, byte_index: usize) -> usize
-        ensures { result ≡ line_of (native_file_view self.now).cut.starts byte_index }
+        ensures { result ≡ line_of (native_file_view self.now).text.starts byte_index }
     {
         self.text.line_index(byte_index)
     }
 
     /// Returns the number of the line of this index, which counts from 0.
     pub fn line_number(&self, line_index: usize) -> usize
-        ensures { result ≡ (native_file_view self.now).cut.number line_index }
+        ensures { result ≡ (native_file_view self.now).text.number line_index }
     {
         self.text.line_number(line_index)
     }
@@ -91,9 +91,10 @@ impl<'a> NativeFile<'a> {
     ///
     /// [`Error::LineTooLarge`] where there is no such line.
     pub fn line_range(&self, line_index: usize) -> Result<Range<usize>, Error>
-        ensures value { IfOk result (IsCutLineRange (native_file_view self.now).cut line_index) }
+        ensures value { IfOk result
+            (IsSourceLineRange (native_file_view self.now).text line_index) }
         ensures failed { FailsBy
-            (cut_line_failure (native_file_view self.now).cut.starts line_index) result }
+            (source_line_failure (native_file_view self.now).text.starts line_index) result }
     {
         self.text.line_range(line_index)
     }
@@ -106,9 +107,9 @@ impl<'a> NativeFile<'a> {
     /// [`Error::LineTooLarge`] where there is no such line.
     pub fn column_number(&self, line_index: usize, byte_index: usize) -> Result<usize, Error>
         ensures value { IfOk result (λ column.
-            column ≡ cut_column (native_file_view self.now).cut line_index byte_index) }
+            column ≡ source_column (native_file_view self.now).text line_index byte_index) }
         ensures failed { FailsBy
-            (cut_line_failure (native_file_view self.now).cut.starts line_index) result }
+            (source_line_failure (native_file_view self.now).text.starts line_index) result }
     {
         let range = self.line_range(line_index)?;
         Ok(column_index(self.source(), range, byte_index) + 1)

@@ -8,11 +8,11 @@ use Rattle.codespan_structs.specs.declared.error.Argument.TheVariants.{Abi, Disp
 use Rattle.codespan_structs.specs.declared.raw.RawConfig.{RawConfig}
 use Rattle.codespan_structs.specs.declared.raw.RawDiagnostic.{RawDiagnostic}
 use Rattle.codespan_structs.specs.declared.raw.RawFile.{RawFile}
-use Rattle.codespan_structs.specs.Validity.{FindsInvalid, FindsWithout, HoldsIfAt, IsFirstInvalid, IsFirstInvalidIndex, IsValidAt, argument_number}
+use Rattle.codespan_structs.specs.Validity.{FindsFirstInvalid, FindsFirstWithout, HoldsIfAt, IsFirstInvalid, IsFirstInvalidIndex, IsValidAt, argument_number}
 
 -- what a search among values found, by their indices
 pub by_index : {X : Type 0} (P : X → Type 0) (xs : List X) (r : Option ℕ)
-    → FindsWithout P xs r → FindsInvalid (HoldsIfAt P xs) r
+    → FindsFirstWithout P xs r → FindsFirstInvalid (HoldsIfAt P xs) r
 by_index P xs None all = λ i d below. all i d (omega arith) below
 by_index P xs (Some i) found = record {
   invalid = refuted xs found.0 found.1;
@@ -25,7 +25,7 @@ by_index P xs (Some i) found = record {
 
 -- the same under a condition that is met
 pub where_chosen : (Chosen : Type 0) (Valid : ℕ → Type 0) (r : Option ℕ) → Chosen
-    → FindsInvalid Valid r → FindsInvalid (λ i. Chosen → Valid i) r
+    → FindsFirstInvalid Valid r → FindsFirstInvalid (λ i. Chosen → Valid i) r
 where_chosen Chosen Valid None chosen all = λ i _. all i
 where_chosen Chosen Valid (Some i) chosen found = record {
   invalid = λ holds. found.invalid (holds chosen);
@@ -34,7 +34,8 @@ where_chosen Chosen Valid (Some i) chosen found = record {
 
 -- what a test that decides a fact found
 pub by_test : (test : Bool) (P : Type 0) (r : Option ℕ) → (IsTrue test → P) → (P → IsTrue test)
-    → MatchOption r (IsTrue test) (λ index. (index ≡ 0) × ¬ IsTrue test) → FindsInvalid (λ i. P) r
+    → MatchOption r (IsTrue test) (λ index. (index ≡ 0) × ¬ IsTrue test)
+    → FindsFirstInvalid (λ i. P) r
 by_test test P None sound complete valid = λ i. sound valid
 by_test test P (Some i) sound complete found = record {
   invalid = λ p. found.1 (complete p);

@@ -30,9 +30,10 @@ use Rattle.codespan_structs.specs.declared.raw.RawLabel.{RawLabel}
 use Rattle.codespan_sources.specs.declared.raw.RawLine.{RawLine}
 use Rattle.codespan_structs.specs.declared.raw.RawStyles.{RawStyles}
 use Rattle.codespan_structs.specs.declared.raw.RawText.{RawText}
+use Rattle.codespan_structs.specs.Constants.{TAB_WIDTH_MAX}
 use Rattle.codespan_structs.specs.StyleMarkBytes.{style_mark_spelling}
 use Rattle.codespan_sources.specs.StatedLines.{location_at}
-use Rattle.codespan_sources.specs.SourceTexts.{CutText, NativeFileView, native_database, stated_text, newline_text}
+use Rattle.codespan_sources.specs.SourceTexts.{SourceTextView, NativeFileView, native_database, stated_text, newline_text}
 
 -- ---- numbers of the header
 
@@ -127,11 +128,11 @@ converted_chars c =
     if c.characters == 0 then box_drawing else if c.characters == 1 then ascii
     else custom_chars c.chars
 
--- the configuration; a tab width above 1024 is taken as 1024
+-- the configuration; a tab width above the greatest one is taken as that
 abbrev pub converted_config : RawConfig → Config
 converted_config c = record {
   display_style = display_style_of c.display_style;
-  tab_width = min c.tab_width 1024;
+  tab_width = min c.tab_width TAB_WIDTH_MAX;
   chars = converted_chars c;
   start_context_lines = c.start_context_lines;
   end_context_lines = c.end_context_lines;
@@ -178,14 +179,15 @@ spelling_of c =
 -- ---- the files
 
 -- a text cut into the lines that the caller states, or at newlines where there are none
-abbrev pub cut_by : List ℕ → List ℕ → ℕ → ℕ → List RawLine → CutText
-cut_by name text first_byte first_line [] = newline_text name text first_line
-cut_by name text first_byte first_line (l ∷ ls) = stated_text name text first_byte (l ∷ ls)
+abbrev pub converted_text : List ℕ → List ℕ → ℕ → ℕ → List RawLine → SourceTextView
+converted_text name source first_byte first_line [] = newline_text name source first_line
+converted_text name source first_byte first_line (l ∷ ls) =
+    stated_text name source first_byte (l ∷ ls)
 
 -- a file
 abbrev pub converted_file : RawFile → NativeFileView
 converted_file f = record {
-  cut = cut_by f.name.now f.source.now f.first_byte f.first_line f.lines.now;
+  text = converted_text f.name.now f.source.now f.first_byte f.first_line f.lines.now;
   stated_location = location_at f.first_byte f.locations.now;
 }
 

@@ -1,4 +1,6 @@
 -- What the contracts of this crate cite.
+-- constants of the header
+pub mod Constants
 -- style marks in band
 pub mod StyleMarkBytes
 -- what the structs of C are converted to, which of their values are valid, and what a call leaves

@@ -4,10 +4,6 @@ use Rattle.codespan_structs.specs.declared.error.Argument.TheVariants.{Abi, Disp
 use Rattle.codespan_structs.specs.Statuses.{OK, TOO_SMALL, OUT_OF_MEMORY, FILE_MISSING, INVALID}
 use Rattle.codespan_structs.specs.Validity.{argument_number}
 
--- the greatest length of a text, in bytes
-abbrev pub STATUS_TEXT_MAX : ℕ
-STATUS_TEXT_MAX = 128
-
 -- what a status means
 abbrev pub status_text : ℕ → List ℕ
 status_text s =

@@ -16,6 +16,7 @@ use Rattle.codespan_sources.specs.declared.raw.RawLine.{RawLine}
 use Rattle.codespan_structs.specs.declared.raw.RawStyles.{RawStyles}
 use Rattle.codespan_structs.specs.declared.raw.RawText.{RawText}
 use Rattle.codespan_sources.specs.StatedLines.{are_lines, locations_ascend}
+use Rattle.codespan_structs.specs.Constants.{ABI}
 use Rattle.codespan_structs.specs.Statuses.{FILE_MISSING, INVALID}
 
 -- ---- values
@@ -105,8 +106,8 @@ abbrev pub IsFirstWithout : {X : Type 0} → (X → Type 0) → List X → ℕ �
 IsFirstWithout P xs i = (i < length xs) × HoldsAt (λ x. ¬ P x) xs i × AllWithin P xs 0 i
 
 -- that index, or the fact holds of all values
-abbrev pub FindsWithout : {X : Type 0} → (X → Type 0) → List X → Option ℕ → Type 0
-FindsWithout P xs r = MatchOption r (AllWithin P xs 0 (length xs)) (IsFirstWithout P xs)
+abbrev pub FindsFirstWithout : {X : Type 0} → (X → Type 0) → List X → Option ℕ → Type 0
+FindsFirstWithout P xs r = MatchOption r (AllWithin P xs 0 (length xs)) (IsFirstWithout P xs)
 
 -- the first index at which the fact does not hold
 pub record IsFirstInvalidIndex (Valid : ℕ → Type 0) (i : ℕ) : Type 0 where
@@ -114,13 +115,13 @@ pub record IsFirstInvalidIndex (Valid : ℕ → Type 0) (i : ℕ) : Type 0 where
   pub before : (j : ℕ) → j < i → Valid j
 
 -- that index, or the fact holds at all indices
-abbrev pub FindsInvalid : (ℕ → Type 0) → Option ℕ → Type 0
-FindsInvalid Valid r = MatchOption r ((i : ℕ) → Valid i) (IsFirstInvalidIndex Valid)
+abbrev pub FindsFirstInvalid : (ℕ → Type 0) → Option ℕ → Type 0
+FindsFirstInvalid Valid r = MatchOption r ((i : ℕ) → Valid i) (IsFirstInvalidIndex Valid)
 
 module _ (files : List RawFile) (d : RawDiagnostic) (c : RawConfig) where
   -- the argument is valid; of several, the one of this index
   abbrev pub IsValidAt : Argument → ℕ → Type 0
-  IsValidAt Abi i = c.abi ≡ 1
+  IsValidAt Abi i = c.abi ≡ ABI
   IsValidAt DisplayStyle i = c.display_style ≤ 2
   IsValidAt Layout i = c.layout ≤ 1
   IsValidAt Spelling i = c.spelling ≤ 3

@@ -1,7 +1,7 @@
 //! Finds the first invalid argument, before anything is converted or allocated.
 
 ghost use Rattle.std.specs.Prelude.{IfNone, IfSome, IsTrue, MatchOption, ◌≡◌};
-ghost use Rattle.codespan_structs.specs.Validity.{AreValid, FindsInvalid, IsFirstInvalid, IsValidAt};
+ghost use Rattle.codespan_structs.specs.Validity.{AreValid, FindsFirstInvalid, IsFirstInvalid, IsValidAt};
 
 mod config;
 mod diagnostic;
@@ -76,7 +76,7 @@ fn invalid_index(
     diagnostic: &RawDiagnostic<'_>,
     config: &RawConfig<'_>,
 ) -> Option<usize>
-    ensures { FindsInvalid (IsValidAt files.now diagnostic.now config.now argument) result }
+    ensures { FindsFirstInvalid (IsValidAt files.now diagnostic.now config.now argument) result }
 {
     match argument {
         Argument::Abi => index_unless(is_abi_valid(config)),

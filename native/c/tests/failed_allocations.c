@@ -121,7 +121,7 @@ static size_t fail_all(codespan_config *config) {
 int main(void) {
     size_t failed = 0;
     for (uint32_t style = CODESPAN_RICH; style <= CODESPAN_SHORT; style++)
-        for (uint32_t spelling = CODESPAN_PLAIN; spelling <= CODESPAN_MARKED; spelling++) {
+        for (uint32_t spelling = CODESPAN_PLAIN; spelling <= CODESPAN_STYLE_MARKS; spelling++) {
             codespan_config config = codespan_default_config();
             config.display_style = style;
             config.spelling = spelling;

@@ -62,15 +62,15 @@ static void set_layout(struct sample *s) { s->config.layout = 2; }
 static void set_spelling(struct sample *s) { s->config.spelling = 4; }
 static void set_characters(struct sample *s) { s->config.characters = 3; }
 static void set_snippet_start(struct sample *s) {
-    s->config.characters = CODESPAN_OWN_CHARS;
+    s->config.characters = CODESPAN_CUSTOM_CHARS;
     s->config.chars.snippet_start = cut();
 }
 static void set_first_character(struct sample *s) {
-    s->config.characters = CODESPAN_OWN_CHARS;
+    s->config.characters = CODESPAN_CUSTOM_CHARS;
     s->config.chars.source_border_left = 0xd800;
 }
 static void set_last_character(struct sample *s) {
-    s->config.characters = CODESPAN_OWN_CHARS;
+    s->config.characters = CODESPAN_CUSTOM_CHARS;
     s->config.chars.pointer_left = 0x110000;
 }
 static void set_first_color(struct sample *s) {
@@ -268,7 +268,7 @@ int main(void) {
         test_invalid(&INVALID_CASES[i]);
     struct sample sample;
     set_sample(&sample);
-    for (uint32_t spelling = CODESPAN_PLAIN; spelling <= CODESPAN_MARKED; spelling++) {
+    for (uint32_t spelling = CODESPAN_PLAIN; spelling <= CODESPAN_STYLE_MARKS; spelling++) {
         sample.config.spelling = spelling;
         struct call call = call_of(&sample);
         test_capacities(&call);

@@ -61,7 +61,7 @@ class Characters(IntEnum):
     """Which characters are used."""
     BOX = 0  #: box drawing
     ASCII = 1  #: ASCII
-    OWN = 2  #: those of `Config.chars`
+    CUSTOM = 2  #: those of `Config.chars`
 
 
 class Spelling(IntEnum):
@@ -69,7 +69,7 @@ class Spelling(IntEnum):
     PLAIN = 0  #: not at all
     ANSI = 1  #: by escape sequences, in the default styles
     ANSI_STYLES = 2  #: by escape sequences, in those of `Config.styles`
-    MARKED = 3  #: by the character U+DCFF and the one of the style mark's number in codespan.h
+    STYLE_MARKS = 3  #: by the character U+DCFF and the one of the style mark's number in codespan.h
 
 
 class Color(IntEnum):
@@ -199,7 +199,7 @@ class Config:
     end_context_lines: int = 1  #: lines shown before its last line
     before_label_lines: int = 0  #: lines shown before a label
     after_label_lines: int = 0  #: lines shown after a label
-    chars: Chars = field(default_factory=Chars)  #: read only for `Characters.OWN`
+    chars: Chars = field(default_factory=Chars)  #: read only for `Characters.CUSTOM`
     styles: Styles = field(default_factory=Styles)  #: read only for `Spelling.ANSI_STYLES`
 
 

@@ -57,8 +57,8 @@ class Output(unittest.TestCase):
         output = codespan.emit([SETTINGS], odd_value(), config)
         self.assertIn('\33[0m\33[1m\33[38;5;12m\33[48;5;15m1\33[0m ', output)
 
-    def test_marked(self):
-        output = codespan.emit([SETTINGS], odd_value(), Config(spelling=Spelling.MARKED))
+    def test_style_marks(self):
+        output = codespan.emit([SETTINGS], odd_value(), Config(spelling=Spelling.STYLE_MARKS))
         self.assertIn('\udcff\x02warning[W0001]\udcff\x05: odd value\udcff\x13\n', output)
         plain = re.sub('\udcff.', '', output, flags=re.DOTALL)
         self.assertEqual(plain, codespan.emit([SETTINGS], odd_value()))
@@ -108,7 +108,7 @@ class Output(unittest.TestCase):
             '3 | | three', '  | \\--^ x', '', '']))
 
     def test_custom_characters(self):
-        config = Config(characters=Characters.OWN, chars=Chars(single_primary_caret='~'))
+        config = Config(characters=Characters.CUSTOM, chars=Chars(single_primary_caret='~'))
         self.assertIn('~~~~ expected a number', codespan.emit([SETTINGS], odd_value(), config))
 
     def test_long(self):

@@ -23,7 +23,7 @@ pub(crate) const OVERLAP: &str = "the lines of a file overlap, or do not ascend"
 pub(crate) enum Spelling {
     /// Not at all: the output is text.
     Plain = 0,
-    /// By style marks, which [`replay`] understands: `CODESPAN_MARKED`.
+    /// By style marks, which [`replay`] understands: `CODESPAN_STYLE_MARKS`.
     StyleMarks = 3,
 }
 
@@ -81,7 +81,7 @@ impl Request<'_> {
             display_style: display_style_number(self.display_style),
             layout: layout::CLASSIC,
             spelling: self.spelling as u32,
-            characters: layout::OWN_CHARS,
+            characters: layout::CUSTOM_CHARS,
             tab_width: self.characters.tab_width,
             start_context_lines: self.context.start_context_lines,
             end_context_lines: self.context.end_context_lines,

@@ -10,20 +10,20 @@ use Rattle.codespan_sources.specs.declared.native_file.stated.StatedText.{Stated
 use Rattle.codespan_sources.specs.declared.native_file.text.SourceText.{SourceText}
 use Rattle.codespan_sources.specs.declared.native_file.text.SourceText.TheVariants.{Newline, Stated}
 use Rattle.codespan_sources.specs.declared.native_files.NativeFiles.{NativeFiles}
-use Rattle.codespan_sources.specs.Lemmas.CutTexts.{newline_lawful, stated_lawful}
-use Rattle.codespan_sources.specs.SourceModel.{cut_view, native_file_view, native_file_views, stated_view}
+use Rattle.codespan_sources.specs.Lemmas.SourceTexts.{newline_lawful, stated_lawful}
+use Rattle.codespan_sources.specs.SourceModel.{source_text_view, native_file_view, native_file_views, stated_view}
 use Rattle.codespan_sources.specs.SourceTexts.{NativeFileView, native_database, native_failure, native_file_model}
 use Rattle.codespan_sources.specs.StatedLines.{location_at}
 
 -- a text of stated lines makes a lawful file, whatever its locations are
 pub stated_is_lawful : (t : StatedText) (stated : ℕ → Option Location)
-    → IsLawful (native_file_model (record { cut = stated_view t; stated_location = stated }))
+    → IsLawful (native_file_model (record { text = stated_view t; stated_location = stated }))
 stated_is_lawful t stated =
     stated_lawful _ _ t.first_byte t.lines.now stated (IsUtf8-had _ t.utf8) t.fits t.cut
 
 -- a text makes a lawful file
 pub text_is_lawful : (t : SourceText) (stated : ℕ → Option Location)
-    → IsLawful (native_file_model (record { cut = cut_view t; stated_location = stated }))
+    → IsLawful (native_file_model (record { text = source_text_view t; stated_location = stated }))
 text_is_lawful (Newline t) stated =
     newline_lawful _ _ t.first_line stated (text_is_utf8 t.file) (text_fits t.file)
 text_is_lawful (Stated t) stated = stated_is_lawful t stated
@@ -41,4 +41,4 @@ pub database_fails_past_end : (views : List NativeFileView) (id i : ℕ)
     ((native_database views).failure id (LineRange i))
 database_fails_past_end views id i =
     past_end_or native_file_model native_failure i (slice_get views id)
-    (λ view there. past_end_is (length view.cut.starts) i)
+    (λ view there. past_end_is (length view.text.starts) i)

@@ -3,7 +3,7 @@
 ghost use Rattle.std.specs.Prelude.{◌≡◌, IfOk};
 ghost use Rattle.codespan_base.specs.FileModel.{line_of};
 ghost use Rattle.codespan_base.specs.LawfulFiles.{FailsBy};
-ghost use Rattle.codespan_sources.specs.SourceTexts.{IsCutLineRange, newline_text, cut_line_failure};
+ghost use Rattle.codespan_sources.specs.SourceTexts.{IsSourceLineRange, newline_text, source_line_failure};
 
 use crate::error::OutOfMemory;
 use codespan_base::files::{Error, Files, SimpleFile};
@@ -53,7 +53,7 @@ impl<'a> NewlineText<'a> {
 
     /// Returns the source.
     pub fn source(&self) -> &'a str
-        ensures { result.now ≡ (newline_view self.now).text }
+        ensures { result.now ≡ (newline_view self.now).source }
     {
         *self.file.source()
     }
@@ -83,8 +83,8 @@ impl<'a> NewlineText<'a> {
     ///
     /// [`Error::LineTooLarge`] where there is no such line.
     pub fn line_range(&self, line_index: usize) -> Result<Range<usize>, Error>
-        ensures value { IfOk result (IsCutLineRange (newline_view self.now) line_index) }
-        ensures failed { FailsBy (cut_line_failure (newline_view self.now).starts line_index)
+        ensures value { IfOk result (IsSourceLineRange (newline_view self.now) line_index) }
+        ensures failed { FailsBy (source_line_failure (newline_view self.now).starts line_index)
             result }
     {
         self.file.line_range((), line_index)

@@ -5,7 +5,7 @@ ghost use Rattle.std.specs.Str.{IsUtf8};
 ghost use Rattle.codespan_base.specs.FileModel.{line_of};
 ghost use Rattle.codespan_base.specs.LawfulFiles.{FailsBy};
 ghost use Rattle.codespan_sources.specs.StatedLines.{are_lines};
-ghost use Rattle.codespan_sources.specs.SourceTexts.{IsCutLineRange, stated_text, cut_line_failure};
+ghost use Rattle.codespan_sources.specs.SourceTexts.{IsSourceLineRange, stated_text, source_line_failure};
 
 use crate::raw::RawLine;
 use codespan_base::files::Error;
@@ -62,7 +62,7 @@ impl<'a> StatedText<'a> {
 
     /// Returns the source.
     pub fn source(&self) -> &'a str
-        ensures { result.now ≡ (stated_view self.now).text }
+        ensures { result.now ≡ (stated_view self.now).source }
     {
         self.source
     }
@@ -95,8 +95,8 @@ impl<'a> StatedText<'a> {
     ///
     /// [`Error::LineTooLarge`] where there is no such line.
     pub fn line_range(&self, line_index: usize) -> Result<Range<usize>, Error>
-        ensures value { IfOk result (IsCutLineRange (stated_view self.now) line_index) }
-        ensures failed { FailsBy (cut_line_failure (stated_view self.now).starts line_index)
+        ensures value { IfOk result (IsSourceLineRange (stated_view self.now) line_index) }
+        ensures failed { FailsBy (source_line_failure (stated_view self.now).starts line_index)
             result }
     {
         match self.lines.get(line_index) {

@@ -3,7 +3,7 @@
 ghost use Rattle.std.specs.Prelude.{◌≡◌, IfOk};
 ghost use Rattle.codespan_base.specs.FileModel.{line_of};
 ghost use Rattle.codespan_base.specs.LawfulFiles.{FailsBy};
-ghost use Rattle.codespan_sources.specs.SourceTexts.{IsCutLineRange, cut_line_failure};
+ghost use Rattle.codespan_sources.specs.SourceTexts.{IsSourceLineRange, source_line_failure};
 
 use crate::native_file::{NewlineText, StatedText};
 use codespan_base::files::Error;
@@ -19,11 +19,11 @@ pub enum SourceText<'a> {
 }
 
 impl<'a> SourceText<'a> {
-    ghost use Rattle.codespan_sources.specs.SourceModel.{cut_view};
+    ghost use Rattle.codespan_sources.specs.SourceModel.{source_text_view};
 
     /// Returns the name.
     pub fn name(&self) -> &'a str
-        ensures { result.now ≡ (cut_view self.now).name }
+        ensures { result.now ≡ (source_text_view self.now).name }
     {
         match self {
             SourceText::Newline(text) => text.name(),
@@ -33,7 +33,7 @@ impl<'a> SourceText<'a> {
 
     /// Returns the source.
     pub fn source(&self) -> &'a str
-        ensures { result.now ≡ (cut_view self.now).text }
+        ensures { result.now ≡ (source_text_view self.now).source }
     {
         match self {
             SourceText::Newline(text) => text.source(),
@@ -43,7 +43,7 @@ impl<'a> SourceText<'a> {
 
     /// Returns the index of the byte's line, from 0. The byte index counts from 0, in the source.
     pub fn line_index(&self, byte_index: usize) -> usize
-        ensures { result ≡ line_of (cut_view self.now).starts byte_index }
+        ensures { result ≡ line_of (source_text_view self.now).starts byte_index }
     {
         match self {
             SourceText::Newline(text) => text.line_index(byte_index),
@@ -53,7 +53,7 @@ impl<'a> SourceText<'a> {
 
     /// Returns the number of the line of this index, which counts from 0.
     pub fn line_number(&self, line_index: usize) -> usize
-        ensures { result ≡ (cut_view self.now).number line_index }
+        ensures { result ≡ (source_text_view self.now).number line_index }
     {
         match self {
             SourceText::Newline(text) => text.line_number(line_index),
@@ -68,8 +68,9 @@ impl<'a> SourceText<'a> {
     ///
     /// [`Error::LineTooLarge`] where there is no such line.
     pub fn line_range(&self, line_index: usize) -> Result<Range<usize>, Error>
-        ensures value { IfOk result (IsCutLineRange (cut_view self.now) line_index) }
-        ensures failed { FailsBy (cut_line_failure (cut_view self.now).starts line_index) result }
+        ensures value { IfOk result (IsSourceLineRange (source_text_view self.now) line_index) }
+        ensures failed { FailsBy
+            (source_line_failure (source_text_view self.now).starts line_index) result }
     {
         match self {
             SourceText::Newline(text) => text.line_range(line_index),

@@ -2,7 +2,7 @@
 
 ghost use Rattle.std.specs.Prelude.{◌≡◌, All, IfOk, map};
 ghost use Rattle.codespan_structs.specs.Converted.{converted_file};
-ghost use Rattle.codespan_sources.specs.SourceModel.{cut_view, native_file_view, native_file_views};
+ghost use Rattle.codespan_sources.specs.SourceModel.{source_text_view, native_file_view, native_file_views};
 ghost use Rattle.codespan_structs.specs.ValidParts.{IsValidFile};
 
 use crate::convert::text::str_of;
@@ -45,7 +45,7 @@ fn file_of<'a>(alloc: Global, raw: &RawFile<'a>) -> Result<NativeFile<'a>, OutOf
 /// Returns the text of a file, cut into lines.
 fn source_text_of<'a>(alloc: Global, raw: &RawFile<'a>) -> Result<SourceText<'a>, OutOfMemory>
     requires { IsValidFile raw.now }
-    ensures { IfOk result (λ text. cut_view text ≡ (converted_file raw.now).cut) }
+    ensures { IfOk result (λ text. source_text_view text ≡ (converted_file raw.now).text) }
 {
     let name = str_of(raw.name);
     let source = str_of(raw.source);

@@ -3,7 +3,8 @@
 ghost use Rattle.std.specs.Prelude.{◌≡◌, IsTrue, ◌↔◌};
 ghost use Rattle.std.specs.Char.{InScalarRange};
 ghost use Rattle.std.specs.Str.{IsUtf8};
-ghost use Rattle.codespan_structs.specs.Validity.{code_points_of, color_specs_of, FindsInvalid, FindsWithout, HoldsIfAt, IsColorSpec};
+ghost use Rattle.codespan_structs.specs.Constants.{ABI};
+ghost use Rattle.codespan_structs.specs.Validity.{code_points_of, color_specs_of, FindsFirstInvalid, FindsFirstWithout, HoldsIfAt, IsColorSpec};
 
 use crate::raw::{ABI, RawChars, RawColorSpec, RawConfig, RawStyles};
 use crate::validate::values::{is_color_spec, is_scalar_value, is_utf8};
@@ -16,7 +17,7 @@ const CUSTOM_STYLES: u32 = 2;
 
 /// Returns whether the layouts of the structs are those of this library.
 pub fn is_abi_valid(config: &RawConfig<'_>) -> bool
-    ensures { IsTrue result ↔ (config.now.abi ≡ 1) }
+    ensures { IsTrue result ↔ (config.now.abi ≡ ABI) }
 {
     config.abi == ABI
 }
@@ -33,7 +34,7 @@ pub fn is_snippet_start_valid(config: &RawConfig<'_>) -> bool
 /// Returns the index of the first of the caller's characters that is invalid, where they are
 /// chosen.
 pub fn character_index(config: &RawConfig<'_>) -> Option<usize>
-    ensures { FindsInvalid (λ i. config.now.characters ≡ 2
+    ensures { FindsFirstInvalid (λ i. config.now.characters ≡ 2
         → HoldsIfAt InScalarRange (code_points_of config.now.chars) i) result }
 {
     if config.characters != CUSTOM_CHARACTERS {
@@ -45,7 +46,7 @@ pub fn character_index(config: &RawConfig<'_>) -> Option<usize>
 /// Returns the index of the first of the caller's styles with a color that is invalid, where they
 /// are chosen.
 pub fn color_index(config: &RawConfig<'_>) -> Option<usize>
-    ensures { FindsInvalid (λ i. config.now.spelling ≡ 2
+    ensures { FindsFirstInvalid (λ i. config.now.spelling ≡ 2
         → HoldsIfAt IsColorSpec (color_specs_of config.now.styles) i) result }
 {
     if config.spelling != CUSTOM_STYLES {
@@ -56,14 +57,14 @@ pub fn color_index(config: &RawConfig<'_>) -> Option<usize>
 
 /// Returns the index of the first code point that is not a Unicode scalar value.
 fn code_point_index(codes: &[u32]) -> Option<usize>
-    ensures { FindsWithout InScalarRange codes.now result }
+    ensures { FindsFirstWithout InScalarRange codes.now result }
 {
     codes.iter().position(|code| !is_scalar_value(*code))
 }
 
 /// Returns the index of the first style with a color that is invalid.
 fn color_spec_index(specs: &[RawColorSpec]) -> Option<usize>
-    ensures { FindsWithout IsColorSpec specs.now result }
+    ensures { FindsFirstWithout IsColorSpec specs.now result }
 {
     specs.iter().position(|spec| !is_color_spec(spec))
 }

@@ -1,42 +1,42 @@
 //! Validates the diagnostic.
 
 ghost use Rattle.std.specs.Prelude.{◌≤◌, length};
-ghost use Rattle.codespan_structs.specs.Validity.{FindsWithout, HasLabelStyle, HasTextMessage, HasLabelFile, IsValidText};
+ghost use Rattle.codespan_structs.specs.Validity.{FindsFirstWithout, HasLabelStyle, HasTextMessage, HasLabelFile, IsValidText};
 
 use crate::raw::{RawFile, RawLabel, RawText};
 use crate::validate::values::is_utf8;
 
 /// Returns the index of the first label whose style is invalid.
 pub fn label_style_index(labels: &[RawLabel<'_>]) -> Option<usize>
-    ensures { FindsWithout HasLabelStyle labels.now result }
+    ensures { FindsFirstWithout HasLabelStyle labels.now result }
 {
     labels.iter().position(|label| label.style > 1)
 }
 
 /// Returns the index of the first label whose message is not UTF-8.
 pub fn label_message_index(labels: &[RawLabel<'_>]) -> Option<usize>
-    ensures { FindsWithout HasTextMessage labels.now result }
+    ensures { FindsFirstWithout HasTextMessage labels.now result }
 {
     labels.iter().position(|label| !is_utf8(label.message))
 }
 
 /// Returns the index of the first note that is not UTF-8.
 pub fn note_index(notes: &[RawText<'_>]) -> Option<usize>
-    ensures { FindsWithout IsValidText notes.now result }
+    ensures { FindsFirstWithout IsValidText notes.now result }
 {
     notes.iter().position(|note| !is_utf8(note.bytes))
 }
 
 /// Returns the index of the first label whose file is not one of these.
 pub fn label_file_index(files: &[RawFile<'_>], labels: &[RawLabel<'_>]) -> Option<usize>
-    ensures { FindsWithout (HasLabelFile (length files.now)) labels.now result }
+    ensures { FindsFirstWithout (HasLabelFile (length files.now)) labels.now result }
 {
     index_past(files.len(), labels)
 }
 
 /// Returns the index of the first label whose file is not one of `count` files.
 fn index_past(count: usize, labels: &[RawLabel<'_>]) -> Option<usize>
-    ensures { FindsWithout (HasLabelFile count) labels.now result }
+    ensures { FindsFirstWithout (HasLabelFile count) labels.now result }
 {
     labels.iter().position(|label| label.file >= count)
 }

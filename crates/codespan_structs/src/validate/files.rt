@@ -1,7 +1,7 @@
 //! Validates the files.
 
 ghost use Rattle.std.specs.Prelude.{IsTrue, ◌↔◌};
-ghost use Rattle.codespan_structs.specs.Validity.{FindsWithout, HasTextName, HasTextSource, HasValidLines, HasValidLocations};
+ghost use Rattle.codespan_structs.specs.Validity.{FindsFirstWithout, HasTextName, HasTextSource, HasValidLines, HasValidLocations};
 
 use crate::raw::RawFile;
 use crate::validate::values::is_utf8;
@@ -9,28 +9,28 @@ use codespan_sources::stated_lines::{are_lines, locations_ascend};
 
 /// Returns the index of the first file whose name is not UTF-8.
 pub fn name_index(files: &[RawFile<'_>]) -> Option<usize>
-    ensures { FindsWithout HasTextName files.now result }
+    ensures { FindsFirstWithout HasTextName files.now result }
 {
     files.iter().position(|file| !is_utf8(file.name))
 }
 
 /// Returns the index of the first file whose source is not UTF-8.
 pub fn source_index(files: &[RawFile<'_>]) -> Option<usize>
-    ensures { FindsWithout HasTextSource files.now result }
+    ensures { FindsFirstWithout HasTextSource files.now result }
 {
     files.iter().position(|file| !is_utf8(file.source))
 }
 
 /// Returns the index of the first file whose lines are not lines of its source.
 pub fn lines_index(files: &[RawFile<'_>]) -> Option<usize>
-    ensures { FindsWithout HasValidLines files.now result }
+    ensures { FindsFirstWithout HasValidLines files.now result }
 {
     files.iter().position(|file| !has_valid_lines(file))
 }
 
 /// Returns the index of the first file whose locations do not ascend strictly by their bytes.
 pub fn locations_index(files: &[RawFile<'_>]) -> Option<usize>
-    ensures { FindsWithout HasValidLocations files.now result }
+    ensures { FindsFirstWithout HasValidLocations files.now result }
 {
     files
         .iter()

@@ -225,7 +225,7 @@ static codespan_config make_config(struct maker *maker) {
         config.abi = (uint32_t)wide_number(&maker->random, 2);
     config.display_style = choice(maker, CODESPAN_SHORT + 1);
     config.layout = choice(maker, CODESPAN_UNBROKEN + 1);
-    config.characters = choice(maker, CODESPAN_OWN_CHARS + 1);
+    config.characters = choice(maker, CODESPAN_CUSTOM_CHARS + 1);
     config.tab_width = wide_number(&maker->random, 9);
     config.start_context_lines = wide_number(&maker->random, 3);
     config.end_context_lines = wide_number(&maker->random, 3);

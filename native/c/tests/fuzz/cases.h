@@ -5,7 +5,7 @@
 #include "../check.h"
 #include "pages.h"
 
-enum { SPELLINGS = CODESPAN_MARKED + 1 };
+enum { SPELLINGS = CODESPAN_STYLE_MARKS + 1 };
 
 struct fuzz_case {
     struct call calls[SPELLINGS]; /* the same but for the spelling, if that is valid */

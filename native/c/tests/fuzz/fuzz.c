@@ -100,10 +100,10 @@ static void check_spellings(struct worker *worker, const struct fuzz_case *made)
     const uint8_t *outs[SPELLINGS];
     for (uint32_t spelling = 0; spelling < SPELLINGS; spelling++)
         outs[spelling] = try_call(worker, made, spelling, OUT_CAPACITY, &outcomes[spelling]);
-    if (!made->is_valid || outcomes[CODESPAN_MARKED].status != CODESPAN_OK)
+    if (!made->is_valid || outcomes[CODESPAN_STYLE_MARKS].status != CODESPAN_OK)
         return;
-    const uint8_t *marked = outs[CODESPAN_MARKED];
-    size_t length = outcomes[CODESPAN_MARKED].written;
+    const uint8_t *marked = outs[CODESPAN_STYLE_MARKS];
+    size_t length = outcomes[CODESPAN_STYLE_MARKS].written;
     size_t plain_length = remove_style_marks(marked, length, worker->expected);
     REQUIRE(outcomes[CODESPAN_PLAIN].status == CODESPAN_OK);
     REQUIRE(outcomes[CODESPAN_PLAIN].written == plain_length);

@@ -10,18 +10,18 @@ static codespan_color_spec style_of(const codespan_styles *styles, uint8_t mark)
     const codespan_color_spec labels[] = {styles->primary_label_help, styles->primary_label_note,
                                           styles->primary_label_warning,
                                           styles->primary_label_error, styles->primary_label_bug};
-    if (mark < CODESPAN_MARK_HEADER_MESSAGE)
-        return headers[mark - CODESPAN_MARK_HEADER];
-    if (mark >= CODESPAN_MARK_PRIMARY_LABEL && mark < CODESPAN_MARK_SECONDARY_LABEL)
-        return labels[mark - CODESPAN_MARK_PRIMARY_LABEL];
+    if (mark < CODESPAN_STYLE_MARK_HEADER_MESSAGE)
+        return headers[mark - CODESPAN_STYLE_MARK_HEADER];
+    if (mark >= CODESPAN_STYLE_MARK_PRIMARY_LABEL && mark < CODESPAN_STYLE_MARK_SECONDARY_LABEL)
+        return labels[mark - CODESPAN_STYLE_MARK_PRIMARY_LABEL];
     switch (mark) {
-    case CODESPAN_MARK_HEADER_MESSAGE:
+    case CODESPAN_STYLE_MARK_HEADER_MESSAGE:
         return styles->header_message;
-    case CODESPAN_MARK_LINE_NUMBER:
+    case CODESPAN_STYLE_MARK_LINE_NUMBER:
         return styles->line_number;
-    case CODESPAN_MARK_NOTE_BULLET:
+    case CODESPAN_STYLE_MARK_NOTE_BULLET:
         return styles->note_bullet;
-    case CODESPAN_MARK_SOURCE_BORDER:
+    case CODESPAN_STYLE_MARK_SOURCE_BORDER:
         return styles->source_border;
     default:
         return styles->secondary_label;
@@ -43,7 +43,7 @@ static int color_sequence(char *sequence, size_t capacity, int layer, uint32_t c
 static size_t mark_sequence(char *sequence, size_t capacity, const codespan_styles *styles,
                             uint8_t mark) {
     int length = snprintf(sequence, capacity, "\033[0m");
-    if (mark == CODESPAN_MARK_RESET)
+    if (mark == CODESPAN_STYLE_MARK_RESET)
         return length;
     codespan_color_spec style = style_of(styles, mark);
     if (style.bold != 0)
@@ -56,7 +56,7 @@ static size_t mark_sequence(char *sequence, size_t capacity, const codespan_styl
 size_t remove_style_marks(const uint8_t *marked, size_t length, uint8_t *out) {
     size_t written = 0;
     for (size_t i = 0; i < length; i++) {
-        if (marked[i] == CODESPAN_MARK_BYTE)
+        if (marked[i] == CODESPAN_STYLE_MARK_BYTE)
             i++;
         else
             out[written++] = marked[i];
@@ -70,9 +70,9 @@ size_t replay(const uint8_t *marked, size_t length, const codespan_styles *style
     for (size_t i = 0; i < length; i++) {
         char sequence[64];
         size_t sequence_length = 1;
-        if (marked[i] != CODESPAN_MARK_BYTE)
+        if (marked[i] != CODESPAN_STYLE_MARK_BYTE)
             sequence[0] = (char)marked[i];
-        else if (i + 1 == length || marked[i + 1] > CODESPAN_MARK_RESET)
+        else if (i + 1 == length || marked[i + 1] > CODESPAN_STYLE_MARK_RESET)
             abort();
         else
             sequence_length = mark_sequence(sequence, sizeof sequence, styles, marked[++i]);

@@ -13,7 +13,7 @@ pub(crate) const ABI: u32 = 1;
 pub(crate) const CLASSIC: u32 = 0;
 
 /// The choice of the characters that are passed, not of one of the archive's sets.
-pub(crate) const OWN_CHARS: u32 = 2;
+pub(crate) const CUSTOM_CHARS: u32 = 2;
 
 /// The status of a call that has written the output.
 pub(crate) const OK: u32 = 0;
@@ -28,17 +28,17 @@ pub(crate) const OUT_OF_MEMORY: u32 = 2;
 pub(crate) const FILE_LINES: u32 = 11;
 
 /// The byte before the number of a style mark.
-pub(crate) const MARK_BYTE: u8 = 255;
+pub(crate) const STYLE_MARK_BYTE: u8 = 255;
 
 // The numbers of style marks. To those of headers and labels the number of a severity is added.
-pub(crate) const MARK_HEADER: u8 = 0;
-pub(crate) const MARK_HEADER_MESSAGE: u8 = 5;
-pub(crate) const MARK_LINE_NUMBER: u8 = 6;
-pub(crate) const MARK_NOTE_BULLET: u8 = 7;
-pub(crate) const MARK_SOURCE_BORDER: u8 = 8;
-pub(crate) const MARK_PRIMARY_LABEL: u8 = 9;
-pub(crate) const MARK_SECONDARY_LABEL: u8 = 14;
-pub(crate) const MARK_RESET: u8 = 19;
+pub(crate) const STYLE_MARK_HEADER: u8 = 0;
+pub(crate) const STYLE_MARK_HEADER_MESSAGE: u8 = 5;
+pub(crate) const STYLE_MARK_LINE_NUMBER: u8 = 6;
+pub(crate) const STYLE_MARK_NOTE_BULLET: u8 = 7;
+pub(crate) const STYLE_MARK_SOURCE_BORDER: u8 = 8;
+pub(crate) const STYLE_MARK_PRIMARY_LABEL: u8 = 9;
+pub(crate) const STYLE_MARK_SECONDARY_LABEL: u8 = 14;
+pub(crate) const STYLE_MARK_RESET: u8 = 19;
 
 /// A borrowed slice: a pointer that is never null, then a number of items.
 #[repr(C)]

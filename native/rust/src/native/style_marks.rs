@@ -1,8 +1,9 @@
 //! Outputs with style marks: a byte that UTF-8 never has, and then the number of the style mark.
 
 use super::layout::{
-    MARK_BYTE, MARK_HEADER, MARK_HEADER_MESSAGE, MARK_LINE_NUMBER, MARK_NOTE_BULLET,
-    MARK_PRIMARY_LABEL, MARK_RESET, MARK_SECONDARY_LABEL, MARK_SOURCE_BORDER,
+    STYLE_MARK_BYTE, STYLE_MARK_HEADER, STYLE_MARK_HEADER_MESSAGE, STYLE_MARK_LINE_NUMBER,
+    STYLE_MARK_NOTE_BULLET, STYLE_MARK_PRIMARY_LABEL, STYLE_MARK_RESET, STYLE_MARK_SECONDARY_LABEL,
+    STYLE_MARK_SOURCE_BORDER,
 };
 use crate::diagnostic::{LabelStyle, Severity};
 use crate::term::{GeneralWrite, GeneralWriteResult, WriteStyle};
@@ -19,7 +20,7 @@ const SEVERITIES: [Severity; 5] = [
 /// Writes an output with style marks: its texts by writes, and its style marks by the calls that
 /// set a style.
 pub(crate) fn replay<W: WriteStyle + ?Sized>(output: &[u8], writer: &mut W) -> GeneralWriteResult {
-    let mut parts = output.split(|&byte| byte == MARK_BYTE);
+    let mut parts = output.split(|&byte| byte == STYLE_MARK_BYTE);
     if let Some(text) = parts.next() {
         write_text(writer, text)?;
     }
@@ -49,18 +50,20 @@ pub(crate) fn write_text<W: GeneralWrite + ?Sized>(
 fn set_style<W: WriteStyle + ?Sized>(writer: &mut W, mark: u8) -> GeneralWriteResult {
     let severity = |first: u8| SEVERITIES[usize::from(mark - first)];
     match mark {
-        MARK_HEADER..MARK_HEADER_MESSAGE => writer.set_header(severity(MARK_HEADER)),
-        MARK_HEADER_MESSAGE => writer.set_header_message(),
-        MARK_LINE_NUMBER => writer.set_line_number(),
-        MARK_NOTE_BULLET => writer.set_note_bullet(),
-        MARK_SOURCE_BORDER => writer.set_source_border(),
-        MARK_PRIMARY_LABEL..MARK_SECONDARY_LABEL => {
-            writer.set_label(severity(MARK_PRIMARY_LABEL), LabelStyle::Primary)
+        STYLE_MARK_HEADER..STYLE_MARK_HEADER_MESSAGE => {
+            writer.set_header(severity(STYLE_MARK_HEADER))
         }
-        MARK_SECONDARY_LABEL..MARK_RESET => {
-            writer.set_label(severity(MARK_SECONDARY_LABEL), LabelStyle::Secondary)
+        STYLE_MARK_HEADER_MESSAGE => writer.set_header_message(),
+        STYLE_MARK_LINE_NUMBER => writer.set_line_number(),
+        STYLE_MARK_NOTE_BULLET => writer.set_note_bullet(),
+        STYLE_MARK_SOURCE_BORDER => writer.set_source_border(),
+        STYLE_MARK_PRIMARY_LABEL..STYLE_MARK_SECONDARY_LABEL => {
+            writer.set_label(severity(STYLE_MARK_PRIMARY_LABEL), LabelStyle::Primary)
         }
-        MARK_RESET => writer.reset(),
+        STYLE_MARK_SECONDARY_LABEL..STYLE_MARK_RESET => {
+            writer.set_label(severity(STYLE_MARK_SECONDARY_LABEL), LabelStyle::Secondary)
+        }
+        STYLE_MARK_RESET => writer.reset(),
         _ => unreachable!("style mark {mark}"),
     }
 }

@@ -1,27 +1,25 @@
-use Rattle.std.proofs.Common.{refl, arith}
-use Rattle.codespan_native.proofs.LookupsFound.{none_fails}
+use Rattle.std.proofs.Common.{◌∙◌}
+use Rattle.codespan_native.proofs.Emitted.{invalid-emits, out_of_memory-emits, output-emits}
 use Rattle.codespan_native.proofs.emit.emit.Goals as goal
 
-pub returns-in-Some-clause-named : goal.returns-in-Some-clause-named
-returns-in-Some-clause-named c = λ _. record {
-  argument = c.in-Some.invalid.argument;
-  number_is = c.number.ensures;
-  first = c.in-Some.ensures.some;
-}
+-- an argument is invalid
+pub returns-in-Some : goal.returns-in-Some
+returns-in-Some c =
+    invalid-emits c.args.files.now c.args.diagnostic.now c.args.config.now _
+    c.in-Some.invalid.argument c.in-Some.invalid.index _ _ c.in-Some.ensures.some
+    c.status_for.ensures c.number.ensures
 
-pub returns-in-Ok-clause-none_named : goal.returns-in-Ok-clause-none_named
-returns-in-Ok-clause-none_named c = λ _. refl
+-- the output is copied, if it fits
+pub returns-in-Ok : goal.returns-in-Ok
+returns-in-Ok c =
+    output-emits c.args.files.now c.args.diagnostic.now c.args.config.now
+    c.in_default.ensures.none c.as_slice.result.now _ _ _ _
+    (c.as_slice.ensures.value ∙ c.in-Ok.ensures.value) c.in-Ok.ensures.means
+    c.copy_out-status.ensures.ok c.copy_out-status.ensures.too_small
+    c.copy_out-status.ensures.status
 
-pub returns-in-Err-clause-none_named : goal.returns-in-Err-clause-none_named
-returns-in-Err-clause-none_named c = λ _. refl
-
-pub returns-in-Err-clause-ok : goal.returns-in-Err-clause-ok
-returns-in-Err-clause-ok c = λ is. absurd (omega (arith, is))
-
-pub returns-in-Ok-clause-found : goal.returns-in-Ok-clause-found
-returns-in-Ok-clause-found c = λ _.
-    none_fails c.args.files.now c.args.diagnostic.now c.args.config.now c.in_default.ensures.none
-
-pub returns-in-Err-clause-found : goal.returns-in-Err-clause-found
-returns-in-Err-clause-found c = λ _.
-    none_fails c.args.files.now c.args.diagnostic.now c.args.config.now c.in_default.ensures.none
+-- an allocation fails
+pub returns-in-Err : goal.returns-in-Err
+returns-in-Err c =
+    out_of_memory-emits c.args.files.now c.args.diagnostic.now c.args.config.now
+    c.in_default.ensures.none _

@@ -8,15 +8,18 @@ use Rattle.codespan_sources.specs.SourceModel.{native_file_views}
 use Rattle.codespan_native.specs.RenderedStreams.{stream_of_output}
 use Rattle.codespan_native.proofs.render.render_ansi.Goals as goal
 
-pub returns-clause-value : goal.returns-clause-value
-returns-clause-value c =
+pub returns : goal.returns
+returns c =
     let stream = stream_of_output c.args.config.now (native_file_views c.args.files.now)
     c.args.diagnostic.now in
     let spelling = ansi_spelling c.args.styles.now in
     let first : List ℕ = (ansi_inner {W = Vec ℕ Global} c.new.result).items in
     let begins = c.new-writer.ensures.begins in
     let written = c.in_ok-write_to.ensures.value (fresh_known spelling _ first begins) in
-    ap (λ (v : Vec ℕ Global). v.items) c.into_inner-2.ensures
-    ∙ ap (λ (a : Ansi (Vec ℕ Global)). (ansi_inner a).items) c.into_inner.ensures
-    ∙ text_after spelling _ _ stream first _ begins written refl
-    ∙ ap (λ (v : Vec ℕ Global). v.items ++ spelled spelling stream) c.new.ensures
+    record {
+      value = ap (λ (v : Vec ℕ Global). v.items) c.into_inner-2.ensures
+          ∙ ap (λ (a : Ansi (Vec ℕ Global)). (ansi_inner a).items) c.into_inner.ensures
+          ∙ text_after spelling _ _ stream first _ begins written refl
+          ∙ ap (λ (v : Vec ℕ Global). v.items ++ spelled spelling stream) c.new.ensures;
+      means = c.in_ok-write_to.ensures.means;
+    }

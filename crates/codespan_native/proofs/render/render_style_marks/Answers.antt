@@ -5,12 +5,15 @@ use Rattle.codespan_sources.specs.SourceModel.{native_file_views}
 use Rattle.codespan_native.specs.RenderedStreams.{stream_of_output}
 use Rattle.codespan_native.proofs.render.render_style_marks.Goals as goal
 
-pub returns-clause-value : goal.returns-clause-value
-returns-clause-value c =
+pub returns : goal.returns
+returns c =
     let stream = stream_of_output c.args.config.now (native_file_views c.args.files.now)
     c.args.diagnostic.now in
     let first = c.args.buffer.items in
     let begins = c.new-writer.ensures.begins in
     let written = c.in_ok-write_to.ensures.value (fresh_known style_mark_spelling _ first begins) in
-    ap (λ (v : Vec ℕ Global). v.items) c.into_inner.ensures
-    ∙ text_after style_mark_spelling _ _ stream first _ begins written refl
+    record {
+      value = ap (λ (v : Vec ℕ Global). v.items) c.into_inner.ensures
+          ∙ text_after style_mark_spelling _ _ stream first _ begins written refl;
+      means = c.in_ok-write_to.ensures.means;
+    }

@@ -1,11 +1,11 @@
-use Rattle.codespan_sources.proofs.Searches.{follow-more}
+use Rattle.codespan_sources.proofs.Searches.{are_next_lines-more}
 use Rattle.codespan_sources.proofs.stated_lines.are_lines.Goals as goal
 
 -- the next line follows the last one, so the others decide
 pub loop-line-preserved : goal.loop-line-preserved
 loop-line-preserved c =
-    follow-more c.args.text.now c.args.first_byte c.in-Some.rest.now c.loop-line.line-index _
-    c.loop-line.start c.loop-line.end _ _ _ c.loop-line-test.true
+    are_next_lines-more c.args.text.now c.args.first_byte c.in-Some.rest.now
+    c.loop-line.line-index _ c.loop-line.start c.loop-line.end _ _ _ c.loop-line-test.true
     c.saturating_sub-next_start.ensures c.saturating_sub-next_end.ensures
     c.if-next_start-start.false c.if-next_start-end.false c.if-next_end-next_start.false
     c.if-not-is_char_boundary-2.ensures c.if-not-is_char_boundary-3.ensures c.loop-line.invariant

@@ -1,9 +1,9 @@
 use Rattle.std.proofs.Common.{◌≡◌, drop}
-use Rattle.codespan_sources.specs.StatedLines.{are_lines, follow}
+use Rattle.codespan_sources.specs.StatedLines.{are_lines, are_next_lines}
 use Rattle.codespan_sources.proofs.stated_lines.are_lines.Given as goal
 
 -- the lines that are left decide
 abbrev pub invariant-loop-line : goal.invariant-loop-line
 invariant-loop-line l =
-    follow l.text l.first_byte l.start l.end (drop l.line-index l.rest)
+    are_next_lines l.text l.first_byte l.start l.end (drop l.line-index l.rest)
     ≡ are_lines l.text l.first_byte l.lines

@@ -127,9 +127,9 @@ fn numbers_are_those_of_the_header() {
     assert_eq!(OUT_OF_MEMORY, constant("OUT_OF_MEMORY"));
     assert_eq!(FILE_LINES, constant("ARGUMENT_FILE_LINES"));
     assert_eq!(CLASSIC, constant("CLASSIC"));
-    assert_eq!(OWN_CHARS, constant("OWN_CHARS"));
+    assert_eq!(CUSTOM_CHARS, constant("CUSTOM_CHARS"));
     assert_eq!(Spelling::Plain as u32, constant("PLAIN"));
-    assert_eq!(Spelling::StyleMarks as u32, constant("MARKED"));
+    assert_eq!(Spelling::StyleMarks as u32, constant("STYLE_MARKS"));
     for (style, name) in [
         (DisplayStyle::Rich, "RICH"),
         (DisplayStyle::Medium, "MEDIUM"),
@@ -155,18 +155,20 @@ fn numbers_are_those_of_the_header() {
 
 #[test]
 fn style_marks_are_those_of_the_header() {
-    assert!(HEADER.contains(&format!("#define CODESPAN_MARK_BYTE {MARK_BYTE}u\n")));
+    assert!(HEADER.contains(&format!(
+        "#define CODESPAN_STYLE_MARK_BYTE {STYLE_MARK_BYTE}u\n"
+    )));
     for (mark, name) in [
-        (MARK_HEADER, "HEADER"),
-        (MARK_HEADER_MESSAGE, "HEADER_MESSAGE"),
-        (MARK_LINE_NUMBER, "LINE_NUMBER"),
-        (MARK_NOTE_BULLET, "NOTE_BULLET"),
-        (MARK_SOURCE_BORDER, "SOURCE_BORDER"),
-        (MARK_PRIMARY_LABEL, "PRIMARY_LABEL"),
-        (MARK_SECONDARY_LABEL, "SECONDARY_LABEL"),
-        (MARK_RESET, "RESET"),
+        (STYLE_MARK_HEADER, "HEADER"),
+        (STYLE_MARK_HEADER_MESSAGE, "HEADER_MESSAGE"),
+        (STYLE_MARK_LINE_NUMBER, "LINE_NUMBER"),
+        (STYLE_MARK_NOTE_BULLET, "NOTE_BULLET"),
+        (STYLE_MARK_SOURCE_BORDER, "SOURCE_BORDER"),
+        (STYLE_MARK_PRIMARY_LABEL, "PRIMARY_LABEL"),
+        (STYLE_MARK_SECONDARY_LABEL, "SECONDARY_LABEL"),
+        (STYLE_MARK_RESET, "RESET"),
     ] {
-        let number = constant(&format!("MARK_{name}"));
+        let number = constant(&format!("STYLE_MARK_{name}"));
         assert_eq!(u32::from(mark), number, "{name}");
     }
 }

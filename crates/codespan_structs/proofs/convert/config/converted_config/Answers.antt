@@ -1,7 +1,7 @@
 use Rattle.std.proofs.Common.{refl}
 use Rattle.codespan_structs.proofs.convert.config.converted_config.Goals as goal
 
--- the fields but the characters are equal; the width of a tab is at most 1024
+-- the fields but the characters are equal; the tab width has a greatest value
 pub returns : goal.returns
 returns c = record {
   chars = c.convert_chars.ensures;

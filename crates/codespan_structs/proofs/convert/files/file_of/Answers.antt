@@ -4,4 +4,4 @@ use Rattle.codespan_structs.proofs.convert.files.file_of.Goals as goal
 
 pub returns : goal.returns
 returns c =
-    source_is _ _ (c.new.ensures.cut ∙ c.in_ok-text.ensures) c.new.ensures.stated
+    source_is _ _ (c.new.ensures.text ∙ c.in_ok-text.ensures) c.new.ensures.stated

@@ -1,6 +1,7 @@
 use Rattle.std.proofs.Common.{eq-eqb, eqb-true}
+use Rattle.codespan_structs.specs.Constants.{ABI}
 use Rattle.codespan_structs.proofs.validate.config.is_abi_valid.Goals as goal
 
 -- the layouts are those of the library, or not
 pub returns : goal.returns
-returns c = (eqb-true c.args.config.now.abi 1, eq-eqb c.args.config.now.abi 1)
+returns c = (eqb-true c.args.config.now.abi ABI, eq-eqb c.args.config.now.abi ABI)

@@ -1,6 +1,7 @@
 -- Texts cut at newlines, and texts cut into lines for which `are_lines` holds, make lawful files.
-use Rattle.std.proofs.Common.{◌≡◌, ℕ, zero, suc, ◌+◌, ◌-◌, ◌^◌, ◌<◌, ◌≤◌, Bool, true, false, List, [], ◌∷◌, length, refl, arith, Option, eqb}
-use Rattle.std.specs.Prelude.{◌&&◌, nat_lt, nat_le, slice_index, Some}
+use Rattle.std.proofs.Common.{◌≡◌, ℕ, zero, suc, ◌+◌, ◌-◌, ◌^◌, ◌<◌, ◌≤◌, true, List, [], ◌∷◌, length, refl, arith, Option, eqb}
+use Rattle.std.specs.Prelude.{nat_lt, nat_le, slice_index, Some}
+use Rattle.std.proofs.lemmas.Bool.{and_parts}
 use Rattle.std.proofs.lemmas.Bool.Decides.{nat_tests}
 use Rattle.std.specs.Str.{IsUtf8, IsCharBoundary}
 use Rattle.std.proofs.lemmas.Str.{IsCharBoundary-start}
@@ -12,18 +13,18 @@ use Rattle.codespan_base.specs.Lines.{is_char_boundary}
 use Rattle.codespan_base.specs.SimpleModel.{simple_file}
 use Rattle.codespan_base.specs.Lemmas.Simple.{renumbered_lawful, simple_lawful}
 use Rattle.codespan_sources.specs.declared.raw.RawLine.{RawLine}
-use Rattle.codespan_sources.specs.StatedLines.{are_lines, ends_of, follow, starts_of}
+use Rattle.codespan_sources.specs.StatedLines.{are_lines, are_next_lines, ends_of, starts_of}
 use Rattle.codespan_sources.specs.SourceTexts.{native_file_model, stated_text, newline_text}
 
 -- a text cut at newlines makes a lawful file
 pub newline_lawful : (name text : List ℕ) (first_line : ℕ) (stated : ℕ → Option Location)
     → IsUtf8 text → length text < 2 ^ 64
     → IsLawful (native_file_model
-    (record { cut = newline_text name text first_line; stated_location = stated }))
+    (record { text = newline_text name text first_line; stated_location = stated }))
 newline_lawful name text first_line stated u fits =
     let f : FileModel =
     native_file_model (record {
-      cut = newline_text name text first_line;
+      text = newline_text name text first_line;
       stated_location = stated;
     }) in
     renumbered_lawful (simple_file (Some name) text) f.line_number f.column_number f.location
@@ -47,27 +48,23 @@ module _ (text : List ℕ) (first : ℕ) where
     pub ends_before_next : (i : ℕ) → i + 1 < length (starts_of first ls)
         → slice_index (ends_of first ls) i ≤ slice_index (starts_of first ls) (i + 1)
 
-  -- what `follow` says of the first of some lines, and of those after it
+  -- what `are_next_lines` says of the first of some lines, and of those after it
   record Step (start end : ℕ) (l : RawLine) (ls : List RawLine) : Type 0 where
     pub later : start < l.start - first
     pub apart : end ≤ l.start - first
     pub inside : l.start - first ≤ l.end - first
     pub start_cut : IsCharBoundary text (l.start - first)
     pub end_cut : IsCharBoundary text (l.end - first)
-    pub rest : follow text first (l.start - first) (l.end - first) ls ≡ true
-
-  both : (a b : Bool) → (a && b) ≡ true → (a ≡ true) × (b ≡ true)
-  both true b e = (refl, e)
-  both false b e = absurd (cc)
+    pub rest : are_next_lines text first (l.start - first) (l.end - first) ls ≡ true
 
   step : (start end : ℕ) (l : RawLine) (ls : List RawLine)
-      → follow text first start end (l ∷ ls) ≡ true → Step start end l ls
+      → are_next_lines text first start end (l ∷ ls) ≡ true → Step start end l ls
   step start end l ls e =
-      let a = both (nat_lt start (l.start - first)) _ e in
-      let b = both (nat_le end (l.start - first)) _ a.1 in
-      let c = both (nat_le (l.start - first) (l.end - first)) _ b.1 in
-      let d = both (is_char_boundary text (l.start - first)) _ c.1 in
-      let f = both (is_char_boundary text (l.end - first)) _ d.1 in
+      let a = and_parts (nat_lt start (l.start - first)) _ e in
+      let b = and_parts (nat_le end (l.start - first)) _ a.1 in
+      let c = and_parts (nat_le (l.start - first) (l.end - first)) _ b.1 in
+      let d = and_parts (is_char_boundary text (l.start - first)) _ c.1 in
+      let f = and_parts (is_char_boundary text (l.end - first)) _ d.1 in
       record {
         later = grind (arith, nat_tests, a.0);
         apart = grind (arith, nat_tests, b.0);
@@ -146,10 +143,10 @@ module _ (text : List ℕ) (first : ℕ) where
           let q : suc k + 1 ≡ suc (k + 1) = omega arith in
           rw q (c.ends_before_next k (omega (arith, p)))
 
-  -- lines for which `follow` holds are a chain
+  -- lines for which `are_next_lines` holds are a chain
   chain : (l : RawLine) (ls : List RawLine) → IsCharBoundary text (l.start - first)
       → IsCharBoundary text (l.end - first) → l.start - first ≤ l.end - first
-      → follow text first (l.start - first) (l.end - first) ls ≡ true → Chain (l ∷ ls)
+      → are_next_lines text first (l.start - first) (l.end - first) ls ≡ true → Chain (l ∷ ls)
   chain l [] s e h t = chain_one l s e h
   chain l (m ∷ ms) s e h t =
       let x = step (l.start - first) (l.end - first) m ms t in
@@ -160,11 +157,11 @@ pub stated_lawful : (name text : List ℕ) (first : ℕ) (lines : List RawLine)
     (stated : ℕ → Option Location) → IsUtf8 text → length text < 2 ^ 64
     → are_lines text first lines ≡ true
     → IsLawful (native_file_model
-    (record { cut = stated_text name text first lines; stated_location = stated }))
+    (record { text = stated_text name text first lines; stated_location = stated }))
 stated_lawful name text first [] stated u fits t = absurd (cc)
 stated_lawful name text first (l ∷ ls) stated u fits t =
-    let a = both text first (eqb (l.start - first) 0) _ t in
-    let b = both text first (is_char_boundary text (l.end - first)) _ a.1 in
+    let a = and_parts (eqb (l.start - first) 0) _ t in
+    let b = and_parts (is_char_boundary text (l.end - first)) _ a.1 in
     let zero_start : l.start - first ≡ 0 = grind (arith, nat_tests, a.0) in
     let c = chain text first l ls (rw zero_start (IsCharBoundary-start text u))
     (boundary text (l.end - first) b.0) (omega (arith, zero_start)) b.1 in
