@@ -137,11 +137,11 @@ module _ {Id : Type 0} {database : FileDatabase Id} {view_config : RichDiagnosti
       no-rows [] = refl
       no-rows (p ∷ ps) = refl
 
-  module _ {snippet_plan : SnippetPlan Id} {snippet_lines : List (RustLine Id)} {notes next : Bool} {now : Config} (at : IsElementAt output_plan.snippet_plans.items k snippet_plan)
+  module _ {snippet_plan : SnippetPlan Id} {snippet_lines : List (RustLine Id)} {follows : Bool} {now : Config} (at : IsElementAt output_plan.snippet_plans.items k snippet_plan)
       (is : IsSnippetPlan (view_config_of view_config)
       (labeled database view_config snippet_plan.file.now.file_id) snippet_plan
-      snippet_lines) (notes_are : notes ≡ has_notes)
-      (next_is : next ≡ nat_lt (k + 1) (length output_plan.snippet_plans.items))
+      snippet_lines)
+      (follows_is : follows ≡ (has_notes || nat_lt (k + 1) (length output_plan.snippet_plans.items)))
       (equal : now ≡ renderer_config) where
     -- the file with its labels
     abbrev own : LabeledFileModel
@@ -171,10 +171,6 @@ module _ {Id : Type 0} {database : FileDatabase Id} {view_config : RichDiagnosti
     lookups-next : lookups_from k ≡ lookups_here ++ lookups_from (k + 1)
     lookups-next = ap (flat_map (snippet_lookups_of database view_config)) (drop-one ids k snippet_plan.file.now.file_id (id-inside at) (id-at at))
 
-    -- something follows the file
-    abbrev follows : Bool
-    follows = notes || next
-
     -- the rows of its snippet, and the row after it
     abbrev snippet_stream : Stream
     snippet_stream = stream_of_rows context (rows_in snippet_plan (database.file snippet_plan.file.now.file_id) snippet_lines)
@@ -202,7 +198,7 @@ module _ {Id : Type 0} {database : FileDatabase Id} {view_config : RichDiagnosti
         (stream_of_rows context rows_here) r new
     rendered-here both =
         let followed : follows ≡ (has_any (drop (k + 1) ids) || has_notes) =
-        (λ i. notes_are i || (next_is ∙ ap (nat_lt (k + 1)) (sym (ids-count output_plan.snippet_plans.items))) i) ∙ sym (followed-at has_notes ids k) in
+        follows_is ∙ ap (λ n. has_notes || nat_lt (k + 1) n) (sym (ids-count output_plan.snippet_plans.items)) ∙ sym (followed-at has_notes ids k) in
         run_as (or_failure-none snippet_lines_failure ∙ ap (λ (ls : List Lookup). first_error database.failure (lookups_of_file snippet_plan.file.now.file_id (Source ∷ ls))) is.lookups)
         (sym (rows-two context (rows_in snippet_plan (database.file snippet_plan.file.now.file_id) snippet_lines) (trailing_border_rows snippet_plan follows))
         ∙ ap (stream_of_rows context) (rows-are is follows)

@@ -1,6 +1,6 @@
 //! Rich style: a diagnostic over the lines that its labels show.
 
-ghost use Rattle.std.specs.Prelude.{◌≡◌, ◌+◌, ◌<◌, ◌≤◌, drop, length, nat_lt, take};
+ghost use Rattle.std.specs.Prelude.{◌≡◌, ◌+◌, ◌<◌, ◌≤◌, drop, length, take};
 ghost use Rattle.codespan_base.specs.declared.term.config.DisplayStyle.TheVariants.{Rich};
 ghost use Rattle.codespan_picture.specs.OutputStreams.{labels_of, notes_of};
 ghost use Rattle.codespan_picture.specs.Snippets.{has_any};
@@ -176,7 +176,7 @@ impl<'diagnostic, 'config, FileId: Copy + Eq> RichDiagnostic<'diagnostic, 'confi
         for (index, snippet_plan) in output_plan.snippet_plans.iter().enumerate() {
             let snippet_lines = lines_of_file(output_plan, snippet_plan, start);
             start += snippet_plan.line_total;
-            let is_followed = notes_follow | has_next_file(output_plan, index);
+            let is_followed = notes_follow || index + 1 < output_plan.snippet_plans.len();
             render_snippet(
                 &context,
                 renderer,
@@ -207,19 +207,6 @@ fn lines_of_file<'p, 'e, 'd, FileId>(
         ≡ take snippet_plan.now.line_total (drop start output_plan.now.snippet_lines.items) }
 {
     &output_plan.snippet_lines[start..start + snippet_plan.line_total]
-}
-
-/// Returns whether another file follows the one at this 0-based index.
-///
-/// # Requires
-///
-/// There is a file at this index.
-#[inline(always)]
-fn has_next_file<FileId>(output_plan: &OutputPlan<'_, '_, FileId>, index: usize) -> bool
-    requires { index < length output_plan.now.snippet_plans.items }
-    ensures { result ≡ nat_lt (index + 1) (length output_plan.now.snippet_plans.items) }
-{
-    index + 1 < output_plan.snippet_plans.len()
 }
 
 /// Returns whether the diagnostic has a note.

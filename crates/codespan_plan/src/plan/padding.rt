@@ -28,11 +28,11 @@ pub fn padding_width<FileId>(
 fn padding_of_lines<FileId>(snippet_lines: &[SnippetLine<'_, '_, FileId>]) -> usize
     ensures { result ≡ fold max 0 (flat_map line_digits snippet_lines.now) }
 {
-    let mut padding = 0;
-    for snippet_line in snippet_lines {
-        padding = digits_in(snippet_line).max(padding);
-    }
-    padding
+    snippet_lines
+        .iter()
+        .map(|snippet_line| digits_in(snippet_line))
+        .max()
+        .unwrap_or(0)
 }
 
 /// Returns the number of digits of the known number of a line; 0 if it is not known.

@@ -73,13 +73,9 @@ pub fn fill_multi_labels<'d, FileId>(
 {
     multi_labels.clear();
     for annotation in annotations {
-        match annotation.kind {
-            AnnotationKind::Shown => {}
-            AnnotationKind::Single { .. } => {}
-            AnnotationKind::Multi { kind, lane, label } => {
-                let multi = multi_label(label, kind, annotation.line.start);
-                multi_labels.push((lane, label.style, multi))?;
-            }
+        if let AnnotationKind::Multi { kind, lane, label } = annotation.kind {
+            let multi = multi_label(label, kind, annotation.line.start);
+            multi_labels.push((lane, label.style, multi))?;
         }
     }
     Ok(())
@@ -100,12 +96,8 @@ fn fill_single_labels<'d, FileId>(
 {
     single_labels.clear();
     for annotation in annotations {
-        match annotation.kind {
-            AnnotationKind::Shown => {}
-            AnnotationKind::Single { index: _, label } => {
-                single_labels.push(single_label(label, annotation.line.start))?;
-            }
-            AnnotationKind::Multi { .. } => {}
+        if let AnnotationKind::Single { label, .. } = annotation.kind {
+            single_labels.push(single_label(label, annotation.line.start))?;
         }
     }
     Ok(())

@@ -1,14 +1,19 @@
-use Rattle.std.proofs.Common.{max, ap, ◌∙◌}
+use Rattle.std.proofs.Common.{max, unwrap_or, ap, ◌∙◌, rules}
 use Rattle.std.specs.Prelude.{fold}
+use Rattle.std.proofs.lemmas.Iterator.{YieldsList-from_slice, YieldsList-from_map}
+use Rattle.std.proofs.lemmas.Iterator.Consumers.{reduce_from_yields_List}
+use Rattle.std.proofs.lemmas.List.Folds.{max_of_map}
 use Rattle.codespan_plan.specs.SnippetPlans.{line_digits}
-use Rattle.codespan_plan.proofs.PlanPadding.{greatest_more}
+use Rattle.codespan_plan.proofs.PlanPadding.{greatest-of_each}
 use Rattle.codespan_plan.proofs.plan.padding.padding_of_lines.Goals as goal
 
-pub loop-snippet_line-preserved : goal.loop-snippet_line-preserved
-loop-snippet_line-preserved g c =
-    greatest_more line_digits c.args.snippet_lines.now c.loop-snippet_line.snippet_line-index
-    c.snippet_line-item.result c.loop-snippet_line-test.true
-    c.loop-snippet_line.invariant
-    (c.digits_in.ensures
-    ∙ ap (λ snippet_line. fold max 0 (line_digits snippet_line)) c.snippet_line-item.is)
-    c.max-padding.ensures
+pub returns : goal.returns
+returns g c =
+    let lines = c.args.snippet_lines.now in
+    c.unwrap_or.ensures
+    ∙ ap (λ o. unwrap_or o 0)
+    (reduce_from_yields_List _ c.map.result _ c.max.ensures.ran
+    (YieldsList-from_map _ (λ line. fold max 0 (line_digits line)) (YieldsList-from_slice lines cc)
+    c.map.ensures.closure (λ x r q k. search rules)))
+    ∙ max_of_map (λ line. fold max 0 (line_digits line)) lines
+    ∙ greatest-of_each line_digits 0 lines
