@@ -72,7 +72,7 @@ found-near labels c style found =
     by_test false is h = cc
 
 -- past the greatest start no pointer is written
-record ShowsNothing (context : RowContext) (labels : List LabelModel) (cs : List Metrics) : Type 0
+pub record ShowsNothing (context : RowContext) (labels : List LabelModel) (cs : List Metrics) : Type 0
   where
     pub drawn : pointers context labels cs ≡ []
     pub found : pointers_in (hanging_labels labels) cs ≡ []
