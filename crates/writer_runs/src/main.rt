@@ -11,8 +11,9 @@
 //! escape sequences are removed.
 //!
 //! A line for each worked output and each direct call states by how many calls, or by which, and
-//! into how many kinds of writers it was rendered, or the error. The number of runs is written to
-//! standard error, after an error of the input.
+//! into how many kinds of writers it was rendered, or the error. The last line states how many
+//! worked outputs and rows there were, and how many runs. An error in the input, of reading or of
+//! writing ends the program, with a line on standard error and without this last line.
 //!
 //! | status | meaning |
 //! |---|---|

@@ -25,7 +25,8 @@ pub const WRITERS: usize = STOPS.len() + 2;
 ///
 /// # Errors
 ///
-/// `Stopped`: the first run whose result or whose writer is not as expected.
+/// - `Stopped`: the first run whose result or whose writer is not as expected.
+/// - `NoFirstWrite`: no write of `recording` begins at the first byte, although no output is empty.
 pub fn judge_stops<D: Render>(
     alloc: Global,
     style_writer: StyleWriterKind,
@@ -36,6 +37,9 @@ pub fn judge_stops<D: Render>(
     let slow = Recording::stopping(alloc, 1, usize::MAX, Stop::Fails);
     if !stops_at(style_writer, output, slow, whole, whole.len()) {
         return Err(Failure::Stopped(style_writer, Ending::Slow, 0));
+    }
+    if recording.starts.first() != Some(&0) {
+        return Err(Failure::NoFirstWrite(style_writer));
     }
     let mut runs = 1usize;
     for stop in STOPS {
