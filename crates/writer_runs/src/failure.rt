@@ -39,7 +39,7 @@ pub enum Failure {
     NoFirstWrite(StyleWriterKind),
     /// By way of a writer of styles, with a writer that stops in this way after this many writes or
     /// style marks: the result is not the expected one (`Io` if the writer stopped, and else `Ok`),
-    /// the writer does not hold exactly what it accepted, or it was called again.
+    /// the writer does not hold exactly what it accepted, or it was called again or flushed.
     Stopped(StyleWriterKind, Ending, usize),
 }
 
