@@ -78,25 +78,39 @@ static HEADERS: [DirectRow<'static>; 5] = [
 static BREAKS: [DirectRow<'static>; 4] = [
     DirectRow {
         name: "report_run, empty row",
-        call: RowCall::SnippetEmpty(1, 0),
+        call: RowCall::SnippetEmpty {
+            padding: 1,
+            num_multi_labels: 0,
+        },
         text: "  │\n",
         ..ROW
     },
     DirectRow {
         name: "crossing_lanes, empty row",
-        call: RowCall::SnippetEmpty(1, 2),
+        call: RowCall::SnippetEmpty {
+            padding: 1,
+            num_multi_labels: 2,
+        },
         text: "  │    \n",
         ..ROW
     },
     DirectRow {
         name: "fills_and_breaks",
-        call: RowCall::Break(1, 0, &[]),
+        call: RowCall::Break {
+            padding: 1,
+            num_multi_labels: 0,
+            multi_labels: &[],
+        },
         text: "  ·\n",
         ..ROW
     },
     DirectRow {
         name: "mismatched_types, break",
-        call: RowCall::Break(2, 1, &[(0, Primary, MultiLabel::Left)]),
+        call: RowCall::Break {
+            padding: 2,
+            num_multi_labels: 1,
+            multi_labels: &[(0, Primary, MultiLabel::Left)],
+        },
         text: "   · │\n",
         ..ROW
     },
