@@ -6,9 +6,10 @@
 //! those of `Renderer` ([`direct`]); the writers of styles between ([`style_writers`]); and the
 //! writers of bytes below, each stopped at each write that rendering makes, or at each style mark
 //! ([`stops`]). Of each run it checks the result, that the writer holds exactly the prefix of the
-//! output that it accepted, and that it was not flushed. The output is known: its text is what
-//! `emit_into_string` returns, which is compared with the text that is expected, and in colors it
-//! is the same text once the escape sequences are removed.
+//! output that it accepted, and that it was not flushed. The expected text is what
+//! `emit_into_string` returns, which is compared with the text that the input states, if it states
+//! one for the style; in colors it is the same text once the escape sequences are removed. Of a
+//! direct call the text is stated.
 //!
 //! A line for each worked output and each direct call states by how many calls, or by which, and
 //! into how many kinds of writers it was rendered, or the error. The last line states how many
