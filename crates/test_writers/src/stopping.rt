@@ -25,6 +25,8 @@ pub enum Stop {
 pub struct StoppingWriter {
     /// The bytes that it has taken.
     pub text: Vec<u8>,
+    /// How often it was flushed.
+    pub flushes: usize,
     // The most bytes that a write takes.
     most: usize,
     // The number of writes before it stops.
@@ -41,6 +43,7 @@ impl StoppingWriter {
     pub fn new(alloc: Global, most: usize, writes: usize, stop: Stop) -> StoppingWriter {
         StoppingWriter {
             text: Vec::new(alloc),
+            flushes: 0,
             most,
             writes_left: writes,
             stop,
@@ -101,6 +104,7 @@ impl Write for StoppingWriter {
     }
 
     fn flush(&mut self) -> io::Result<()> {
+        self.flushes = self.flushes.saturating_add(1);
         Ok(())
     }
 }

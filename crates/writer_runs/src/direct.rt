@@ -11,6 +11,10 @@ use std::alloc::Global;
 use std::fmt;
 use std::io::Write;
 
+/// A lane mark: the lane, counted from 0, the style of its label, and what the label does on the
+/// line.
+pub type LaneMark<'text> = (usize, LabelStyle, MultiLabel<'text>);
+
 /// A source line, at padding 1.
 #[derive(Clone, Copy)]
 pub struct Line<'text> {
@@ -26,8 +30,8 @@ pub struct Line<'text> {
     pub labels: &'text [SingleLabel<'text>],
     /// The number of the file's multi-line labels.
     pub num_multi_labels: usize,
-    /// The multi-line label marks of the line.
-    pub multi_labels: &'text [(usize, LabelStyle, MultiLabel<'text>)],
+    /// The lane marks of the line.
+    pub multi_labels: &'text [LaneMark<'text>],
 }
 
 /// A call of `Renderer` that writes rows.
@@ -43,11 +47,22 @@ pub enum RowCall<'text> {
     Start,
     /// `render_snippet_source`
     Source(Line<'text>),
-    /// `render_snippet_empty` at a padding, in a file with this many lanes.
-    SnippetEmpty(usize, usize),
-    /// `render_snippet_break` at a padding, in a file with this many lanes, and these multi-line
-    /// label marks.
-    Break(usize, usize, &'text [(usize, LabelStyle, MultiLabel<'text>)]),
+    /// `render_snippet_empty`
+    SnippetEmpty {
+        /// The padding width.
+        padding: usize,
+        /// The number of the file's multi-line labels.
+        num_multi_labels: usize,
+    },
+    /// `render_snippet_break`
+    Break {
+        /// The padding width.
+        padding: usize,
+        /// The number of the file's multi-line labels.
+        num_multi_labels: usize,
+        /// The lane marks of the break.
+        multi_labels: &'text [LaneMark<'text>],
+    },
     /// `render_snippet_note` at a padding.
     Note(usize, &'text str),
 }
@@ -60,8 +75,8 @@ impl fmt::Display for RowCall<'_> {
             RowCall::Empty => "render_empty",
             RowCall::Start => "render_snippet_start",
             RowCall::Source(_) => "render_snippet_source",
-            RowCall::SnippetEmpty(_, _) => "render_snippet_empty",
-            RowCall::Break(_, _, _) => "render_snippet_break",
+            RowCall::SnippetEmpty { .. } => "render_snippet_empty",
+            RowCall::Break { .. } => "render_snippet_break",
             RowCall::Note(_, _) => "render_snippet_note",
         })
     }
@@ -118,7 +133,7 @@ fn render_break<W: WriteStyle>(
     renderer: &mut Renderer<'_, '_, W>,
     padding: usize,
     num_multi_labels: usize,
-    multi_labels: &[(usize, LabelStyle, MultiLabel<'_>)],
+    multi_labels: &[LaneMark<'_>],
 ) -> Result<(), Error> {
     if !lanes_in_order(num_multi_labels, multi_labels) {
         return Err(Error::FormatError);
@@ -142,15 +157,15 @@ fn render_call<W: WriteStyle>(
         RowCall::Empty => renderer.render_empty(),
         RowCall::Start => renderer.render_snippet_start(1, locus),
         RowCall::Source(line) => render_line(renderer, line),
-        RowCall::SnippetEmpty(padding, num_multi_labels) => {
-            renderer.render_snippet_empty(padding, Severity::Error, num_multi_labels, &[])
-        }
-        RowCall::Break(padding, num_multi_labels, multi_labels) => render_break(
-            renderer,
+        RowCall::SnippetEmpty {
+            padding,
+            num_multi_labels,
+        } => renderer.render_snippet_empty(padding, Severity::Error, num_multi_labels, &[]),
+        RowCall::Break {
             padding,
             num_multi_labels,
             multi_labels,
-        ),
+        } => render_break(renderer, padding, num_multi_labels, multi_labels),
         RowCall::Note(padding, message) => renderer.render_snippet_note(padding, message),
     }
 }

@@ -34,9 +34,12 @@ pub enum Failure {
     OtherText(StyleWriterKind),
     /// The text in escape sequences differs from what is expected.
     OtherColors,
+    /// By way of a writer of styles, no write begins at the first byte, although no output is
+    /// empty.
+    NoFirstWrite(StyleWriterKind),
     /// By way of a writer of styles, with a writer that stops in this way after this many writes or
     /// style marks: the result is not the expected one (`Io` if the writer stopped, and else `Ok`),
-    /// the writer does not hold exactly what it accepted, or it was called again.
+    /// the writer does not hold exactly what it accepted, or it was called again or flushed.
     Stopped(StyleWriterKind, Ending, usize),
 }
 
@@ -118,6 +121,7 @@ impl fmt::Display for Failure {
             Failure::OtherString => f.write_str("another string"),
             Failure::OtherText(style_writer) => write!(f, "by {style_writer}: another text"),
             Failure::OtherColors => f.write_str("other colors than expected"),
+            Failure::NoFirstWrite(style_writer) => write!(f, "by {style_writer}: no first write"),
             Failure::Stopped(style_writer, ending, after) => {
                 write!(
                     f,

@@ -15,9 +15,9 @@ use std::fmt::Display;
 use std::io;
 use std::io::{Read, Write};
 
-/// Makes the runs of each worked output and of each direct call, writes a line for each, and
-/// returns the program's status. The number of runs is written to `error_output`, after the error
-/// that ends the program, if there is one; an error of `error_output` is ignored.
+/// Makes the runs of each worked output and of each direct call, writes a line for each and a last
+/// line with the numbers of them and of the runs, and returns the program's status. An error that
+/// ends the program is written to `error_output`, whose own errors are ignored.
 pub fn run<R: Read, W: Write, E: Write>(
     alloc: Global,
     input: &mut R,
@@ -26,32 +26,19 @@ pub fn run<R: Read, W: Write, E: Write>(
 ) -> u8
     ensures { result ≤ 1 }
 {
-    let mut sum = Sum::default();
-    let outcome = judge_all(alloc, input, output, &mut sum);
-    let _ = write_counts(error_output, sum, &outcome);
-    match outcome {
-        Ok(()) if !sum.is_wrong => 0,
-        Ok(()) | Err(_) => 1,
+    match judge_all(alloc, input, output) {
+        Ok(sum) => u8::from(sum.is_wrong),
+        Err(error) => {
+            let _ = writeln!(error_output, "writer_runs: {error}");
+            1
+        }
     }
-}
-
-/// Writes the error that ended the program, if there is one, and the number of runs.
-fn write_counts<E: Write>(
-    error_output: &mut E,
-    sum: Sum,
-    outcome: &Result<(), StreamError>,
-) -> io::Result<()> {
-    if let Err(error) = outcome {
-        writeln!(error_output, "writer_runs: {error}")?;
-    }
-    let (texts, runs) = (sum.texts, sum.runs);
-    writeln!(error_output, "writer_runs: {texts} texts, {runs} runs")
 }
 
 /// How many worked outputs and rows were judged, by how many runs, and whether one was wrong.
 #[derive(Clone, Copy, Default)]
 struct Sum {
-    texts: usize,
+    outputs_and_rows: usize,
     runs: usize,
     is_wrong: bool,
 }
@@ -66,7 +53,7 @@ impl Sum {
         judged: Result<usize, FailureAt>,
         calls: D,
     ) -> io::Result<()> {
-        self.texts = self.texts.saturating_add(1);
+        self.outputs_and_rows = self.outputs_and_rows.saturating_add(1);
         match judged {
             Ok(runs) => {
                 self.runs = self.runs.saturating_add(runs);
@@ -78,21 +65,32 @@ impl Sum {
             }
         }
     }
+
+    /// Writes the line of the counts.
+    fn write_counts<W: Write>(self, output: &mut W) -> io::Result<()> {
+        let (outputs_and_rows, runs) = (self.outputs_and_rows, self.runs);
+        writeln!(
+            output,
+            "{outputs_and_rows} worked outputs and rows, {runs} runs"
+        )
+    }
 }
 
-/// Makes the runs of the worked outputs of the input, and of the direct calls.
+/// Makes the runs of the worked outputs of the input, and of the direct calls, writes a line for
+/// each and the line of the counts, and returns the counts.
 fn judge_all<R: Read, W: Write>(
     alloc: Global,
     input: &mut R,
     output: &mut W,
-    sum: &mut Sum,
-) -> Result<(), StreamError> {
+) -> Result<Sum, StreamError> {
+    let mut sum = Sum::default();
     let text = read_text(alloc, input)?;
-    judge_text(alloc, text.as_str(), output, sum)?;
+    judge_text(alloc, text.as_str(), output, &mut sum)?;
     for rows in &rows() {
-        judge_direct_rows(alloc, rows, output, sum)?;
+        judge_direct_rows(alloc, rows, output, &mut sum)?;
     }
-    Ok(())
+    sum.write_counts(output)?;
+    Ok(sum)
 }
 
 /// Makes the runs of the worked outputs of an input.

@@ -25,7 +25,8 @@ pub const WRITERS: usize = STOPS.len() + 2;
 ///
 /// # Errors
 ///
-/// `Stopped`: the first run whose result or whose writer is not as expected.
+/// - `Stopped`: the first run whose result or whose writer is not as expected.
+/// - `NoFirstWrite`: no write of `recording` begins at the first byte, although no output is empty.
 pub fn judge_stops<D: Render>(
     alloc: Global,
     style_writer: StyleWriterKind,
@@ -36,6 +37,9 @@ pub fn judge_stops<D: Render>(
     let slow = Recording::stopping(alloc, 1, usize::MAX, Stop::Fails);
     if !stops_at(style_writer, output, slow, whole, whole.len()) {
         return Err(Failure::Stopped(style_writer, Ending::Slow, 0));
+    }
+    if recording.starts.first() != Some(&0) {
+        return Err(Failure::NoFirstWrite(style_writer));
     }
     let mut runs = 1usize;
     for stop in STOPS {
@@ -66,8 +70,8 @@ fn written_length(stop: Stop, start: usize, whole: usize) -> usize {
 }
 
 /// Renders by way of a writer of styles to a writer, and returns whether it then holds a prefix of
-/// this length. If that is the whole text, the result has to be `Ok`; else it has to be `Io`, and
-/// no write may follow the one that stopped the writer.
+/// this length and was not flushed. If that is the whole text, the result has to be `Ok`; else it
+/// has to be `Io`, and no write may follow the one that stopped the writer.
 fn stops_at<D: Render>(
     style_writer: StyleWriterKind,
     output: &D,
@@ -79,6 +83,7 @@ fn stops_at<D: Render>(
     let returned = style_writer.render(output, &mut recording);
     is_as_expected(&returned, !is_whole)
         && recording.inner.is_right(is_whole, whole)
+        && recording.inner.flushes == 0
         && recording.text().len() == length
 }
 
@@ -116,8 +121,8 @@ fn stopped_at_style_mark(marks: usize) -> Failure {
 }
 
 /// Renders to this program's writer of styles, which fails at the style mark after this many, and
-/// returns whether these bytes have then been written and, if they are not all, the result is `Io`
-/// and no style mark and no write followed.
+/// returns whether these bytes have then been written, the writer below was not flushed and, if the
+/// bytes are not all, the result is `Io` and no style mark and no write followed.
 fn stops_at_style_mark<D: Render>(
     alloc: Global,
     output: &D,
@@ -126,7 +131,9 @@ fn stops_at_style_mark<D: Render>(
     is_stopped: bool,
 ) -> bool {
     let mut recording = Recording::new(alloc);
-    fails_at_style_mark(output, &mut recording, marks, is_stopped) && recording.text() == written
+    fails_at_style_mark(output, &mut recording, marks, is_stopped)
+        && recording.inner.flushes == 0
+        && recording.text() == written
 }
 
 /// Renders to this program's writer of styles, which fails at the style mark after this many, and
