@@ -124,11 +124,13 @@ impl Outcome {
         (self.output.text(), self.error_output.text(), self.status)
     }
 
-    /// Returns whether the run returned this status, wrote nothing to the output, and this number
-    /// of bytes to the error output. Which bytes these are is not compared.
-    pub fn ended_after(&self, error_bytes: usize, status: u8) -> bool {
+    /// Returns whether the run returned this status, wrote nothing to the output, and to the error
+    /// output a prefix of a text, of this number of bytes.
+    pub fn ended_after(&self, error_text: &str, error_bytes: usize, status: u8) -> bool {
+        let accepted = self.error_output.accepted.as_slice();
         self.output.accepted.is_empty()
-            && self.error_output.accepted.len() == error_bytes
+            && error_text.as_bytes().starts_with(accepted)
+            && accepted.len() == error_bytes
             && self.status == status
     }
 }
