@@ -3,7 +3,6 @@
 mod rows;
 
 use crate::databases::{has_text, is_ok_with};
-use crate::equality::{are_same_chars, is_same_config};
 use crate::outcome::{Outcome, Wrong, judge_success};
 use crate::recording::Recording;
 use codespan_base::diagnostic::LabelStyle::{Primary, Secondary};
@@ -19,6 +18,7 @@ use rows::{COLORED, ROWS, render_colored, render_rows};
 use std::alloc::Global;
 use std::convert::AsStr;
 use std::ops::Range;
+use test_writers::equality::{are_same_chars, is_same_config};
 
 /// How much of the subject is done.
 #[derive(Clone, Copy)]
