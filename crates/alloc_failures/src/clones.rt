@@ -1,10 +1,10 @@
 //! The clones of a configuration, and of its parts, with an owned text.
 
-use crate::equality::{are_same_chars, is_same_config};
 use crate::outcome::{Outcome, judge_failure, judge_success};
 use codespan_base::files::Error;
 use codespan_base::term::{Chars, Config, DisplayStyle, Layout, SnippetStart};
 use std::alloc::Global;
+use test_writers::equality::{are_same_chars, is_same_config};
 
 /// A clone of a configuration or of a part of it.
 #[derive(Clone, Copy)]

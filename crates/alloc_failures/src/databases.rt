@@ -21,6 +21,9 @@ pub enum DatabaseCall {
 /// The text of a file.
 const TEXT: &str = "a\nb\nc\nd";
 
+/// The numbers of its lines, if none is set.
+const NUMBERS: [usize; 4] = [1, 2, 3, 4];
+
 /// Makes a call of a file database, and judges its result and what it leaves.
 ///
 /// # Errors
@@ -28,16 +31,18 @@ const TEXT: &str = "a\nb\nc\nd";
 /// `OutOfMemory` if an allocation of the preparation fails.
 pub fn judge_database(alloc: Global, call: DatabaseCall) -> Result<Outcome, Error> {
     match call {
-        DatabaseCall::SimpleFileNew => Ok(match SimpleFile::new(alloc, "f", TEXT) {
-            Ok(file) => judge_success(is_file(&file, (), [1, 2, 3, 4])),
-            Err(error) => judge_failure(&error, true),
-        }),
-        DatabaseCall::MappedFileNew => Ok(match MappedFile::new(alloc, "f", TEXT) {
-            Ok(file) => judge_success(is_file(&file, (), [1, 2, 3, 4])),
-            Err(error) => judge_failure(&error, true),
-        }),
+        DatabaseCall::SimpleFileNew => Ok(judge_made(&SimpleFile::new(alloc, "f", TEXT))),
+        DatabaseCall::MappedFileNew => Ok(judge_made(&MappedFile::new(alloc, "f", TEXT))),
         DatabaseCall::Add => judge_add(alloc),
         DatabaseCall::SetLine => judge_set_line(alloc),
+    }
+}
+
+/// Judges the result of a call that makes a database of one file.
+fn judge_made<'files, F: Files<'files, FileId = ()>>(made: &'files Result<F, Error>) -> Outcome {
+    match made {
+        Ok(file) => judge_success(is_file(file, (), NUMBERS)),
+        Err(error) => judge_failure(error, true),
     }
 }
 
@@ -81,7 +86,7 @@ fn has_numbers<'files, F: Files<'files>>(
 /// Returns whether a database has this many files, each of them with the text.
 fn has_files(files: &SimpleFiles<&'static str, &'static str>, count: usize) -> bool {
     for id in 0..count {
-        if !is_file(files, id, [1, 2, 3, 4]) {
+        if !is_file(files, id, NUMBERS) {
             return false;
         }
     }
@@ -105,6 +110,6 @@ fn judge_set_line(alloc: Global) -> Result<Outcome, Error> {
     let mut file = MappedFile::new(alloc, "f", TEXT)?;
     Ok(match file.set_line(2, 100) {
         Ok(()) => judge_success(is_file(&file, (), [1, 2, 100, 101])),
-        Err(error) => judge_failure(&error, is_file(&file, (), [1, 2, 3, 4])),
+        Err(error) => judge_failure(&error, is_file(&file, (), NUMBERS)),
     })
 }

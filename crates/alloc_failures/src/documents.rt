@@ -1,4 +1,10 @@
 //! The calls of `codespan_styled` and `codespan_lsp` that allocate, each over a small text.
+//!
+//! No expected text rests on what these libraries return. The SVG document is the one that
+//! another program makes by the rules of the format: `document` of `tools/gallery/inks.py`. The
+//! others are by hand: the element and the text for a terminal by the tables of `docs/STYLED.md`
+//! and `docs/TERMINAL.md`, the style sheet by `style_sheet` of `codespan_documents`, and the
+//! diagnostic by `docs/LSP.md`.
 
 use crate::outcome::{Outcome, judge_failure, judge_success, judge_value};
 use crate::rendering::judge_string;

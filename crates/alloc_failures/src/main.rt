@@ -23,7 +23,6 @@ mod copying;
 mod databases;
 mod diagnostics;
 mod documents;
-mod equality;
 mod native;
 mod outcome;
 mod recording;

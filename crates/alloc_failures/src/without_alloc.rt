@@ -1,20 +1,21 @@
 //! The calls that do not allocate.
 
+mod constructors;
 mod rows;
 
 use crate::databases::{has_text, is_ok_with};
-use crate::equality::{are_same_chars, is_same_config};
 use crate::outcome::{Outcome, Wrong, judge_success};
 use crate::recording::Recording;
 use codespan_base::diagnostic::LabelStyle::{Primary, Secondary};
-use codespan_base::diagnostic::{Diagnostic, Label, Severity};
+use codespan_base::diagnostic::{Diagnostic, Severity};
 use codespan_base::files::{
     Error, Files, Location, MappedFile, SimpleFile, SimpleFiles, column_index,
     default_column_number, default_line_number, default_location, line_starts,
 };
-use codespan_base::term::{Chars, Color, Config, SnippetStart, Styles};
+use codespan_base::term::{Color, Config, Styles};
 use codespan_renderer::term::renderer::Locus;
 use codespan_views::emitting::emit;
+use constructors::{are_cloned, are_made};
 use rows::{COLORED, ROWS, render_colored, render_rows};
 use std::alloc::Global;
 use std::convert::AsStr;
@@ -156,7 +157,8 @@ fn judge_results(alloc: Global, needed: &Prepared<'_>) -> Outcome {
             && are_styles(&Styles::default())
             && are_starts()
             && column_index("\n\n🗻∈🌏\n\n", 2..13, 10) == 2
-            && are_made(alloc),
+            && are_made(alloc)
+            && are_cloned(),
     )
 }
 
@@ -248,41 +250,6 @@ fn are_starts() -> bool {
         && starts.next() == Some(9)
         && starts.next() == Some(10)
         && starts.next().is_none()
-}
-
-/// Returns whether a label has its file, a diagnostic no labels, and clones what they were made of.
-fn are_made(alloc: Global) -> bool {
-    let label = Label::primary(alloc, 3, 5..2);
-    let diagnostic: Diagnostic<usize> = Diagnostic::help(alloc);
-    label.file_id == 3 && diagnostic.labels.is_empty() && is_config_cloned() && are_chars_cloned()
-}
-
-/// Returns whether the clone of the default configuration is equal.
-fn is_config_cloned() -> bool {
-    let config = Config::default();
-    match config.clone() {
-        Ok(cloned) => {
-            is_same_config(&cloned, &config) && is_start(&cloned.chars.snippet_start, "┌─")
-        }
-        Err(_) => false,
-    }
-}
-
-/// Returns whether the clone of the ASCII characters is equal.
-fn are_chars_cloned() -> bool {
-    let chars = Chars::ascii();
-    match chars.clone() {
-        Ok(cloned) => are_same_chars(&cloned, &chars) && is_start(&cloned.snippet_start, "-->"),
-        Err(_) => false,
-    }
-}
-
-/// Returns whether a `snippet_start` is this text, not owned.
-fn is_start(start: &SnippetStart<'_>, text: &str) -> bool {
-    match start {
-        SnippetStart::Fixed(fixed) => *fixed == text,
-        SnippetStart::Owned(_) => false,
-    }
 }
 
 /// Renders a diagnostic without a lookup.

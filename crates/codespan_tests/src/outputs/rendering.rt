@@ -118,13 +118,12 @@ pub fn render_styled<'files, F: Files<'files>, C: WriteColor + Drop>(
 
 /// Returns whether a view is rendered the same over [`NoColor`].
 fn is_same_without_color<'files, F: Files<'files>>(
-    alloc: Global,
     config: &Config<'_>,
     view: RichDiagnostic<'_, '_, F::FileId>,
     files: &'files F,
     plain: &Rendered,
 ) -> bool {
-    let without_color = NoColor::new(Vec::new(alloc));
+    let without_color = NoColor::new(Vec::new(*plain.text.allocator()));
     let (without_color, returned) = render_styled(without_color, config, view, files);
     plain.is_same(&returned, without_color.into_inner().as_slice())
 }
@@ -133,12 +132,12 @@ fn is_same_without_color<'files, F: Files<'files>>(
 /// removed.
 fn is_same_in_color<'files, F: Files<'files>>(
     rt: &impl Abort,
-    alloc: Global,
     config: &Config<'_>,
     view: RichDiagnostic<'_, '_, F::FileId>,
     files: &'files F,
     plain: &Rendered,
 ) -> bool {
+    let alloc = *plain.text.allocator();
     let (colored, returned) = render_styled(Ansi::new(Vec::new(alloc)), config, view, files);
     let text = without_sequences(alloc, colored.into_inner().as_slice()).expect(rt, "the text");
     plain.is_same(&returned, text.as_slice())
@@ -155,8 +154,8 @@ pub fn render_alike<'files, F: Files<'files>>(
     files: &'files F,
 ) -> Rendered {
     let plain = rendered_plain(alloc, config, view, files);
-    assert!(rt; is_same_without_color(alloc, config, view, files, &plain));
-    assert!(rt; is_same_in_color(rt, alloc, config, view, files, &plain));
+    assert!(rt; is_same_without_color(config, view, files, &plain));
+    assert!(rt; is_same_in_color(rt, config, view, files, &plain));
     plain
 }
 

@@ -242,7 +242,7 @@ fn scripts(rt: HostRuntime) {
 /// What a run over an empty script writes to `error_output`, in short style.
 const MISSING_END: &str = "script:1:1: error[S5]: missing end of script\n";
 
-/// If writing the diagnostic of a script's error fails, the status is 1 and nothing more is
+/// If writing the diagnostic of a script's error fails, the status is 1, and a prefix of it is
 /// written.
 #[test]
 fn failed_script_error(rt: HostRuntime) {
@@ -252,6 +252,9 @@ fn failed_script_error(rt: HostRuntime) {
             ..Failing::default()
         };
         let outcome = run_over(&rt, rt.alloc(), &["short", "f.txt"], b"", failing);
-        assert!(rt; outcome.ended_after(write * 4, 1), "write {write}");
+        assert!(rt;
+            outcome.ended_after(MISSING_END, write * 4, 1),
+            "write {write}"
+        );
     }
 }

@@ -7,7 +7,6 @@ use codespan_base::diagnostic::{Diagnostic, Label, LabelStyle, Severity};
 use codespan_base::files::SimpleFile;
 use codespan_base::term::{Config, DisplayStyle};
 use codespan_styled::{Style, StyledText, styled_text, to_html};
-use codespan_views::emitting::emit_into_string;
 use std::alloc::Global;
 use std::panic::Expect;
 use std::process::Abort;
@@ -90,34 +89,47 @@ fn wide(rt: &impl Abort, alloc: Global) -> Diagnostic<()> {
         .expect(rt, "the diagnostic")
 }
 
-/// Asserts that the texts of all runs join to this one.
-fn assert_joined(rt: &impl Abort, text: &StyledText, plain: &str) {
-    let mut joined = String::new(*text.runs.allocator());
-    for run in &text.runs {
-        joined.push_str(run.text.as_str()).expect(rt, "the texts");
+/// The style of its label.
+const LABEL: Style = Style::Label(Severity::Warning, LabelStyle::Primary);
+
+/// The runs of its output in rich style, by hand from the definitions: the rows are those of
+/// `rich_rows`, each row's text and style marks those of `stream_of`, and a style mark starts a run.
+static RUNS: [(Style, &str); 20] = [
+    (Style::Plain, ""),
+    (Style::Header(Severity::Warning), "warning"),
+    (Style::HeaderMessage, ": wide"),
+    (Style::Plain, "\n  "),
+    (Style::SourceBorder, "┌─"),
+    (Style::Plain, " wide.txt:1:1\n  "),
+    (Style::SourceBorder, "│"),
+    (Style::Plain, "\n"),
+    (Style::LineNumber, "1"),
+    (Style::Plain, " "),
+    (Style::SourceBorder, "│"),
+    (Style::Plain, " "),
+    (LABEL, "日本語"),
+    (Style::Plain, " = 1\n  "),
+    (Style::SourceBorder, "│"),
+    (Style::Plain, " "),
+    (LABEL, "^^^^^^"),
+    (Style::Plain, " "),
+    (LABEL, "名"),
+    (Style::Plain, "\n\n"),
+];
+
+/// Asserts that a text has these runs.
+fn assert_runs(rt: &impl Abort, text: &StyledText, expected: &[(Style, &str)]) {
+    assert!(rt; text.runs.len() == expected.len());
+    for (run, (style, part)) in text.runs.iter().zip(expected) {
+        assert_text(rt, run.text.as_str(), part);
+        assert!(rt; run.style == *style, "the style of {part:?}");
     }
-    assert_text(rt, joined.as_str(), plain);
 }
 
-/// Returns whether a run has this style.
-fn has_style(text: &StyledText, style: Style) -> bool {
-    let mut is_found = false;
-    for run in &text.runs {
-        is_found = is_found || run.style == style;
-    }
-    is_found
-}
-
-/// The texts of the runs join to what `emit_into_string` returns, and a run has the style of the
-/// label.
 #[test]
 fn runs_of_a_rich_diagnostic(rt: HostRuntime) {
     let files = SimpleFile::new(rt.alloc(), "wide.txt", "日本語 = 1\n").expect(&rt, "the file");
     let diagnostic = wide(&rt, rt.alloc());
-    let config = Config::default();
-    let text = styled(&rt, &config, &files, &diagnostic);
-    let plain = emit_into_string(&config, &files, &diagnostic).expect(&rt, "the plain text");
-    assert_joined(&rt, &text, plain.as_str());
-    let label = Style::Label(Severity::Warning, LabelStyle::Primary);
-    assert!(rt; has_style(&text, label));
+    let text = styled(&rt, &Config::default(), &files, &diagnostic);
+    assert_runs(&rt, &text, &RUNS);
 }

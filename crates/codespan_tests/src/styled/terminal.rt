@@ -4,7 +4,7 @@ use crate::asserts::{assert_bytes, assert_row};
 use crate::outputs::rendering::render_styled;
 use crate::styled::texts::text_of_parts;
 use codespan_base::diagnostic::{Diagnostic, Label, LabelStyle, Severity};
-use codespan_base::files::SimpleFiles;
+use codespan_base::files::SimpleFile;
 use codespan_base::term::{Ansi, Config, Styles};
 use codespan_reporting::term::RichDiagnostic;
 use codespan_styled::render::styled_text;
@@ -189,9 +189,9 @@ fn outputs(rt: HostRuntime) {
     }
 }
 
-/// Returns a diagnostic with a label in this file.
-fn unused_variable(rt: &impl Abort, alloc: Global, id: usize) -> Diagnostic<usize> {
-    let label = Label::primary(alloc, id, 4..5).with_message("not used");
+/// Returns a diagnostic with a label.
+fn unused_variable(rt: &impl Abort, alloc: Global) -> Diagnostic<()> {
+    let label = Label::primary(alloc, (), 4..5).with_message("not used");
     Diagnostic::warning(alloc)
         .with_message("a variable")
         .expect(rt, "the message")
@@ -203,8 +203,8 @@ fn unused_variable(rt: &impl Abort, alloc: Global, id: usize) -> Diagnostic<usiz
 fn written_to_ansi(
     rt: &impl Abort,
     config: &Config<'_>,
-    files: &SimpleFiles<&str, &str>,
-    diagnostic: &Diagnostic<usize>,
+    files: &SimpleFile<&str, &str>,
+    diagnostic: &Diagnostic<()>,
 ) -> Vec<u8> {
     let view = RichDiagnostic::new(diagnostic, config);
     let colors = Ansi::new(Vec::new(*diagnostic.labels.allocator()));
@@ -215,9 +215,8 @@ fn written_to_ansi(
 
 #[test]
 fn output_is_as_written_to_ansi(rt: HostRuntime) {
-    let mut files = SimpleFiles::new(rt.alloc());
-    let id = files.add("a.rs", "let x = 1;\n").expect(&rt, "the file");
-    let diagnostic = unused_variable(&rt, rt.alloc(), id);
+    let files = SimpleFile::new(rt.alloc(), "a.rs", "let x = 1;\n").expect(&rt, "the file");
+    let diagnostic = unused_variable(&rt, rt.alloc());
     let config = Config::default();
     let colored = written_to_ansi(&rt, &config, &files, &diagnostic);
     let text = styled_text(rt.alloc(), &config, &files, &diagnostic).expect(&rt, "the text");
