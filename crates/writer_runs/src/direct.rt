@@ -84,19 +84,19 @@ impl fmt::Display for RowCall<'_> {
 
 /// A call of `Renderer`, and the locus that it may write.
 #[derive(Drop)]
-pub struct Direct<'text> {
+pub struct DirectCall<'text> {
     call: RowCall<'text>,
     locus: Locus,
 }
 
-impl<'text> Direct<'text> {
+impl<'text> DirectCall<'text> {
     /// Returns the call, with the locus `f.txt:1:1`.
     ///
     /// # Errors
     ///
     /// `OutOfMemory` if an allocation fails.
     pub fn new(alloc: Global, call: RowCall<'text>) -> Result<Self, Error> {
-        Ok(Direct {
+        Ok(DirectCall {
             call,
             locus: Locus {
                 name: String::from_str(alloc, "f.txt")?,
@@ -180,7 +180,7 @@ impl RowCall<'_> {
     }
 }
 
-impl<'text> Render for Direct<'text> {
+impl<'text> Render for DirectCall<'text> {
     fn render<W: WriteStyle>(&self, writer: &mut W) -> Result<(), Error> {
         let config = Config {
             tab_width: self.call.tab_width(),

@@ -1,6 +1,6 @@
 //! All runs of a worked output, and of a row that is rendered by a direct call.
 
-use crate::direct::Direct;
+use crate::direct::DirectCall;
 use crate::direct::rows::DirectRow;
 use crate::failure::{Failure, FailureAt};
 use crate::rendering::{CALLS, Render, RenderCall, RenderInput, Rendering};
@@ -225,6 +225,6 @@ pub fn judge_direct(alloc: Global, row: &DirectRow<'_>) -> Result<usize, Failure
 
 /// Makes all runs of a direct call, and returns their number, or the first error.
 fn judge_direct_call(alloc: Global, row: &DirectRow<'_>) -> Result<usize, Failure> {
-    let direct = Direct::new(alloc, row.call)?;
+    let direct = DirectCall::new(alloc, row.call)?;
     judge_call(alloc, &direct, row.text, row.colors)
 }

@@ -90,7 +90,7 @@ static MOST: [usize; 4] = [1, 2, 5, 100];
 
 /// A writer that stops holds a prefix of the parts, and no write follows the one that stopped it.
 #[test]
-fn rows_over_writers_that_stop(rt: HostRuntime) {
+fn parts_over_writers_that_stop(rt: HostRuntime) {
     for stop in &STOPS {
         for most in &MOST {
             for writes in 0..100 {

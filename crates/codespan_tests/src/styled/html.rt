@@ -2,7 +2,7 @@
 
 use crate::asserts::{assert_row, assert_text};
 use crate::outputs::styles::in_style;
-use crate::styled::texts::text_of_parts;
+use crate::styled::texts::text_of_runs;
 use codespan_base::diagnostic::{Diagnostic, Label, LabelStyle, Severity};
 use codespan_base::files::SimpleFile;
 use codespan_base::term::{Config, DisplayStyle};
@@ -39,7 +39,7 @@ static DOCUMENTS: [(&str, &[(Style, &str)], &str); 2] = [
 #[test]
 fn documents(rt: HostRuntime) {
     for (name, parts, want) in &DOCUMENTS {
-        let text = text_of_parts(&rt, rt.alloc(), parts);
+        let text = text_of_runs(&rt, rt.alloc(), parts);
         let html = to_html(rt.alloc(), &text).expect(&rt, "the document");
         assert_row(&rt, name, html.as_str(), want);
     }

@@ -2,7 +2,7 @@
 //! `document` of `tools/gallery/inks.py`.
 
 use crate::asserts::assert_text;
-use crate::styled::texts::text_of_parts;
+use crate::styled::texts::text_of_runs;
 use codespan_base::diagnostic::{LabelStyle, Severity};
 use codespan_base::term::Styles;
 use codespan_styled::{Style, to_svg};
@@ -21,7 +21,7 @@ static PARTS: [(Style, &str); 7] = [
 
 #[test]
 fn inks_and_cells(rt: HostRuntime) {
-    let text = text_of_parts(&rt, rt.alloc(), &PARTS);
+    let text = text_of_runs(&rt, rt.alloc(), &PARTS);
     let want = "<svg xmlns=\"http://www.w3.org/2000/svg\" width=\"105\" height=\"42\" \
                 viewBox=\"0 0 105 42\" \
                 font-family=\"DejaVu Sans Mono, Menlo, Consolas, monospace\" font-size=\"15\" \

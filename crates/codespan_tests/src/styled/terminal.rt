@@ -2,7 +2,7 @@
 
 use crate::asserts::{assert_bytes, assert_row};
 use crate::outputs::rendering::render_styled;
-use crate::styled::texts::text_of_parts;
+use crate::styled::texts::text_of_runs;
 use codespan_base::diagnostic::{Diagnostic, Label, LabelStyle, Severity};
 use codespan_base::files::SimpleFile;
 use codespan_base::term::{Ansi, Config, Styles};
@@ -183,7 +183,7 @@ static OUTPUTS: [Output<'static>; 10] = [
 fn outputs(rt: HostRuntime) {
     let styles = Styles::default();
     for (name, parts, want) in &OUTPUTS {
-        let text = text_of_parts(&rt, rt.alloc(), parts);
+        let text = text_of_runs(&rt, rt.alloc(), parts);
         let terminal = to_terminal(rt.alloc(), &text, &styles).expect(&rt, "the output");
         assert_row(&rt, name, terminal.as_str(), want);
     }

@@ -6,7 +6,7 @@ use std::panic::Expect;
 use std::process::Abort;
 
 /// Returns the styled text whose runs have these styles and texts.
-pub fn text_of_parts(rt: &impl Abort, alloc: Global, parts: &[(Style, &str)]) -> StyledText {
+pub fn text_of_runs(rt: &impl Abort, alloc: Global, parts: &[(Style, &str)]) -> StyledText {
     let mut runs = Vec::new(alloc);
     for (style, part) in parts {
         let text = part.to_string(alloc).expect(rt, "the part");

@@ -1,5 +1,5 @@
 //! Groups of diagnostics, and what the crate `codespan_reporting` renders of them. Both crates are
-//! compiled with this module: this one by `tests/original.rs`, and the original by `beside`.
+//! compiled with this module: this one by `tests/original.rs`, and the original by `compare`.
 //!
 //! The groups have the names and the structure of those in the original's test: severities, codes,
 //! ranges and styles of labels, lengths of lines, numbers of notes. Their texts are other ones.

@@ -1,8 +1,8 @@
 //! Compares this crate with the original one.
 //!
-//! `beside check SEED COUNT` renders random diagnostics by both, and fails where one differs that
-//! should not. `beside bench` prints the time that each takes for some diagnostics, and
-//! `beside outputs` what the original renders of the groups in `tests/original`.
+//! `compare check SEED COUNT` renders random diagnostics by both, and fails where one differs that
+//! should not. `compare bench` prints the time that each takes for some diagnostics, and
+//! `compare outputs` what the original renders of the groups in `tests/original`.
 
 // The name by which the groups use a crate.
 extern crate original as codespan_reporting;
@@ -43,7 +43,7 @@ fn main() -> ExitCode {
 }
 
 fn usage() -> ExitCode {
-    eprintln!("usage: beside check SEED COUNT, beside bench, or beside outputs");
+    eprintln!("usage: compare check SEED COUNT, compare bench, or compare outputs");
     ExitCode::from(2)
 }
 
