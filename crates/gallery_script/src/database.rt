@@ -96,25 +96,30 @@ fn with_unit_ids(alloc: Global, diagnostic: &Diagnostic<usize>) -> Result<Diagno
     ensures { IfOk result (λ converted. diagnostic_view converted
         ≡ by_unit_id (diagnostic_view diagnostic.now)) }
 {
-    let diagnostic = diagnostic.clone()?;
+    let Diagnostic {
+        severity,
+        code,
+        message,
+        labels: stated,
+        notes,
+    } = diagnostic.clone()?;
     let mut labels = Vec::new(alloc);
-    for label in diagnostic.labels.as_slice() {
-        labels.push(label_with_unit_id(label)?)?;
+    for label in stated {
+        labels.push(with_unit_id(label)?)?;
     }
     Ok(Diagnostic {
-        severity: diagnostic.severity,
-        code: diagnostic.code,
-        message: diagnostic.message,
+        severity,
+        code,
+        message,
         labels,
-        notes: diagnostic.notes,
+        notes,
     })
 }
 
-/// Returns the label with the file id `()`. Fails with `FileMissing` if it is not in file 0, and
-/// with `OutOfMemory`.
-fn label_with_unit_id(label: &Label<usize>) -> Result<Label<()>, Error>
+/// Returns the label with the file id `()`. Fails with `FileMissing` if it is not in file 0.
+fn with_unit_id(label: Label<usize>) -> Result<Label<()>, Error>
     ensures { IfOk result (λ converted. label_view converted
-        ≡ label_by_unit_id (label_view label.now)) }
+        ≡ label_by_unit_id (label_view label)) }
 {
     if label.file_id != 0 {
         return Err(Error::FileMissing);
@@ -122,7 +127,7 @@ fn label_with_unit_id(label: &Label<usize>) -> Result<Label<()>, Error>
     Ok(Label {
         style: label.style,
         file_id: (),
-        range: label.range.start..label.range.end,
-        message: label.message.clone()?,
+        range: label.range,
+        message: label.message,
     })
 }
