@@ -6,7 +6,7 @@ ghost use Rattle.codespan_base.specs.DatabaseViews.{entries, mapped_name_of, map
 ghost use Rattle.gallery_script.specs.Cases.{file_view};
 ghost use Rattle.gallery_script.specs.Database.{IsDatabaseOf, by_unit_id, label_by_unit_id, borrowed_view, with_numbers};
 
-use crate::case::{Case, DatabaseKind, File};
+use crate::case::{Case, DatabaseKind, File, SetNumber};
 use codespan_base::diagnostic::{Diagnostic, Label};
 use codespan_base::files::{Error, MappedFile, SimpleFile, SimpleFiles};
 use std::alloc::Global;
@@ -77,14 +77,14 @@ fn several_files(alloc: Global, files: &[File]) -> Result<SimpleFiles<&str, &str
 fn mapped_file<'case>(
     alloc: Global,
     file: &'case File,
-    numbers: &[(usize, usize)],
+    numbers: &[SetNumber],
 ) -> Result<MappedFile<&'case str, &'case str>, Error>
     ensures file { IfOk result (λ mapped.
         ((mapped_name_of mapped).now, (mapped_source_of mapped).now) ≡ file_view file.now) }
     ensures numbers { IfOk result (λ mapped. set_numbers_of mapped ≡ with_numbers [] numbers.now) }
 {
     let mut mapped = MappedFile::new(alloc, file.name.as_str(), file.source.as_str())?;
-    for (line, number) in numbers {
+    for SetNumber { line, number } in numbers {
         mapped.set_line(*line, *number)?;
     }
     Ok(mapped)
