@@ -88,10 +88,5 @@ pub fn case_named<'cases, 'input>(
 ) -> Option<&'cases Case<'input>>
     ensures { option_copied result ≡ case_named name.now cases.now }
 {
-    for case in cases {
-        if case.name == name {
-            return Some(case);
-        }
-    }
-    None
+    cases.iter().find(|case| case.name == name)
 }
