@@ -5,7 +5,7 @@ ghost use Rattle.report_script.specs.ScriptLines.{script_line_view};
 ghost use Rattle.report_script.specs.ScriptFaults.{fault_from, line_fault, missing_end, severity_fault, number_fault, repetition};
 
 use super::line::Line;
-use super::parts::line_of_word;
+use super::parsed::line_of_word;
 use super::words::{Word, parse_word};
 use super::{Fault, FaultNumber};
 use crate::request::parse_number;

@@ -7,7 +7,7 @@ use Rattle.std.proofs.lemmas.Iterator.Search.{find_from_yields_List}
 use Rattle.report_script.specs.declared.script.line.Line.{Line}
 use Rattle.report_script.specs.ScriptFaults.{line_of_word}
 use Rattle.report_script.specs.ScriptLines.{script_line_view, word_of}
-use Rattle.report_script.proofs.script.parts.line_of_word.Goals as goal
+use Rattle.report_script.proofs.script.parsed.line_of_word.Goals as goal
 
 -- the first line of which the test is true is the one that begins with the word
 found : (word : List ℕ) (lines : List Line)
