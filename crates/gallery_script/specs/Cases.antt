@@ -60,7 +60,7 @@ Applies (statements.Source text) old new =
     (map file_view new.files.items)
 Applies (statements.Number line number) old new =
     (new ≡ record old { numbers = new.numbers })
-    × (new.numbers.items ≡ old.numbers.items ++ (line, number) ∷ [])
+    × (new.numbers.items ≡ old.numbers.items ++ record { line = line; number = number } ∷ [])
 Applies (statements.Style style) old new =
     new ≡ record old { config = record old.config { display_style = style } }
 Applies (statements.Layout layout) old new =

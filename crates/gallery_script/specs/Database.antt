@@ -7,6 +7,7 @@ use Rattle.codespan_base.specs.MappedModel.{with_set_number}
 use Rattle.codespan_base.specs.DatabaseViews.{entries, mapped_name_of, mapped_source_of, name_of, set_numbers_of, source_of}
 use Rattle.gallery_script.specs.declared.case.Case.{Case}
 use Rattle.gallery_script.specs.declared.case.DatabaseKind.TheVariants as kinds
+use Rattle.gallery_script.specs.declared.case.SetNumber.{SetNumber}
 use Rattle.gallery_script.specs.declared.database.Database.{Database}
 use Rattle.gallery_script.specs.declared.database.Database.TheVariants.{One, Several, Mapped}
 use Rattle.gallery_script.specs.Cases.{file_view}
@@ -28,10 +29,10 @@ by_unit_id diagnostic =
     }
 
 -- the line numbers that are set after those of a list are set too, one after another
-abbrev pub with_numbers : List (ℕ × ℕ) → List (ℕ × ℕ) → List (ℕ × ℕ)
+abbrev pub with_numbers : List (ℕ × ℕ) → List SetNumber → List (ℕ × ℕ)
 with_numbers settings [] = settings
 with_numbers settings (setting ∷ more) =
-    with_numbers (with_set_number setting.0 setting.1 settings) more
+    with_numbers (with_set_number setting.line setting.number settings) more
 
 -- a borrowed name and source
 abbrev pub BorrowedFile : Type 0

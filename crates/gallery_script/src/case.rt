@@ -64,6 +64,15 @@ pub struct File {
     pub source: String,
 }
 
+/// A line number that is set.
+#[derive(Clone, Copy)]
+pub struct SetNumber {
+    /// The index of the line, from 0.
+    pub line: usize,
+    /// Its number.
+    pub number: usize,
+}
+
 /// A case: a diagnostic to be rendered, its files, and a configuration.
 #[derive(Drop)]
 pub struct Case<'input> {
@@ -73,9 +82,8 @@ pub struct Case<'input> {
     pub database_kind: DatabaseKind,
     /// The files in their order.
     pub files: Vec<File>,
-    /// The set line numbers: the index of a line, from 0, and its number. Only a `MappedFile` uses
-    /// them.
-    pub numbers: Vec<(usize, usize)>,
+    /// The set line numbers. Only a `MappedFile` uses them.
+    pub numbers: Vec<SetNumber>,
     /// The configuration.
     pub config: Config<'input>,
     /// Whether the output has colors, and how these are written.
@@ -117,7 +125,7 @@ impl<'input> Case<'input> {
             Statement::Database(kind) => self.database_kind = kind,
             Statement::File(name) => self.add_file(name)?,
             Statement::Source(text) => self.add_source(text.as_str())?,
-            Statement::Number(line, number) => self.numbers.push((line, number))?,
+            Statement::Number { line, number } => self.numbers.push(SetNumber { line, number })?,
             Statement::Style(style) => self.config.display_style = style,
             Statement::Layout(layout) => self.config.layout = layout,
             Statement::Tab(width) => self.config.tab_width = width,

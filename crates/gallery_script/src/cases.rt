@@ -45,8 +45,9 @@ fn apply_lines<'input>(
 {
     let mut cases = Vec::new(alloc);
     for (index, line) in lines.iter().enumerate() {
-        if let Err(line_error) = apply_line(alloc, &mut cases, line) {
-            return Err(RunError::Failed(GalleryError::Line(index + 1, line_error)));
+        if let Err(error) = apply_line(alloc, &mut cases, line) {
+            let number = index + 1;
+            return Err(RunError::Failed(GalleryError::Line { number, error }));
         }
     }
     Ok(cases)
@@ -87,10 +88,5 @@ pub fn case_named<'cases, 'input>(
 ) -> Option<&'cases Case<'input>>
     ensures { option_copied result ≡ case_named name.now cases.now }
 {
-    for case in cases {
-        if case.name == name {
-            return Some(case);
-        }
-    }
-    None
+    cases.iter().find(|case| case.name == name)
 }

@@ -6,7 +6,7 @@ ghost use Rattle.codespan_base.specs.DatabaseViews.{entries, mapped_name_of, map
 ghost use Rattle.gallery_script.specs.Cases.{file_view};
 ghost use Rattle.gallery_script.specs.Database.{IsDatabaseOf, by_unit_id, label_by_unit_id, borrowed_view, with_numbers};
 
-use crate::case::{Case, DatabaseKind, File};
+use crate::case::{Case, DatabaseKind, File, SetNumber};
 use codespan_base::diagnostic::{Diagnostic, Label};
 use codespan_base::files::{Error, MappedFile, SimpleFile, SimpleFiles};
 use std::alloc::Global;
@@ -77,14 +77,14 @@ fn several_files(alloc: Global, files: &[File]) -> Result<SimpleFiles<&str, &str
 fn mapped_file<'case>(
     alloc: Global,
     file: &'case File,
-    numbers: &[(usize, usize)],
+    numbers: &[SetNumber],
 ) -> Result<MappedFile<&'case str, &'case str>, Error>
     ensures file { IfOk result (λ mapped.
         ((mapped_name_of mapped).now, (mapped_source_of mapped).now) ≡ file_view file.now) }
     ensures numbers { IfOk result (λ mapped. set_numbers_of mapped ≡ with_numbers [] numbers.now) }
 {
     let mut mapped = MappedFile::new(alloc, file.name.as_str(), file.source.as_str())?;
-    for (line, number) in numbers {
+    for SetNumber { line, number } in numbers {
         mapped.set_line(*line, *number)?;
     }
     Ok(mapped)
@@ -96,25 +96,30 @@ fn with_unit_ids(alloc: Global, diagnostic: &Diagnostic<usize>) -> Result<Diagno
     ensures { IfOk result (λ converted. diagnostic_view converted
         ≡ by_unit_id (diagnostic_view diagnostic.now)) }
 {
-    let diagnostic = diagnostic.clone()?;
+    let Diagnostic {
+        severity,
+        code,
+        message,
+        labels: stated,
+        notes,
+    } = diagnostic.clone()?;
     let mut labels = Vec::new(alloc);
-    for label in diagnostic.labels.as_slice() {
-        labels.push(label_with_unit_id(label)?)?;
+    for label in stated {
+        labels.push(with_unit_id(label)?)?;
     }
     Ok(Diagnostic {
-        severity: diagnostic.severity,
-        code: diagnostic.code,
-        message: diagnostic.message,
+        severity,
+        code,
+        message,
         labels,
-        notes: diagnostic.notes,
+        notes,
     })
 }
 
-/// Returns the label with the file id `()`. Fails with `FileMissing` if it is not in file 0, and
-/// with `OutOfMemory`.
-fn label_with_unit_id(label: &Label<usize>) -> Result<Label<()>, Error>
+/// Returns the label with the file id `()`. Fails with `FileMissing` if it is not in file 0.
+fn with_unit_id(label: Label<usize>) -> Result<Label<()>, Error>
     ensures { IfOk result (λ converted. label_view converted
-        ≡ label_by_unit_id (label_view label.now)) }
+        ≡ label_by_unit_id (label_view label)) }
 {
     if label.file_id != 0 {
         return Err(Error::FileMissing);
@@ -122,7 +127,7 @@ fn label_with_unit_id(label: &Label<usize>) -> Result<Label<()>, Error>
     Ok(Label {
         style: label.style,
         file_id: (),
-        range: label.range.start..label.range.end,
-        message: label.message.clone()?,
+        range: label.range,
+        message: label.message,
     })
 }

@@ -30,8 +30,13 @@ pub enum LineError {
 /// An error that only `gallery` has.
 #[derive(Debug, Drop)]
 pub enum GalleryError {
-    /// The line with this number, from 1, has an error.
-    Line(usize, LineError),
+    /// A line has an error.
+    Line {
+        /// The number of the line, from 1.
+        number: usize,
+        /// Its error.
+        error: LineError,
+    },
     /// No case has this name, which the arguments request.
     UnknownCase(String),
     /// Rendering the requested document or style sheet failed.
@@ -89,9 +94,7 @@ impl fmt::Display for LineError {
 impl fmt::Display for GalleryError {
     fn fmt<W: fmt::Write>(&self, f: &mut fmt::Formatter<W>) -> fmt::Result {
         match self {
-            GalleryError::Line(number, line_error) => {
-                write!(f, "gallery: line {number}: {line_error}")
-            }
+            GalleryError::Line { number, error } => write!(f, "gallery: line {number}: {error}"),
             GalleryError::UnknownCase(name) => write!(f, "gallery: no case {name}"),
             GalleryError::CannotRender(error) => write!(f, "gallery: cannot render: {error}"),
         }

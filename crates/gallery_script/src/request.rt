@@ -52,10 +52,7 @@ impl<'args> Request<'args> {
         match args {
             [] => Some(Request::All),
             [word] if word.as_str() == "styles" => Some(Request::Styles),
-            [word, name] => match Format::parse(word.as_str()) {
-                Some(format) => Some(Request::Document(format, name.as_str())),
-                None => None,
-            },
+            [word, name] => Some(Request::Document(Format::parse(word.as_str())?, name.as_str())),
             _ => None,
         }
     }

@@ -39,8 +39,13 @@ pub enum Statement {
     File(String),
     /// `| TEXT`: the continuation of the source of the last file.
     Source(String),
-    /// `number LINE NUMBER`: the index of a line, from 0, and its number.
-    Number(usize, usize),
+    /// `number LINE NUMBER`: one more set line number.
+    Number {
+        /// The index of the line, from 0.
+        line: usize,
+        /// Its number.
+        number: usize,
+    },
     /// `style NAME`: the display style.
     Style(DisplayStyle),
     /// `layout NAME`: the layout of line numbers and lanes.
@@ -141,7 +146,8 @@ fn parse_line_number(rest: &str) -> Result<Statement, LineError>
     ensures wrong { IfErr result (IsWrong (Some words.Number) rest.now) }
 {
     let (line, left) = split_number(rest)?;
-    Ok(Statement::Number(line, parse_number(left)?))
+    let number = parse_number(left)?;
+    Ok(Statement::Number { line, number })
 }
 
 /// Parses the rest of a `context` line.

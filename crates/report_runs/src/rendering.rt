@@ -34,7 +34,7 @@ pub fn render(alloc: Global, request: &Request<'_>, input: &str) -> Result<Strin
 {
     match request {
         Request::OneLabel(label_request) => render_request(alloc, label_request, input),
-        Request::OfScript(style, name) => render_script(alloc, *style, name, input),
+        Request::OfScript { style, name } => render_script(alloc, *style, name, input),
     }
 }
 

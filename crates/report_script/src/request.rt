@@ -50,9 +50,13 @@ impl<'args> LabelRequest<'args> {
 pub enum Request<'args> {
     /// An error with one label, whose source is the input.
     OneLabel(LabelRequest<'args>),
-    /// The diagnostic of the script at the start of the input, in this display style. The file has
-    /// this name, and its source follows the script in the input.
-    OfScript(DisplayStyle, &'args str),
+    /// The diagnostic of the script at the start of the input, whose source follows the script.
+    OfScript {
+        /// The display style.
+        style: DisplayStyle,
+        /// The name of the file.
+        name: &'args str,
+    },
 }
 
 impl<'args> Request<'args> {
@@ -64,10 +68,10 @@ impl<'args> Request<'args> {
         ensures { option_map request_view result ≡ request_of (map string_bytes args.now) }
     {
         match args {
-            [style, name] => Some(Request::OfScript(
-                parse_display_style(style.as_str())?,
-                name.as_str(),
-            )),
+            [style, name] => Some(Request::OfScript {
+                style: parse_display_style(style.as_str())?,
+                name: name.as_str(),
+            }),
             _ => Some(Request::OneLabel(LabelRequest::from_arguments(args)?)),
         }
     }

@@ -13,13 +13,13 @@ ghost use Rattle.report_script.specs.declared.script.ScriptError.TheVariants.{Ou
 mod faults;
 mod line;
 mod lines;
-mod parts;
+mod parsed;
 mod words;
 
 use codespan_base::diagnostic::{LabelStyle, Severity};
-use faults::first_fault;
+use faults::{first_fault, missing_end};
 use lines::split_script;
-use parts::{parsed_labels, parsed_notes, parsed_severity, rest_of_word};
+use parsed::{parsed_labels, parsed_notes, parsed_severity, rest_of_word};
 use std::alloc::{AllocError, Global};
 use std::ops::Range;
 
@@ -149,11 +149,7 @@ pub fn parse_script(alloc: Global, input: &str) -> Result<Script<'_>, ScriptErro
         return Err(ScriptError::Fault(fault));
     }
     let Some(source) = source else {
-        return Err(ScriptError::Fault(Fault {
-            number: FaultNumber::MissingEnd,
-            range: input.len()..input.len(),
-            first: None,
-        }));
+        return Err(ScriptError::Fault(missing_end(input)));
     };
     Ok(Script {
         severity: parsed_severity(lines.as_slice()),

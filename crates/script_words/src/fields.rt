@@ -21,8 +21,5 @@ pub fn split_field(text: &str) -> (&str, &str)
 pub fn is_ignored(line: &str) -> bool
     ensures { result ≡ is_ignored_text line.now }
 {
-    match line.as_bytes() {
-        [] => true,
-        [first, ..] => *first == b'#',
-    }
+    line.is_empty() || line.starts_with('#')
 }

@@ -2,10 +2,10 @@
 
 ghost use Rattle.std.specs.Prelude.{◌≡◌, [], map};
 ghost use Rattle.report_script.specs.ScriptLines.{script_line_view};
-ghost use Rattle.report_script.specs.ScriptFaults.{fault_from, line_fault, severity_fault, number_fault, repetition};
+ghost use Rattle.report_script.specs.ScriptFaults.{fault_from, line_fault, missing_end, severity_fault, number_fault, repetition};
 
 use super::line::Line;
-use super::parts::line_of_word;
+use super::parsed::line_of_word;
 use super::words::{Word, parse_word};
 use super::{Fault, FaultNumber};
 use crate::request::parse_number;
@@ -45,6 +45,13 @@ fn line_fault(before: &[Line<'_>], line: &Line<'_>) -> Option<Fault>
         Some(Word::Primary | Word::Secondary) => number_fault(line),
         Some(Word::Note) => None,
     }
+}
+
+/// Returns the error of a script without an end, at the end of the input.
+pub(super) fn missing_end(input: &str) -> Fault
+    ensures { result ≡ missing_end input.now }
+{
+    fault(FaultNumber::MissingEnd, input.len()..input.len())
 }
 
 /// Returns an error with one range.

@@ -1,20 +1,24 @@
-use Rattle.std.proofs.Common.{◌≡◌, ◌+◌, true, ◌∷◌, drop, Some, ap, sym, ◌∙◌}
+use Rattle.std.proofs.Common.{◌≡◌, ℕ, List, [], ◌∷◌, Some, refl, ap, ◌∙◌, rules, tests}
+use Rattle.std.specs.List.{find}
 use Rattle.std.specs.Prelude.{if◌then◌else◌}
 use Rattle.std.specs.Str.{bytes_eq}
-use Rattle.std.proofs.lemmas.List.{drop_more}
+use Rattle.std.proofs.lemmas.Iterator.{YieldsList-from_slice}
+use Rattle.std.proofs.lemmas.Iterator.Search.{find_from_yields_List}
 use Rattle.gallery_script.specs.declared.case.Case.{Case}
 use Rattle.gallery_script.specs.Cases.{case_named}
 use Rattle.gallery_script.proofs.cases.case_named.Goals as goal
 
--- the case at the index has the name, and none before it has
-pub returns-then-eq : goal.returns-then-eq
-returns-then-eq c =
-    let case = c.case-item.result in
-    let i = c.loop-case.case-index in
-    let cases = c.args.cases.now in
+-- the first case of which the test is true is the one with the name
+found : (name : List ℕ) (cases : List Case)
+    → find (λ case. bytes_eq case.name.now name) cases ≡ case_named name cases
+found name [] = refl
+found name (case ∷ cases) =
+    ap (λ later. if bytes_eq case.name.now name then Some case else later) (found name cases)
+
+pub returns : goal.returns
+returns c =
     let name = c.args.name.now in
-    let same : bytes_eq case.name.now name ≡ true = sym c.eq.ensures ∙ c.if-eq.true in
-    let left = drop_more cases i case c.loop-case-test.true
-    ∙ ap (λ (x : Case). x ∷ drop (i + 1) cases) (sym c.case-item.is) in
-    ap (λ found. if found then Some case else case_named name (drop (i + 1) cases)) (sym same)
-    ∙ ap (case_named name) (sym left) ∙ c.loop-case.invariant
+    find_from_yields_List (λ (case : Case). bytes_eq case.name.now name) _ _ c.find.result
+    c.find.ensures.ran (YieldsList-from_slice c.args.cases.now cc)
+    (λ x b q k. search (rules, tests))
+    ∙ found name c.args.cases.now

@@ -1,5 +1,7 @@
-use Rattle.std.proofs.Common.{◌≡◌, ◌∷◌, ◌++◌, [], ◌∙◌, List, ℕ, ap, map, sym, take}
-use Rattle.std.proofs.lemmas.List.{map_more, map_push, take_all}
+use Rattle.std.proofs.Common.{◌≡◌, ◌∷◌, ◌++◌, [], ◌∙◌, List, ℕ, ap, map, map-id, sym}
+use Rattle.std.proofs.lemmas.List.{map_push}
+use Rattle.std.proofs.lemmas.Iterator.Adapters.{YieldsList-from_vec}
+use Rattle.std.proofs.lemmas.Iterator.Consumers.{YieldsList-end}
 use Rattle.codespan_base.specs.declared.diagnostic.Label.{Label}
 use Rattle.codespan_base.specs.Diagnostics.{diagnostic_view, label_view}
 use Rattle.gallery_script.specs.Database.{by_unit_id, label_by_unit_id}
@@ -8,26 +10,35 @@ use Rattle.gallery_script.proofs.database.with_unit_ids.Goals as goal
 -- one more label
 pub loop-label-preserved : goal.loop-label-preserved
 loop-label-preserved c =
-    let items = c.as_slice-label-items.result.now in
-    let i = c.loop-label.label-index in
-    let added = c.in_ok-label_with_unit_id.field-0 in
-    ap (map label_view) c.in_ok-push.ensures.items
-    ∙ map_push label_view c.loop-label.labels.items added
-    ∙ ap (λ views. views ++ label_view added ∷ []) c.loop-label.invariant
-    ∙ ap (λ view. map label_by_unit_id (map label_view (take i items)) ++ view ∷ [])
-    (c.in_ok-label_with_unit_id.ensures
-    ∙ ap (λ (label : Label ℕ). label_by_unit_id (label_view label)) c.label-item.is)
-    ∙ sym
-    (ap (map label_by_unit_id)
-    (map_more label_view items i c.label-item.result c.loop-label-test.true)
-    ∙ map_push label_by_unit_id (map label_view (take i items)) _)
+    let yielded = c.loop-label.yielded in
+    let label = c.in-Some.label in
+    let added = c.in_ok-with_unit_id.field-0 in
+    record {
+      code = c.loop-label.invariant.code;
+      labels =
+          ap (map label_view) c.in_ok-push.ensures.items
+          ∙ map_push label_view c.loop-label.labels.items added
+          ∙ ap (λ views. views ++ label_view added ∷ []) c.loop-label.invariant.labels
+          ∙ ap (λ view. map label_by_unit_id (map label_view yielded) ++ view ∷ [])
+          c.in_ok-with_unit_id.ensures
+          ∙ sym
+          (ap (map label_by_unit_id) (map_push label_view yielded label)
+          ∙ map_push label_by_unit_id (map label_view yielded) (label_view label));
+    }
 
 -- all labels
 pub returns : goal.returns
 returns c =
-    let items = c.as_slice-label-items.result.now in
-    let all : take c.loop-label.label-index items ≡ c.in_ok-diagnostic.diagnostic.labels.items =
-    take_all c.loop-label.label-index items c.loop-label-test.false
-    ∙ c.as_slice-label-items.ensures.value in
-    ap (λ labels. record (by_unit_id (diagnostic_view c.in_ok-diagnostic.diagnostic)) { labels = labels }) (c.loop-label.invariant ∙ ap (λ (ls : List (Label ℕ)). map label_by_unit_id (map label_view ls)) all)
-    ∙ ap by_unit_id c.in_ok-diagnostic.ensures.same
+    let cloned = c.in_ok-severity.field-0 in
+    let given = c.into_iter-label-iterator.ensures.into_iter_gives in
+    let all = YieldsList-end
+    (YieldsList-from_vec cloned.labels.items given.0 (given.1 ∙ cloned.labels.ok.0))
+    c.loop-label.yielded _ c.loop-label.yielded_by _ c.next.new.self c.in-None.is
+    c.next.ensures.steps in
+    let same : c.loop-label.yielded ≡ cloned.labels.items =
+    sym (map-id c.loop-label.yielded) ∙ all.0 in
+    rw c.loop-label.invariant.code
+    (ap (λ labels. record (by_unit_id (diagnostic_view cloned)) { labels = labels })
+    (c.loop-label.invariant.labels
+    ∙ ap (λ (ls : List (Label ℕ)). map label_by_unit_id (map label_view ls)) same)
+    ∙ ap by_unit_id c.in_ok-severity.ensures.same)

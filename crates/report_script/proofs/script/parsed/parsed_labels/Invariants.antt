@@ -1,7 +1,7 @@
 use Rattle.std.proofs.Common.{◌≡◌, ◌++◌, map, drop}
 use Rattle.report_script.specs.ScriptLines.{script_line_view}
 use Rattle.report_script.specs.Scripts.{script_label_view, parsed_labels}
-use Rattle.report_script.proofs.script.parts.parsed_labels.Given as goal
+use Rattle.report_script.proofs.script.parsed.parsed_labels.Given as goal
 
 abbrev pub invariant-loop-line : goal.invariant-loop-line
 invariant-loop-line l =

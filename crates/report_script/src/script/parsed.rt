@@ -16,19 +16,11 @@ use script_words::names::parse_severity;
 use std::alloc::{AllocError, Global};
 
 /// Returns the first line that begins with the word.
-pub(super) fn line_of_word<'a, 'input>(
-    word: &str,
-    lines: &'a [Line<'input>],
-) -> Option<Line<'input>>
+pub(super) fn line_of_word<'input>(word: &str, lines: &[Line<'input>]) -> Option<Line<'input>>
     ensures { option_map script_line_view result
         ≡ line_of_word word.now (map script_line_view lines.now) }
 {
-    for line in lines {
-        if line.word() == word {
-            return Some(*line);
-        }
-    }
-    None
+    lines.iter().find(|line| line.word() == word).copied()
 }
 
 /// Returns the rest of the first line that begins with the word.
