@@ -3,7 +3,7 @@ use Rattle.codespan_renderer.proofs.term.renderer.cached.cached_line.CachedCurso
 
 pub has_primary-requires : goal.has_primary-requires
 has_primary-requires c =
-    record { some = returned-some _ _ _ c.requires; passed = returned-passed _ _ _ c.requires }
+    record { has_byte = returned-some _ _ _ c.requires; passed = returned-passed _ _ _ c.requires }
 
 pub invariant_of-self : goal.invariant_of-self
 invariant_of-self c =
