@@ -16,11 +16,12 @@ use std::ops::Range;
 fn compare<FileId>(left: &Annotation<'_, FileId>, right: &Annotation<'_, FileId>) -> Ordering
     ensures { result ≡ annotation_cmp (annotation_view left.now) (annotation_view right.now) }
 {
-    let by_file = left.file.cmp(&right.file);
-    let by_line = by_file.then(left.line.index.cmp(&right.line.index));
-    match by_line {
-        Ordering::Equal => compare_kinds(left, right),
-        _ => by_line,
+    match left.file.cmp(&right.file) {
+        Ordering::Equal => match left.line.index.cmp(&right.line.index) {
+            Ordering::Equal => compare_kinds(left, right),
+            by_line => by_line,
+        },
+        by_file => by_file,
     }
 }
 
@@ -40,8 +41,11 @@ fn compare_kinds<FileId>(left: &Annotation<'_, FileId>, right: &Annotation<'_, F
             let range = range_in_line(*label, left.line.start);
             let other = range_in_line(*other_label, right.line.start);
             let starts = range.start.cmp(&other.start);
-            let ends = range.end.cmp(&other.end);
-            starts.then(ends.then(other_index.cmp(index)))
+            // By `then` the ends would be compared each time.
+            match starts {
+                Ordering::Equal => range.end.cmp(&other.end).then(other_index.cmp(index)),
+                _ => starts,
+            }
         }
         (
             AnnotationKind::Multi { lane, .. },
