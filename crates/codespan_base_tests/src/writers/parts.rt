@@ -69,7 +69,8 @@ fn assert_tags_stop(rt: &impl Abort, alloc: Global, case: &Case) {
     assert_is_right(rt, &inner, is_ok, TAG_PARTS, case);
 }
 
-/// Asserts the same of the parts in plain text, and that `has_failed` is true exactly if they failed.
+/// Asserts the same of the parts in plain text, and that `has_failed` is true exactly if they
+/// failed.
 fn assert_plain_stops(rt: &impl Abort, alloc: Global, case: &Case) {
     let mut plain = PlainWriter::new(case.writer(alloc));
     let is_ok = write_parts(&mut plain, &PARTS, "").is_ok();

@@ -93,7 +93,8 @@ fn wide(rt: &impl Abort, alloc: Global) -> Diagnostic<()> {
 const LABEL: Style = Style::Label(Severity::Warning, LabelStyle::Primary);
 
 /// The runs of its output in rich style, by hand from the definitions: the rows are those of
-/// `rich_rows`, each row's text and style marks those of `stream_of`, and a style mark starts a run.
+/// `rich_rows`, each row's text and style marks those of `stream_of`, and a style mark starts a
+/// run.
 static RUNS: [(Style, &str); 20] = [
     (Style::Plain, ""),
     (Style::Header(Severity::Warning), "warning"),
