@@ -9,7 +9,7 @@ use Rattle.codespan_picture.specs.Snippets.{InFile, file_ids}
 use Rattle.codespan_annotations.specs.LabeledFiles.{with_file}
 use Rattle.codespan_annotations.specs.FileIndices.{AreDistinct, IsIdAt, index_of_file}
 use Rattle.codespan_annotations.proofs.FileOrder.{has, or_parts}
-use Rattle.codespan_laws.proofs.ListElements.{all-weaker, all-filter, all-pass}
+use Rattle.codespan_picture.proofs.ListElements.{all-weaker, all-filter, all-pass}
 
 module _ {Id : Type 0} (same : Id → Id → Bool) (o : IsEquivalence same) where
   -- the ids differ

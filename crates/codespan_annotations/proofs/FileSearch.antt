@@ -11,7 +11,7 @@ use Rattle.codespan_annotations.specs.FileIndices.{index_of_file}
 use Rattle.codespan_annotations.proofs.FileOrder.{has}
 use Rattle.codespan_annotations.proofs.FileIndices.{no-index, index-here, index-past, has-index}
 use Rattle.codespan_annotations.proofs.IndexedElements.{IsElementAt, drop-one, take-at}
-use Rattle.codespan_laws.proofs.ListElements.{all-append}
+use Rattle.codespan_picture.proofs.ListElements.{all-append}
 
 -- ---- a file that is added where it is none of the others
 

@@ -1,8 +1,8 @@
 -- The bytes of a style in escape sequences.
 use Rattle.std.specs.Prelude.{ℕ, ◌+◌, Bool, true, false, List, [], ◌∷◌, ◌++◌, Option, Some, None, codes, decimal}
-use Rattle.codespan_config.specs.declared.config.color.Color.{Color}
-use Rattle.codespan_config.specs.declared.config.color.Color.TheVariants.{Black, Red, Green, Yellow, Blue, Magenta, Cyan, White}
-use Rattle.codespan_config.specs.declared.config.color.ColorSpec.{ColorSpec}
+use Rattle.codespan_base.specs.declared.term.config.color.Color.{Color}
+use Rattle.codespan_base.specs.declared.term.config.color.Color.TheVariants.{Black, Red, Green, Yellow, Blue, Magenta, Cyan, White}
+use Rattle.codespan_base.specs.declared.term.config.color.ColorSpec.{ColorSpec}
 
 -- the number of a color
 abbrev pub color_number : Color → ℕ

@@ -1,4 +1,4 @@
--- re-exports: diagnostics, files and the configuration
+-- re-exports: diagnostics and files
 pub use Rattle.codespan_diagnostics.specs.Diagnostics
 pub use Rattle.codespan_files.specs.Lines
 pub use Rattle.codespan_files.specs.LineStarts
@@ -11,11 +11,13 @@ pub use Rattle.codespan_files.specs.ErrorText
 pub use Rattle.codespan_files.specs.Errors
 pub use Rattle.codespan_files.specs.FileLaws
 pub use Rattle.codespan_files.specs.DatabaseViews
-pub use Rattle.codespan_config.specs.SnippetStarts
-pub use Rattle.codespan_config.specs.Characters
-pub use Rattle.codespan_config.specs.Defaults
-pub use Rattle.codespan_config.specs.ConfigEquality
 pub mod Lemmas
+-- the configuration: characters, styles, defaults and equality
+pub mod SnippetStarts
+pub mod Characters
+pub mod PartStyles
+pub mod Defaults
+pub mod ConfigEquality
 -- labels
 pub mod Labels
 -- writers

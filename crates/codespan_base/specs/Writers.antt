@@ -2,7 +2,7 @@
 use Rattle.std.specs.Prelude.{◌≡◌, ℕ, false, List, [], ◌∷◌, Option, Result, Ok}
 use Rattle.std.specs.Borrow.{GName}
 use Rattle.codespan_base.specs.declared.term.config.ansi.Ansi.{Ansi}
-use Rattle.codespan_config.specs.declared.config.color.ColorSpec.{ColorSpec}
+use Rattle.codespan_base.specs.declared.term.config.color.ColorSpec.{ColorSpec}
 use Rattle.codespan_base.specs.declared.term.config.plain_ref.PlainWriterRef.{PlainWriterRef}
 use Rattle.codespan_base.specs.declared.term.config.no_color.NoColor.{NoColor}
 use Rattle.codespan_base.specs.declared.term.config.plain.PlainWriter.{PlainWriter}

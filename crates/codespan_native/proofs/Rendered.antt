@@ -12,9 +12,9 @@ use Rattle.codespan_base.specs.SimpleModel.{missing_file}
 use Rattle.codespan_base.specs.Streams.{Spelling, Stream, spelled}
 use Rattle.codespan_base.specs.WriterLaw.{Sink, is_known, with_written, are_known, extended}
 use Rattle.codespan_base.specs.Writers.{fresh_sink}
-use Rattle.codespan_laws.specs.RichLaws.{MeansLabels}
-use Rattle.codespan_laws.specs.StatedNames.{NamesAreStated}
-use Rattle.codespan_laws.proofs.StatedNames.{output_stated}
+use Rattle.codespan_picture.specs.RichLaws.{MeansLabels}
+use Rattle.codespan_picture.specs.StatedNames.{NamesAreStated}
+use Rattle.codespan_picture.proofs.StatedNames.{output_stated}
 use Rattle.codespan_picture.specs.ViewPictures.{picture_of_view}
 use Rattle.codespan_picture.proofs.ViewPictures.{picture-of_view}
 use Rattle.codespan_views.specs.WriteCalls.{WritesStyled}

@@ -5,7 +5,7 @@ use Rattle.codespan_base.specs.ConfigEquality.{IsEqualConfig}
 use Rattle.codespan_base.specs.Streams.{spelled}
 use Rattle.codespan_base.specs.declared.diagnostic.Diagnostic.{Diagnostic}
 use Rattle.codespan_base.specs.declared.term.config.Config.{Config}
-use Rattle.codespan_laws.specs.RichLaws.{MeansLabels}
+use Rattle.codespan_picture.specs.RichLaws.{MeansLabels}
 use Rattle.codespan_picture.specs.Lookups.{AllSucceed, lookups_in}
 use Rattle.codespan_picture.specs.ViewPictures.{picture_of_view}
 use Rattle.codespan_structs.specs.declared.raw.RawConfig.{RawConfig}

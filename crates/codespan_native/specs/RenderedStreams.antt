@@ -4,7 +4,7 @@ use Rattle.codespan_base.specs.declared.diagnostic.Diagnostic.{Diagnostic}
 use Rattle.codespan_base.specs.declared.term.config.Config.{Config}
 use Rattle.codespan_base.specs.declared.term.config.DisplayStyle.TheVariants.{Rich}
 use Rattle.codespan_base.specs.Streams.{Spelling, Stream, spelled}
-use Rattle.codespan_laws.specs.RichLaws.{MeansLabels}
+use Rattle.codespan_picture.specs.RichLaws.{MeansLabels}
 use Rattle.codespan_picture.specs.Picture.{picture}
 use Rattle.codespan_sources.specs.SourceTexts.{NativeFileView, native_database}
 

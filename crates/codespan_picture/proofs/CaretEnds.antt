@@ -1,4 +1,4 @@
--- For `carets_are_cells` and the caret rows of `codespan_row_parts`: how far the labels of a line
+-- For `carets_are_cells` and the caret rows of `codespan_rows`: how far the labels of a line
 -- reach.
 use Rattle.std.proofs.Common.{◌≡◌, ℕ, ◌<◌, ◌≤◌, max, min, Bool, true, false, ◌&&◌, List, [], ◌∷◌, fold, Some, refl, arith, ltb-true, ⊎_elim, ◌+◌}
 use Rattle.std.specs.List.{list_any}

@@ -1,4 +1,4 @@
--- For the clauses `value` of `codespan_native`, and for the outputs of `report_runs`: equal
+-- For the clauses `value` of `codespan_native`, and for the outputs of `report`: equal
 -- configurations render the same.
 use Rattle.std.proofs.Common.{◌≡◌, ℕ, List, [], ◌∷◌, ◌++◌, refl, ap, ◌∙◌}
 use Rattle.codespan_base.specs.declared.term.config.Config.{Config}

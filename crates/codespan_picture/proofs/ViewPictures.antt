@@ -1,4 +1,4 @@
--- For the clauses `value` of `codespan_native`, and for the outputs of `report_runs`: the picture
+-- For the clauses `value` of `codespan_native`, and for the outputs of `report`: the picture
 -- of a diagnostic is that of its view, by an equal configuration.
 use Rattle.std.proofs.Common.{◌≡◌, List, [], ◌∷◌, map, refl, ap, ◌∙◌}
 use Rattle.codespan_base.specs.declared.diagnostic.Diagnostic.{Diagnostic}

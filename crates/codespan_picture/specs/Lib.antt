@@ -35,3 +35,16 @@ pub mod ViewPictures
 pub mod Lookups
 -- labels, lane marks and loci as calls take them
 pub mod Arguments
+-- what an output means
+pub mod CaretLaws
+pub mod ColorLaws
+pub mod LaneLaws
+pub mod LineLaws
+pub mod MessageLaws
+pub mod OrderLaws
+pub mod RowLaws
+pub mod SortLaws
+pub mod TextLaws
+pub mod TrailingLaws
+pub mod StatedNames
+pub mod RichLaws

@@ -1,8 +1,11 @@
 //! The definitions of the output of a diagnostic, its rows and their streams, and the types that
-//! these and the renderer share.
+//! these and the renderer share. Also the laws of outputs: what the output of a diagnostic means,
+//! as contracts.
 #![tactic(auto)]
 
 pub mod arguments;
 pub mod char_metrics;
+pub mod characters;
 pub mod lanes;
+pub mod laws;
 pub mod padding;

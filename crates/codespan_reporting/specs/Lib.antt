@@ -29,18 +29,18 @@ pub use Rattle.codespan_picture.specs.Picture
 pub use Rattle.codespan_picture.specs.Lookups
 pub use Rattle.codespan_picture.specs.Arguments
 -- what an output means
-pub use Rattle.codespan_laws.specs.CaretLaws
-pub use Rattle.codespan_laws.specs.ColorLaws
-pub use Rattle.codespan_laws.specs.LaneLaws
-pub use Rattle.codespan_laws.specs.LineLaws
-pub use Rattle.codespan_laws.specs.MessageLaws
-pub use Rattle.codespan_laws.specs.OrderLaws
-pub use Rattle.codespan_laws.specs.RowLaws
-pub use Rattle.codespan_laws.specs.SortLaws
-pub use Rattle.codespan_laws.specs.TextLaws
-pub use Rattle.codespan_laws.specs.TrailingLaws
-pub use Rattle.codespan_laws.specs.StatedNames
-pub use Rattle.codespan_laws.specs.RichLaws
+pub use Rattle.codespan_picture.specs.CaretLaws
+pub use Rattle.codespan_picture.specs.ColorLaws
+pub use Rattle.codespan_picture.specs.LaneLaws
+pub use Rattle.codespan_picture.specs.LineLaws
+pub use Rattle.codespan_picture.specs.MessageLaws
+pub use Rattle.codespan_picture.specs.OrderLaws
+pub use Rattle.codespan_picture.specs.RowLaws
+pub use Rattle.codespan_picture.specs.SortLaws
+pub use Rattle.codespan_picture.specs.TextLaws
+pub use Rattle.codespan_picture.specs.TrailingLaws
+pub use Rattle.codespan_picture.specs.StatedNames
+pub use Rattle.codespan_picture.specs.RichLaws
 -- a renderer, as its contracts see it
 pub use Rattle.codespan_renderer.specs.Renderers
 -- the calls that render a diagnostic

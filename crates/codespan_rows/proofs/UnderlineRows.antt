@@ -17,16 +17,16 @@ use Rattle.codespan_base.specs.WriterLaw.{Sink}
 use Rattle.codespan_base.proofs.Loops.{StillToWrite}
 use Rattle.codespan_picture.specs.declared.char_metrics.Metrics.{Metrics}
 use Rattle.codespan_picture.specs.declared.arguments.MultiLabel as rust_multi_label
-use Rattle.codespan_row_parts.specs.declared.lanes.LaneRow.TheVariants.{Underline}
+use Rattle.codespan_rows.specs.declared.lanes.LaneRow.TheVariants.{Underline}
 use Rattle.codespan_picture.specs.CharMetrics.{width_of, leading_whitespace}
 use Rattle.codespan_picture.specs.Arguments.{LaneMarkTuple, lane_mark_view, multi_label_view}
-use Rattle.codespan_row_parts.specs.LineViews.{row_lanes_view}
+use Rattle.codespan_rows.specs.LineViews.{row_lanes_view}
 use Rattle.codespan_picture.specs.Rows.{RowContext, Lanes, Line, UnderlineRow, has_underline}
 use Rattle.codespan_picture.specs.Lanes as kind
 use Rattle.codespan_picture.specs.RowParts.{inner_gutter, underline, underline_message, metrics_before, metrics_up_to}
 use Rattle.codespan_rows.specs.Underlines.{underline_by_width, underline_width}
 use Rattle.codespan_picture.specs.RowStreams.{underline_row, stream_of_rows}
-use Rattle.codespan_row_parts.specs.RenderedRows.{later_note_rows}
+use Rattle.codespan_rows.specs.RenderedRows.{later_note_rows}
 
 -- ---- the lanes of an underline row
 

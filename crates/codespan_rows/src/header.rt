@@ -8,15 +8,15 @@ ghost use Rattle.codespan_base.specs.SnippetStarts.{start_text};
 ghost use Rattle.codespan_picture.specs.Arguments.{locus_view, text_now};
 ghost use Rattle.codespan_picture.specs.RowParts.{severity_name};
 ghost use Rattle.codespan_picture.specs.RowStreams.{bracketed, leading_locus, snippet_start_row};
-ghost use Rattle.codespan_row_parts.specs.RowViews.{header_start_view};
-ghost use Rattle.codespan_row_parts.specs.RenderedRows.{rendered_header};
+ghost use Rattle.codespan_rows.specs.RowViews.{header_start_view};
+ghost use Rattle.codespan_rows.specs.RenderedRows.{rendered_header};
 
+use crate::parts::{outer_gutter, snippet_locus, write_newline, write_space};
 use codespan_base::diagnostic::Severity;
 use codespan_base::term::config::put_style::PutStyle;
 use codespan_base::term::config::writing::put_all;
 use codespan_base::term::{Chars, SnippetStart};
 use codespan_picture::arguments::Locus;
-use codespan_row_parts::parts::{outer_gutter, snippet_locus, write_newline, write_space};
 
 /// Returns the name of a severity.
 fn severity_name(severity: Severity) -> &'static str

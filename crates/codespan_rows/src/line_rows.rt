@@ -5,19 +5,19 @@ ghost use Rattle.codespan_base.specs.WriterLaw.{Writes};
 ghost use Rattle.codespan_picture.specs.Arguments.{single_label_views};
 ghost use Rattle.codespan_picture.specs.Rows.{rows_of, trailing_label};
 ghost use Rattle.codespan_picture.specs.RowStreams.{stream_of_rows};
-ghost use Rattle.codespan_row_parts.specs.LineCharacters.{char_input};
-ghost use Rattle.codespan_row_parts.specs.LineViews.{context_view, line_view};
-ghost use Rattle.codespan_row_parts.specs.RowViews.{caret_rows_view};
-ghost use Rattle.codespan_row_parts.specs.Runs.{optional_label_view};
+ghost use Rattle.codespan_rows.specs.LineCharacters.{char_input};
+ghost use Rattle.codespan_rows.specs.LineViews.{context_view, line_view};
+ghost use Rattle.codespan_rows.specs.RowViews.{caret_rows_view};
+ghost use Rattle.codespan_rows.specs.Runs.{optional_label_view};
 
+use crate::carets::write_caret_row;
+use crate::line::{Line, RowContext};
+use crate::line_characters::LineCharacters;
+use crate::messages::Messages;
 use crate::pointers::write_hanging;
 use crate::source::write_source_row;
 use crate::underlines::write_underlines;
 use codespan_base::term::config::put_style::PutStyle;
-use codespan_row_parts::carets::write_caret_row;
-use codespan_row_parts::line::{Line, RowContext};
-use codespan_row_parts::line_characters::LineCharacters;
-use codespan_row_parts::messages::Messages;
 
 /// Writes the caret row of a line, where it has labels.
 fn write_caret_rows<W: PutStyle, S: LineCharacters>(

@@ -4,18 +4,16 @@ ghost use Rattle.std.specs.Prelude.{◌++◌};
 ghost use Rattle.std.specs.Str.Lines.{lines};
 ghost use Rattle.codespan_base.specs.Streams.{newline};
 ghost use Rattle.codespan_base.specs.WriterLaw.{Writes};
-ghost use Rattle.codespan_row_parts.specs.LineViews.{context_view, lanes_view};
+ghost use Rattle.codespan_rows.specs.LineViews.{context_view, lanes_view};
 ghost use Rattle.codespan_picture.specs.RowStreams.{empty_row, break_row, first_note_row, later_note_row};
-ghost use Rattle.codespan_row_parts.specs.RenderedRows.{note_stream};
+ghost use Rattle.codespan_rows.specs.RenderedRows.{note_stream};
 
+use crate::lanes::{LaneRow, inner_gutter};
+use crate::line::{Lanes, RowContext};
+use crate::parts::{border_left, border_left_break, outer_gutter, write_newline, write_space};
 use codespan_base::term::Chars;
 use codespan_base::term::config::put_style::PutStyle;
 use codespan_base::term::config::writing::{put_all, put_char};
-use codespan_row_parts::lanes::{LaneRow, inner_gutter};
-use codespan_row_parts::line::{Lanes, RowContext};
-use codespan_row_parts::parts::{
-    border_left, border_left_break, outer_gutter, write_newline, write_space,
-};
 
 /// Writes an empty row of a snippet: outer gutter, left border and inner gutter.
 ///

@@ -4,23 +4,23 @@ ghost use Rattle.std.specs.Prelude.{◌≡◌, ◌≤◌, ◌++◌};
 ghost use Rattle.codespan_base.specs.Streams.{newline, spaces};
 ghost use Rattle.codespan_base.specs.WriterLaw.{Writes};
 ghost use Rattle.codespan_picture.specs.Arguments.{single_label_view, single_label_views};
-ghost use Rattle.codespan_row_parts.specs.LineViews.{context_view, line_view};
-ghost use Rattle.codespan_row_parts.specs.RowViews.{hanging_stream_view, hanging_rows_view, pointer_and_hanging_view};
+ghost use Rattle.codespan_rows.specs.LineViews.{context_view, line_view};
+ghost use Rattle.codespan_rows.specs.RowViews.{hanging_stream_view, hanging_rows_view, pointer_and_hanging_view};
 ghost use Rattle.codespan_picture.specs.Lanes.{label_glyph};
 ghost use Rattle.codespan_picture.specs.RowParts.{max_label_start};
 ghost use Rattle.codespan_picture.specs.RowStreams.{pointer_row, hanging_row};
-ghost use Rattle.codespan_row_parts.specs.Runs.{AreHanging, ArePrefixAndSuffix};
-ghost use Rattle.codespan_row_parts.specs.LineCharacters.{char_input};
+ghost use Rattle.codespan_rows.specs.Runs.{AreHanging, ArePrefixAndSuffix};
+ghost use Rattle.codespan_rows.specs.LineCharacters.{char_input};
 
+use crate::carets::write_message;
+use crate::line::{Line, RowContext};
+use crate::line_characters::LineCharacters;
+use crate::messages::{Messages, has_any_message};
+use crate::parts::{write_label_glyph, write_newline, write_row_start};
+use crate::runs::write_spaces;
 use codespan_base::diagnostic::LabelStyle;
 use codespan_base::term::config::put_style::PutStyle;
 use codespan_picture::arguments::SingleLabel;
-use codespan_row_parts::carets::write_message;
-use codespan_row_parts::line::{Line, RowContext};
-use codespan_row_parts::line_characters::LineCharacters;
-use codespan_row_parts::messages::{Messages, has_any_message};
-use codespan_row_parts::parts::{write_label_glyph, write_newline, write_row_start};
-use codespan_row_parts::runs::write_spaces;
 
 /// Returns the greatest start of the labels, in bytes from the line's start, or 0 where there is
 /// none.

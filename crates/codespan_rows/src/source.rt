@@ -4,24 +4,22 @@ ghost use Rattle.std.specs.Prelude.{◌≡◌, ◌++◌};
 ghost use Rattle.codespan_base.specs.Streams.{bytes, newline};
 ghost use Rattle.codespan_base.specs.WriterLaw.{Writes};
 ghost use Rattle.codespan_picture.specs.CharMetrics.{char_metrics};
-ghost use Rattle.codespan_row_parts.specs.LineViews.{context_view, line_view};
-ghost use Rattle.codespan_row_parts.specs.RowViews.{source_lanes_view};
-ghost use Rattle.codespan_row_parts.specs.LineCharacters.{char_input};
+ghost use Rattle.codespan_rows.specs.LineViews.{context_view, line_view};
+ghost use Rattle.codespan_rows.specs.RowViews.{source_lanes_view};
+ghost use Rattle.codespan_rows.specs.LineCharacters.{char_input};
 ghost use Rattle.codespan_picture.specs.RowParts.{style_change, colored_text};
 ghost use Rattle.codespan_picture.specs.RowStreams.{source_row};
 
+use crate::char_cursor::CharCursor;
+use crate::lanes::{LaneRow, inner_gutter};
+use crate::line::{Line, RowContext};
+use crate::line_characters::LineCharacters;
+use crate::parts::{border_left, change_style, outer_gutter_number, write_newline, write_space};
+use crate::primary_cover::PrimaryCover;
+use crate::text_styles::{is_plain, plain_from, text_style};
 use codespan_base::diagnostic::LabelStyle;
 use codespan_base::term::config::put_style::PutStyle;
 use codespan_base::term::config::writing::{put_all, put_spaces};
-use codespan_row_parts::char_cursor::CharCursor;
-use codespan_row_parts::lanes::{LaneRow, inner_gutter};
-use codespan_row_parts::line::{Line, RowContext};
-use codespan_row_parts::line_characters::LineCharacters;
-use codespan_row_parts::parts::{
-    border_left, change_style, outer_gutter_number, write_newline, write_space,
-};
-use codespan_row_parts::primary_cover::PrimaryCover;
-use codespan_row_parts::text_styles::{is_plain, plain_from, text_style};
 
 /// Writes the text of a line, which has these characters, with spaces instead of tabs and with
 /// style marks where the style changes.

@@ -5,24 +5,24 @@ ghost use Rattle.codespan_base.specs.Streams.{newline, bytes};
 ghost use Rattle.codespan_base.specs.WriterLaw.{Writes};
 ghost use Rattle.codespan_picture.specs.CharMetrics.{char_metrics};
 ghost use Rattle.codespan_picture.specs.Arguments.{lane_mark_view, multi_label_view};
-ghost use Rattle.codespan_row_parts.specs.LineViews.{context_view, line_view};
-ghost use Rattle.codespan_row_parts.specs.RowViews.{underline_lanes_view};
+ghost use Rattle.codespan_rows.specs.LineViews.{context_view, line_view};
+ghost use Rattle.codespan_rows.specs.RowViews.{underline_lanes_view};
 ghost use Rattle.codespan_rows.specs.Underlines.{underline_by_width, underline_width};
-ghost use Rattle.codespan_row_parts.specs.LineCharacters.{char_input, characters_of};
+ghost use Rattle.codespan_rows.specs.LineCharacters.{char_input, characters_of};
 ghost use Rattle.codespan_picture.specs.Rows.{has_underline, underline_rows};
 ghost use Rattle.codespan_picture.specs.RowParts.{underline_message, start_caret, end_caret, metrics_before, metrics_up_to};
 ghost use Rattle.codespan_picture.specs.RowStreams.{underline_row, stream_of_rows};
 
+use crate::lanes::{LaneRow, inner_gutter};
+use crate::line::{Line, RowContext};
+use crate::line_characters::LineCharacters;
+use crate::parts::{border_left, outer_gutter, write_newline, write_space};
+use crate::runs::write_repeated;
 use codespan_base::diagnostic::LabelStyle;
 use codespan_base::term::Chars;
 use codespan_base::term::config::put_style::PutStyle;
 use codespan_base::term::config::writing::{put_all, put_char};
 use codespan_picture::arguments::MultiLabel;
-use codespan_row_parts::lanes::{LaneRow, inner_gutter};
-use codespan_row_parts::line::{Line, RowContext};
-use codespan_row_parts::line_characters::LineCharacters;
-use codespan_row_parts::parts::{border_left, outer_gutter, write_newline, write_space};
-use codespan_row_parts::runs::write_repeated;
 
 /// Returns the caret under the start of a label.
 fn start_caret(chars: &Chars<'_>, style: LabelStyle) -> char

@@ -11,8 +11,8 @@ use Rattle.codespan_base.specs.LawfulFiles.{IsLawful}
 use Rattle.codespan_base.specs.Streams.{Stream, Byte, Mark, Slot, Spelling, spelled}
 use Rattle.codespan_base.specs.WriterLaw.{Frame, Sink, are_known, extended, is_known, with_written}
 use Rattle.codespan_base.specs.Writers.{fresh_sink}
-use Rattle.codespan_laws.specs.TextLaws.{AreCharacters, AreTextsAfter}
-use Rattle.codespan_laws.proofs.PictureTexts.{text-output}
+use Rattle.codespan_picture.specs.TextLaws.{AreCharacters, AreTextsAfter}
+use Rattle.codespan_picture.proofs.PictureTexts.{text-output}
 use Rattle.codespan_views.specs.Output.{IsEmitError}
 use Rattle.codespan_views.specs.WriteCalls.{WritesStyled}
 use Rattle.codespan_documents.specs.declared.style.Style.{Style}

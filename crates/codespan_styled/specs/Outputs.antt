@@ -4,8 +4,8 @@ use Rattle.codespan_picture.specs.Types.{Diagnostic, Error, Config, Rich}
 use Rattle.codespan_base.specs.FileModel.{FileDatabase}
 use Rattle.codespan_base.specs.LawfulFiles.{IsLawful}
 use Rattle.codespan_base.specs.Streams.{Stream, text_of}
-use Rattle.codespan_laws.specs.RichLaws.{MeansLabels}
-use Rattle.codespan_laws.specs.TextLaws.{AreCharacters}
+use Rattle.codespan_picture.specs.RichLaws.{MeansLabels}
+use Rattle.codespan_picture.specs.TextLaws.{AreCharacters}
 use Rattle.codespan_picture.specs.OutputStreams.{AreLoci, NamesAreTexts, output}
 use Rattle.codespan_picture.specs.Rows.{Locus}
 use Rattle.codespan_views.specs.Output.{IsEmitError, Succeeds}

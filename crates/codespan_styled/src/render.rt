@@ -10,7 +10,7 @@ use codespan_base::diagnostic::Diagnostic;
 use codespan_base::files::{Error, Files};
 use codespan_base::term::Config;
 use codespan_documents::text::StyledText;
-use codespan_laws::characters::are_characters;
+use codespan_picture::characters::are_characters;
 use codespan_views::emitting::emit_to_write_style;
 use std::alloc::Global;
 

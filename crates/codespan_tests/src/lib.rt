@@ -1,6 +1,6 @@
-//! Tests of the calls that emit, of the views and the rows, of styled text, of the call for C and
-//! of the runs of `report`. Some repeat on worked values what a contract says; others test what
-//! none says, such as which calls flush. `quick_start` has the code of `README.md`.
+//! Tests of the calls that emit, of the views and the rows, of styled text and of the call for C.
+//! Some repeat on worked values what a contract says; others test what none says, such as which
+//! calls flush. `quick_start` has the code of `README.md`.
 #![tactic(auto)]
 
 #[cfg(test)]
@@ -11,8 +11,6 @@ mod native;
 mod outputs;
 #[cfg(test)]
 mod quick_start;
-#[cfg(test)]
-mod report;
 #[cfg(test)]
 mod rows;
 #[cfg(test)]

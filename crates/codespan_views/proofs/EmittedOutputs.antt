@@ -16,8 +16,8 @@ use Rattle.codespan_base.specs.WriterLaw.{Frame, Sink, with_written, is_known, a
 use Rattle.codespan_base.specs.declared.term.config.plain_ref.PlainWriterRef.{PlainWriterRef}
 use Rattle.codespan_base.specs.Writers.{fresh_plain_ref, fresh_sink, borrow_name, plain_ref_sink, borrowed_writer}
 use Rattle.codespan_picture.specs.Rows.{Locus}
-use Rattle.codespan_laws.specs.TextLaws.{AreCharacters}
-use Rattle.codespan_laws.proofs.PictureTexts.{text-output}
+use Rattle.codespan_picture.specs.TextLaws.{AreCharacters}
+use Rattle.codespan_picture.proofs.PictureTexts.{text-output}
 use Rattle.codespan_views.specs.Failures.{WrittenBefore}
 use Rattle.codespan_views.specs.Output.{IsEmitError, IsRendered}
 use Rattle.codespan_views.specs.WriteCalls.{WritesStyled, WritesText}

@@ -3,7 +3,7 @@
 use Rattle.std.proofs.Common.{◌≡◌, List, None}
 use Rattle.codespan_base.specs.FileModel.{FileDatabase, Lookup}
 use Rattle.codespan_picture.specs.Lookups.{first_error}
-use Rattle.codespan_collect.proofs.FirstErrors.{all_succeed}
+use Rattle.codespan_views.proofs.FirstErrors.{all_succeed}
 use Rattle.codespan_views.specs.Failures.{SomeFails}
 
 -- where one of these lookups fails, there is a first one

@@ -26,9 +26,9 @@ use Rattle.codespan_views.specs.WriteCalls.{WritesOutput}
 use Rattle.codespan_views.proofs.OutputLoci.{label_loci, label_texts}
 use Rattle.std.proofs.Math.Seq.{take-append_seam}
 use Rattle.codespan_views.specs.Private.Headers.{HeaderLookupFailed, HeadersWritten, HeadersFailed, HeaderWriteFailed}
-use Rattle.codespan_laws.proofs.Loci.{locus_there, zip_append, zip_each, zip_length, zip_map, zip_weaker}
+use Rattle.codespan_picture.proofs.Loci.{locus_there, zip_append, zip_each, zip_length, zip_map, zip_weaker}
 use Rattle.codespan_views.proofs.Renderings.{PrefixWritten-none}
-use Rattle.codespan_collect.proofs.FirstErrors.{all_succeed, first_error-none, first_error-some}
+use Rattle.codespan_views.proofs.FirstErrors.{all_succeed, first_error-none, first_error-some}
 use Rattle.codespan_views.proofs.SnippetParts.{write_at}
 use Rattle.codespan_views.proofs.HeaderStreams.{none_of_empty, no_loci, some_headers, stated_of, primary_labels, context, headers_stream, headers_stream-append, header, short, short-some, noted, noted-after}
 

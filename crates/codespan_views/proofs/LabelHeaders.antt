@@ -20,9 +20,9 @@ use Rattle.codespan_annotations.specs.TextLoci.{IsLocusOfLabel}
 use Rattle.codespan_picture.specs.Rows.{Locus}
 use Rattle.codespan_picture.specs.Snippets.{InFile, has_any, primary_of}
 use Rattle.codespan_views.specs.Private.Headers.{HeadersWritten, HeadersFailed}
-use Rattle.codespan_laws.proofs.Loci.{zip_append}
+use Rattle.codespan_picture.proofs.Loci.{zip_append}
 use Rattle.codespan_annotations.proofs.IndexedElements.{IsElementAt}
-use Rattle.codespan_collect.proofs.FirstErrors.{first_error-none}
+use Rattle.codespan_views.proofs.FirstErrors.{first_error-none}
 use Rattle.codespan_views.proofs.HeaderStreams.{primary_next, primary_cut, primary_labels, headers_stream, headers_stream-append, header}
 
 -- ---- one run of headers after another

@@ -11,7 +11,7 @@ use Rattle.codespan_base.specs.Streams.{Stream}
 use Rattle.codespan_base.specs.WriterLaw.{Sink, Writes, PrefixWritten}
 use Rattle.codespan_base.proofs.Writes.{with_written-nil, PrefixWritten-first, PrefixWritten-last}
 use Rattle.codespan_views.specs.Private.LookupsWhileRendering.{WrotePrefix, FailedWithLookups, WritesWithLookups}
-use Rattle.codespan_collect.proofs.FirstErrors.{or_failure-some, or_failure-succeeded}
+use Rattle.codespan_views.proofs.FirstErrors.{or_failure-some, or_failure-succeeded}
 use Rattle.codespan_base.proofs.Chains.{written-then, failed-before, failed-then, known-after}
 use Rattle.codespan_views.proofs.Renderings.{PrefixWritten-none}
 

@@ -7,7 +7,7 @@ use Rattle.codespan_base.specs.declared.diagnostic.Diagnostic.{Diagnostic}
 use Rattle.codespan_picture.specs.OutputStreams.{AreLoci, IsLocus, NamesAreTexts, files_of, label_locus_start, labels_of, snippet_locus_start}
 use Rattle.codespan_picture.specs.Rows.{Locus}
 use Rattle.codespan_picture.specs.Snippets.{InFile, LabeledFileModel, primary_of}
-use Rattle.codespan_laws.proofs.Loci.{zip_map, zip_texts, zip_weaker}
+use Rattle.codespan_picture.proofs.Loci.{zip_map, zip_texts, zip_weaker}
 use Rattle.codespan_annotations.specs.TextLoci.{IsLocusOfFile, IsLocusOfLabel}
 use Rattle.codespan_base.specs.FileModel.{FileDatabase}
 

@@ -16,15 +16,15 @@ use Rattle.codespan_picture.specs.Rows.{RowContext, Locus, Row}
 use Rattle.codespan_picture.specs.RowStreams.{stream_of_rows}
 use Rattle.codespan_base.specs.FileModel.Lookup.{Source}
 use Rattle.codespan_picture.specs.Arguments.{locus_view}
-use Rattle.codespan_plan.specs.OutputPlans.{IsOutputPlan, IsSnippetPlan, ids_of, loci_of}
+use Rattle.codespan_views.specs.Private.OutputPlans.{IsOutputPlan, IsSnippetPlan, ids_of, loci_of}
 use Rattle.codespan_views.specs.Private.SnippetRows.{trailing_border_rows, lookups_with, rows_in}
 use Rattle.codespan_views.specs.Views.{diagnostic_of, view_config_of}
 use Rattle.codespan_views.specs.declared.rich.RichDiagnostic.{RichDiagnostic}
-use Rattle.codespan_plan.specs.declared.plan.OutputPlan.{OutputPlan}
-use Rattle.codespan_plan.specs.declared.plan.snippet_plans.SnippetPlan.{SnippetPlan}
-use Rattle.codespan_plan.specs.declared.plan.snippet_lines.SnippetLine.{SnippetLine as RustLine}
+use Rattle.codespan_views.specs.declared.plan.OutputPlan.{OutputPlan}
+use Rattle.codespan_views.specs.declared.plan.snippet_plans.SnippetPlan.{SnippetPlan}
+use Rattle.codespan_views.specs.declared.plan.snippet_lines.SnippetLine.{SnippetLine as RustLine}
 use Rattle.codespan_views.proofs.LookupRuns.{IsLookupRun, run_as, run_cut, run_of_nothing, run_of_writes, run_then}
-use Rattle.codespan_collect.proofs.FirstErrors.{first_error-append, or_failure-none}
+use Rattle.codespan_views.proofs.FirstErrors.{first_error-append, or_failure-none}
 use Rattle.codespan_annotations.proofs.IndexedElements.{IsElementAt, drop-one}
 use Rattle.codespan_views.proofs.SnippetParts.{rows-two, write_at}
 use Rattle.codespan_views.proofs.PlannedFiles.{drop-end, followed-at, ids-count, id-inside, id-at, locus-inside, locus-at, rows-are}

@@ -8,12 +8,12 @@ use Rattle.codespan_base.specs.FileModel.{FileDatabase}
 use Rattle.codespan_picture.specs.Snippets.{row_after, snippet, InFile, LabeledFileModel, empty_lanes, has_any, labeled_file_model}
 use Rattle.codespan_picture.specs.Rows.{EmptyRow, Row, SnippetStartRow}
 use Rattle.codespan_picture.specs.Arguments.{locus_view}
-use Rattle.codespan_plan.specs.OutputPlans.{AreSnippetPlans, IsSnippetPlan, ids_of, loci_of}
+use Rattle.codespan_views.specs.Private.OutputPlans.{AreSnippetPlans, IsSnippetPlan, ids_of, loci_of}
 use Rattle.codespan_views.specs.Private.SnippetRows.{trailing_border_rows, rows_in}
-use Rattle.codespan_plan.specs.SnippetLineViews.{snippet_line_view}
-use Rattle.codespan_plan.specs.SnippetLines.{rows_of_lines}
-use Rattle.codespan_plan.specs.declared.plan.snippet_plans.SnippetPlan.{SnippetPlan}
-use Rattle.codespan_plan.specs.declared.plan.snippet_lines.SnippetLine.{SnippetLine as RustLine}
+use Rattle.codespan_views.specs.Private.SnippetLineViews.{snippet_line_view}
+use Rattle.codespan_views.specs.Private.SnippetLines.{rows_of_lines}
+use Rattle.codespan_views.specs.declared.plan.snippet_plans.SnippetPlan.{SnippetPlan}
+use Rattle.codespan_views.specs.declared.plan.snippet_lines.SnippetLine.{SnippetLine as RustLine}
 use Rattle.codespan_annotations.proofs.IndexedElements.{IsElementAt, drop-one}
 
 -- no element from the end on

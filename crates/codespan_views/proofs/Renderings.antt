@@ -21,11 +21,11 @@ use Rattle.std.specs.List.{AllZip}
 use Rattle.codespan_picture.specs.Lookups.{early_lookups, late_lookups, first_error}
 use Rattle.codespan_views.specs.WriteCalls.{WritesOutput}
 use Rattle.codespan_views.proofs.OutputLoci.{file_loci, file_texts}
-use Rattle.codespan_laws.proofs.Loci.{stated_are_loci}
+use Rattle.codespan_picture.proofs.Loci.{stated_are_loci}
 use Rattle.codespan_views.specs.Private.LookupsWhileRendering.{WroteStream}
 use Rattle.codespan_base.proofs.Chains.{written-then, failed-then}
 use Rattle.codespan_views.proofs.Failures.{some_fails}
-use Rattle.codespan_collect.proofs.FirstErrors.{first_error-some, first_error-none, all_succeed}
+use Rattle.codespan_views.proofs.FirstErrors.{first_error-some, first_error-none, all_succeed}
 
 -- nothing has been written, which is a prefix of everything
 pub PrefixWritten-none : (s : Sink) (items : Stream) (t : Sink) → t ≡ s → PrefixWritten s items t

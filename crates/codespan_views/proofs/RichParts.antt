@@ -16,12 +16,12 @@ use Rattle.codespan_base.specs.FileModel.{FileDatabase}
 use Rattle.codespan_base.specs.Streams.{Stream, newline}
 use Rattle.codespan_base.specs.WriterLaw.{Sink, Writes, PrefixWritten, is_known, with_written}
 use Rattle.codespan_base.proofs.Writes.{PrefixWritten-first, PrefixWritten-last, with_written-nil}
-use Rattle.codespan_plan.specs.declared.plan.OutputPlan.{OutputPlan}
-use Rattle.codespan_plan.specs.declared.plan.snippet_plans.SnippetPlan.{SnippetPlan}
-use Rattle.codespan_plan.specs.declared.plan.snippet_lines.SnippetLine.{SnippetLine as RustLine}
-use Rattle.codespan_collect.specs.CollectedLabels.{labels_failure}
+use Rattle.codespan_views.specs.declared.plan.OutputPlan.{OutputPlan}
+use Rattle.codespan_views.specs.declared.plan.snippet_plans.SnippetPlan.{SnippetPlan}
+use Rattle.codespan_views.specs.declared.plan.snippet_lines.SnippetLine.{SnippetLine as RustLine}
+use Rattle.codespan_views.specs.Private.CollectedLabels.{labels_failure}
 use Rattle.codespan_views.specs.Private.LookupsWhileRendering.{WroteStream, WrotePrefix, FailedWithLookups, WritesWithLookups}
-use Rattle.codespan_plan.specs.OutputPlans.{AreSnippetPlans, IsOutputPlan, ids_of, loci_of, output_plan_failure}
+use Rattle.codespan_views.specs.Private.OutputPlans.{AreSnippetPlans, IsOutputPlan, ids_of, loci_of, output_plan_failure}
 use Rattle.codespan_views.specs.WriteCalls.{WritesOutput}
 use Rattle.codespan_picture.specs.Lookups.{early_lookups, first_error, late_lookups}
 use Rattle.codespan_picture.specs.OutputStreams.{header_text_of, label_of, labels_of, context_of, notes_of}
@@ -33,7 +33,7 @@ use Rattle.codespan_picture.specs.RowStreams.{header_row, stream_of, stream_of_r
 use Rattle.codespan_base.proofs.Chains.{written-then, failed-before, failed-then, known-after}
 use Rattle.codespan_views.proofs.Renderings.{after_header, before_header, early_failure, finished, late_failure, ByLoci, failed_by_writer, failed_early, failed_late}
 use Rattle.codespan_views.proofs.NoteRows.{whole_of_notes}
-use Rattle.codespan_plan.proofs.OutputPlanned.{labels-succeeded, labels-failed}
+use Rattle.codespan_views.proofs.OutputPlanned.{labels-succeeded, labels-failed}
 
 -- a prefix of a stream is one of the same stream in other words
 PrefixWritten-as : (s t : Sink) (a b : Stream) → b ≡ a → PrefixWritten s a t → PrefixWritten s b t

@@ -10,12 +10,12 @@ use Rattle.codespan_base.specs.FileModel.Lookup.{Source}
 use Rattle.codespan_base.specs.Streams.{Stream, newline}
 use Rattle.codespan_base.specs.WriterLaw.{Sink, Writes}
 use Rattle.codespan_views.specs.declared.snippet.lines.SnippetContext.{SnippetContext}
-use Rattle.codespan_plan.specs.declared.plan.snippet_plans.SnippetPlan.{SnippetPlan}
-use Rattle.codespan_plan.specs.declared.plan.snippet_lines.SnippetLine.{SnippetLine}
+use Rattle.codespan_views.specs.declared.plan.snippet_plans.SnippetPlan.{SnippetPlan}
+use Rattle.codespan_views.specs.declared.plan.snippet_lines.SnippetLine.{SnippetLine}
 use Rattle.codespan_views.specs.Private.LookupsWhileRendering.{WroteStream, WritesWithLookups}
 use Rattle.codespan_views.specs.Private.SnippetRows.{start_rows}
-use Rattle.codespan_plan.specs.SnippetLineViews.{lookups_of_lines, snippet_line_view}
-use Rattle.codespan_plan.specs.SnippetLines.{rows_of_lines}
+use Rattle.codespan_views.specs.Private.SnippetLineViews.{lookups_of_lines, snippet_line_view}
+use Rattle.codespan_views.specs.Private.SnippetLines.{rows_of_lines}
 use Rattle.codespan_picture.specs.Lookups.{lookups_of_file, first_error}
 use Rattle.codespan_picture.specs.OutputStreams.{context_of}
 use Rattle.codespan_picture.specs.Rows.{RowContext, Row}

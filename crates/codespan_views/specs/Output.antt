@@ -3,7 +3,7 @@ use Rattle.std.specs.Prelude.{◌≡◌, ℕ, ◌⊎◌, List, ◌++◌, Result,
 use Rattle.codespan_picture.specs.Types.{Diagnostic, Error, OutOfMemory, Config, DisplayStyle, Rich}
 use Rattle.codespan_base.specs.FileModel.{FileDatabase}
 use Rattle.codespan_base.specs.Streams.{text_of}
-use Rattle.codespan_laws.specs.RichLaws.{MeansLabels}
+use Rattle.codespan_picture.specs.RichLaws.{MeansLabels}
 use Rattle.codespan_picture.specs.OutputStreams.{AreLoci, NamesAreTexts, output}
 use Rattle.codespan_picture.specs.Rows.{Locus}
 use Rattle.codespan_picture.specs.Lookups.{AllSucceed, IsLookupError, lookups_in}

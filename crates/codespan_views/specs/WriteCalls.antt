@@ -5,7 +5,7 @@ use Rattle.codespan_picture.specs.Types.{Diagnostic, Error, Config, DisplayStyle
 use Rattle.codespan_base.specs.FileModel.{FileDatabase}
 use Rattle.codespan_base.specs.Streams.{text_of}
 use Rattle.codespan_base.specs.WriterLaw.{AppendsBytes, WritesOrPrefix, Sink, extended, is_known, failed_frame, with_written, are_known}
-use Rattle.codespan_laws.specs.RichLaws.{MeansLabels}
+use Rattle.codespan_picture.specs.RichLaws.{MeansLabels}
 use Rattle.codespan_picture.specs.OutputStreams.{AreLoci, output}
 use Rattle.codespan_picture.specs.Picture.{headers_at}
 use Rattle.codespan_picture.specs.Rows.{Locus}

@@ -11,7 +11,7 @@ use codespan_base::diagnostic::Diagnostic;
 use codespan_base::files::{Error, Files};
 use codespan_base::term::config::plain_ref::PlainWriterRef;
 use codespan_base::term::{Config, DisplayStyle, PlainWriter, WriteStyle};
-use codespan_laws::characters::are_characters;
+use codespan_picture::characters::are_characters;
 use codespan_renderer::term::renderer::Renderer;
 use std::io::Write;
 
@@ -73,7 +73,7 @@ pub fn emit_into_string<'files, F: Files<'files>>(
     match rendered {
         // SAFETY: an output is UTF-8: its characters are Unicode scalar values, its texts are
         // UTF-8, and a line is cut at character boundaries only. The condition of the call is
-        // proved from `codespan_laws::laws::outputs_are_texts`.
+        // proved from `codespan_picture::laws::outputs_are_texts`.
         Ok(()) => Ok(unsafe { String::from_utf8_unchecked(plain.into_inner()) }),
         Err(error) => Err(string_error(plain.has_failed(), error)),
     }

@@ -6,21 +6,21 @@ ghost use Rattle.codespan_picture.specs.OutputStreams.{labels_of, notes_of};
 ghost use Rattle.codespan_picture.specs.Snippets.{has_any};
 ghost use Rattle.codespan_renderer.specs.Renderers.{writer_of, config_of, Renders, SameRenderer};
 ghost use Rattle.codespan_views.specs.WriteCalls.{WritesStyled};
-ghost use Rattle.codespan_plan.specs.OutputPlans.{IsOutputPlan};
+ghost use Rattle.codespan_views.specs.Private.OutputPlans.{IsOutputPlan};
 ghost use Rattle.codespan_views.specs.Private.Rendering.{RendersRows};
 ghost use Rattle.codespan_views.specs.Private.ViewRendering.{RendersSnippets, RendersView, output_without_labels, closing_rows};
 
+use crate::collected::collect;
 use crate::parts::{render_diagnostic_header, render_notes};
+use crate::plan::snippet_lines::SnippetLine;
+use crate::plan::snippet_plans::SnippetPlan;
+use crate::plan::{OutputPlan, plan_output};
 use crate::snippet::line_buffers::LineBuffers;
 use crate::snippet::lines::SnippetContext;
 use crate::snippet::{render_snippet, render_trailing_border};
 use codespan_base::diagnostic::Diagnostic;
 use codespan_base::files::{Error, Files};
 use codespan_base::term::{Config, WriteStyle};
-use codespan_collect::collected::collect;
-use codespan_plan::plan::snippet_lines::SnippetLine;
-use codespan_plan::plan::snippet_plans::SnippetPlan;
-use codespan_plan::plan::{OutputPlan, plan_output};
 use codespan_renderer::term::renderer::Renderer;
 
 /// Renders a diagnostic in rich style: a header, a snippet for each file with a label, and the

@@ -4,13 +4,13 @@ ghost use Rattle.codespan_views.specs.Private.SnippetRows.{RendersSnippet, trail
 ghost use Rattle.codespan_views.specs.Private.Rendering.{RendersRows};
 ghost use Rattle.codespan_views.specs.Private.LineRendering.{AreLinesOf};
 
+use crate::plan::snippet_lines::SnippetLine;
+use crate::plan::snippet_plans::SnippetPlan;
 use crate::snippet::line_buffers::LineBuffers;
 use crate::snippet::lines::{Snippet, SnippetContext};
 use codespan_annotations::source_file::SourceFile;
 use codespan_base::files::{Error, Files};
 use codespan_base::term::WriteStyle;
-use codespan_plan::plan::snippet_lines::SnippetLine;
-use codespan_plan::plan::snippet_plans::SnippetPlan;
 use codespan_renderer::term::renderer::Renderer;
 use std::convert::AsStr;
 

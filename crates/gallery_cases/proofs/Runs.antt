@@ -11,8 +11,8 @@ use Rattle.codespan_base.specs.FileModel.{FileDatabase}
 use Rattle.codespan_base.specs.SimpleModel.{missing_file, simple_file, database_file}
 use Rattle.codespan_picture.specs.OutputStreams.{labels_of}
 use Rattle.codespan_picture.specs.Snippets.{InFile}
-use Rattle.codespan_laws.specs.StatedNames.{NamesAreStated}
-use Rattle.codespan_laws.proofs.StatedNames.{output_stated}
+use Rattle.codespan_picture.specs.StatedNames.{NamesAreStated}
+use Rattle.codespan_picture.proofs.StatedNames.{output_stated}
 use Rattle.codespan_styled.specs.Outputs.{EmitsRuns}
 use Rattle.codespan_styled.specs.Runs.{StyledRun, runs_of}
 use Rattle.gallery_cases.specs.Documents.{AreRunsOver}

@@ -1,6 +1,7 @@
 -- For the clauses `written` and `prefix` of the writing calls: what a writer has received, where
 -- its bytes are known.
-use Rattle.std.proofs.Common.{◌≡◌, ℕ, ◌-◌, List, [], ◌∷◌, ◌++◌, length, take, drop, Option, Result, Ok, Err, OnOk, sym, ap, ◌∙◌, append_assoc, take-append-drop}
+use Rattle.std.proofs.Common.{◌≡◌, ℕ, ◌-◌, List, [], ◌∷◌, ◌++◌, length, take, drop, Option, Result, Ok, Err, OnOk, sym, ap, subst, ◌∙◌, append_assoc, take-append-drop}
+use Rattle.std.proofs.Math.Seq.{take-append_seam}
 use Rattle.std.proofs.lemmas.List.{take_rest}
 use Rattle.std.proofs.KnownBytes.{Appends-kept, Appends-trans}
 use Rattle.std.specs.Io.{StartsWith}
@@ -26,6 +27,13 @@ pub prefix_kept : (old mid new : Option (List ℕ)) (bs : List ℕ) → AppendsP
     → Keeps mid new → AppendsPrefix old new bs
 prefix_kept old mid new bs received kept =
     (received.0, received.1, Appends-kept old mid new received.0 received.2 kept)
+
+-- what was received is a prefix, whatever is left
+pub prefix_received : (old new : Option (List ℕ)) (bs done rest : List ℕ) → bs ≡ done ++ rest
+    → Appends old new done → AppendsPrefix old new bs
+prefix_received old new bs done rest split received =
+    let starts = subst (λ (l : List ℕ). StartsWith l done) (sym split) (take-append_seam done rest) in
+    (done, starts, received)
 
 -- what holds anyway, where a call succeeded
 pub on_success : {T E X : Type 0} (r : Result T E) → X → OnOk r X

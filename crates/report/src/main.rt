@@ -21,8 +21,14 @@
 //! not UTF-8 are wrong; if an allocation for them fails, the status is 1.
 #![tactic(auto)]
 
+mod rendering;
+mod report_error;
+mod run;
+#[cfg(test)]
+mod tests;
+
+use crate::run::{conclude, run};
 use program_io::arguments::arguments;
-use report_runs::run::{conclude, run};
 use std::process::ExitCode;
 
 fn main(rt: HostRuntime) -> ExitCode {

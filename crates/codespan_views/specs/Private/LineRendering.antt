@@ -7,11 +7,11 @@ use Rattle.codespan_base.specs.WriterLaw.{Sink}
 use Rattle.codespan_picture.specs.Rows.{Row}
 use Rattle.codespan_renderer.specs.declared.term.renderer.Renderer.{Renderer}
 use Rattle.codespan_views.specs.declared.snippet.lines.Snippet.{Snippet}
-use Rattle.codespan_plan.specs.declared.plan.snippet_lines.SnippetLine.{SnippetLine as RustLine}
+use Rattle.codespan_views.specs.declared.plan.snippet_lines.SnippetLine.{SnippetLine as RustLine}
 use Rattle.codespan_annotations.specs.SourceFiles.{failure_of, model_of}
-use Rattle.codespan_plan.specs.SnippetLineViews.{IsSnippetLineOf, lookups_of_lines, snippet_line_view}
+use Rattle.codespan_views.specs.Private.SnippetLineViews.{IsSnippetLineOf, lookups_of_lines, snippet_line_view}
 use Rattle.codespan_views.specs.Private.Rendering.{RendersRowsWithLookups}
-use Rattle.codespan_plan.specs.SnippetLines.{SnippetLine, is_line_in_order, rows_of_line, rows_of_lines, AreInOrder}
+use Rattle.codespan_views.specs.Private.SnippetLines.{SnippetLine, is_line_in_order, rows_of_line, rows_of_lines, AreInOrder}
 
 -- these are lines of the file; the single-line labels of each are in the order of their starts, and
 -- its lane marks ascend in so many lanes

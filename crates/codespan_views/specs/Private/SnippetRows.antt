@@ -8,12 +8,12 @@ use Rattle.codespan_picture.specs.Arguments.{locus_view}
 use Rattle.codespan_picture.specs.Rows.{Row, SnippetStartRow, EmptyRow}
 use Rattle.codespan_renderer.specs.declared.term.renderer.Renderer.{Renderer}
 use Rattle.codespan_views.specs.declared.snippet.lines.SnippetContext.{SnippetContext}
-use Rattle.codespan_plan.specs.declared.plan.snippet_plans.SnippetPlan.{SnippetPlan}
-use Rattle.codespan_plan.specs.declared.plan.snippet_lines.SnippetLine.{SnippetLine as RustLine}
+use Rattle.codespan_views.specs.declared.plan.snippet_plans.SnippetPlan.{SnippetPlan}
+use Rattle.codespan_views.specs.declared.plan.snippet_lines.SnippetLine.{SnippetLine as RustLine}
 use Rattle.codespan_annotations.specs.FileLookups.{failure_in}
-use Rattle.codespan_plan.specs.SnippetLineViews.{lookups_of_lines, snippet_line_view}
+use Rattle.codespan_views.specs.Private.SnippetLineViews.{lookups_of_lines, snippet_line_view}
 use Rattle.codespan_views.specs.Private.Rendering.{RendersRowsWithLookups}
-use Rattle.codespan_plan.specs.SnippetLines.{rows_of_lines}
+use Rattle.codespan_views.specs.Private.SnippetLines.{rows_of_lines}
 
 module _ {Id : Type 0} (snippet_plan : SnippetPlan Id) where
   -- an empty row of the plan's snippet, which has its lanes

@@ -11,10 +11,10 @@ use Rattle.codespan_picture.specs.RowStreams.{header_row, stream_of_rows}
 use Rattle.codespan_renderer.specs.declared.term.renderer.Renderer.{Renderer}
 use Rattle.codespan_renderer.specs.Renderers.{config_of, writer_of}
 use Rattle.codespan_views.specs.declared.rich.RichDiagnostic.{RichDiagnostic}
-use Rattle.codespan_plan.specs.declared.plan.OutputPlan.{OutputPlan}
+use Rattle.codespan_views.specs.declared.plan.OutputPlan.{OutputPlan}
 use Rattle.codespan_views.specs.WriteCalls.{WritesOutput}
 use Rattle.codespan_views.specs.Views.{diagnostic_of, view_config_of}
-use Rattle.codespan_plan.specs.OutputPlans.{loci_of}
+use Rattle.codespan_views.specs.Private.OutputPlans.{loci_of}
 use Rattle.codespan_views.specs.Private.Headers.{RendersHeaders}
 use Rattle.codespan_views.specs.Private.Rendering.{RendersRowsWithLookups}
 use Rattle.codespan_base.specs.FileModel.{FileDatabase}

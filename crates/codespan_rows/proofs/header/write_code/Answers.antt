@@ -1,6 +1,6 @@
 use Rattle.std.proofs.Common.{sym, ◌∙◌}
 use Rattle.codespan_base.proofs.Chains.{written-then, failed-then, failed-before, failed, writes-last}
-use Rattle.codespan_row_parts.proofs.RowEquations.{bracketed-some}
+use Rattle.codespan_rows.proofs.RowEquations.{bracketed-some}
 use Rattle.codespan_rows.proofs.header.write_code.Goals as goal
 
 pub returns-in_err-put_all-in-Some : goal.returns-in_err-put_all-in-Some

@@ -1,8 +1,8 @@
 use Rattle.std.proofs.Common.{arith, refl, sym}
 use Rattle.std.proofs.lemmas.Bool.Decides.{nat_tests}
 use Rattle.codespan_base.proofs.Writes.{with_written-nil}
-use Rattle.codespan_row_parts.specs.LineViews.{context_view, line_view}
-use Rattle.codespan_row_parts.proofs.RowEquations.{caret_rows_none, caret_rows_some}
+use Rattle.codespan_rows.specs.LineViews.{context_view, line_view}
+use Rattle.codespan_rows.proofs.RowEquations.{caret_rows_none, caret_rows_some}
 use Rattle.codespan_rows.proofs.line_rows.write_caret_rows.Goals as goal
 
 pub returns-then-is_empty : goal.returns-then-is_empty

@@ -1,6 +1,6 @@
 use Rattle.codespan_base.proofs.Chains.{written-then, failed-then, failed-before, failed, writes-last}
-use Rattle.codespan_row_parts.specs.LineViews.{context_view, line_view}
-use Rattle.codespan_row_parts.proofs.RowEquations.{line_rows}
+use Rattle.codespan_rows.specs.LineViews.{context_view, line_view}
+use Rattle.codespan_rows.proofs.RowEquations.{line_rows}
 use Rattle.codespan_rows.proofs.line_rows.write_line.Goals as goal
 
 pub returns-in_err-write_source_row : goal.returns-in_err-write_source_row

@@ -1,4 +1,4 @@
-use Rattle.codespan_row_parts.proofs.RowEquations.{plain_lanes_are}
+use Rattle.codespan_rows.proofs.RowEquations.{plain_lanes_are}
 use Rattle.codespan_base.proofs.Chains.{written-then, failed-then, failed-before, failed, writes-last}
 use Rattle.codespan_picture.specs.RowStreams.{break_row}
 use Rattle.codespan_rows.proofs.notes.write_break.Goals as goal

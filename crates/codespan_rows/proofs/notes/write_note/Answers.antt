@@ -2,7 +2,7 @@ use Rattle.std.proofs.Common.{ap, refl}
 use Rattle.std.proofs.lemmas.Iterator.Splits.{YieldsList-from_lines}
 use Rattle.std.proofs.lemmas.Result.{err_from_is_err_and}
 use Rattle.codespan_base.proofs.Loops.{StillToWrite-start, StillToWrite-more, StillToWrite-failed, StillToWrite-end}
-use Rattle.codespan_row_parts.specs.RenderedRows.{later_note_rows, note_stream}
+use Rattle.codespan_rows.specs.RenderedRows.{later_note_rows, note_stream}
 use Rattle.codespan_rows.proofs.UnderlineRows.{lines-next, lines-none}
 use Rattle.codespan_rows.proofs.notes.write_note.Goals as goal
 

@@ -1,5 +1,5 @@
 use Rattle.std.specs.Str.Lines.{lines}
-use Rattle.codespan_row_parts.specs.RenderedRows.{note_stream}
+use Rattle.codespan_rows.specs.RenderedRows.{note_stream}
 use Rattle.codespan_rows.proofs.UnderlineRows.{NotesToWrite}
 use Rattle.codespan_rows.proofs.notes.write_note.Given as goal
 

@@ -1,6 +1,6 @@
 use Rattle.std.proofs.Common.{refl, sym, ◌∙◌, inl, inr}
 use Rattle.codespan_base.proofs.Loops.{StillToWrite-start, StillToWrite-end}
-use Rattle.codespan_row_parts.proofs.Hanging.{nothing_hangs, all_hanging}
+use Rattle.codespan_rows.proofs.Hanging.{nothing_hangs, all_hanging}
 use Rattle.codespan_rows.proofs.pointers.write_hanging.Goals.{else-not-has_any_message-via-then-not-has_any_message+else-not-has_any_message-2, else-not-has_any_message-via-else-not-has_any_message}
 use Rattle.codespan_rows.proofs.pointers.write_hanging.Goals as goal
 

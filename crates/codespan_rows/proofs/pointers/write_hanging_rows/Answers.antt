@@ -1,8 +1,8 @@
 use Rattle.std.proofs.Common.{◌≡◌, refl}
 use Rattle.std.proofs.lemmas.Result.{err_from_is_err_and}
 use Rattle.codespan_base.proofs.Loops.{StillToWrite-start, StillToWrite-more, StillToWrite-same, StillToWrite-failed, StillToWrite-end}
-use Rattle.codespan_row_parts.proofs.Hanging.{hanging_first, hanging_skip, hanging_end}
-use Rattle.codespan_row_parts.proofs.Pieces.{near-last}
+use Rattle.codespan_rows.proofs.Hanging.{hanging_first, hanging_skip, hanging_end}
+use Rattle.codespan_rows.proofs.Pieces.{near-last}
 use Rattle.codespan_rows.proofs.pointers.write_hanging_rows.Goals as goal
 
 pub loop-label-init : goal.loop-label-init

@@ -2,9 +2,9 @@ use Rattle.std.specs.Prelude.{filter, ◌≤◌}
 use Rattle.codespan_base.specs.Labels.{has_message}
 use Rattle.codespan_base.proofs.Loops.{StillToWrite}
 use Rattle.codespan_picture.specs.Arguments.{single_label_views}
-use Rattle.codespan_row_parts.specs.LineViews.{context_view, line_view}
+use Rattle.codespan_rows.specs.LineViews.{context_view, line_view}
 use Rattle.codespan_picture.specs.RowParts.{max_label_start}
-use Rattle.codespan_row_parts.specs.Runs.{hanging_stream}
+use Rattle.codespan_rows.specs.Runs.{hanging_stream}
 use Rattle.codespan_rows.proofs.pointers.write_hanging_rows.Given as goal
 
 -- the remaining labels are the first ones

@@ -1,5 +1,5 @@
 use Rattle.codespan_base.proofs.Chains.{written-then, failed-then, failed-before, failed, writes-last}
-use Rattle.codespan_row_parts.proofs.Pieces.{before-near, after-near}
+use Rattle.codespan_rows.proofs.Pieces.{before-near, after-near}
 use Rattle.codespan_rows.proofs.pointers.write_pointers_and_messages.Goals as goal
 
 pub returns-in_err-write_pointer_row : goal.returns-in_err-write_pointer_row

@@ -5,10 +5,10 @@ use Rattle.std.proofs.lemmas.Str.{IsUtf8-had, length-encode, len_utf8_bounds}
 use Rattle.codespan_base.specs.Streams.{bytes}
 use Rattle.codespan_base.proofs.Chains.{failed-before, failed-then, written-then}
 use Rattle.codespan_base.proofs.Loops.{StillToWrite-start, StillToWrite-more, StillToWrite-failed, StillToWrite-last}
-use Rattle.codespan_row_parts.specs.LineViews.{context_view, line_view}
+use Rattle.codespan_rows.specs.LineViews.{context_view, line_view}
 use Rattle.codespan_picture.specs.RowParts.{style_change}
-use Rattle.codespan_row_parts.proofs.TextRuns.{over-start, over-next, piece, piece-grows, text-start, text-turn, text-same, text-tab, text_rest}
-use Rattle.codespan_row_parts.proofs.PlainText.{tail-taken, text-over, text-past}
+use Rattle.codespan_rows.proofs.TextRuns.{over-start, over-next, piece, piece-grows, text-start, text-turn, text-same, text-tab, text_rest}
+use Rattle.codespan_rows.proofs.PlainText.{tail-taken, text-over, text-past}
 use Rattle.codespan_rows.proofs.source.write_colored_text.Goals.{in-Some+then-end-plain, in_default}
 use Rattle.codespan_rows.proofs.source.write_colored_text.Goals as goal
 

@@ -1,8 +1,8 @@
 use Rattle.std.proofs.Common.{◌≡◌, ◌≤◌, length}
 use Rattle.codespan_base.proofs.Loops.{StillToWrite}
-use Rattle.codespan_row_parts.specs.LineViews.{context_view, line_view}
+use Rattle.codespan_rows.specs.LineViews.{context_view, line_view}
 use Rattle.codespan_picture.specs.RowParts.{colored_text}
-use Rattle.codespan_row_parts.proofs.TextRuns.{IsOver, piece, text_rest}
+use Rattle.codespan_rows.proofs.TextRuns.{IsOver, piece, text_rest}
 use Rattle.codespan_rows.proofs.source.write_colored_text.Given as goal
 
 abbrev pub invariant-loop-metrics : goal.invariant-loop-metrics

@@ -1,4 +1,4 @@
-use Rattle.codespan_row_parts.proofs.RowEquations.{source_lanes_are}
+use Rattle.codespan_rows.proofs.RowEquations.{source_lanes_are}
 use Rattle.codespan_base.proofs.Chains.{written-then, failed-then, failed-before, failed, writes-last}
 use Rattle.codespan_rows.proofs.source.write_source_lanes.Goals as goal
 

@@ -1,6 +1,6 @@
 use Rattle.std.proofs.Common.{drop}
 use Rattle.codespan_base.proofs.Loops.{StillToWrite}
-use Rattle.codespan_row_parts.specs.LineViews.{context_view, line_view}
+use Rattle.codespan_rows.specs.LineViews.{context_view, line_view}
 use Rattle.codespan_picture.specs.Rows.{underline_rows}
 use Rattle.codespan_picture.specs.RowStreams.{stream_of_rows}
 use Rattle.codespan_rows.proofs.UnderlineRows.{underlines_of}

@@ -1,5 +1,5 @@
 use Rattle.std.proofs.Common.{◌∙◌, sym, arith}
-use Rattle.codespan_laws.proofs.SortedLists.{sorted-map}
+use Rattle.codespan_picture.proofs.SortedLists.{sorted-map}
 use Rattle.codespan_annotations.specs.Annotations.{is_before}
 use Rattle.codespan_annotations.specs.AnnotationViews.{annotation_view}
 use Rattle.codespan_annotations.proofs.AnnotationOrder.{sorted-join}

@@ -4,7 +4,7 @@ use Rattle.std.proofs.lemmas.List.Sorted.{answers_always}
 use Rattle.codespan_annotations.specs.Annotations.{is_before}
 use Rattle.codespan_annotations.specs.AnnotationViews.{annotation_view}
 use Rattle.codespan_annotations.proofs.AnnotationOrder.{below_order}
-use Rattle.codespan_laws.proofs.SortedLists.{sorted-map}
+use Rattle.codespan_picture.proofs.SortedLists.{sorted-map}
 use Rattle.codespan_annotations.proofs.annotation.order.sort.Goals as goal
 
 pub returns-clause-sorted : goal.returns-clause-sorted

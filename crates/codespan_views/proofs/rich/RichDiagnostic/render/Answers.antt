@@ -7,7 +7,7 @@ use Rattle.codespan_base.specs.declared.term.config.DisplayStyle.TheVariants.{Ri
 use Rattle.codespan_base.specs.FileModel.{FileDatabase}
 use Rattle.codespan_base.specs.LawfulFiles.{IsLawful}
 use Rattle.codespan_base.specs.WriterLaw.{Sink}
-use Rattle.codespan_laws.proofs.RichLemmas.{output_means_labels}
+use Rattle.codespan_picture.proofs.RichLemmas.{output_means_labels}
 use Rattle.codespan_views.specs.WriteCalls.{WritesOutput, WritesStyled}
 use Rattle.codespan_views.proofs.RichParts.{bare-whole}
 use Rattle.codespan_views.proofs.rich.RichDiagnostic.render.Goals as goal

@@ -1,7 +1,7 @@
 use Rattle.std.proofs.Common.{Err, map, refl, sym, subst, ap, ◌∙◌}
 use Rattle.std.proofs.lemmas.Result.{err_from_is_err_and}
 use Rattle.codespan_picture.specs.OutputStreams.{label_of}
-use Rattle.codespan_collect.specs.Collections.{IsCollected}
+use Rattle.codespan_views.specs.Private.Collections.{IsCollected}
 use Rattle.codespan_views.specs.Views.{view_config_of}
 use Rattle.codespan_views.proofs.RichParts.{rendered-whole, planned-of_all, ready, failed-collecting, failed-in_header, failed-in_snippets, failed-planning}
 use Rattle.codespan_views.proofs.rich.RichDiagnostic.render_labels.Goals as goal

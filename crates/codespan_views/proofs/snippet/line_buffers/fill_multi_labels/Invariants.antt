@@ -1,7 +1,7 @@
 use Rattle.std.proofs.Common.{◌≡◌, ◌++◌, map, drop}
 use Rattle.codespan_picture.specs.Arguments.{lane_mark_view}
 use Rattle.codespan_annotations.specs.AnnotationViews.{annotation_view}
-use Rattle.codespan_plan.specs.SnippetLines.{lane_marks_in}
+use Rattle.codespan_views.specs.Private.SnippetLines.{lane_marks_in}
 use Rattle.codespan_views.proofs.snippet.line_buffers.fill_multi_labels.Given as goal
 
 -- what is taken and what is left make the whole

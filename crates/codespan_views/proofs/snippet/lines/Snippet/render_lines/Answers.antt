@@ -1,9 +1,9 @@
 use Rattle.std.proofs.Common.{◌≡◌, ◌+◌, ◌≤◌, true, length, Err, refl, sym, ap, ◌∙◌, subst, arith}
 use Rattle.std.proofs.lemmas.List.Elements.{All-from_recursion}
 use Rattle.std.proofs.lemmas.Result.{err_from_is_err_and}
-use Rattle.codespan_laws.proofs.ListElements.{all-mapped}
-use Rattle.codespan_plan.specs.SnippetLineViews.{IsSnippetLineOf, snippet_line_view}
-use Rattle.codespan_plan.specs.SnippetLines.{is_line_in_order}
+use Rattle.codespan_picture.proofs.ListElements.{all-mapped}
+use Rattle.codespan_views.specs.Private.SnippetLineViews.{IsSnippetLineOf, snippet_line_view}
+use Rattle.codespan_views.specs.Private.SnippetLines.{is_line_in_order}
 use Rattle.codespan_annotations.specs.SourceFiles.{model_of}
 use Rattle.codespan_annotations.proofs.IndexedElements.{IsElementAt}
 use Rattle.codespan_views.proofs.LinesRendered.{rendered-all, rendered-cut, rendered-next, rendered-nothing}

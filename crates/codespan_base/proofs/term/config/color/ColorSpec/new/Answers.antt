@@ -1,0 +1,6 @@
+use Rattle.std.proofs.Common.{refl}
+use Rattle.codespan_base.proofs.term.config.color.ColorSpec.new.Goals as goal
+
+-- each field is that of the definition
+pub returns : goal.returns
+returns c = refl

@@ -1,0 +1,6 @@
+use Rattle.std.proofs.Common.{refl}
+use Rattle.codespan_base.proofs.term.config.styles.Styles.header.Goals as goal
+
+-- the style that is borrowed is that of the severity
+pub returns-in-Error : goal.returns-in-Error
+returns-in-Error c = rw c.in-Error.is refl

@@ -1,0 +1,6 @@
+use Rattle.std.proofs.Common.{refl}
+use Rattle.codespan_base.proofs.term.config.styles.Styles.header_message.Goals as goal
+
+-- the style that is borrowed is the field
+pub returns : goal.returns
+returns c = refl

@@ -1,0 +1,85 @@
+-- The styles of the parts of the output, and of severities and labels.
+use Rattle.std.specs.Prelude.{true, false, Option, Some, None}
+use Rattle.codespan_diagnostics.specs.declared.diagnostic.Severity.{Severity}
+use Rattle.codespan_diagnostics.specs.declared.diagnostic.Severity.TheVariants.{Bug, Error, Warning, Note, Help}
+use Rattle.codespan_diagnostics.specs.declared.diagnostic.LabelStyle.{LabelStyle}
+use Rattle.codespan_diagnostics.specs.declared.diagnostic.LabelStyle.TheVariants.{Primary, Secondary}
+use Rattle.codespan_base.specs.declared.term.config.color.Color.{Color}
+use Rattle.codespan_base.specs.declared.term.config.color.Color.TheVariants.{Red, Green, Yellow, Cyan}
+use Rattle.codespan_base.specs.declared.term.config.color.ColorSpec.{ColorSpec}
+use Rattle.codespan_base.specs.declared.term.config.styles.Styles.{Styles}
+
+-- ---- the default styles
+
+-- a color alone
+abbrev pub colored : Color → ColorSpec
+colored color = record { fg = Some color; bg = None; bold = false; intense = false }
+
+-- bold and intense, with a color or without
+abbrev pub bright : Option Color → ColorSpec
+bright color = record { fg = color; bg = None; bold = true; intense = true }
+
+-- the default styles
+abbrev pub default_styles : Styles
+default_styles = record {
+  header_bug = bright (Some Red);
+  header_error = bright (Some Red);
+  header_warning = bright (Some Yellow);
+  header_note = bright (Some Green);
+  header_help = bright (Some Cyan);
+  header_message = bright None;
+  primary_label_bug = colored Red;
+  primary_label_error = colored Red;
+  primary_label_warning = colored Yellow;
+  primary_label_note = colored Green;
+  primary_label_help = colored Cyan;
+  secondary_label = colored Cyan;
+  line_number = colored Cyan;
+  source_border = colored Cyan;
+  note_bullet = colored Cyan;
+}
+
+-- ---- the styles of headers and labels
+
+-- the style of the severity and the code in a header
+abbrev pub header_style : Styles → Severity → ColorSpec
+header_style styles Bug = styles.header_bug
+header_style styles Error = styles.header_error
+header_style styles Warning = styles.header_warning
+header_style styles Note = styles.header_note
+header_style styles Help = styles.header_help
+
+-- the style of a label
+abbrev pub label_style : Styles → Severity → LabelStyle → ColorSpec
+label_style styles severity Secondary = styles.secondary_label
+label_style styles Bug Primary = styles.primary_label_bug
+label_style styles Error Primary = styles.primary_label_error
+label_style styles Warning Primary = styles.primary_label_warning
+label_style styles Note Primary = styles.primary_label_note
+label_style styles Help Primary = styles.primary_label_help
+
+-- ---- plain styles
+
+-- the style of plain text
+abbrev pub unset : ColorSpec
+unset = record { fg = None; bg = None; bold = false; intense = false }
+
+-- each part has the style of plain text
+abbrev pub no_color_styles : Styles
+no_color_styles = record {
+  header_bug = unset;
+  header_error = unset;
+  header_warning = unset;
+  header_note = unset;
+  header_help = unset;
+  header_message = unset;
+  primary_label_bug = unset;
+  primary_label_error = unset;
+  primary_label_warning = unset;
+  primary_label_note = unset;
+  primary_label_help = unset;
+  secondary_label = unset;
+  line_number = unset;
+  source_border = unset;
+  note_bullet = unset;
+}

@@ -1,8 +1,0 @@
-use Rattle.codespan_collect.specs.CollectedLabels.{label_of_collector}
-use Rattle.codespan_collect.proofs.Contexts.{CollectsLines}
-use Rattle.codespan_collect.proofs.label_annotations.LabelCollector.collect_lines.Given as goal
-
--- the lines below this one are done with
-abbrev pub invariant-loop-index : goal.invariant-loop-index
-invariant-loop-index g l =
-    CollectsLines (label_of_collector g.F.Files.database l.self) l.initial.found l.found l.index-counter

@@ -1,6 +1,0 @@
-use Rattle.std.proofs.Common.{refl}
-use Rattle.codespan_config.proofs.config.color.ColorSpec.new.Goals as goal
-
--- each field is that of the definition
-pub returns : goal.returns
-returns c = refl

@@ -1,6 +1,0 @@
-use Rattle.std.proofs.Common.{refl}
-use Rattle.codespan_config.proofs.config.styles.Styles.header.Goals as goal
-
--- the style that is borrowed is that of the severity
-pub returns-in-Error : goal.returns-in-Error
-returns-in-Error c = rw c.in-Error.is refl

@@ -1,6 +1,0 @@
-use Rattle.std.proofs.Common.{refl}
-use Rattle.codespan_config.proofs.config.styles.Styles.line_number.Goals as goal
-
--- the style that is borrowed is the field
-pub returns : goal.returns
-returns c = refl

@@ -1,0 +1,93 @@
+-- For `breaks_are_gaps`: there are break rows where shown lines are three or more apart.
+use Rattle.std.proofs.Common.{◌≡◌, ℕ, ◌+◌, Bool, true, false, cond, ◌==◌, nat_le, List, [], ◌∷◌, ◌++◌, map, filter, filter_map, reverse, Some, None, refl, ap, ap₂, ◌∙◌, arith}
+use Rattle.std.proofs.lemmas.List.Elements.{filter_map-append}
+use Rattle.std.proofs.lemmas.Bool.Decides.{nat_tests}
+use Rattle.codespan_base.specs.declared.term.config.Config.{Config}
+use Rattle.codespan_base.specs.Labels.{LabelModel, LaneMark}
+use Rattle.codespan_picture.specs.CharMetrics.{leading_whitespace}
+use Rattle.codespan_picture.specs.Rows.{Row, Lanes, Line, SourceRow, HangingRow, UnderlineRow, BreakRow, caret_rows, hanging_rows, underline_rows, rows_of, hanging_labels, has_underline}
+use Rattle.codespan_picture.specs.Sequences.{gap_between}
+use Rattle.codespan_picture.specs.Snippets.{LabeledFileModel, line_at, line_rows, break_rows, rows_of_shown}
+use Rattle.codespan_picture.specs.LineLaws.{break_lanes, broken_before, shown_lines, BreaksAreGaps, RowsOfShown}
+
+-- ---- rows that are not breaks
+
+breaks-append : (xs ys : List Row)
+    → filter_map break_lanes (xs ++ ys) ≡ filter_map break_lanes xs ++ filter_map break_lanes ys
+breaks-append xs ys = filter_map-append break_lanes xs ys
+
+breaks-map : {X : Type 0} (f : X → Row) (xs : List X) → ((x : X) → break_lanes (f x) ≡ None)
+    → filter_map break_lanes (map f xs) ≡ []
+breaks-map f [] h = refl
+breaks-map f (x ∷ xs) h = simp (h x) (breaks-map f xs h)
+
+no_break_caret : (line : Line) (labels : List LabelModel)
+    → filter_map break_lanes (caret_rows line labels) ≡ []
+no_break_caret line [] = refl
+no_break_caret line (x ∷ xs) = refl
+
+no_break_hanging : (line : Line) (labels : List LabelModel)
+    → filter_map break_lanes (hanging_rows line labels) ≡ []
+no_break_hanging line [] = refl
+no_break_hanging line (x ∷ xs) = breaks-map (HangingRow line) (reverse (x ∷ xs)) (λ y. refl)
+
+no_break_line : (line : Line) → filter_map break_lanes (rows_of line) ≡ []
+no_break_line line =
+    breaks-append
+    ((SourceRow line ∷ caret_rows line line.labels)
+    ++ hanging_rows line (hanging_labels line.labels))
+    (underline_rows line)
+    ∙ ap₂ (λ s t. s ++ t)
+    (breaks-append (SourceRow line ∷ caret_rows line line.labels)
+    (hanging_rows line (hanging_labels line.labels))
+    ∙ ap₂ (λ s t. s ++ t) (no_break_caret line line.labels)
+    (no_break_hanging line (hanging_labels line.labels)))
+    (breaks-map (UnderlineRow line)
+    (filter (λ (m : LaneMark). has_underline (leading_whitespace line.text) m.multi_label)
+    line.lanes.lane_marks)
+    (λ m. refl))
+
+-- ---- the breaks between drawn lines
+
+breaks_of : (line : ℕ → Line) (c : ℕ) (ls : List ℕ)
+    → filter_map break_lanes (rows_of_shown line (Some c) ls) ≡ map (λ l. (line l).lanes)
+    (broken_before (c ∷ ls))
+breaks_of line c [] = refl
+breaks_of line c (d ∷ more) =
+    breaks-append (gap c d ++ rows_of (line d)) (rows_of_shown line (Some d) more)
+    ∙ ap₂ (λ s t. s ++ t)
+    (breaks-append (gap c d) (rows_of (line d))
+    ∙ ap (λ t. filter_map break_lanes (gap c d) ++ t) (no_break_line (line d)))
+    (breaks_of line d more)
+    ∙ by_tests (d == c + 2) (nat_le (c + 3) d) refl refl
+  where
+    gap : ℕ → ℕ → List Row
+    gap = gap_between (line_rows line) (break_rows line)
+
+    rest : List Lanes
+    rest = map (λ l. (line l).lanes) (broken_before (d ∷ more))
+
+    by_tests : (b e : Bool) → (d == c + 2) ≡ b → nat_le (c + 3) d ≡ e
+        → (filter_map break_lanes
+        (cond b (rows_of (line (c + 1))) (cond e (BreakRow (line d).lanes ∷ []) [])) ++ [])
+        ++ rest
+        ≡ map (λ l. (line l).lanes)
+        (cond e (d ∷ broken_before (d ∷ more)) (broken_before (d ∷ more)))
+    by_tests true true two far = absurd (grind (arith, nat_tests))
+    by_tests true false two near = ap (λ s. (s ++ []) ++ rest) (no_break_line (line (c + 1)))
+    by_tests false true other far = refl
+    by_tests false false other near = refl
+
+breaks_from_start : (line : ℕ → Line) (ls : List ℕ)
+    → filter_map break_lanes (rows_of_shown line None ls) ≡ map (λ l. (line l).lanes)
+    (broken_before ls)
+breaks_from_start line [] = refl
+breaks_from_start line (d ∷ more) =
+    breaks-append (rows_of (line d)) (rows_of_shown line (Some d) more)
+    ∙ ap₂ (λ s t. s ++ t) (no_break_line (line d)) (breaks_of line d more)
+
+pub breaks_are_gaps : (config : Config) (s : LabeledFileModel) → RowsOfShown config s
+    → BreaksAreGaps config s
+breaks_are_gaps config s drawn =
+    λ locus. ap (filter_map break_lanes) drawn
+    ∙ breaks_from_start (line_at s) (shown_lines config s)

@@ -1,0 +1,35 @@
+-- For `rows_are_of_shown_lines` and `breaks_are_gaps`: drawn lines with their breaks, from the
+-- shown lines alone. Between two consecutive ones there is nothing, one filled line, or a break.
+use Rattle.std.proofs.Common.{◌≡◌, ℕ, ◌≤◌, Bool, true, false, cond, nat_lt, List, Option, refl, arith}
+use Rattle.std.proofs.lemmas.Bool.Decides.{nat_tests}
+use Rattle.codespan_base.specs.declared.term.config.Config.{Config}
+use Rattle.codespan_base.specs.FileModel.{line_count}
+use Rattle.codespan_picture.specs.Lines.{is_shown}
+use Rattle.codespan_picture.specs.LineLaws.{RowsOfShown}
+use Rattle.codespan_picture.specs.Rows.{Row}
+use Rattle.codespan_picture.specs.Sequences.{before_line, break_between}
+use Rattle.codespan_picture.specs.Snippets.{LabeledFileModel, line_at, line_rows, break_rows}
+use Rattle.codespan_picture.proofs.Filling.{lines-shown}
+
+-- what is before a drawn line
+abbrev pub breaks_before : LabeledFileModel → Option ℕ → ℕ → List Row
+breaks_before s = before_line (break_between (break_rows (line_at s)))
+
+-- no line past the file's last one is shown
+pub none_past : (config : Config) (s : LabeledFileModel) (l : ℕ) → line_count s.file ≤ l
+    → is_shown config s.file s.labels l ≡ false
+none_past config s l h =
+    let past : nat_lt l (line_count s.file) ≡ false = grind (arith, nat_tests) in
+    simp past
+
+-- the drawn lines with their breaks are the shown lines with what is between them
+pub rows_of_shown_lines : (config : Config) (s : LabeledFileModel) → RowsOfShown config s
+rows_of_shown_lines config s =
+    let rows = line_rows (line_at s) in
+    let shown = is_shown config s.file s.labels in
+    lines-shown rows rows (break_rows (line_at s)) shown rows (λ l. one (rows l) (shown l))
+    (line_count s.file) (none_past config s)
+  where
+    one : (rows : List Row) (b : Bool) → rows ≡ cond b rows rows
+    one rows true = refl
+    one rows false = refl

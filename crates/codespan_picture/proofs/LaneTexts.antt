@@ -1,0 +1,134 @@
+-- For `outputs_are_texts`: the streams of lanes and of cells are texts.
+use Rattle.std.proofs.Common.{◌≡◌, ℕ, ◌+◌, ◌-◌, Bool, true, false, ◌&&◌, ◌==◌, List, [], ◌∷◌, Option, Some, None, refl}
+use Rattle.std.specs.Prelude.{if◌then◌else◌, IfSome}
+use Rattle.std.specs.Char.{IsScalar, len_utf8}
+use Rattle.std.specs.List.{AllByRecursion}
+use Rattle.std.specs.Str.{IsUtf8, all_scalars, chars}
+use Rattle.std.proofs.Math.Utf8.{scalar}
+use Rattle.std.proofs.lemmas.Str.{scalars-chars}
+use Rattle.codespan_base.specs.declared.diagnostic.LabelStyle.{LabelStyle}
+use Rattle.codespan_base.specs.declared.diagnostic.LabelStyle.TheVariants.{Primary, Secondary}
+use Rattle.codespan_base.specs.declared.diagnostic.Severity.{Severity}
+use Rattle.codespan_base.specs.declared.term.config.chars.Chars.{Chars}
+use Rattle.codespan_base.specs.Labels.{LabelModel, LaneMark, MultiLabel, Top, Left, Bottom}
+use Rattle.codespan_base.specs.Streams.{glyph, spaces}
+use Rattle.codespan_picture.specs.declared.char_metrics.Metrics.{Metrics}
+use Rattle.codespan_picture.specs.declared.lanes.Shape.{Shape}
+use Rattle.codespan_picture.specs.declared.lanes.Shape.TheVariants.{Space, Bar, TopCorner, BottomCorner}
+use Rattle.codespan_picture.specs.Carets.{caret_for}
+use Rattle.codespan_picture.specs.CharMetrics.{char_metrics, metrics_then, width_at}
+use Rattle.codespan_picture.specs.Lanes.{underline_char, crossing_cells, label_glyph, lane_cells}
+use Rattle.codespan_picture.specs.Rows.{Line, Row, HeaderRow, SnippetStartRow, SourceRow, CaretRow, HangingRow, UnderlineRow, FirstNoteRow, LaterNoteRow}
+use Rattle.codespan_picture.specs.RowParts.{source_glyph, start_caret, end_caret}
+use Rattle.codespan_picture.specs.TextLaws.{IsText, AreCharacters}
+use Rattle.codespan_picture.proofs.StreamTexts.{pieces, text-both, text-glyph, text-spaces}
+
+-- ---- lanes
+
+pub text-label_glyph : (severity : Severity) (style : LabelStyle) (c : ℕ) → IsScalar c
+    → IsText (label_glyph severity style c)
+unfolding label_glyph
+text-label_glyph severity style c s = search (pieces, s)
+
+module _ (chars : Chars) (ok : AreCharacters chars) where
+  scalar-underline_char : (multi_label : MultiLabel) → IsScalar (underline_char chars multi_label)
+  scalar-underline_char (Top start) = ok.multi_top
+  scalar-underline_char Left = ok.multi_bottom
+  scalar-underline_char (Bottom end message) = ok.multi_bottom
+
+  text-crossing_cells : (severity : Severity) (crossing : Option LaneMark) (n : ℕ)
+      → IsText (crossing_cells severity chars crossing n)
+  unfolding crossing_cells
+  text-crossing_cells severity None n = text-spaces n
+  text-crossing_cells severity (Some m) n = search (pieces, scalar-underline_char m.multi_label)
+
+  pub text-lane_cells : (severity : Severity) (crossing : Option LaneMark) (style : LabelStyle)
+      (shape : Shape)
+      → IsText (lane_cells severity chars crossing style shape)
+  unfolding lane_cells
+  text-lane_cells severity crossing style Space = text-crossing_cells severity crossing 2
+  text-lane_cells severity crossing style Bar =
+      text-both (crossing_cells severity chars crossing 1) _
+      (text-crossing_cells severity crossing 1)
+      (text-label_glyph severity style chars.multi_left ok.multi_left)
+  text-lane_cells severity crossing style TopCorner =
+      text-both (crossing_cells severity chars crossing 1) _
+      (text-crossing_cells severity crossing 1)
+      (text-label_glyph severity style chars.multi_top_left ok.multi_top_left)
+  text-lane_cells severity crossing style BottomCorner =
+      text-both (crossing_cells severity chars crossing 1) _
+      (text-crossing_cells severity crossing 1)
+      (text-label_glyph severity style chars.multi_bottom_left ok.multi_bottom_left)
+
+  pub scalar-caret_for : (style : Option LabelStyle) → IsScalar (caret_for chars style)
+  scalar-caret_for None = refl
+  scalar-caret_for (Some Primary) = ok.single_primary_caret
+  scalar-caret_for (Some Secondary) = ok.single_secondary_caret
+
+  pub scalar-start_caret : (style : LabelStyle) → IsScalar (start_caret chars style)
+  scalar-start_caret Primary = ok.multi_primary_caret_start
+  scalar-start_caret Secondary = ok.multi_secondary_caret_start
+
+  pub scalar-end_caret : (style : LabelStyle) → IsScalar (end_caret chars style)
+  scalar-end_caret Primary = ok.multi_primary_caret_end
+  scalar-end_caret Secondary = ok.multi_secondary_caret_end
+
+-- ---- cells
+
+and_true : (a b : Bool) → (a && b) ≡ true → (a ≡ true) × (b ≡ true)
+and_true true b e = (refl, e)
+and_true false b e = absurd (cc)
+
+-- the characters of a line are Unicode scalar values where those of its text are
+scalar-metrics_then : (after : ℕ → ℕ → List Metrics) (tab : ℕ)
+    → ((p k : ℕ) → AllByRecursion (λ (c : Metrics). IsScalar c.ch) (after p k)) → (cs : List ℕ)
+    → all_scalars cs ≡ true
+    → (byte_index column : ℕ)
+    → AllByRecursion (λ (c : Metrics). IsScalar c.ch) (metrics_then after tab byte_index column cs)
+scalar-metrics_then after tab h [] e byte_index column = h byte_index column
+scalar-metrics_then after tab h (c ∷ cs) e byte_index column =
+    let both = and_true (scalar c) (all_scalars cs) e in (
+      both.0,
+      scalar-metrics_then after tab h cs both.1 (byte_index + len_utf8 c)
+          (column + width_at tab column c),
+    )
+
+pub scalar-char_metrics : (tab : ℕ) (text : List ℕ) → IsUtf8 text
+    → AllByRecursion (λ (c : Metrics). IsScalar c.ch) (char_metrics tab text)
+scalar-char_metrics tab text u =
+    scalar-metrics_then (λ _ _. []) tab (λ p k. tt) (chars text) (scalars-chars text u) 0 0
+
+pub text-source_glyph : (c : Metrics) → IsScalar c.ch → IsText (source_glyph c)
+unfolding source_glyph
+text-source_glyph c s = by (c.ch == 9)
+  where
+    by : (b : Bool) → IsText (if b then spaces c.unicode_width else glyph c.ch)
+    by true = text-spaces c.unicode_width
+    by false = text-glyph c.ch s
+
+-- ---- what a row is rendered from
+
+-- the message of a multi-line label mark
+abbrev pub IsTextMultiLabel : MultiLabel → Type 0
+IsTextMultiLabel (Bottom end message) = IsText message
+IsTextMultiLabel _ = Unit {0}
+
+-- the text of a line and the messages of its labels are texts
+pub record IsTextLine (line : Line) : Type 0 where
+  pub text : IsUtf8 line.text
+  pub labels : AllByRecursion (λ (x : LabelModel). IsText x.message) line.labels
+  pub lane_marks : AllByRecursion (λ (m : LaneMark). IsTextMultiLabel m.multi_label)
+      line.lanes.lane_marks
+
+-- what a row is rendered from are texts
+abbrev pub IsTextRow : Row → Type 0
+IsTextRow (HeaderRow at header_text) =
+    IfSome at (λ p. IsUtf8 p.name) × IfSome header_text.code IsUtf8 × IsUtf8 header_text.message
+IsTextRow (SnippetStartRow at) = IsUtf8 at.name
+IsTextRow (SourceRow line) = IsUtf8 line.text
+IsTextRow (CaretRow line) = AllByRecursion (λ (x : LabelModel). IsText x.message) line.labels
+IsTextRow (HangingRow line x) = IsText x.message
+IsTextRow (UnderlineRow line m) = IsTextMultiLabel m.multi_label
+IsTextRow (FirstNoteRow note_line) = IsUtf8 note_line
+IsTextRow (LaterNoteRow note_line) = IsUtf8 note_line
+IsTextRow _ = Unit {0}

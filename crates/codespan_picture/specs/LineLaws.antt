@@ -1,0 +1,86 @@
+-- The laws of drawn lines, breaks, and line numbers.
+use Rattle.std.specs.Prelude.{◌≡◌, ℕ, ◌+◌, ◌<◌, ◌≤◌, ◌↔◌, Bool, false, List, ◌∷◌, Contains, map, filter, filter_map, Option, Some, None, if◌then◌else◌, IsTrue, ◌*◌, true, sum_by, count_by, []}
+use Rattle.std.specs.List.{range_with_len}
+use Rattle.codespan_picture.specs.Types.{Config, Layout}
+use Rattle.codespan_base.specs.FileModel.{FileModel, line_count}
+use Rattle.codespan_base.specs.Labels.{LabelModel}
+use Rattle.codespan_picture.specs.declared.lanes.Shape.TheVariants.{Bar}
+use Rattle.codespan_picture.specs.Lanes.{is_unbroken}
+use Rattle.codespan_picture.specs.Lines.{drawn_lines, has_break_between, is_shown}
+use Rattle.codespan_picture.specs.Rows.{Lanes, Locus, Row, BreakRow, SourceRow}
+use Rattle.codespan_picture.specs.Snippets.{LabeledFileModel, rows_after, rows_of_shown, line_at, snippet}
+use Rattle.codespan_picture.specs.Padding.{padding_of, count_digits}
+use Rattle.codespan_picture.specs.LaneLaws.{shape_in, HasLane, IsBarLine}
+
+-- the shown lines of a file, all of which it has
+abbrev pub shown_lines : Config → LabeledFileModel → List ℕ
+shown_lines config s =
+    filter (is_shown config s.file s.labels) (range_with_len 0 (line_count s.file))
+
+-- the rows of drawn lines with their breaks follow from the shown lines
+abbrev pub RowsOfShown : Config → LabeledFileModel → Type 0
+RowsOfShown config s =
+    rows_after s None (drawn_lines config s.file s.labels)
+    ≡ rows_of_shown (line_at s) None (shown_lines config s)
+
+-- ---- breaks
+
+-- of each two consecutive lines in this list with two or more lines between them the later one
+abbrev pub broken_before : List ℕ → List ℕ
+broken_before [] = []
+broken_before (c ∷ []) = []
+broken_before (c ∷ d ∷ more) =
+    if has_break_between c d then d ∷ broken_before (d ∷ more) else broken_before (d ∷ more)
+
+-- the lanes of a break row
+abbrev pub break_lanes : Row → Option Lanes
+break_lanes (BreakRow lanes) = Some lanes
+break_lanes _ = None
+
+-- the snippet has one break row for each line of `broken_before`, in order, with that line's lanes
+abbrev pub BreaksAreGaps : Config → LabeledFileModel → Type 0
+BreaksAreGaps config s = (locus : Locus)
+    → filter_map break_lanes (snippet config locus s)
+    ≡ map (λ l. (line_at s l).lanes) (broken_before (shown_lines config s))
+
+-- a lane has a bar in a break row exactly where its label covers every line that is left out there
+abbrev pub BreaksHaveBars : Config → Layout → LabeledFileModel → Type 0
+BreaksHaveBars config layout s = (c d lane : ℕ) (x : LabelModel)
+    → IsTrue (is_shown config s.file s.labels c) → IsTrue (is_shown config s.file s.labels d)
+    → c + 3 ≤ d → ((l : ℕ) → c < l → l < d → is_shown config s.file s.labels l ≡ false)
+    → HasLane s lane x
+    → (shape_in layout (BreakRow (line_at s d).lanes) lane ≡ Bar)
+    ↔ ((l : ℕ) → c < l → l < d → IsBarLine s.file x l)
+
+-- ---- how many rows there are
+
+-- the row is a source row
+abbrev pub is_source_row : Row → Bool
+is_source_row (SourceRow line) = true
+is_source_row _ = false
+
+-- how many lines one label may show by the configuration: two, and all its context lines
+abbrev pub max_shown_lines : Config → ℕ
+max_shown_lines config =
+    2 + config.before_label_lines + config.after_label_lines + config.start_context_lines
+    + config.end_context_lines
+
+-- a file has at most twice as many source rows as its labels may show lines
+abbrev pub SourceRowsAreFew : Config → LabeledFileModel → Type 0
+SourceRowsAreFew config s = (locus : Locus)
+    → count_by is_source_row (snippet config locus s)
+    ≤ 2 * sum_by (λ _. max_shown_lines config) s.labels
+
+-- no line of the file has a lower number than the line before it
+abbrev pub NumbersAscend : FileModel → Type 0
+NumbersAscend f = (i : ℕ) → i + 1 < line_count f → f.line_number i ≤ f.line_number (i + 1)
+
+-- every drawn line's number fits the padding: in the unbroken layout, and in the classic one where
+-- the configuration shows no lines after labels and the numbers never fall
+abbrev pub PaddingFits : Config → List LabeledFileModel → Type 0
+PaddingFits config ss =
+    (is_unbroken config.layout ≡ false → (config.after_label_lines ≡ 0)
+    × ((s : LabeledFileModel) → Contains ss s → NumbersAscend s.file))
+    → (s : LabeledFileModel) (l : ℕ) → Contains ss s
+    → Contains (drawn_lines config s.file s.labels) l
+    → count_digits (s.file.line_number l) ≤ padding_of config ss

@@ -1,0 +1,285 @@
+-- From all annotations of a diagnostic in order `lines_of` makes, for each file, the rows of its
+-- snippet: for the clause `planned` of `plan_output`.
+use Rattle.std.proofs.Common.{◌≡◌, ℕ, ◌<◌, Bool, true, ◌==◌, ◌&&◌, List, [], map, filter, reverse, None, refl, sym, ◌∙◌, ap, subst}
+use Rattle.std.specs.List.{list_any, range_with_len, AllByRecursion}
+use Rattle.std.proofs.lemmas.Bool.{eqb-true}
+use Rattle.std.proofs.lemmas.List.Elements.{recursion_from_All, All-from_recursion}
+use Rattle.std.proofs.lemmas.List.Sorted.{All-permutation, list_any-IsPermutation}
+use Rattle.codespan_base.specs.declared.term.config.Config.{Config}
+use Rattle.codespan_base.specs.FileModel.{FileDatabase, FileModel, line_count}
+use Rattle.codespan_base.specs.Labels.{LaneMark, LabelModel, is_single, first_line, drawn_label, lane_marks_on, single_labels, sorted}
+use Rattle.codespan_picture.specs.Arguments.{ascend_from, starts_in_order}
+use Rattle.codespan_views.specs.declared.collected.Collected.{Collected}
+use Rattle.codespan_annotations.specs.Annotations.{Annotation, is_before, is_on_line, is_of_file, shows_line}
+use Rattle.codespan_annotations.specs.AnnotationViews.{annotation_view}
+use Rattle.codespan_views.specs.Private.Collections.{IsCollected}
+use Rattle.codespan_picture.specs.Lines as lines
+use Rattle.codespan_picture.specs.Lines.{drawn_lines}
+use Rattle.codespan_picture.specs.Lookups.{filled_lines}
+use Rattle.codespan_picture.specs.Sequences.{break_between, in_sequence}
+use Rattle.codespan_annotations.specs.FileIndices.{IsIdAt}
+use Rattle.codespan_views.specs.Private.IndexedLabels.{all_annotations}
+use Rattle.codespan_picture.specs.Snippets.{InFile, LabeledFileModel, labeled_file_model, num_multi_labels, line_at, line_rows, break_rows, rows_after, file_ids}
+use Rattle.codespan_views.specs.Private.SnippetLines.{are_shown, lane_marks_in, lines_of, single_labels_in, line_of_group, rows_of_lines, filled_lines_of, are_lane_marks_in_order, is_line_in_order}
+use Rattle.codespan_views.proofs.AnnotationGroups.{lines_after, snippet_lines-by_line, all-on_line}
+use Rattle.codespan_views.proofs.AnnotationLines as annotation_lines
+use Rattle.codespan_views.proofs.FileLabels.{HasFileIndex, is_of_range}
+use Rattle.codespan_annotations.proofs.AnnotationOrder.{below_order, lane_mark_annotation}
+use Rattle.codespan_views.proofs.SingleLabelOrder.{IsOn, single_labels-ascend}
+use Rattle.codespan_annotations.proofs.FileIndices.{index_of_file-at}
+use Rattle.codespan_views.proofs.LaneMarks.{ascend-climbs, lane_marks-ascend}
+use Rattle.codespan_picture.proofs.FillLemmas.{none_past}
+use Rattle.codespan_views.proofs.LinesOfLabels.{is_kind}
+use Rattle.codespan_views.proofs.LabelIndexing.{AreFiles, num_multi_labels_of-equal}
+use Rattle.codespan_picture.proofs.OrderSorts.{has_range, ascending-same, sorted-ascends, sorted-keeps}
+use Rattle.codespan_picture.proofs.ListElements.{all-weaker, all-filter, all-both, all-pass, filter-filter, any-filtered}
+use Rattle.codespan_picture.proofs.SortedLists.{Rises, Climbs, rises-filter, rises-from_sorted}
+use Rattle.codespan_picture.proofs.SortedFilters.{Falls, filter-reverse, filter-sorted_climbs, filter-sorted_falls}
+use Rattle.codespan_views.proofs.LabelStarts.{ascends-starts}
+use Rattle.codespan_views.proofs.SnippetLineRows.{lines_of_snippet_lines, snippet_lines-rows, snippet_lines-fit, snippet_lines-lines, snippet_lines-fills}
+use Rattle.codespan_views.proofs.GroupAnnotations.{single_labels-of_range, range-rank, lane_marks-rank, lane_marks-of_annotations, single_labels-reverse, first-shows, lines-rise}
+
+-- ---- the annotations of a file
+
+module _ {Id : Type 0} {database : FileDatabase Id} (lawful : AreFiles database)
+    {config : Config} {xs : List (InFile Id)} {collected : Collected Id}
+    (known : IsCollected database config xs collected)
+    (f : ℕ) (id : Id) (at : IsIdAt (file_ids database.same xs) f id) where
+  -- which ids name one file, and the file that an id names
+  abbrev same : Id → Id → Bool
+  same = database.same
+
+  abbrev file : Id → FileModel
+  file = database.file
+
+  -- the annotations in the order of the labels
+  abbrev all : List Annotation
+  all = all_annotations same file config xs
+
+  -- the annotations in order
+  abbrev annotations : List Annotation
+  annotations = map annotation_view collected.annotations.items
+
+  -- the file with its labels
+  abbrev s : LabeledFileModel
+  s = labeled_file_model same file xs id
+
+  -- its annotations in order
+  abbrev own : List Annotation
+  own = filter (is_of_file f) annotations
+
+  -- those of a line
+  abbrev bucket : ℕ → List Annotation
+  bucket l = filter (is_on_line l) own
+
+  -- the file has this index among those of the labels
+  here : HasFileIndex same file (file_ids same xs) f id
+  here = record {
+    index = index_of_file-at same lawful.equivalence xs f id at;
+    one_file = λ i t. sym (lawful.one_file id i t);
+    lanes = λ before i t. sym (num_multi_labels_of-equal lawful before id i t);
+    has_line = lawful.has_line id;
+  }
+
+  -- its annotations are of the file
+  own-file : AllByRecursion (λ e. e.file ≡ f) own
+  own-file =
+      all-weaker (λ e. is_of_file f e ≡ true) (λ e. e.file ≡ f) (λ e t. eqb-true e.file f t) own
+      (all-pass (is_of_file f) annotations)
+
+  -- they are in order
+  own-rises : Rises is_before own
+  own-rises = rises-filter is_before (is_of_file f) annotations (rises-from_sorted is_before below_order annotations known.sorted)
+
+  -- they are of lines that the file has
+  own-below : AllByRecursion (λ e. e.line < line_count (file id)) own
+  own-below =
+      let IsInside : (e : Annotation) → Type 0 = λ e. is_of_file f e ≡ true → e.line < line_count (file id) in
+      let all_inside : AllByRecursion IsInside all = annotation_lines.annotations-below here config xs [] in
+      let whole : AllByRecursion IsInside annotations = recursion_from_All IsInside annotations
+      (All-permutation IsInside all annotations known.permutation
+      (All-from_recursion IsInside all all_inside)) in
+      all-weaker (λ e. (is_of_file f e ≡ true) × IsInside e) (λ e. e.line < line_count (file id)) (λ e h. h.1 h.0) own
+      (all-both (λ e. is_of_file f e ≡ true) IsInside own (all-pass (is_of_file f) annotations)
+      (all-filter IsInside (is_of_file f) annotations whole))
+
+  -- the annotations of a line are of it
+  bucket-on : (l : ℕ) → AllByRecursion (IsOn f l) (bucket l)
+  bucket-on l =
+      all-both (λ e. e.file ≡ f) (λ e. e.line ≡ l) (bucket l)
+      (all-filter (λ e. e.file ≡ f) (is_on_line l) own own-file) (all-on_line l own)
+
+  -- they are in order
+  bucket-rises : (l : ℕ) → Rises is_before (bucket l)
+  bucket-rises l = rises-filter is_before (is_on_line l) own own-rises
+
+  -- an annotation of the file and the line that passes a test
+  abbrev picks : ℕ → (Annotation → Bool) → Annotation → Bool
+  picks l t e = is_of_file f e && (is_on_line l e && t e)
+
+  -- what passes a test, of any annotations
+  of_picked : (l : ℕ) (t : Annotation → Bool) (es : List Annotation)
+      → filter t (filter (is_on_line l) (filter (is_of_file f) es)) ≡ filter (picks l t) es
+  of_picked l t es =
+      filter-filter t (is_on_line l) (filter (is_of_file f) es)
+      ∙ filter-filter (λ e. is_on_line l e && t e) (is_of_file f) es
+
+  -- whether any passes
+  any-of_picked : (l : ℕ) (t : Annotation → Bool) (es : List Annotation)
+      → list_any t (filter (is_on_line l) (filter (is_of_file f) es)) ≡ list_any (picks l t) es
+  any-of_picked l t es =
+      any-filtered t (is_on_line l) (filter (is_of_file f) es)
+      ∙ any-filtered (λ e. is_on_line l e && t e) (is_of_file f) es
+
+  -- the annotations of the labels on a line
+  abbrev line_annotations : ℕ → List Annotation
+  line_annotations l = annotation_lines.line_annotations_after here config l [] xs
+
+  -- those of a line, in the order of the labels
+  line_annotations-are : (l : ℕ)
+      → filter (is_on_line l) (filter (is_of_file f) all) ≡ line_annotations l
+  line_annotations-are l = annotation_lines.all-line_annotations here config l xs []
+
+  -- ---- the labels of a line
+
+  -- the labels inside the line
+  single_labels-are : (l : ℕ) → single_labels_in (bucket l) ≡ single_labels (file id) s.labels l
+  single_labels-are l =
+      ascending-same (single_labels_in (bucket l)) (sorted reversed)
+      (single_labels-ascend f l (bucket l) (bucket-on l) (bucket-rises l))
+      (sorted-ascends reversed)
+      (λ start end. ranges start end ∙ sym (sorted-keeps start end reversed))
+    where
+      of_line_labels : List LabelModel
+      of_line_labels = map (drawn_label (file id)) (filter (λ x. is_single (file id) x && (first_line (file id) x == l)) s.labels)
+
+      reversed : List LabelModel
+      reversed = reverse of_line_labels
+
+      from : List Annotation
+      from = annotation_lines.single_labels_from here config l 0 xs
+
+      all_in_range : (start end : ℕ)
+          → filter (picks l (is_of_range start end)) all ≡ filter (is_of_range start end) from
+      all_in_range start end =
+          sym (of_picked l (is_of_range start end) all) ∙ ap (filter (is_of_range start end)) (line_annotations-are l)
+          ∙ sym (range-rank start end (line_annotations l))
+          ∙ ap (filter (is_of_range start end)) (annotation_lines.all-single_labels here config l xs [] 0 refl)
+
+      falls : (start end : ℕ) → Falls is_before (filter (picks l (is_of_range start end)) all)
+      falls start end =
+          subst (Falls is_before) (sym (all_in_range start end)) (annotation_lines.single_labels-fall here config l start end 0 xs)
+
+      ranges : (start end : ℕ)
+          → filter (has_range start end) (single_labels_in (bucket l)) ≡ filter
+          (has_range start end) reversed
+      ranges start end =
+          single_labels-of_range start end (bucket l)
+          ∙ ap single_labels_in (of_picked l (is_of_range start end) annotations
+          ∙ filter-sorted_falls is_before below_order all annotations known.permutation known.sorted
+          (picks l (is_of_range start end)) (falls start end)
+          ∙ ap (λ (r : List Annotation). reverse r) (all_in_range start end))
+          ∙ single_labels-reverse (filter (is_of_range start end) from)
+          ∙ ap (λ (r : List LabelModel). reverse r) (sym (single_labels-of_range start end from)
+          ∙ ap (filter (has_range start end)) (annotation_lines.single_labels-labels here config l 0 xs))
+          ∙ sym (filter-reverse (has_range start end) of_line_labels)
+
+  -- ---- the lane marks of a line
+
+  -- those of the labels of the file
+  abbrev lane_marks : ℕ → List LaneMark
+  lane_marks l = lane_marks_on (file id) s.labels l
+
+  -- their annotations, in the order of the labels
+  lane_marks-of_all : (l : ℕ)
+      → filter (picks l (is_kind 2)) all ≡ map (lane_mark_annotation f l) (lane_marks l)
+  lane_marks-of_all l =
+      sym (of_picked l (is_kind 2) all) ∙ ap (filter (is_kind 2)) (line_annotations-are l)
+      ∙ annotation_lines.all-lane_marks here config l xs [] 0 refl
+
+  -- the lane marks of the annotations of a line
+  lane_marks-are : (l : ℕ) → lane_marks_in (bucket l) ≡ lane_marks l
+  lane_marks-are l =
+      lane_marks-rank (bucket l)
+      ∙ ap lane_marks_in (of_picked l (is_kind 2) annotations
+      ∙ filter-sorted_climbs is_before below_order all annotations known.permutation known.sorted (picks l (is_kind 2))
+      (subst (Climbs is_before) (sym (lane_marks-of_all l))
+      (ascend-climbs f l (num_multi_labels s) 0 (lane_marks l) (lane_marks-ascend s l)))
+      ∙ lane_marks-of_all l)
+      ∙ lane_marks-of_annotations f l (lane_marks l)
+
+  -- a line is rendered with what its labels do on it
+  line-is : (l : ℕ) → line_of_group (file id) (num_multi_labels s) l (bucket l) ≡ line_at s l
+  line-is l =
+      λ i. record (line_at s l) {
+        labels =
+            single_labels-are l i;
+        lanes =
+            record { count = num_multi_labels s; lane_marks = lane_marks-are l i };
+      }
+
+  -- ---- shown lines
+
+  -- the line is shown
+  abbrev is_shown : ℕ → Bool
+  is_shown l = lines.is_shown config (file id) s.labels l
+
+  -- the annotations of a line determine whether it is shown
+  shown-is : (l : ℕ) → are_shown (bucket l) ≡ is_shown l
+  shown-is l =
+      first-shows f l (bucket l) (bucket-on l) (bucket-rises l)
+      ∙ any-of_picked l shows_line annotations
+      ∙ sym (list_any-IsPermutation (picks l shows_line) all annotations known.permutation)
+      ∙ sym (any-of_picked l shows_line all)
+      ∙ ap (list_any shows_line) (line_annotations-are l)
+      ∙ annotation_lines.any-line_annotations here config l xs []
+
+  -- the shown lines
+  abbrev shown : List ℕ
+  shown = filter is_shown (range_with_len 0 (line_count (file id)))
+
+  -- the snippet lines are those of the shown lines
+  snippet_lines-are : lines_of own ≡ lines_after bucket None shown
+  snippet_lines-are =
+      snippet_lines-by_line (line_count (file id)) own (lines-rise f own own-file own-rises) own-below
+      ∙ (λ i. lines_after bucket None (filter (λ l. shown-is l i) (range_with_len 0 (line_count (file id)))))
+
+  -- ---- the snippet
+
+  -- the snippet lines make the rows of the snippet
+  pub snippet-rows : rows_of_lines s.file (num_multi_labels s) (lines_of own) ≡ rows_after s None
+      (drawn_lines config s.file s.labels)
+  snippet-rows =
+      ap (rows_of_lines (file id) (num_multi_labels s)) snippet_lines-are
+      ∙ snippet_lines-rows (file id) (num_multi_labels s) bucket is_shown (line_count (file id)) (none_past config s)
+      ∙ (λ i. in_sequence (λ l. l) (break_between (break_rows (λ l. line-is l i)))
+      (line_rows (λ l. line-is l i)) None (drawn_lines config s.file s.labels))
+
+  -- they fill in the lines that are drawn and not shown
+  pub snippet-fills : filled_lines_of (lines_of own) ≡ filled_lines config s
+  snippet-fills =
+      ap filled_lines_of snippet_lines-are
+      ∙ snippet_lines-fills bucket is_shown (line_count (file id)) (none_past config s)
+
+  -- they render the drawn lines
+  pub snippet-lines : lines_of_snippet_lines (lines_of own) ≡ drawn_lines config s.file s.labels
+  snippet-lines =
+      ap lines_of_snippet_lines snippet_lines-are
+      ∙ snippet_lines-lines bucket is_shown (line_count (file id)) (none_past config s)
+
+  -- a line's labels are in the order of their starts
+  starts-ascend : (l : ℕ) → starts_in_order (single_labels_in (bucket l)) ≡ true
+  starts-ascend l =
+      ascends-starts (single_labels_in (bucket l))
+      (single_labels-ascend f l (bucket l) (bucket-on l) (bucket-rises l))
+
+  -- its lane marks ascend in the lanes of the file
+  lane_marks-fit : (l : ℕ) → are_lane_marks_in_order (num_multi_labels s) (bucket l) ≡ true
+  lane_marks-fit l = ap (ascend_from (num_multi_labels s) 0) (lane_marks-are l) ∙ lane_marks-ascend s l
+
+  -- so do those of each snippet line
+  pub snippet-fits : AllByRecursion
+      (λ snippet_line. is_line_in_order (num_multi_labels s) snippet_line ≡ true) (lines_of own)
+  snippet-fits =
+      subst (AllByRecursion (λ snippet_line. is_line_in_order (num_multi_labels s) snippet_line ≡ true)) (sym snippet_lines-are)
+      (snippet_lines-fit (num_multi_labels s) bucket (λ l i. starts-ascend l i && lane_marks-fit l i) lane_marks-fit None shown)

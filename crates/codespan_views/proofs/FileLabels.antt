@@ -1,0 +1,34 @@
+-- The labels of one range, and a file among those of a diagnostic, for the clause `planned` of
+-- `plan_output`.
+use Rattle.std.proofs.Common.{◌≡◌, ℕ, ◌<◌, Bool, true, false, ◌==◌, List, Option, Some, None}
+use Rattle.codespan_base.specs.FileModel.{FileModel, line_count}
+use Rattle.codespan_base.specs.Labels.{LabelModel}
+use Rattle.codespan_annotations.specs.Annotations.{Annotation}
+use Rattle.codespan_annotations.specs.FileIndices.{index_of_file}
+use Rattle.codespan_picture.specs.Snippets.{InFile}
+use Rattle.codespan_annotations.specs.LabeledFiles.{num_multi_labels_of}
+use Rattle.codespan_views.specs.Private.SnippetLines.{single_label_of}
+use Rattle.codespan_picture.proofs.OrderSorts.{has_range}
+
+-- ---- ranges
+
+-- the label of the annotation has this range
+abbrev pub has_label_range : ℕ → ℕ → Option LabelModel → Bool
+has_label_range start end None = false
+has_label_range start end (Some x) = has_range start end x
+
+-- the annotation is of a label with this range
+abbrev pub is_of_range : ℕ → ℕ → Annotation → Bool
+is_of_range start end e = has_label_range start end (single_label_of e.kind)
+
+-- ---- the labels of a file among those of a diagnostic
+
+-- a file has its index among those of a diagnostic: its id is equal to those that have the index,
+-- they name it with its lanes, and it has a line
+pub record HasFileIndex {Id : Type 0} (same : Id → Id → Bool) (file : Id → FileModel)
+    (ids : List Id) (f : ℕ) (id : Id) : Type 0 where
+  pub index : (i : Id) → (index_of_file same ids i == f) ≡ same id i
+  pub one_file : (i : Id) → same id i ≡ true → file i ≡ file id
+  pub lanes : (before : List (InFile Id)) (i : Id) → same id i ≡ true
+      → num_multi_labels_of same file before i ≡ num_multi_labels_of same file before id
+  pub has_line : 0 < line_count (file id)

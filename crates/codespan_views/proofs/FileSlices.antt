@@ -1,0 +1,149 @@
+-- A loop over the files takes the annotations of each file in order, for the clause `plans`
+-- of `plan_snippets`.
+use Rattle.std.proofs.Common.{◌≡◌, ℕ, ◌+◌, ◌-◌, ◌≤◌, Bool, true, false, ◌&&◌, cond, ◌==◌, nat_lt, nat_le, List, [], ◌∷◌, ◌++◌, length, take, drop, map, filter, refl, sym, ◌∙◌, ap, arith, length-drop}
+use Rattle.std.specs.List.{prefix_len, AllByRecursion}
+use Rattle.std.specs.List.Sorted.{IsSortedBy}
+use Rattle.std.proofs.Math.Nat.{add-sub_cancel_left}
+use Rattle.std.proofs.Math.Seq.{take-append_seam, drop-append_seam, take-length}
+use Rattle.std.proofs.lemmas.Bool.{le-leb, leb-true, ne_eqb}
+use Rattle.std.proofs.lemmas.Bool.Decides.{nat_tests}
+use Rattle.std.proofs.lemmas.List.{drop-drop, drop-map, take-map, length-map}
+use Rattle.std.proofs.lemmas.List.Elements.{filter_agree}
+use Rattle.codespan_annotations.specs.declared.annotation.Annotation.{Annotation as RustAnnotation}
+use Rattle.codespan_annotations.specs.Annotations.{Annotation, is_before, is_of_file}
+use Rattle.codespan_annotations.specs.AnnotationViews.{annotation_view}
+use Rattle.codespan_views.proofs.AnnotationGroups.{IsRising, rising-filter, split_at}
+use Rattle.codespan_annotations.proofs.AnnotationOrder.{below_order, file_rises}
+use Rattle.codespan_picture.proofs.ListElements.{all-weaker, all-pass, filter-whole, filter-filter}
+use Rattle.codespan_picture.proofs.SortedLists.{Rises, rises-from_sorted}
+
+-- ---- annotations
+
+-- the annotations of files from f on
+abbrev pub from_file : ℕ → List Annotation → List Annotation
+from_file f xs = filter (λ (e : Annotation). nat_le f e.file) xs
+
+-- along annotations in order the files do not decrease
+files-rise : (xs : List Annotation) → Rises is_before xs → IsRising (λ e. e.file) xs
+files-rise [] a = tt
+files-rise (x ∷ xs) a = (
+  all-weaker (λ y. is_before y x ≡ false) (λ y. x.file ≤ y.file) (λ y h. file_rises x y h) xs a.0,
+  files-rise xs a.1,
+)
+
+-- a file is from itself on
+from_own : (f k : ℕ) → (nat_le f k && (k == f)) ≡ (k == f)
+from_own f k = grind (arith, nat_tests)
+
+-- a file after one is from the next on
+from_next : (f k : ℕ) → (nat_le f k && nat_lt f k) ≡ nat_le (f + 1) k
+from_next f k = grind (arith, nat_tests)
+
+-- a file's annotations are in front of those of later files
+pub from_file-next : (xs : List Annotation) (f : ℕ) → IsSortedBy is_before xs
+    → from_file f xs ≡ filter (is_of_file f) xs ++ from_file (f + 1) xs
+from_file-next xs f up =
+    split_at (λ (e : Annotation). e.file) f (from_file f xs)
+    (rising-filter (λ (e : Annotation). e.file) (λ e. nat_le f e.file) xs
+    (files-rise xs (rises-from_sorted is_before below_order xs up)))
+    (all-weaker (λ e. nat_le f e.file ≡ true) (λ e. f ≤ e.file) (λ e t. leb-true f e.file t)
+    (from_file f xs) (all-pass (λ (e : Annotation). nat_le f e.file) xs))
+    ∙ (λ i. own i ++ later i)
+  where
+    own : filter (is_of_file f) (from_file f xs) ≡ filter (is_of_file f) xs
+    own =
+        filter-filter (is_of_file f) (λ (e : Annotation). nat_le f e.file) xs
+        ∙ filter_agree _ (is_of_file f) (λ (e : Annotation). from_own f e.file) xs
+
+    later : filter (λ (e : Annotation). nat_lt f e.file) (from_file f xs) ≡ from_file (f + 1) xs
+    later = filter-filter (λ (e : Annotation). nat_lt f e.file)
+        (λ (e : Annotation). nat_le f e.file) xs
+        ∙ filter_agree _ (λ (e : Annotation). nat_le (f + 1) e.file)
+        (λ (e : Annotation). from_next f e.file) xs
+
+-- all annotations are from the first file on
+pub from_file-first : (xs : List Annotation) → xs ≡ from_file 0 xs
+from_file-first xs = sym (filter-whole (λ (e : Annotation). nat_le 0 e.file) xs (each xs))
+  where
+    each : (ys : List Annotation) → AllByRecursion (λ e. nat_le 0 e.file ≡ true) ys
+    each [] = tt
+    each (y ∷ ys) = (le-leb 0 y.file (omega arith), each ys)
+
+-- what passes in front of what does not
+prefix-append : (p : Annotation → Bool) (a b : List Annotation) → AllByRecursion (λ e. p e ≡ true) a
+    → AllByRecursion (λ e. p e ≡ false) b → prefix_len p (a ++ b) ≡ length a
+prefix-append p [] [] h k = refl
+prefix-append p [] (y ∷ b) h k = ap (λ t. cond t (1 + prefix_len p b) 0) k.0
+prefix-append p (x ∷ a) b h k =
+    ap (λ t. cond t (1 + prefix_len p (a ++ b)) 0) h.0
+    ∙ (let r = prefix-append p a b h.1 k in omega (arith, r))
+
+-- a number of annotations at the start are of the file
+own-len : (xs : List Annotation) (f : ℕ)
+    → prefix_len (is_of_file f) (filter (is_of_file f) xs ++ from_file (f + 1) xs) ≡ length
+    (filter (is_of_file f) xs)
+own-len xs f =
+    prefix-append (is_of_file f) (filter (is_of_file f) xs) (from_file (f + 1) xs)
+    (all-pass (is_of_file f) xs)
+    (all-weaker (λ e. nat_le (f + 1) e.file ≡ true) (λ e. is_of_file f e ≡ false)
+    (λ e t. other e.file (leb-true (f + 1) e.file t)) (from_file (f + 1) xs)
+    (all-pass (λ (e : Annotation). nat_le (f + 1) e.file) xs))
+  where
+    other : (k : ℕ) → f + 1 ≤ k → (k == f) ≡ false
+    other k h = ne_eqb k f (λ e. omega arith)
+
+-- ---- annotations as a view holds them
+
+-- how many pass in front depends on their images alone
+pub prefix-map : {X Y : Type 0} (f : X → Y) (p : Y → Bool) (xs : List X)
+    → prefix_len p (map f xs) ≡ prefix_len (λ x. p (f x)) xs
+prefix-map f p [] = refl
+prefix-map f p (x ∷ xs) = ap (λ n. cond (p (f x)) (1 + n) 0) (prefix-map f p xs)
+
+-- the next n elements, as a loop takes them
+abbrev pub next_slice : {X : Type 0} → List X → ℕ → ℕ → List X
+next_slice xs at n = take (at + n - at) (drop at xs)
+
+-- the next n annotations are those of the file, and later files remain
+pub record IsFileSlice {Id : Type 0} (xs : List (RustAnnotation Id)) (at n f : ℕ) : Type 0 where
+  pub len : length (next_slice xs at n) ≡ n
+  pub within : at + length (next_slice xs at n) ≤ length xs
+  pub own : map annotation_view (next_slice xs at n) ≡ filter (is_of_file f)
+      (map annotation_view xs)
+  pub rest : drop (at + length (next_slice xs at n)) (map annotation_view xs) ≡ from_file (f + 1)
+      (map annotation_view xs)
+
+-- a loop over the files takes the annotations of the next one
+pub next-file : {Id : Type 0} (xs : List (RustAnnotation Id)) (at n f : ℕ)
+    → IsSortedBy is_before (map annotation_view xs) → at ≤ length xs
+    → drop at (map annotation_view xs) ≡ from_file f (map annotation_view xs)
+    → n ≡ prefix_len (λ e. is_of_file f (annotation_view e)) (take (length xs - at) (drop at xs))
+    → n ≤ length (take (length xs - at) (drop at xs)) → IsFileSlice xs at n f
+next-file xs at n f up inside left is low =
+    let ys = map annotation_view xs in
+    let a = filter (is_of_file f) ys in
+    let b = from_file (f + 1) ys in
+    let whole : take (length xs - at) (drop at xs) ≡ drop at xs =
+    ap (λ i. take i (drop at xs)) (sym (length-drop at xs)) ∙ take-length (drop at xs) in
+    let here : drop at ys ≡ a ++ b = left ∙ from_file-next ys f up in
+    let n-is : n ≡ length a = is ∙ ap (prefix_len (λ e. is_of_file f (annotation_view e))) whole
+    ∙ sym (prefix-map annotation_view (is_of_file f) (drop at xs))
+    ∙ ap (prefix_len (is_of_file f)) (sym (drop-map annotation_view at xs) ∙ here) ∙ own-len ys f in
+    let k : at + n - at ≡ n = add-sub_cancel_left at n in
+    let front : map annotation_view (next_slice xs at n) ≡ a =
+    sym (take-map annotation_view (at + n - at) (drop at xs))
+    ∙ ap (λ (l : List Annotation). take (at + n - at) l)
+    (sym (drop-map annotation_view at xs) ∙ here)
+    ∙ ap (λ i. take i (a ++ b)) (k ∙ n-is) ∙ take-append_seam a b in
+    let long : length (next_slice xs at n) ≡ n =
+    sym (length-map (next_slice xs at n) annotation_view) ∙ ap length front ∙ sym n-is in
+    let rest_len : length (take (length xs - at) (drop at xs)) ≡ length xs - at =
+    ap length whole ∙ length-drop at xs in
+    record {
+      len = long;
+      within = omega (arith, long, low, rest_len, inside);
+      own = front;
+      rest =
+          ap (λ i. drop (at + i) ys) (long ∙ n-is) ∙ sym (drop-drop (length a) at ys)
+          ∙ ap (λ (l : List Annotation). drop (length a) l) here ∙ drop-append_seam a b;
+    }

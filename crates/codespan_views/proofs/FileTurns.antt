@@ -1,0 +1,159 @@
+-- The turn of a file when plans are made, by the index of its id, for the clauses `plans` and
+-- `failed` of `plan_snippets`.
+use Rattle.std.proofs.Common.{◌≡◌, ℕ, suc, ◌+◌, ◌-◌, ◌≤◌, true, List, [], ◌∷◌, ◌++◌, length, take, drop, map, filter, refl, sym, ap, ◌∙◌, subst, arith}
+use Rattle.std.specs.Prelude.{All, flat_map}
+use Rattle.std.specs.List.{AllByRecursion, prefix_len}
+use Rattle.std.specs.List.Sorted.{IsSortedBy}
+use Rattle.std.proofs.lemmas.Bool.{eqb-true}
+use Rattle.std.proofs.lemmas.List.{append-nil, append_assoc, get_or-map, length-map}
+use Rattle.std.proofs.lemmas.List.Elements.{All-from_recursion}
+use Rattle.codespan_base.specs.declared.term.config.Layout.{Layout}
+use Rattle.codespan_base.specs.FileModel.{FileModel}
+use Rattle.codespan_picture.specs.Lookups.{Failures, lookups_of_file, first_error}
+use Rattle.codespan_annotations.specs.declared.annotation.Annotation.{Annotation as RustAnnotation}
+use Rattle.codespan_annotations.specs.declared.labeled_files.LabeledFile.{LabeledFile as RustFile}
+use Rattle.codespan_annotations.specs.Annotations.{Annotation, is_before, is_of_file}
+use Rattle.codespan_annotations.specs.AnnotationViews.{IsLineOf, IsOfFiles, annotation_view}
+use Rattle.codespan_views.specs.Private.SnippetLineViews.{numbers_looked_up}
+use Rattle.codespan_annotations.specs.LabeledFiles.{ids_view}
+use Rattle.codespan_annotations.specs.FileIndices.{IsIdAt}
+use Rattle.codespan_views.specs.Private.SnippetPlans.{flat_map_indexed, lines_at}
+use Rattle.codespan_views.specs.Private.SnippetLines.{filled_lines_of, lines_of}
+use Rattle.codespan_views.proofs.FileSlices.{IsFileSlice, from_file, next-file, next_slice}
+use Rattle.codespan_annotations.proofs.FileIndices.{at-get}
+use Rattle.codespan_annotations.proofs.IndexedElements.{IsElementAt}
+use Rattle.codespan_picture.proofs.ListElements.{all-both, all-mapped, all-slice, all-pass, all-weaker}
+
+-- ---- ids at their indices
+
+-- what ids have, one after the other
+pub flat_map_indexed-append : {Id A : Type 0} (image : ℕ → Id → List A) (k : ℕ) (xs ys : List Id)
+    → flat_map_indexed image k (xs ++ ys) ≡ flat_map_indexed image k xs ++ flat_map_indexed image
+    (k + length xs) ys
+flat_map_indexed-append image k [] ys = let e : k ≡ k + 0 = omega arith in
+    ap (λ n. flat_map_indexed image n ys) e
+flat_map_indexed-append {Id} {A} image k (x ∷ xs) ys =
+    let e : k + 1 + length xs ≡ k + suc (length xs) = omega arith in
+    ap (λ (r : List A). image k x ++ r)
+    (flat_map_indexed-append image (k + 1) xs ys
+    ∙ ap (λ n. flat_map_indexed image (k + 1) xs ++ flat_map_indexed image n ys) e)
+    ∙ sym
+    (append_assoc (image k x) (flat_map_indexed image (k + 1) xs)
+    (flat_map_indexed image (k + suc (length xs)) ys))
+
+-- one more id
+pub flat_map_indexed-more : {Id A : Type 0} (image : ℕ → Id → List A) (f : ℕ) (ids more : List Id)
+    (id : Id)
+    → length ids ≡ f → more ≡ ids ++ id ∷ []
+    → flat_map_indexed image 0 more ≡ flat_map_indexed image 0 ids ++ image f id
+flat_map_indexed-more {Id} {A} image f ids more id len is =
+    let e : 0 + length ids ≡ f = omega (arith, len) in
+    ap (flat_map_indexed image 0) is ∙ flat_map_indexed-append image 0 ids (id ∷ [])
+    ∙ ap (λ (r : List A). flat_map_indexed image 0 ids ++ r)
+    (append-nil (image (0 + length ids) id) ∙ ap (λ n. image n id) e)
+
+-- ids that have the same at their indices
+pub flat_map_indexed-same : {Id A : Type 0} (image : ℕ → Id → List A) (each : Id → List A) (k : ℕ)
+    (js : List Id)
+    → ((i : ℕ) (id : Id) → IsIdAt js i id → image (k + i) id ≡ each id)
+    → flat_map_indexed image k js ≡ flat_map each js
+flat_map_indexed-same image each k [] same = refl
+flat_map_indexed-same {Id} {A} image each k (j ∷ js) same =
+    let none : k + 0 ≡ k = omega arith in
+    ap (λ (r : List A). r ++ flat_map_indexed image (k + 1) js)
+    (ap (λ n. image n j) (sym none) ∙ same 0 j refl)
+    ∙ ap (λ (r : List A). each j ++ r)
+    (flat_map_indexed-same image each (k + 1) js
+    (λ i id at. let e : k + 1 + i ≡ k + suc i = omega arith in
+    ap (λ n. image n id) e ∙ same (suc i) id at))
+
+module _ {Id : Type 0} (file : Id → FileModel) where
+  -- the annotations of a file are of lines that it has
+  slice-lines : (ids : List Id) (xs : List (RustAnnotation Id)) (at n f : ℕ) (id : Id)
+      (ys : List Annotation)
+      → IsIdAt ids f id → AllByRecursion (IsOfFiles file ids) xs
+      → map annotation_view (take n (drop at xs)) ≡ filter (is_of_file f) ys
+      → AllByRecursion (λ e. IsLineOf (file id) e.line) (take n (drop at xs))
+  slice-lines ids xs at n f id ys is_at lines own =
+      let slice = take n (drop at xs) in
+      let of_file = all-mapped annotation_view (λ e. is_of_file f e ≡ true) slice
+      (subst (AllByRecursion (λ e. is_of_file f e ≡ true)) (sym own)
+      (all-pass (is_of_file f) ys)) in
+      all-weaker (λ e. (is_of_file f (annotation_view e) ≡ true) × IsOfFiles file ids e)
+      (λ e. IsLineOf (file id) e.line)
+      (λ e h. h.1 id (subst (λ k. IsIdAt ids k id) (sym (eqb-true e.file f h.0)) is_at))
+      slice
+      (all-both (λ e. is_of_file f (annotation_view e) ≡ true) (IsOfFiles file ids) slice
+      of_file (all-slice (IsOfFiles file ids) at n xs lines))
+
+-- ---- the turn of a file
+
+-- a loop over the files is at one of them: the annotations from an index on are those of it and of
+-- later files, and its own are counted
+pub record IsAtFile {Id : Type 0} (files : List (RustFile Id)) (xs : List (RustAnnotation Id))
+    (at n k : ℕ) (f : RustFile Id) : Type 0 where
+  pub up : IsSortedBy is_before (map annotation_view xs)
+  pub inside : at ≤ length xs
+  pub left : drop at (map annotation_view xs) ≡ from_file k (map annotation_view xs)
+  pub counted : n ≡ prefix_len (λ e. is_of_file k (annotation_view e))
+      (take (length xs - at) (drop at xs))
+  pub within : n ≤ length (take (length xs - at) (drop at xs))
+  pub here : IsElementAt files k f
+
+module _ {Id : Type 0} {files : List (RustFile Id)} {xs : List (RustAnnotation Id)} {at n k : ℕ}
+    {f : RustFile Id} (turn : IsAtFile files xs at n k f) where
+  -- the annotations of the file
+  own_slice : IsFileSlice xs at n k
+  own_slice = next-file xs at n k turn.up turn.inside turn.left turn.counted turn.within
+
+  module _ {zs : List (RustAnnotation Id)} (same : zs ≡ xs) where
+    -- it is the same in an equal list
+    own_annotations : map annotation_view (next_slice zs at n) ≡ filter (is_of_file k)
+        (map annotation_view xs)
+    own_annotations =
+        ap (λ (es : List (RustAnnotation Id)). map annotation_view (next_slice es at n)) same
+        ∙ own_slice.own
+
+    -- its lines are the file's
+    pub own_lines : (file : Id → FileModel) → AllByRecursion (IsOfFiles file (ids_view files)) xs
+        → All (λ e. IsLineOf (file f.file_id) e.line) (next_slice zs at n)
+    own_lines file lines =
+        let inside = turn.here.inside in
+        let there : IsIdAt (ids_view files) k f.file_id = subst (IsIdAt (ids_view files) k)
+        (get_or-map (λ (g : RustFile Id). g.file_id) files k f f.file_id inside
+        ∙ ap (λ (g : RustFile Id). g.file_id) (sym turn.here.is))
+        (at-get (ids_view files) k f.file_id
+        (omega (arith, inside, length-map files (λ (g : RustFile Id). g.file_id)))) in
+        All-from_recursion (λ e. IsLineOf (file f.file_id) e.line) (next_slice zs at n)
+        (slice-lines file (ids_view files) zs at (at + n - at) k f.file_id (map annotation_view xs)
+        there (subst (AllByRecursion (IsOfFiles file (ids_view files))) (sym same) lines)
+        own_annotations)
+
+    -- so are its snippet lines
+    pub own_snippet_lines : lines_of (map annotation_view (next_slice zs at n)) ≡ lines_at
+        (map annotation_view xs) k
+    own_snippet_lines = ap lines_of own_annotations
+
+    -- and what they look up
+    pub own_lookups : (layout : Layout) (failure : Failures Id)
+        → first_error failure
+        (lookups_of_file f.file_id
+        (numbers_looked_up layout
+        (filled_lines_of (lines_of (map annotation_view (next_slice zs at n))))))
+        ≡ first_error failure
+        (lookups_of_file f.file_id
+        (numbers_looked_up layout (filled_lines_of (lines_at (map annotation_view xs) k))))
+    own_lookups layout failure =
+        ap
+        (λ snippet_lines. first_error failure
+        (lookups_of_file f.file_id (numbers_looked_up layout (filled_lines_of snippet_lines))))
+        own_snippet_lines
+
+  -- the next file's turn is after it
+  pub next_inside : at + n ≤ length xs
+  next_inside = omega (arith, own_slice.within, own_slice.len)
+
+  -- later files remain there
+  pub next_left : drop (at + n) (map annotation_view xs) ≡ from_file (k + 1)
+      (map annotation_view xs)
+  next_left = ap (λ i. drop (at + i) (map annotation_view xs)) (sym own_slice.len) ∙ own_slice.rest

@@ -1,0 +1,95 @@
+-- The order of the lane marks on a line, for the clause `planned` of `plan_output`.
+use Rattle.std.proofs.Common.{◌≡◌, ℕ, ◌+◌, ◌≤◌, Bool, true, false, ◌&&◌, List, [], ◌∷◌, length, map, Option, Some, None, refl, sym, ap, ◌∙◌, arith, nat_le, nat_lt, true≢false}
+use Rattle.std.specs.List.{AllByRecursion, enumerate_from, filter_map, cons_option}
+use Rattle.std.proofs.lemmas.Bool.{leb-true}
+use Rattle.std.proofs.lemmas.Bool.Decides.{nat_tests}
+use Rattle.codespan_base.specs.FileModel.{FileModel}
+use Rattle.codespan_base.specs.Labels.{LabelModel, LaneMark, MultiLabel, lane_mark_of, lane_marks_on, multi_line_labels, multi_label_on}
+use Rattle.codespan_picture.specs.Arguments.{LaneMarkTuple, lane_mark_view, lanes_in_order, ascend_from}
+use Rattle.codespan_picture.specs.Snippets.{LabeledFileModel, num_multi_labels}
+use Rattle.codespan_annotations.specs.Annotations.{Annotation, is_before}
+use Rattle.codespan_views.specs.Private.SnippetLines.{are_lane_marks_in_order, lane_marks_in}
+use Rattle.codespan_annotations.proofs.AnnotationOrder.{lane_below, lane_mark_annotation}
+use Rattle.codespan_picture.proofs.ListElements.{all-weaker}
+use Rattle.codespan_picture.proofs.SortedLists.{Climbs}
+
+-- ---- the lane marks of a file's labels
+
+-- the lane marks on a line of these labels, whose lanes begin here
+abbrev pub marks_from : FileModel → ℕ → ℕ → List LabelModel → List LaneMark
+marks_from f l n ys =
+    filter_map
+    (λ (annotation : ℕ × LabelModel). lane_mark_of annotation.0 annotation.1
+    (multi_label_on f l annotation.1))
+    (enumerate_from n ys)
+
+-- they ascend from a lane on
+ascend-from : (f : FileModel) (l count n least : ℕ) (ys : List LabelModel) → least ≤ n
+    → n + length ys ≡ count → ascend_from count least (marks_from f l n ys) ≡ true
+ascend-from f l count n least [] low total = refl
+ascend-from f l count n least (y ∷ ys) low total =
+    by_multi_label (multi_label_on f l y)
+    (λ k h. ascend-from f l count (n + 1) k ys h (omega arith))
+  where
+    by_multi_label : (o : Option MultiLabel)
+        → ((k : ℕ) → k ≤ n + 1 → ascend_from count k (marks_from f l (n + 1) ys) ≡ true)
+        → ascend_from count least
+        (cons_option (lane_mark_of n y o) (marks_from f l (n + 1) ys)) ≡ true
+    by_multi_label None rest = rest least (omega arith)
+    by_multi_label (Some multi_label) rest =
+        let a : nat_le least n ≡ true = grind (arith, nat_tests) in
+        let b : nat_lt n count ≡ true = grind (arith, nat_tests) in
+        rw (a, b) (rest (n + 1) (omega arith))
+
+-- the lane marks of a line ascend in the lanes of its file
+pub lane_marks-ascend : (s : LabeledFileModel) (l : ℕ)
+    → ascend_from (num_multi_labels s) 0 (lane_marks_on s.file s.labels l) ≡ true
+lane_marks-ascend s l =
+    ascend-from s.file l (num_multi_labels s) 0 0 (multi_line_labels s.file s.labels) (omega arith)
+    (omega arith)
+
+-- ---- lane marks that ascend
+
+-- both of two are true
+pub both-true : (a b : Bool) → (a && b) ≡ true → (a ≡ true) × (b ≡ true)
+both-true true b h = (refl, h)
+both-true false b h = absurd (true≢false (sym h))
+
+-- they are in no lesser lane
+ascend-above : (count least : ℕ) (ms : List LaneMark) → ascend_from count least ms ≡ true
+    → AllByRecursion (λ (m : LaneMark). least ≤ m.lane) ms
+ascend-above count least [] up = tt
+ascend-above count least (m ∷ ms) up =
+    let parts =
+    both-true (nat_le least m.lane && nat_lt m.lane count) (ascend_from count (m.lane + 1) ms)
+    up in
+    let low : least ≤ m.lane =
+    leb-true least m.lane (both-true (nat_le least m.lane) (nat_lt m.lane count) parts.0).0 in (
+      low,
+      all-weaker (λ (k : LaneMark). m.lane + 1 ≤ k.lane) (λ k. least ≤ k.lane)
+          (λ k h. omega arith) ms (ascend-above count (m.lane + 1) ms parts.1),
+    )
+
+-- their annotations ascend
+pub ascend-climbs : (f l count least : ℕ) (ms : List LaneMark) → ascend_from count least ms ≡ true
+    → Climbs is_before (map (lane_mark_annotation f l) ms)
+ascend-climbs f l count least [] up = tt
+ascend-climbs f l count least (m ∷ ms) up =
+    let parts =
+    both-true (nat_le least m.lane && nat_lt m.lane count) (ascend_from count (m.lane + 1) ms)
+    up in (
+      later ms (ascend-above count (m.lane + 1) ms parts.1),
+      ascend-climbs f l count (m.lane + 1) ms parts.1,
+    )
+  where
+    later : (ks : List LaneMark) → AllByRecursion (λ (k : LaneMark). m.lane + 1 ≤ k.lane) ks
+        → AllByRecursion (λ e. is_before (lane_mark_annotation f l m) e ≡ true)
+        (map (lane_mark_annotation f l) ks)
+    later [] h = tt
+    later (k ∷ ks) h = (lane_below f l m k (let low = h.0 in omega arith), later ks h.1)
+
+-- a renderer takes lane marks that ascend
+pub lanes_fit : (count : ℕ) (es : List Annotation) (ms : List LaneMarkTuple)
+    → map lane_mark_view ms ≡ lane_marks_in es → are_lane_marks_in_order count es ≡ true
+    → lanes_in_order count ms ≡ true
+lanes_fit count es ms same fits = ap (ascend_from count 0) same ∙ fits

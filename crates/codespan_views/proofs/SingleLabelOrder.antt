@@ -1,0 +1,42 @@
+-- The single-line labels of a line, whose annotations are in order, for the clause `planned` of
+-- `plan_output`.
+use Rattle.std.proofs.Common.{◌≡◌, ℕ, false, List, [], ◌∷◌, refl, sym, ◌∙◌}
+use Rattle.std.specs.List.{AllByRecursion, cons_option}
+use Rattle.codespan_base.specs.Labels.{LabelModel, range_precedes}
+use Rattle.codespan_annotations.specs.Annotations.{Annotation, AnnotationKind, Shown, Single, Multi, is_before}
+use Rattle.codespan_views.specs.Private.SnippetLines.{single_label_of, single_labels_in}
+use Rattle.codespan_picture.proofs.OrderSorts.{Ascends}
+use Rattle.codespan_picture.proofs.SortedLists.{Rises}
+use Rattle.codespan_annotations.proofs.AnnotationOrder.{range_rises}
+
+-- the annotation is of this line of this file
+abbrev pub IsOn : ℕ → ℕ → Annotation → Type 0
+IsOn f l e = (e.file ≡ f) × (e.line ≡ l)
+
+-- the labels inside a line, of annotations in order, are in the order of their ranges
+pub single_labels-ascend : (f l : ℕ) (es : List Annotation) → AllByRecursion (IsOn f l) es
+    → Rises is_before es → Ascends (single_labels_in es)
+single_labels-ascend f l [] on up = tt
+single_labels-ascend f l (x ∷ xs) on up =
+    by_kind x.kind refl (single_labels-ascend f l xs on.1 up.1)
+  where
+    later : (p : ℕ) (a : LabelModel) → x.kind ≡ Single p a → (ys : List Annotation)
+        → AllByRecursion (IsOn f l) ys → AllByRecursion (λ y. is_before y x ≡ false) ys
+        → AllByRecursion (λ b. range_precedes b a ≡ false) (single_labels_in ys)
+    later p a e [] k h = tt
+    later p a e (y ∷ ys) k h = by_other y.kind refl (later p a e ys k.1 h.1)
+      where
+        by_other : (s : AnnotationKind) → y.kind ≡ s
+            → AllByRecursion (λ b. range_precedes b a ≡ false) (single_labels_in ys)
+            → AllByRecursion (λ b. range_precedes b a ≡ false)
+            (cons_option (single_label_of s) (single_labels_in ys))
+        by_other Shown d rest = rest
+        by_other (Multi m) d rest = rest
+        by_other (Single q b) d rest =
+            (range_rises x y e d (on.0.0 ∙ sym k.0.0) (on.0.1 ∙ sym k.0.1) h.0, rest)
+
+    by_kind : (s : AnnotationKind) → x.kind ≡ s → Ascends (single_labels_in xs)
+        → Ascends (cons_option (single_label_of s) (single_labels_in xs))
+    by_kind Shown e rest = rest
+    by_kind (Multi m) e rest = rest
+    by_kind (Single p a) e rest = (later p a e xs on.1 up.0, rest)

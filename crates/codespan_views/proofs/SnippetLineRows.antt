@@ -1,0 +1,149 @@
+-- The rows of the snippet lines of shown lines, and the lines that they show and fill in, for the
+-- clause `planned` of `plan_output`.
+use Rattle.std.proofs.Common.{◌≡◌, ℕ, ◌≤◌, Bool, true, false, not, cond, ◌&&◌, if◌then◌else◌, List, [], ◌∷◌, ◌++◌, filter, flat_map, Option, None, refl, sym, ap, ◌∙◌}
+use Rattle.std.specs.List.{range_with_len, AllByRecursion}
+use Rattle.std.proofs.lemmas.List.{append-nil}
+use Rattle.codespan_base.specs.FileModel.{FileModel}
+use Rattle.codespan_picture.specs.Rows.{Line}
+use Rattle.codespan_picture.specs.Sequences.{break_between, gap_between, in_sequence}
+use Rattle.codespan_picture.specs.Snippets.{break_rows, line_rows}
+use Rattle.codespan_picture.proofs.Filling.{given, is_drawn_among, lines-shown}
+use Rattle.codespan_picture.proofs.Sequences.{all-gap, all-sequence, flat_map-gap, flat_map-sequence, sequence-flat}
+use Rattle.codespan_annotations.specs.Annotations.{Annotation}
+use Rattle.codespan_views.specs.Private.SnippetLines.{SnippetLine, Labeled, Filled, Break, line_of_group, rows_of_line, rows_of_lines, filled_line_of, filled_lines_of, are_annotations_in_order, are_lane_marks_in_order, is_line_in_order}
+use Rattle.codespan_views.proofs.AnnotationGroups.{lines_after}
+
+-- the line of a snippet line that has one
+abbrev pub line_of_snippet_line : SnippetLine → List ℕ
+line_of_snippet_line (Labeled l es) = l ∷ []
+line_of_snippet_line (Filled l es) = l ∷ []
+line_of_snippet_line (Break es) = []
+
+-- the lines that are drawn
+abbrev pub lines_of_snippet_lines : List SnippetLine → List ℕ
+lines_of_snippet_lines snippet_lines = flat_map line_of_snippet_line snippet_lines
+
+-- ---- the elements of snippet lines
+
+-- the elements of the snippet lines of shown lines are those of the lines with what is between them
+snippet_lines-image : {A : Type 0} (image : SnippetLine → List A) (m : ℕ → List Annotation)
+    (previous : Option ℕ) (ds : List ℕ)
+    → flat_map image (lines_after m previous ds)
+    ≡ in_sequence (λ l. l) (gap_between (λ l. image (Filled l (m l))) (λ d. image (Break (m d))))
+    (λ l. image (Labeled l (m l))) previous ds
+snippet_lines-image {A} image m previous ds =
+    flat_map-sequence image (λ l. l)
+    (gap_between (λ l. Filled l (m l) ∷ []) (λ d. Break (m d) ∷ [])) (λ l. Labeled l (m l) ∷ [])
+    previous ds
+    ∙ (λ i. in_sequence (λ l. l)
+    (λ c d. flat_map-gap image (λ l. Filled l (m l) ∷ []) (λ d. Break (m d) ∷ []) c d i)
+    (λ l. append-nil (image (Labeled l (m l))) i) previous ds)
+    ∙ (λ i. in_sequence (λ l. l)
+    (gap_between (λ l. append-nil (image (Filled l (m l))) i)
+    (λ d. append-nil (image (Break (m d))) i))
+    (λ l. image (Labeled l (m l))) previous ds)
+
+-- so they are those of the drawn lines with the breaks between them, where a line that is not shown
+-- has the elements of one that is filled in
+snippet_lines-rendered : {A : Type 0} (image : SnippetLine → List A) (m : ℕ → List Annotation)
+    (shown : ℕ → Bool) (own : ℕ → List A)
+    → ((l : ℕ)
+    → own l ≡ given (λ l. image (Labeled l (m l))) (λ l. image (Filled l (m l)))
+    (λ d. image (Break (m d))) shown l)
+    → (n : ℕ) → ((l : ℕ) → n ≤ l → shown l ≡ false)
+    → flat_map image (lines_after m None (filter shown (range_with_len 0 n)))
+    ≡ in_sequence (λ l. l) (break_between (λ d. image (Break (m d)))) own None
+    (filter (is_drawn_among shown) (range_with_len 0 n))
+snippet_lines-rendered image m shown own are n none =
+    snippet_lines-image image m None (filter shown (range_with_len 0 n))
+    ∙ sym
+    (lines-shown (λ l. image (Labeled l (m l))) (λ l. image (Filled l (m l)))
+    (λ d. image (Break (m d))) shown own are n none)
+
+-- what one test chooses, where the other way is the same
+chosen : {X : Type 0} (b : Bool) (x y : X) → (b ≡ false → x ≡ y) → x ≡ cond b x y
+chosen true x y same = refl
+chosen false x y same = same refl
+
+-- ---- rows
+
+module _ (f : FileModel) (count : ℕ) (m : ℕ → List Annotation) where
+  -- a line with what its annotations do on it
+  abbrev line : ℕ → Line
+  line l = line_of_group f count l (m l)
+
+  -- the snippet lines of shown lines make the rows of the drawn lines
+  pub snippet_lines-rows : (shown : ℕ → Bool) (n : ℕ) → ((l : ℕ) → n ≤ l → shown l ≡ false)
+      → rows_of_lines f count (lines_after m None (filter shown (range_with_len 0 n)))
+      ≡ in_sequence (λ l. l) (break_between (break_rows line)) (line_rows line) None
+      (filter (is_drawn_among shown) (range_with_len 0 n))
+  snippet_lines-rows shown =
+      snippet_lines-rendered (rows_of_line f count) m shown (line_rows line)
+      (λ l. chosen (shown l) (line_rows line l) (line_rows line l) (λ h. refl))
+
+-- ---- labels in order
+
+-- the labels of all snippet lines are in order, and their lane marks in so many lanes
+pub snippet_lines-fit : (count : ℕ) (m : ℕ → List Annotation)
+    → ((l : ℕ) → are_annotations_in_order count (m l) ≡ true)
+    → ((l : ℕ) → are_lane_marks_in_order count (m l) ≡ true)
+    → (previous : Option ℕ) (ds : List ℕ)
+    → AllByRecursion (λ snippet_line. is_line_in_order count snippet_line ≡ true)
+    (lines_after m previous ds)
+snippet_lines-fit count m fit lane_marks_fit =
+    all-sequence (λ snippet_line. is_line_in_order count snippet_line ≡ true) (λ l. l)
+    (gap_between (λ l. Filled l (m l) ∷ []) (λ d. Break (m d) ∷ [])) (λ l. Labeled l (m l) ∷ [])
+    (all-gap (λ snippet_line. is_line_in_order count snippet_line ≡ true) (λ l. Filled l (m l) ∷ [])
+    (λ d. Break (m d) ∷ []) (λ l. (fit l, tt)) (λ d. (lane_marks_fit d, tt)))
+    (λ l. (fit l, tt))
+
+-- ---- the lines of snippet lines
+
+module _ (m : ℕ → List Annotation) (shown : ℕ → Bool) where
+  -- the snippet lines are the shown lines and those between two of them
+  pub snippet_lines-lines : (n : ℕ) → ((l : ℕ) → n ≤ l → shown l ≡ false)
+      → lines_of_snippet_lines (lines_after m None (filter shown (range_with_len 0 n))) ≡ filter
+      (is_drawn_among shown) (range_with_len 0 n)
+  snippet_lines-lines n none =
+      snippet_lines-rendered line_of_snippet_line m shown (λ l. l ∷ [])
+      (λ l. chosen (shown l) (l ∷ []) (l ∷ []) (λ _. refl)) n none
+      ∙ sequence-flat (λ l. l) (λ l. l ∷ []) None
+      (filter (is_drawn_among shown) (range_with_len 0 n))
+      ∙ all (filter (is_drawn_among shown) (range_with_len 0 n))
+    where
+      all : (ls : List ℕ) → flat_map (λ l. l ∷ []) ls ≡ ls
+      all [] = refl
+      all (l ∷ ls) = ap (λ (r : List ℕ). l ∷ r) (all ls)
+
+  -- what a line fills in
+  abbrev fill : ℕ → List ℕ
+  fill l = if shown l then [] else l ∷ []
+
+  -- the lines that are filled in are drawn and not shown
+  all_fills : (ls : List ℕ)
+      → flat_map fill (filter (is_drawn_among shown) ls) ≡ filter
+      (λ l. is_drawn_among shown l && not (shown l)) ls
+  all_fills [] = refl
+  all_fills (l ∷ ls) = by_tests (all_fills ls) (is_drawn_among shown l) (shown l) refl
+    where
+      filtered : List ℕ
+      filtered = filter (is_drawn_among shown) ls
+
+      left : List ℕ
+      left = filter (λ k. is_drawn_among shown k && not (shown k)) ls
+
+      by_tests : flat_map fill filtered ≡ left → (a b : Bool) → shown l ≡ b
+          → flat_map fill (cond a (l ∷ filtered) filtered) ≡ cond (a && not b) (l ∷ left) left
+      by_tests rest false b e = rest
+      by_tests rest true true e = ap (λ t. cond t [] (l ∷ []) ++ flat_map fill filtered) e ∙ rest
+      by_tests rest true false e =
+          ap (λ t. cond t [] (l ∷ []) ++ flat_map fill filtered) e ∙ ap (λ (r : List ℕ). l ∷ r) rest
+
+  -- the snippet lines fill in the lines between two shown ones
+  pub snippet_lines-fills : (n : ℕ) → ((l : ℕ) → n ≤ l → shown l ≡ false)
+      → filled_lines_of (lines_after m None (filter shown (range_with_len 0 n))) ≡ filter
+      (λ l. is_drawn_among shown l && not (shown l)) (range_with_len 0 n)
+  snippet_lines-fills n none =
+      snippet_lines-rendered filled_line_of m shown fill (λ l. refl) n none
+      ∙ sequence-flat (λ l. l) fill None (filter (is_drawn_among shown) (range_with_len 0 n))
+      ∙ all_fills (range_with_len 0 n)

@@ -1,0 +1,111 @@
+use Rattle.std.proofs.Common.{◌≡◌, ◌<◌, ◌∙◌, false, true, rules, ap, subst, sym, [], Bool, ℕ}
+use Rattle.std.specs.Prelude.{if◌then◌else◌}
+use Rattle.codespan_base.specs.FileModel.{line_count}
+use Rattle.codespan_views.specs.Private.LabelAnnotations.{line_annotations}
+use Rattle.codespan_annotations.specs.AnnotationViews.{IsLineAt}
+use Rattle.codespan_views.specs.Private.CollectedLabels.{AddsLine, label_of_collector}
+use Rattle.codespan_annotations.specs.LabelSpans.{spans_line}
+use Rattle.codespan_views.specs.declared.label_annotations.FoundAnnotations.{FoundAnnotations}
+use Rattle.codespan_picture.specs.Lookups.{is_looked_up}
+use Rattle.codespan_picture.specs.OutputStreams.{label_of}
+use Rattle.codespan_annotations.specs.SourceFiles.{model_of}
+use Rattle.codespan_views.proofs.Collecting.{Adds-none, Adds-as}
+use Rattle.codespan_views.proofs.CollectedLines.{added-looked_up, far-spans, looked_up-around, looked_up-spanned, padding-spanned, padding-unspanned, succeeded-looked_up}
+use Rattle.codespan_views.proofs.label_annotations.LabelCollector.collect_line.Given.{Over}
+use Rattle.codespan_views.proofs.label_annotations.LabelCollector.collect_line.Goals.{In_ok-push_line, then-is_far, else-is_far, then-is_spanned, else-is_spanned, else-not-is_spanned-via-then-not-is_spanned+else-not-is_around, else-not-is_spanned-via-else-not-is_spanned}
+use Rattle.codespan_views.proofs.label_annotations.LabelCollector.collect_line.Goals as goal
+
+pub returns-then-not-is_around-clause-added : goal.returns-then-not-is_around-clause-added
+returns-then-not-is_around-clause-added g c =
+    let f = model_of g.F.Files.database c.args.self.now.file in
+    let x = (label_of c.args.self.now.label.now).label in
+    let not_looked_up : is_looked_up c.args.self.now.config.now f x c.args.index ≡ false =
+    search rules in
+    λ _. Adds-as
+    (ap (λ (b : Bool). if b then line_annotations c.args.self.now.config.now f c.args.self.now.indices x c.args.index else []) not_looked_up)
+    Adds-none
+
+-- the line was found
+line_found : (g : Over) (c : In_ok-push_line g)
+    → IsLineAt (model_of g.F.Files.database c.args.self.now.file) c.args.index c.in-Some.line
+line_found g c = rw c.in-Some.is at c.in_ok-line.ensures.found
+
+-- whether the label spans the line
+is_spanned : (g : Over) (c : In_ok-push_line g)
+    → c.if-is_far.is_spanned ≡ spans_line c.args.self.now.lines.first c.args.self.now.lines.last
+    c.args.index
+is_spanned g c =
+    let lines = c.args.self.now.lines in
+    elim c.if-is_far.branch [
+      | then-is_far w ↦ w.is_spanned-is ∙ w.if-is_far.true
+          ∙ sym
+          (far-spans c.args.self.now.config.now lines.first lines.last c.args.index
+          (c.requires.far w.if-is_far.true))
+      | else-is_far w ↦ w.is_spanned-is ∙ w.spans-is_spanned.ensures
+    ]
+
+-- the line is one that the label has looked up
+looked_up : (g : Over) (c : In_ok-push_line g)
+    → is_looked_up c.args.self.now.config.now (model_of g.F.Files.database c.args.self.now.file)
+    (label_of c.args.self.now.label.now).label c.args.index ≡ true
+looked_up g c =
+    let collector = c.args.self.now in
+    let x = label_of_collector g.F.Files.database collector in
+    let lines = collector.lines in
+    elim c.else-not-is_spanned.branch [
+      | else-not-is_spanned-via-then-not-is_spanned+else-not-is_around w ↦
+          looked_up-around x lines.first lines.last c.args.index c.requires.lines.first
+          c.requires.lines.last (sym w.is_around.ensures ∙ w.if-not-is_around.false)
+      | else-not-is_spanned-via-else-not-is_spanned w ↦ looked_up-spanned x lines.first lines.last
+          c.args.index c.requires.lines.first c.requires.lines.last
+          (sym (is_spanned g c) ∙ w.if-not-is_spanned.false)
+    ]
+
+-- the annotations are still those from before the call
+annotations_are : (g : Over) (c : In_ok-push_line g)
+    → c.if-is_spanned.found.annotations.items ≡ c.args.found.now.annotations.items
+annotations_are g c = elim c.if-is_spanned.branch [
+  | then-is_spanned w ↦ ap
+      (λ (found : FoundAnnotations g.row.F-FileId.Denot). found.annotations.items) w.found-is
+  | else-is_spanned w ↦ ap
+      (λ (found : FoundAnnotations g.row.F-FileId.Denot). found.annotations.items) w.found-is
+]
+
+pub returns-clause-inside : goal.returns-clause-inside
+returns-clause-inside g c =
+    let found = line_found g c in
+    λ _ _. subst (λ l. l < line_count (model_of g.F.Files.database c.args.self.now.file)) found.0
+    found.1.range_is.inside
+
+pub returns-clause-added : goal.returns-clause-added
+returns-clause-added g c =
+    let x = label_of_collector g.F.Files.database c.args.self.now in
+    λ _. added-looked_up x c.args.index (looked_up g c)
+    (subst (λ l. AddsLine x c.args.found.now.annotations.items c.push_line.new.annotations.items l)
+    (line_found g c).0
+    (subst (λ old. AddsLine x old c.push_line.new.annotations.items c.in-Some.line.index)
+    (annotations_are g c) c.in_ok-push_line.ensures.added))
+
+pub returns-clause-padding : goal.returns-clause-padding
+returns-clause-padding g c =
+    let collector = c.args.self.now in
+    let x = label_of_collector g.F.Files.database collector in
+    let lines = collector.lines in
+    let found = line_found g c in
+    let number = found.1.number_is ∙ ap x.file.line_number found.0 in
+    let digits : FoundAnnotations g.row.F-FileId.Denot → ℕ = λ f. f.padding.digits in
+    λ _. elim c.if-is_spanned.branch [
+      | then-is_spanned w ↦ padding-spanned x lines.first lines.last c.args.index c.requires.lines.first
+          c.requires.lines.last _ c.args.found.now.padding.digits
+          (sym (is_spanned g c) ∙ w.if-is_spanned.true)
+          (ap digits w.found-is ∙ rw number at w.fit.ensures)
+      | else-is_spanned w ↦ padding-unspanned x lines.first lines.last c.args.index
+          c.requires.lines.first c.requires.lines.last _ c.args.found.now.padding.digits
+          (sym (is_spanned g c) ∙ w.if-is_spanned.false) (ap digits w.found-is)
+    ]
+
+pub returns-clause-succeeded : goal.returns-clause-succeeded
+returns-clause-succeeded g c =
+    let x = label_of_collector g.F.Files.database c.args.self.now in
+    λ _. succeeded-looked_up x c.args.index (looked_up g c)
+    (rw c.in-Some.is at c.in_ok-line.ensures.succeeded)

@@ -1,0 +1,136 @@
+use contract.Lifetimes.{Lfts}
+use Rattle.std.proofs.Common.{rules, ◌≡◌, ℕ, Bool, true, ◌&&◌, ◌+◌, ◌<◌, ◌≤◌, Some, Err, refl, ap, ◌∙◌, arith}
+use Rattle.std.proofs.lemmas.Bool.Decides.{nat_tests}
+use Rattle.std.proofs.lemmas.Result.{err_from_is_err_and}
+use Rattle.codespan_base.specs.Lemmas.Lines.{line_of_below}
+use Rattle.codespan_views.specs.declared.label_annotations.LabelCollector.{LabelCollector}
+use Rattle.codespan_views.specs.Private.CollectedLabels.{label_of_collector}
+use Rattle.std.specs.Ordering.{nat_cmp, partial_le, partial_lt}
+use Rattle.codespan_annotations.specs.LabelSpans.{IsFarInside}
+use Rattle.codespan_annotations.specs.SourceFiles.{line_failure}
+use Rattle.codespan_views.proofs.Contexts.{CollectsLabel, CollectsLines, HasEnds, collected-start, collected-context, collected-reach, collected-failed, collected-line}
+use Rattle.codespan_views.proofs.label_annotations.LabelCollector.collect_lines.Given.{Over}
+use Rattle.codespan_views.proofs.label_annotations.LabelCollector.collect_lines.Goals.{Else-not-branch}
+use Rattle.codespan_views.proofs.label_annotations.LabelCollector.collect_lines.Goals as goal
+
+-- its file has its first line and its last one
+has_ends : (g : Over) (κs : Lfts 10) → g.claim κs
+    → (collector : LabelCollector g.row.F.Denot g.row.F-FileId.Denot g.row.F-Name.Denot
+    g.row.F-Source.Denot)
+    → HasEnds (label_of_collector g.F.Files.database collector)
+has_ends g κs claim collector =
+    let x = label_of_collector g.F.Files.database collector in
+    let some = ((g.met.F.Files κs claim).lawful collector.file.files.now x.file_id).has_line in
+    record {
+      first =
+          line_of_below x.file.starts x.label.start some;
+      last =
+          line_of_below x.file.starts x.label.end some;
+    }
+
+pub loop-index-init : goal.loop-index-init
+loop-index-init g c =
+    let collector = c.args.self.now in
+    collected-start (has_ends g c.lifetimes (search rules) collector)
+    (omega (arith, c.min-index-counter.ensures, c.requires.last))
+    (omega (arith, c.min-index-counter.ensures, c.saturating_sub-first.ensures, c.requires.first))
+
+-- the test of a range
+in_range : (a b k : ℕ) (is_in : Bool)
+    → is_in ≡ (partial_le (λ x y. Some (nat_cmp x y)) a k && partial_lt (λ x y. Some (nat_cmp x y)) k b)
+    → is_in ≡ true → (a ≤ k) × (k < b)
+in_range a b k is_in is is_true = grind (arith, nat_tests)
+
+-- a line that is far from the ends is inside the label
+is_far_inside : (g : Over) (c : goal.After-collect_line-arg-1 g) → c.contains.result ≡ true
+    → IsFarInside c.args.self.now.config.now c.args.self.now.lines.first c.args.self.now.lines.last
+    c.loop-index.index-counter
+is_far_inside g c far =
+    let inside = in_range _ _ _ _ c.contains.ensures.value far in
+    c.far_lines-far.ensures c.loop-index.index-counter inside.0 inside.1
+
+pub collect_line-requires : goal.collect_line-requires
+collect_line-requires g c κs = ((refl, (refl, (refl, (refl, tt)))), (is_far_inside g c, c.requires))
+
+pub returns-in_err-collect_line-clause-failed : goal.returns-in_err-collect_line-clause-failed
+returns-in_err-collect_line-clause-failed g c =
+    let collector = c.args.self.now in
+    let x = label_of_collector g.F.Files.database collector in
+    let p = err_from_is_err_and c.from_residual.result c.from_residual.ensures.1 in
+    rw (p.1 ∙ ap Err p.2) (λ known. let failed = c.in_err-collect_line.ensures.failed known in
+    collected-failed {x = x} c.loop-index.invariant
+    (has_ends g c.lifetimes (search rules) collector) failed.0
+    (ap (λ k. line_failure x.file (x.failure x.file_id) k c.loop-index.index-counter) c.requires.last
+    ∙ failed.1))
+
+-- the file has no more lines
+no_more : (g : Over) (c : goal.Then-not-branch g)
+    → CollectsLabel (label_of_collector g.F.Files.database c.args.self.now) c.args.found.now
+    c.collect_line.new.found
+no_more g c =
+    let x = label_of_collector g.F.Files.database c.args.self.now in
+    let ended = c.in_ok-collect_line.ensures.ended c.if-not-branch.true in
+    rw ended.0 (collected-context {x = x} c.loop-index.invariant ended.1.0 ended.1.1)
+
+pub returns-then-not-branch-clause-added : goal.returns-then-not-branch-clause-added
+returns-then-not-branch-clause-added g c = (no_more g c).added
+
+pub returns-then-not-branch-clause-padding : goal.returns-then-not-branch-clause-padding
+returns-then-not-branch-clause-padding g c = (no_more g c).counted
+
+pub returns-then-not-branch-clause-failed : goal.returns-then-not-branch-clause-failed
+returns-then-not-branch-clause-failed g c = (no_more g c).succeeded
+
+-- one more line is done with
+one_more : (g : Over) (c : goal.Else-not-branch g)
+    → CollectsLines (label_of_collector g.F.Files.database c.args.self.now) c.args.found.now
+    c.collect_line.new.found (c.loop-index.index-counter + 1)
+one_more g c =
+    let x = label_of_collector g.F.Files.database c.args.self.now in
+    let on = c.if-not-branch.false in
+    let known = c.in_ok-collect_line.ensures in
+    collected-line {x = x} c.loop-index.invariant
+    (has_ends g c.lifetimes (search rules) c.args.self.now)
+    (omega (
+      arith,
+      c.loop-index-test.true,
+      c.max-index-end.ensures,
+      c.saturating_add-last.ensures,
+      c.requires.first,
+      c.requires.last,
+    ))
+    (known.inside on) (known.added on) (known.padding on) (known.succeeded on)
+
+pub loop-index-preserved : goal.loop-index-preserved
+loop-index-preserved g c = one_more g (goal.at.loop-index-preserved g c).Else-not-branch
+
+-- the last line is done with
+all_done : (g : Over) (c : goal.Else-not-branch g) → c.max-index-end.result ≤ c.loop-index.index-counter
+    → CollectsLabel (label_of_collector g.F.Files.database c.args.self.now) c.args.found.now
+    c.collect_line.new.found
+all_done g c at_last =
+    let x = label_of_collector g.F.Files.database c.args.self.now in
+    let claim : g.claim c.lifetimes = search rules in
+    let files = g.met.F.Files c.lifetimes claim in
+    collected-reach {x = x} (one_more g c)
+    (omega (arith, at_last, c.max-index-end.ensures, c.requires.first))
+    (omega
+    (arith, at_last, c.max-index-end.ensures, c.saturating_add-last.ensures, c.requires.last))
+    (omega (arith, c.max-index-end.ensures, c.loop-index-test.true))
+    (files.lawful c.args.self.now.file.files.now x.file_id)
+    (files.past_end c.args.self.now.file.files.now x.file_id _)
+
+pub returns-else-not-branch-clause-added : goal.returns-else-not-branch-clause-added
+returns-else-not-branch-clause-added g c =
+    (all_done g (goal.at.returns-else-not-branch-clause-added g c).Else-not-branch
+    (search rules)).added
+
+pub returns-else-not-branch-clause-padding : goal.returns-else-not-branch-clause-padding
+returns-else-not-branch-clause-padding g c =
+    (all_done g (goal.at.returns-else-not-branch-clause-padding g c).Else-not-branch
+    (search rules)).counted
+
+pub returns-else-not-branch-clause-failed : goal.returns-else-not-branch-clause-failed
+returns-else-not-branch-clause-failed g c =
+    (all_done g (goal.at.returns-else-not-branch-clause-failed g c).Else-not-branch
+    (search rules)).succeeded

@@ -1,0 +1,158 @@
+-- Labels whose lines are looked up, one after another.
+use Rattle.std.specs.Prelude.{◌≡◌, ℕ, ◌<◌, Bool, true, false, List, ◌++◌, flat_map, fold, max, Option, Some, IfOk, Result}
+use Rattle.codespan_picture.specs.Types.{Label, Error, Config}
+use Rattle.codespan_base.specs.FileModel.{FileDatabase, FileModel, line_count, Lookup}
+use Rattle.codespan_base.specs.Labels.{LabelModel, first_line, last_line}
+use Rattle.codespan_picture.specs.Lookups.{Failures, looked_up_lines, lookups_of_file, first_error, is_looked_up, label_lookups, label_line_lookups, line_lookups, lookup_past_end}
+use Rattle.codespan_picture.specs.OutputStreams.{label_of}
+use Rattle.codespan_picture.specs.Snippets.{InFile}
+use Rattle.codespan_annotations.specs.declared.annotation.Annotation.{Annotation as RustAnnotation}
+use Rattle.codespan_annotations.specs.declared.annotation.LineInfo.{LineInfo}
+use Rattle.codespan_views.specs.declared.label_annotations.LabelCollector.{LabelCollector}
+use Rattle.codespan_views.specs.declared.label_annotations.FoundAnnotations.{FoundAnnotations}
+use Rattle.codespan_views.specs.declared.label_annotations.LabelIndices.{LabelIndices}
+use Rattle.codespan_annotations.specs.Annotations.{AnnotationKind}
+use Rattle.codespan_views.specs.Private.LabelAnnotations.{annotations_of, line_annotations, annotations_on, lookups_on, lane_mark_at, kind_at}
+use Rattle.codespan_annotations.specs.FileLookups.{failure_in}
+use Rattle.codespan_annotations.specs.SourceFiles.{failure_unless_past_end, model_of}
+use Rattle.codespan_annotations.specs.AnnotationViews.{AddsOf}
+use Rattle.codespan_views.specs.Private.SpannedDigits.{digits_on, label_digits}
+
+-- the lookups of one label
+abbrev pub lookups_of_label : {Id : Type 0} → Config → FileDatabase Id → InFile Id
+    → List (Id × Lookup)
+lookups_of_label config database x =
+    lookups_of_file x.file_id
+    (label_line_lookups config (database.file x.file_id) (database.failure x.file_id) x.label)
+
+-- what the lookups of these labels fail with
+abbrev pub labels_failure : {Id : Type 0} → Config → FileDatabase Id → List (InFile Id)
+    → Option Error
+labels_failure config database xs =
+    first_error database.failure (label_lookups config database xs)
+
+-- a label with its file, what lookups fail with, the configuration, and its indices
+pub record CollectedLabel (Id : Type 0) : Type 0 where
+  pub file_id : Id
+  pub file : FileModel
+  pub failure : Failures Id
+  pub config : Config
+  pub indices : LabelIndices
+  pub label : LabelModel
+
+-- a label of the files of a database
+abbrev pub collected_label : {Id : Type 0} → FileDatabase Id → Config → LabelIndices → Label Id
+    → CollectedLabel Id
+collected_label database config indices label = record {
+  file_id = label.file_id;
+  file = database.file label.file_id;
+  failure = database.failure;
+  config = config;
+  indices = indices;
+  label = (label_of label).label;
+}
+
+-- the label whose lines a collector looks up
+abbrev pub label_of_collector : {F Id Name Source : Type 0} → (F → FileDatabase Id)
+    → LabelCollector F Id Name Source → CollectedLabel Id
+label_of_collector database collector = record {
+  file_id = collector.file.file_id;
+  file = model_of database collector.file;
+  failure = (database collector.file.files.now).failure;
+  config = collector.config.now;
+  indices = collector.indices;
+  label = (label_of collector.label.now).label;
+}
+
+-- the collector has the lines on which its label starts and ends
+pub record HasLabelLines {F Id Name Source : Type 0} (database : F → FileDatabase Id)
+    (collector : LabelCollector F Id Name Source) : Type 0 where
+  pub first : first_line (model_of database collector.file) (label_of collector.label.now).label
+      ≡ collector.lines.first
+  pub last : last_line (model_of database collector.file) (label_of collector.label.now).label
+      ≡ collector.lines.last
+
+module _ {Id : Type 0} (x : CollectedLabel Id) where
+  -- ---- one line
+
+  -- the line is looked up for it
+  abbrev pub IsLookedUp : ℕ → Type 0
+  IsLookedUp l = is_looked_up x.config x.file x.label l ≡ true
+
+  -- the file has the line, where it is looked up
+  abbrev pub HasLineLookedUp : ℕ → Type 0
+  HasLineLookedUp l = IsLookedUp l → l < line_count x.file
+
+  -- its annotations of a line were appended
+  abbrev pub AddsLine : List (RustAnnotation Id) → List (RustAnnotation Id) → ℕ → Type 0
+  AddsLine old new l = AddsOf x.file old new (line_annotations x.config x.file x.indices x.label l)
+
+  -- its annotations of a line were found, where it is looked up
+  abbrev pub FindsLine : FoundAnnotations Id → FoundAnnotations Id → ℕ → Type 0
+  FindsLine old new l =
+      AddsOf x.file old.annotations.items new.annotations.items
+      (annotations_on x.config x.file x.label x.indices l)
+
+  -- the padding has been widened to the number of a line, where the label spans the line
+  abbrev pub ExtendsPaddingForLine : FoundAnnotations Id → FoundAnnotations Id → ℕ → Type 0
+  ExtendsPaddingForLine old new l =
+      new.padding.digits ≡ fold max old.padding.digits (digits_on x.file x.label l)
+
+  -- what the lookups of a line fail with, where it is looked up
+  abbrev pub failure_on : ℕ → Option Error
+  failure_on l = failure_in x.failure x.file_id (lookups_on x.config x.file x.label l)
+
+  -- ---- all of its lines
+
+  -- its annotations were found
+  abbrev pub FindsLines : FoundAnnotations Id → FoundAnnotations Id → Type 0
+  FindsLines old new =
+      AddsOf x.file old.annotations.items new.annotations.items
+      (annotations_of x.config x.file x.indices x.label)
+
+  -- the padding has been widened to the numbers of the lines that the label spans
+  abbrev pub ExtendsPadding : FoundAnnotations Id → FoundAnnotations Id → Type 0
+  ExtendsPadding old new =
+      new.padding.digits ≡ fold max old.padding.digits (label_digits x.file x.label)
+
+  -- what the lookups of its lines fail with
+  abbrev pub lines_failure : Option Error
+  lines_failure =
+      failure_in x.failure x.file_id
+      (flat_map line_lookups (looked_up_lines x.config x.file x.label)
+      ++ lookup_past_end x.config x.file (x.failure x.file_id) x.label)
+
+  -- what its lookups fail with, those of the lines of its ends first
+  abbrev pub label_failure : Option Error
+  label_failure =
+      failure_in x.failure x.file_id
+      (label_line_lookups x.config x.file (x.failure x.file_id) x.label)
+
+-- where the call returns `true`: the context lines go on
+abbrev pub IfContinues : Result Bool Error → Type 0 → Type 0
+IfContinues r P = IfOk r (λ goes_on. goes_on ≡ true → P)
+
+-- where it returns `false`: the context lines ended with the file
+abbrev pub IfEnded : Result Bool Error → Type 0 → Type 0
+IfEnded r P = IfOk r (λ goes_on. goes_on ≡ false → P)
+
+-- what a label does on a line, by the lines of its ends
+abbrev pub kind_by : {F Id Name Source : Type 0} → LabelCollector F Id Name Source → LineInfo
+    → Option AnnotationKind
+kind_by collector line =
+    kind_at collector.config.now collector.indices collector.lines.first collector.lines.last
+    line.index line.start (label_of collector.label.now).label
+
+-- its lane mark on a line, by the lines of its ends
+abbrev pub lane_mark_by : {F Id Name Source : Type 0} → LabelCollector F Id Name Source → LineInfo
+    → Option AnnotationKind
+lane_mark_by collector line =
+    lane_mark_at collector.indices collector.lines.first collector.lines.last line.index line.start
+    (label_of collector.label.now).label
+
+-- a line is looked up for the label, and its lookups fail with this error
+abbrev pub FailsLine : {F Id Name Source : Type 0} → (F → FileDatabase Id)
+    → LabelCollector F Id Name Source → ℕ → Error → Type 0
+FailsLine database collector l e =
+    IsLookedUp (label_of_collector database collector) l
+    × (failure_unless_past_end database collector.file collector.lines.last l ≡ Some e)

@@ -1,0 +1,58 @@
+-- The annotations of a label: what it does on each line that is looked up for it.
+use Rattle.std.specs.Prelude.{ℕ, ◌==◌, ◌&&◌, List, [], ◌++◌, flat_map, Option, Some, None, if◌then◌else◌}
+use Rattle.std.specs.Option.{option_map}
+use Rattle.codespan_picture.specs.Types.{Config}
+use Rattle.codespan_base.specs.FileModel.{FileModel, Lookup}
+use Rattle.codespan_base.specs.Labels.{LabelModel, first_line, last_line, is_single, drawn_label, lane_mark_of, multi_label_on, from_line_start, multi_label_at}
+use Rattle.codespan_picture.specs.Lines.{shows}
+use Rattle.codespan_picture.specs.Lookups.{looked_up_lines, is_looked_up, line_lookups}
+use Rattle.codespan_views.specs.declared.label_annotations.LabelIndices.{LabelIndices}
+use Rattle.codespan_annotations.specs.Annotations.{Annotation, AnnotationKind, Shown, Single, Multi, annotation_if_any}
+
+module _ (config : Config) (f : FileModel) (indices : LabelIndices) (x : LabelModel) where
+  -- what it does on a line, its lane mark aside
+  abbrev pub kind_on : ℕ → Option AnnotationKind
+  kind_on l =
+      if is_single f x && (first_line f x == l) then Some (Single indices.index (drawn_label f x))
+      else if shows config (first_line f x) (last_line f x) l then Some Shown else None
+
+  -- its lane mark on a line, where it is a multi-line label
+  abbrev pub lane_mark_on : ℕ → Option AnnotationKind
+  lane_mark_on l =
+      if is_single f x then None
+      else option_map Multi (lane_mark_of indices.lane x (multi_label_on f l x))
+
+  -- its annotations of a line
+  abbrev pub line_annotations : ℕ → List Annotation
+  line_annotations l = annotation_if_any indices.file l (kind_on l)
+      ++ annotation_if_any indices.file l (lane_mark_on l)
+
+  -- its annotations of all lines that are looked up for it
+  abbrev pub annotations_of : List Annotation
+  annotations_of = flat_map line_annotations (looked_up_lines config f x)
+
+-- ---- by the lines of its ends
+
+-- what a label from line `s` to line `e` does on line `l`, which starts at this byte index
+abbrev pub kind_at : Config → LabelIndices → ℕ → ℕ → ℕ → ℕ → LabelModel → Option AnnotationKind
+kind_at config indices s e l start x =
+    if (s == e) && (s == l) then Some (Single indices.index (from_line_start start x))
+    else if shows config s e l then Some Shown else None
+
+-- its lane mark there, if it is a multi-line label that has one
+abbrev pub lane_mark_at : LabelIndices → ℕ → ℕ → ℕ → ℕ → LabelModel → Option AnnotationKind
+lane_mark_at indices s e l start x =
+    if s == e then None
+    else option_map Multi (lane_mark_of indices.lane x (multi_label_at s e l start x))
+
+-- ---- the lines that are looked up for it
+
+module _ (config : Config) (f : FileModel) (x : LabelModel) where
+  -- the lookups of a line, where it is looked up for the label
+  abbrev pub lookups_on : ℕ → List Lookup
+  lookups_on l = if is_looked_up config f x l then line_lookups l else []
+
+  -- the annotations of such a line
+  abbrev pub annotations_on : LabelIndices → ℕ → List Annotation
+  annotations_on indices l =
+      if is_looked_up config f x l then line_annotations config f indices x l else []

@@ -1,0 +1,107 @@
+//! The annotations of all labels, in one vector, and the files of the labels.
+
+ghost use Rattle.std.specs.Prelude.{◌≡◌, map, IfOk};
+ghost use Rattle.codespan_base.specs.LawfulFiles.{FailsBy};
+ghost use Rattle.codespan_picture.specs.OutputStreams.{label_of};
+ghost use Rattle.codespan_views.specs.Private.CollectedLabels.{labels_failure};
+ghost use Rattle.codespan_views.specs.Private.Collections.{IsCollected, IsCollectedInTurn};
+
+use crate::label_annotations::{FoundAnnotations, LabelIndices, collect_label};
+use crate::padding::PaddingWidth;
+use codespan_annotations::annotation::Annotation;
+use codespan_annotations::annotation::order::put_in_order;
+use codespan_annotations::label_span::LabelSpan;
+use codespan_annotations::labeled_files::{LabeledFile, add_label, get_or_insert_file};
+use codespan_base::diagnostic::Label;
+use codespan_base::files::{Error, Files};
+use codespan_base::term::Config;
+use std::alloc::Global;
+
+/// What was collected of the labels of a diagnostic.
+#[derive(Drop)]
+pub struct Collected<'d, FileId> {
+    /// The labels.
+    pub labels: &'d [Label<FileId>],
+    /// Their files, in the order of their first labels.
+    pub files: Vec<LabeledFile<FileId>>,
+    /// Their annotations, in order once [`collect`] returns.
+    pub annotations: Vec<Annotation<'d, FileId>>,
+    /// The padding width in the classic layout: the number of digits of the longest number of a
+    /// line that a label spans; 0 without such a line.
+    pub padding: usize,
+    /// Of the labels of the first file, the least line on which one starts and the greatest on
+    /// which one ends, 0-based; `usize::MAX` and 0 without labels.
+    pub first_file_span: LabelSpan,
+}
+
+/// Looks up the lines of all labels, and returns their annotations in order.
+///
+/// # Errors
+///
+/// - `OutOfMemory`: an allocation fails, or a lookup fails with it.
+/// - Any other error: that of the first lookup that fails.
+pub fn collect<'files, 'd, F: Files<'files>>(
+    alloc: Global,
+    files: &'files F,
+    config: &Config<'_>,
+    labels: &'d [Label<F::FileId>],
+) -> Result<Collected<'d, F::FileId>, Error>
+    ensures labels { IfOk result (λ collected. collected.labels.now ≡ labels.now) }
+    ensures collected { IfOk result (IsCollected (F.database files.now) config.now
+        (map label_of labels.now)) }
+    ensures failed { FailsBy (labels_failure config.now (F.database files.now)
+        (map label_of labels.now)) result }
+{
+    let mut collected = collect_in_turn(alloc, files, config, labels)?;
+    let lines = collected.first_file_span.with_context_lines(config);
+    let has_one_file = collected.files.len() == 1;
+    put_in_order(&mut collected.annotations, has_one_file.then_some(lines))?;
+    Ok(collected)
+}
+
+/// As [`collect`], but the annotations are in the order of the labels.
+///
+/// # Errors
+///
+/// As [`collect`].
+fn collect_in_turn<'files, 'd, F: Files<'files>>(
+    alloc: Global,
+    files: &'files F,
+    config: &Config<'_>,
+    labels: &'d [Label<F::FileId>],
+) -> Result<Collected<'d, F::FileId>, Error>
+    ensures labels { IfOk result (λ collected. collected.labels.now ≡ labels.now) }
+    ensures collected { IfOk result (IsCollectedInTurn (F.database files.now) config.now
+        (map label_of labels.now)) }
+    ensures failed { FailsBy (labels_failure config.now (F.database files.now)
+        (map label_of labels.now)) result }
+{
+    let mut labeled = Vec::new(alloc);
+    let mut found = FoundAnnotations {
+        annotations: Vec::with_capacity(alloc, labels.len())?,
+        padding: PaddingWidth::with_digits(0),
+    };
+    let mut previous = 0;
+    let mut spanned = LabelSpan {
+        first: usize::MAX,
+        last: 0,
+    };
+    for (index, label) in labels.iter().enumerate() {
+        let file = get_or_insert_file(&mut labeled, previous, label.file_id)?;
+        let lane = labeled[file].num_multi_labels;
+        let indices = LabelIndices { file, index, lane };
+        let lines = collect_label(files, config, indices, label, &mut found)?;
+        add_label(&mut labeled, file, label, lines);
+        previous = file;
+        if file == 0 {
+            spanned = spanned.join(lines);
+        }
+    }
+    Ok(Collected {
+        labels,
+        files: labeled,
+        annotations: found.annotations,
+        padding: found.padding.digits,
+        first_file_span: spanned,
+    })
+}

@@ -1,0 +1,277 @@
+//! The annotations of one label.
+
+ghost use Rattle.std.specs.Prelude.{◌≡◌, ◌≢◌, true, None, IfErr, IfOk, OnOk, OnErr, IsErrOf};
+ghost use Rattle.std.specs.Option.{option_map};
+ghost use Rattle.codespan_base.specs.LawfulFiles.{FailsBy};
+ghost use Rattle.codespan_views.specs.Private.CollectedLabels.{AddsLine, FindsLine, FindsLines, HasLineLookedUp, IfEnded, IfContinues, ExtendsPadding, ExtendsPaddingForLine, FailsLine, HasLabelLines, label_of_collector, collected_label, label_failure, lines_failure, failure_on, lane_mark_by, kind_by};
+ghost use Rattle.codespan_annotations.specs.SourceFiles.{EndsBefore, model_of};
+ghost use Rattle.codespan_annotations.specs.AnnotationViews.{IsLineOf, kind_view};
+ghost use Rattle.codespan_annotations.specs.LabelSpans.{IsFarInside, line_of_end, line_of_start};
+
+use crate::padding::PaddingWidth;
+use codespan_annotations::annotation::{
+    Annotation, AnnotationKind, LineInfo, MultiLabelKind, push_annotation,
+};
+use codespan_annotations::label_span::{LabelSpan, label_span};
+use codespan_annotations::source_file::SourceFile;
+use codespan_base::diagnostic::Label;
+use codespan_base::files::{Error, Files};
+use codespan_base::term::Config;
+
+/// The indices of a label, 0-based.
+#[derive(Clone, Copy)]
+pub struct LabelIndices {
+    /// The index of its file among those of the output.
+    pub file: usize,
+    /// Its index in the diagnostic's list of labels.
+    pub index: usize,
+    /// The number of the file's multi-line labels before it: its lane, if it is one.
+    pub lane: usize,
+}
+
+/// The annotations that were found, and what the padding depends on.
+#[derive(Drop)]
+pub struct FoundAnnotations<'d, FileId> {
+    /// The annotations.
+    pub annotations: Vec<Annotation<'d, FileId>>,
+    /// The width for the numbers of the lines that labels span.
+    pub padding: PaddingWidth,
+}
+
+/// Looks up the lines of a label and makes its annotations.
+#[derive(Drop)]
+struct LabelCollector<'a, 'c, 'd, 'files, F: Files<'files>> {
+    /// The label.
+    label: &'d Label<F::FileId>,
+    /// Its file.
+    file: SourceFile<'files, F>,
+    /// The configuration, which has the numbers of context lines.
+    config: &'a Config<'c>,
+    /// The label's indices.
+    indices: LabelIndices,
+    /// The lines on which it starts and ends.
+    lines: LabelSpan,
+}
+
+impl<'a, 'c, 'd, 'files, F: Files<'files>> LabelCollector<'a, 'c, 'd, 'files, F> {
+    /// Returns what the label does on a line, its lane mark aside: it is a single-line label on it,
+    /// or makes it shown, or neither.
+    fn kind_on_line(&self, line: LineInfo) -> Option<AnnotationKind<'d, F::FileId>>
+        ensures { option_map (kind_view line.start) result ≡ kind_by self.now line }
+    {
+        if self.lines.is_single() && self.lines.first == line.index {
+            Some(AnnotationKind::Single {
+                index: self.indices.index,
+                label: self.label,
+            })
+        } else if self.lines.shows(self.config, line.index) {
+            Some(AnnotationKind::Shown)
+        } else {
+            None
+        }
+    }
+
+    /// Returns the label's lane mark on a line, if it is a multi-line label that has one.
+    fn lane_mark_on_line(&self, line: LineInfo) -> Option<AnnotationKind<'d, F::FileId>>
+        ensures { option_map (kind_view line.start) result ≡ lane_mark_by self.now line }
+    {
+        match self.lines.multi_label_kind(line.index) {
+            None => None,
+            Some(kind) => Some(AnnotationKind::Multi {
+                kind,
+                lane: self.indices.lane,
+                label: self.label,
+            }),
+        }
+    }
+
+    /// Appends the one annotation of the label on a line far from its ends.
+    ///
+    /// # Errors
+    ///
+    /// `OutOfMemory`: an allocation fails.
+    ///
+    /// # Requires
+    ///
+    /// The label starts and ends on the lines of this collector, and the line is one of the file's,
+    /// inside the label and past the context lines of both ends.
+    #[inline(always)]
+    fn push_far_line(
+        &self,
+        line: LineInfo,
+        annotations: &mut Vec<Annotation<'d, F::FileId>>,
+    ) -> Result<(), Error>
+        requires far { IsFarInside self.now.config.now self.now.lines.first self.now.lines.last
+            line.index }
+        requires lines { HasLabelLines F.database self.now }
+        requires line { IsLineOf (model_of F.database self.now.file) line }
+        ensures added { OnOk result (AddsLine (label_of_collector F.database self.now)
+            annotations.old.items annotations.new.items line.index) }
+        ensures failed { OnErr result (IsErrOf result Error.OutOfMemory) }
+    {
+        let kind = AnnotationKind::Multi {
+            kind: MultiLabelKind::Left,
+            lane: self.indices.lane,
+            label: self.label,
+        };
+        push_annotation(self.indices.file, line, Some(kind), annotations)?;
+        Ok(())
+    }
+
+    /// Appends the annotations of the label on a line. `is_far` is whether the line is known to be
+    /// far from the label's ends.
+    ///
+    /// # Errors
+    ///
+    /// `OutOfMemory`: an allocation fails.
+    ///
+    /// # Requires
+    ///
+    /// The label starts and ends on the lines of this collector, and the line is one of the file's.
+    /// Where `is_far` is set, it is inside the label and past the context lines of both ends.
+    fn push_line(
+        &self,
+        line: LineInfo,
+        is_far: bool,
+        annotations: &mut Vec<Annotation<'d, F::FileId>>,
+    ) -> Result<(), Error>
+        requires far { is_far ≡ true → IsFarInside self.now.config.now self.now.lines.first
+            self.now.lines.last line.index }
+        requires lines { HasLabelLines F.database self.now }
+        requires line { IsLineOf (model_of F.database self.now.file) line }
+        ensures added { OnOk result (AddsLine (label_of_collector F.database self.now)
+            annotations.old.items annotations.new.items line.index) }
+        ensures failed { OnErr result (IsErrOf result Error.OutOfMemory) }
+    {
+        if is_far {
+            return self.push_far_line(line, annotations);
+        }
+        let file = self.indices.file;
+        push_annotation(file, line, self.kind_on_line(line), annotations)?;
+        push_annotation(file, line, self.lane_mark_on_line(line), annotations)?;
+        Ok(())
+    }
+
+    /// Looks up the line at this 0-based index and appends the label's annotations of it, where the
+    /// label spans the line or it is one of the context lines around the label. Returns `false`
+    /// where the file has ended, and so the context lines do. `is_far` is whether the line is known
+    /// to be far from the label's ends.
+    ///
+    /// # Errors
+    ///
+    /// - `OutOfMemory`: an allocation fails, or a lookup fails with it.
+    /// - Any other error: that of the first lookup that fails.
+    ///
+    /// # Requires
+    ///
+    /// The label starts and ends on the lines of this collector. Where `is_far` is set, the line is
+    /// inside the label and past the context lines of both ends.
+    fn collect_line(
+        &self,
+        index: usize,
+        is_far: bool,
+        found: &mut FoundAnnotations<'d, F::FileId>,
+    ) -> Result<bool, Error>
+        requires far { is_far ≡ true → IsFarInside self.now.config.now self.now.lines.first
+            self.now.lines.last index }
+        requires lines { HasLabelLines F.database self.now }
+        ensures inside { IfContinues result
+            (HasLineLookedUp (label_of_collector F.database self.now) index) }
+        ensures added { IfContinues result
+            (FindsLine (label_of_collector F.database self.now) found.old found.new index) }
+        ensures padding { IfContinues result (ExtendsPaddingForLine
+            (label_of_collector F.database self.now) found.old found.new index) }
+        ensures succeeded { IfContinues result
+            (failure_on (label_of_collector F.database self.now) index ≡ None) }
+        ensures ended { IfEnded result ((found.new ≡ found.old)
+            × EndsBefore F.database self.now.file index) }
+        ensures failed { IfErr result (λ e. e ≢ Error.OutOfMemory
+            → FailsLine F.database self.now index e) }
+    {
+        let is_spanned = is_far || self.lines.spans(index);
+        if !is_spanned && !self.lines.is_around(self.config, index) {
+            return Ok(true);
+        }
+        let Some(line) = self.file.line_unless_past_end(index, self.lines.last)? else {
+            return Ok(false);
+        };
+        if is_spanned {
+            found.padding.fit(line.number);
+        }
+        self.push_line(line, is_far, &mut found.annotations)?;
+        Ok(true)
+    }
+
+    /// Looks up the lines of the label in their order, and appends its annotations.
+    ///
+    /// # Errors
+    ///
+    /// - `OutOfMemory`: an allocation fails, or a lookup fails with it.
+    /// - Any other error: that of the first lookup that fails.
+    ///
+    /// # Requires
+    ///
+    /// The label starts and ends on the lines of this collector.
+    fn collect_lines(&self, found: &mut FoundAnnotations<'d, F::FileId>) -> Result<(), Error>
+        requires { HasLabelLines F.database self.now }
+        ensures added { OnOk result
+            (FindsLines (label_of_collector F.database self.now) found.old found.new) }
+        ensures padding { OnOk result
+            (ExtendsPadding (label_of_collector F.database self.now) found.old found.new) }
+        ensures failed { FailsBy (lines_failure (label_of_collector F.database self.now)) result }
+    {
+        let lines = self.lines;
+        let first = lines.first.saturating_sub(self.config.before_label_lines);
+        let last = lines.last.saturating_add(self.config.after_label_lines);
+        let far = lines.far_lines(self.config);
+        for index in first.min(lines.last)..=last.max(lines.first) {
+            if !self.collect_line(index, far.contains(&index), found)? {
+                return Ok(());
+            }
+        }
+        Ok(())
+    }
+}
+
+/// Looks up the lines of a label and appends its annotations. Returns the lines on which it starts
+/// and ends.
+///
+/// # Errors
+///
+/// - `OutOfMemory`: an allocation fails, or a lookup fails with it.
+/// - Any other error: that of the first lookup that fails.
+pub fn collect_label<'files, 'd, F: Files<'files>>(
+    files: &'files F,
+    config: &Config<'_>,
+    indices: LabelIndices,
+    label: &'d Label<F::FileId>,
+    found: &mut FoundAnnotations<'d, F::FileId>,
+) -> Result<LabelSpan, Error>
+    ensures first { IfOk result (λ lines. lines.first
+        ≡ line_of_start (F.database files.now).file label.now) }
+    ensures last { IfOk result (λ lines. lines.last
+        ≡ line_of_end (F.database files.now).file label.now) }
+    ensures added { OnOk result (FindsLines
+        (collected_label (F.database files.now) config.now indices label.now) found.old found.new) }
+    ensures padding { OnOk result (ExtendsPadding
+        (collected_label (F.database files.now) config.now indices label.now) found.old found.new) }
+    ensures failed { FailsBy (label_failure
+        (collected_label (F.database files.now) config.now indices label.now)) result }
+{
+    let lines = label_span(files, label)?;
+    found
+        .annotations
+        .reserve(lines.annotation_capacity(config))?;
+    let collector = LabelCollector {
+        label,
+        file: SourceFile {
+            files,
+            file_id: label.file_id,
+        },
+        config,
+        indices,
+        lines,
+    };
+    collector.collect_lines(found)?;
+    Ok(lines)
+}

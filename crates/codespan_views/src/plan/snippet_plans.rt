@@ -1,0 +1,167 @@
+//! The plan of each file's snippet: its locus and its lines.
+
+ghost use Rattle.std.specs.Prelude.{◌≡◌, ◌-◌, [], All, Err, IfOk, OnOk, length, map};
+ghost use Rattle.std.specs.List.{AllByRecursion};
+ghost use Rattle.std.specs.List.Sorted.{IsSortedBy};
+ghost use Rattle.std.specs.Result.{result_and};
+ghost use Rattle.codespan_base.specs.LawfulFiles.{FailsBy};
+ghost use Rattle.codespan_picture.specs.Arguments.{locus_view};
+ghost use Rattle.codespan_annotations.specs.FileLookups.{FailsByOrFormatError, failure_in};
+ghost use Rattle.codespan_annotations.specs.Annotations.{is_before};
+ghost use Rattle.codespan_annotations.specs.AnnotationViews.{IsLineOf, IsOfFiles, annotation_view};
+ghost use Rattle.codespan_annotations.specs.LabeledFiles.{ids_view};
+ghost use Rattle.codespan_views.specs.Private.Loci.{locus_failure, locus_start_of};
+ghost use Rattle.codespan_views.specs.Private.SnippetPlans.{ArePlansOf, plans_failure};
+ghost use Rattle.codespan_views.specs.Private.SnippetLines.{filled_lines_of, lines_of};
+ghost use Rattle.codespan_views.specs.Private.SnippetLineViews.{AddsLines, numbers_looked_up};
+ghost use Rattle.codespan_annotations.specs.TextLoci.{IsTextLocus};
+
+use crate::collected::Collected;
+use crate::plan::snippet_lines::{LinePlanner, SnippetLine};
+use codespan_annotations::annotation::Annotation;
+use codespan_annotations::annotation::groups::count_in_file;
+use codespan_annotations::labeled_files::LabeledFile;
+use codespan_annotations::source_file::SourceFile;
+use codespan_base::files::{Error, Files};
+use codespan_base::term::Layout;
+use codespan_picture::arguments::Locus;
+use std::alloc::Global;
+
+/// The plan of a file's snippet.
+#[derive(Drop)]
+pub struct SnippetPlan<'e, FileId> {
+    /// The file.
+    pub file: &'e LabeledFile<FileId>,
+    /// The locus that the snippet begins with.
+    pub locus: Locus,
+    /// The number of the snippet's lines.
+    pub line_total: usize,
+}
+
+/// Appends the lines of the snippet of a file, which has these annotations, and returns how many
+/// there are.
+///
+/// # Errors
+///
+/// As [`LinePlanner::push_lines`].
+///
+/// # Requires
+///
+/// The lines of the annotations are lines of the file.
+#[inline(always)]
+fn push_snippet<'files, 'e, 'd, F: Files<'files>>(
+    files: &'files F,
+    id: F::FileId,
+    layout: Layout,
+    annotations: &'e [Annotation<'d, F::FileId>],
+    snippet_lines: &mut Vec<SnippetLine<'e, 'd, F::FileId>>,
+) -> Result<usize, Error>
+    requires { All (λ e. IsLineOf ((F.database files.now).file id) e.line) annotations.now }
+    ensures added { OnOk result (AddsLines layout ((F.database files.now).file id)
+        snippet_lines.old.items snippet_lines.new.items
+        (lines_of (map annotation_view annotations.now))) }
+    ensures count { IfOk result (λ count. count
+        ≡ length snippet_lines.new.items - length snippet_lines.old.items) }
+    ensures failed { FailsBy (failure_in (F.database files.now).failure id
+        (numbers_looked_up layout
+        (filled_lines_of (lines_of (map annotation_view annotations.now))))) result }
+{
+    let planner = LinePlanner {
+        file: SourceFile { files, file_id: id },
+        layout,
+    };
+    let before = snippet_lines.len();
+    planner.push_lines(annotations, snippet_lines)?;
+    Ok(snippet_lines.len() - before)
+}
+
+/// Returns the plan of a file's snippet of `line_total` lines: looks up the name of the file, and
+/// the location of its locus.
+///
+/// # Errors
+///
+/// As [`SourceFile::locus`].
+#[inline(always)]
+fn locate_snippet<'files, 'e, F: Files<'files>>(
+    alloc: Global,
+    files: &'files F,
+    file: &'e LabeledFile<F::FileId>,
+    line_total: usize,
+) -> Result<SnippetPlan<'e, F::FileId>, Error>
+    ensures file { IfOk result (λ snippet_plan. snippet_plan.file.now ≡ file.now) }
+    ensures locus { IfOk result (λ snippet_plan. IsTextLocus
+        (locus_start_of (F.database files.now).file file.now) (locus_view snippet_plan.locus)) }
+    ensures line_total { IfOk result (λ snippet_plan. snippet_plan.line_total ≡ line_total) }
+    ensures failed { FailsByOrFormatError (locus_failure (F.database files.now).failure file.now)
+        result }
+{
+    let source = SourceFile {
+        files,
+        file_id: file.file_id,
+    };
+    let locus = source.locus(alloc, file.start.byte())?;
+    Ok(SnippetPlan {
+        file,
+        locus,
+        line_total,
+    })
+}
+
+/// Returns the first error: that of `located` if it is `Err`, else `failed`.
+fn first_error_of(located: Result<(), Error>, failed: Error) -> Result<(), Error>
+    ensures { result ≡ result_and located (Err failed) }
+{
+    located.and(Err(failed))
+}
+
+/// Plans the snippets of the files, in the order of their first labels. Their lines are appended to
+/// `snippet_lines`.
+///
+/// In the unbroken layout the numbers of filled lines are looked up, and in both layouts the name
+/// and the location of each file.
+///
+/// # Errors
+///
+/// - `FormatError`: the `Display` of a name fails, or a lookup fails with it.
+/// - `OutOfMemory`: an allocation fails, or a lookup fails with it.
+/// - Any other error: that of the first lookup that fails. Numbers come before names and locations:
+///   the first error of a name or a location is kept until the numbers of all files have been
+///   looked up.
+///
+/// # Requires
+///
+/// `snippet_lines` is empty, the annotations are in order, and their lines are lines of their
+/// files.
+pub fn plan_snippets<'files, 'e, 'd, F: Files<'files>>(
+    alloc: Global,
+    files: &'files F,
+    layout: Layout,
+    collected: &'e Collected<'d, F::FileId>,
+    snippet_lines: &mut Vec<SnippetLine<'e, 'd, F::FileId>>,
+) -> Result<Vec<SnippetPlan<'e, F::FileId>>, Error>
+    requires empty { snippet_lines.now.items ≡ [] }
+    requires sorted { IsSortedBy is_before (map annotation_view collected.now.annotations.items) }
+    requires lines { AllByRecursion (IsOfFiles (F.database files.now).file
+        (ids_view collected.now.files.items)) collected.now.annotations.items }
+    ensures plans { IfOk result
+        (λ snippet_plans. ArePlansOf layout (F.database files.now).file collected.now
+        snippet_plans.items snippet_lines.new.items) }
+    ensures failed { FailsByOrFormatError
+        (plans_failure layout (F.database files.now).failure collected.now) result }
+{
+    let mut snippet_plans = Vec::with_capacity(alloc, collected.files.len())?;
+    let mut located = Ok(());
+    let mut start = 0;
+    for (index, file) in collected.files.iter().enumerate() {
+        let len = count_in_file(&collected.annotations[start..], index);
+        let own = &collected.annotations[start..start + len];
+        let line_total = push_snippet(files, file.file_id, layout, own, snippet_lines)?;
+        start += len;
+        match locate_snippet(alloc, files, file, line_total) {
+            Ok(snippet_plan) => snippet_plans.push(snippet_plan)?,
+            Err(failed) => located = first_error_of(located, failed),
+        }
+    }
+    located?;
+    Ok(snippet_plans)
+}

@@ -1,0 +1,74 @@
+-- For the clauses of `rendering::render_over` and `rendering::config_in`: the output of a
+-- diagnostic.
+use Rattle.std.proofs.Common.{◌≡◌, ℕ, true, List, Result, Ok, Err, IfOk, refl, sym, subst, ap, ◌∙◌}
+use Rattle.codespan_base.specs.declared.diagnostic.Diagnostic.{Diagnostic}
+use Rattle.codespan_base.specs.declared.files.Error.{Error}
+use Rattle.codespan_base.specs.declared.term.config.Config.{Config}
+use Rattle.codespan_base.specs.declared.term.config.DisplayStyle.{DisplayStyle}
+use Rattle.codespan_base.specs.Defaults.{default_config}
+use Rattle.codespan_base.specs.Diagnostics.{diagnostic_view}
+use Rattle.codespan_base.specs.FileModel.{FileDatabase}
+use Rattle.codespan_base.specs.ConfigEquality.{IsEqualConfig}
+use Rattle.codespan_base.specs.Streams.{text_of}
+use Rattle.codespan_views.specs.Output.{Emits, IsRendered}
+use Rattle.codespan_picture.proofs.StatedNames.{output_stated}
+use Rattle.codespan_picture.specs.Lookups.{Failures}
+use Rattle.codespan_picture.specs.ViewPictures.{picture_of_view}
+use Rattle.codespan_picture.proofs.ViewPictures.{picture-of_view}
+use Rattle.report.specs.RenderedTexts.{report_config, only_file, output_text}
+
+-- a configuration equal to the default one, in a style
+pub restyled : (config : Config) (style : DisplayStyle) → IsEqualConfig default_config config
+    → IsEqualConfig (report_config style) (record config { display_style = style })
+restyled config style equal =
+    record {
+      chars =
+          equal.chars;
+      others = ap (λ (c : Config). record c { display_style = style }) equal.others;
+    }
+
+module _ (d : Diagnostic (Unit {0})) where
+  -- a file database of that file alone
+  abbrev table_at : List ℕ → List ℕ → Failures (Unit {0}) → FileDatabase (Unit {0})
+  table_at name source failure =
+      record { same = λ i j. true; file = only_file name source; failure = failure }
+
+  -- the text rendered of the diagnostic over a name and a source, by a configuration equal to the
+  -- default one in its style, is that of its output
+  rendered_text : (name source : List ℕ) (config : Config) (failure : Failures (Unit {0}))
+      (text : List ℕ)
+      → IsEqualConfig (report_config config.display_style) config
+      → IsRendered config (table_at name source failure) d text
+      → (named contents : List ℕ) → name ≡ named → source ≡ contents
+      → text ≡ output_text config.display_style named contents (diagnostic_view d)
+  unfolding output_text
+  rendered_text name source config failure text equal is_rendered named contents n s =
+      let plain = report_config config.display_style in
+      is_rendered.text_is
+      ∙ ap text_of
+      (output_stated (table_at name source failure) d (λ x has. refl) config.display_style config
+      config is_rendered.loci is_rendered.are_loci)
+      ∙ ap text_of (picture-of_view plain config (table_at name source failure) d equal)
+      ∙ ap
+      (λ m. text_of
+      (picture_of_view plain (λ i j. true) (only_file m source) (diagnostic_view d))) n
+      ∙ ap
+      (λ m. text_of (picture_of_view plain (λ i j. true) (only_file named m) (diagnostic_view d))) s
+
+  -- the same of a call that returns a text, by a configuration equal to the default one in a style
+  pub rendered_result : {T : Type 0} (style : DisplayStyle) (text : T → List ℕ)
+      (name source : List ℕ) (config : Config) (failure : Failures (Unit {0})) (r : Result T Error)
+      → IsEqualConfig (report_config style) config
+      → Emits config (table_at name source failure) d text r
+      → (named contents : List ℕ) → name ≡ named → source ≡ contents
+      → IfOk r (λ t. text t ≡ output_text style named contents (diagnostic_view d))
+  rendered_result style text name source config failure (Ok
+      t) equal is_rendered named contents n s =
+      let styled : config.display_style ≡ style =
+      ap (λ (c : Config). c.display_style) equal.others in
+      let same = subst (λ other. IsEqualConfig (report_config other) config) (sym styled) equal in
+      subst (λ other. text t ≡ output_text other named contents (diagnostic_view d)) styled
+      (rendered_text name source config failure (text t) same is_rendered named contents n s)
+  rendered_result style text name source config failure (Err
+      e) equal is_rendered named contents n s =
+      tt

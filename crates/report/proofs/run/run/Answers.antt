@@ -1,0 +1,66 @@
+use Rattle.report.proofs.Outcomes.{bad_script_status, unchanged_at_not_utf8, prefix_written, status_at_most, status_of_wrong, unchanged_unless_rendered, success_by_status, reported_at_bad_script, wrong_by_status}
+use Rattle.report.proofs.run.run.Goals as goal
+
+pub returns-clause-status : goal.returns-clause-status
+returns-clause-status g c =
+    status_at_most c.report-outcome.result c.conclude.result c.conclude.ensures.status
+
+pub returns-clause-usage : goal.returns-clause-usage
+returns-clause-usage g c = (
+  λ two. c.report-outcome.ensures.usage.0
+      (wrong_by_status c.report-outcome.result c.conclude.result c.conclude.ensures.status two),
+  λ none. status_of_wrong c.report-outcome.result c.conclude.result c.conclude.ensures.status
+      (c.report-outcome.ensures.usage.1 none),
+)
+
+pub returns-clause-unread : goal.returns-clause-unread
+returns-clause-unread g c =
+    λ two. c.report-outcome.ensures.unread
+    (wrong_by_status c.report-outcome.result c.conclude.result c.conclude.ensures.status two)
+
+pub returns-clause-no_error : goal.returns-clause-no_error
+returns-clause-no_error g c =
+    λ zero. success_by_status c.report-outcome.result c.conclude.result c.conclude.ensures.status
+    zero c.conclude.ensures.no_error
+
+pub returns-clause-read : goal.returns-clause-read
+returns-clause-read g c =
+    λ zero. success_by_status c.report-outcome.result c.conclude.result c.conclude.ensures.status
+    zero c.report-outcome.ensures.read
+
+pub returns-clause-rendered : goal.returns-clause-rendered
+returns-clause-rendered g c =
+    λ zero. success_by_status c.report-outcome.result c.conclude.result c.conclude.ensures.status
+    zero c.report-outcome.ensures.rendered
+
+pub returns-clause-utf8 : goal.returns-clause-utf8
+returns-clause-utf8 g c =
+    λ zero. success_by_status c.report-outcome.result c.conclude.result c.conclude.ensures.status
+    zero c.report-outcome.ensures.utf8
+
+pub returns-clause-unchanged : goal.returns-clause-unchanged
+returns-clause-unchanged g c =
+    unchanged_at_not_utf8 _ _ _ c.report-outcome.result c.report-outcome.ensures.utf8
+    c.report-outcome.ensures.reported c.report-outcome.ensures.unchanged
+
+pub returns-clause-reported : goal.returns-clause-reported
+returns-clause-reported g c =
+    λ three. reported_at_bad_script _ _ c.report-outcome.result c.conclude.result _
+    c.conclude.ensures.status three c.report-outcome.ensures.reported
+    (c.conclude.ensures.reported three)
+
+pub returns-clause-bad_script : goal.returns-clause-bad_script
+returns-clause-bad_script g c =
+    bad_script_status _ _ c.report-outcome.result c.conclude.result _ _ c.conclude.ensures.status
+    c.report-outcome.ensures.rendered c.report-outcome.ensures.reported
+    c.report-outcome.ensures.unchanged
+
+pub returns-clause-unrendered : goal.returns-clause-unrendered
+returns-clause-unrendered g c =
+    unchanged_unless_rendered c.report-outcome.result c.conclude.result _ _ _
+    c.conclude.ensures.status c.conclude.ensures.prefix c.report-outcome.ensures.unchanged
+
+pub returns-clause-prefix : goal.returns-clause-prefix
+returns-clause-prefix g c =
+    λ one. prefix_written _ _ c.report-outcome.result c.conclude.result _ _
+    c.conclude.ensures.status one c.report-outcome.ensures.prefix c.report-outcome.ensures.unchanged
