@@ -1,10 +1,10 @@
 -- Labels, as rendering sees them.
 use Rattle.std.specs.Prelude.{ℕ, ◌+◌, ◌-◌, ◌^◌, min, max, Bool, true, false, not, ◌&&◌, ◌||◌, ◌==◌, nat_lt, List, [], ◌∷◌, map, filter, reverse, Option, Some, None, if◌then◌else◌}
 use Rattle.std.specs.List.{enumerate_from, filter_map}
-use Rattle.codespan_diagnostics.specs.declared.diagnostic.LabelStyle.{LabelStyle}
-use Rattle.codespan_diagnostics.specs.declared.diagnostic.LabelStyle.TheVariants.{Primary, Secondary}
+use Rattle.codespan_inputs.specs.declared.diagnostic.LabelStyle.{LabelStyle}
+use Rattle.codespan_inputs.specs.declared.diagnostic.LabelStyle.TheVariants.{Primary, Secondary}
 use Rattle.codespan_base.specs.Streams.{Stream}
-use Rattle.codespan_files.specs.FileModel.{FileModel, line_of, line_start}
+use Rattle.codespan_inputs.specs.FileModel.{FileModel, line_of, line_start}
 
 -- a label: its range counts from the start of the file or of its line; its message is a stream, so
 -- that a slot can stand for it

@@ -1,16 +1,16 @@
 -- re-exports: diagnostics and files
-pub use Rattle.codespan_diagnostics.specs.Diagnostics
-pub use Rattle.codespan_files.specs.Lines
-pub use Rattle.codespan_files.specs.LineStarts
-pub use Rattle.codespan_files.specs.FileModel
-pub use Rattle.codespan_files.specs.LawfulFiles
-pub use Rattle.codespan_files.specs.SimpleModel
-pub use Rattle.codespan_files.specs.MappedModel
-pub use Rattle.codespan_files.specs.SetLineNumbers
-pub use Rattle.codespan_files.specs.ErrorText
-pub use Rattle.codespan_files.specs.Errors
-pub use Rattle.codespan_files.specs.FileLaws
-pub use Rattle.codespan_files.specs.DatabaseViews
+pub use Rattle.codespan_inputs.specs.Diagnostics
+pub use Rattle.codespan_inputs.specs.Lines
+pub use Rattle.codespan_inputs.specs.LineStarts
+pub use Rattle.codespan_inputs.specs.FileModel
+pub use Rattle.codespan_inputs.specs.LawfulFiles
+pub use Rattle.codespan_inputs.specs.SimpleModel
+pub use Rattle.codespan_inputs.specs.MappedModel
+pub use Rattle.codespan_inputs.specs.SetLineNumbers
+pub use Rattle.codespan_inputs.specs.ErrorText
+pub use Rattle.codespan_inputs.specs.Errors
+pub use Rattle.codespan_inputs.specs.FileLaws
+pub use Rattle.codespan_inputs.specs.DatabaseViews
 pub mod Lemmas
 -- the configuration: characters, styles, defaults and equality
 pub mod SnippetStarts

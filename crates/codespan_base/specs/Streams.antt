@@ -3,8 +3,8 @@
 use Rattle.std.specs.Prelude.{ℕ, List, [], ◌∷◌, ◌++◌, map, replicate}
 use Rattle.std.specs.List.{repeat}
 use Rattle.std.specs.Char.{encode_utf8}
-use Rattle.codespan_diagnostics.specs.declared.diagnostic.Severity.{Severity}
-use Rattle.codespan_diagnostics.specs.declared.diagnostic.LabelStyle.{LabelStyle}
+use Rattle.codespan_inputs.specs.declared.diagnostic.Severity.{Severity}
+use Rattle.codespan_inputs.specs.declared.diagnostic.LabelStyle.{LabelStyle}
 
 -- the style marks, one for each call of `WriteStyle` that writes one
 pub data StyleMark : Type 0 where

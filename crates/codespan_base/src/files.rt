@@ -2,7 +2,7 @@
 
 mod defaults;
 
-pub use codespan_files::files::{
+pub use codespan_inputs::files::{
     Error, Files, LineStarts, Location, MappedFile, SimpleFile, SimpleFiles, column_index,
     default_line_number, line_starts,
 };

@@ -8,4 +8,4 @@ pub mod files;
 pub mod laws;
 pub mod term;
 
-pub use codespan_diagnostics::diagnostic;
+pub use codespan_inputs::diagnostic;

@@ -1,5 +1,4 @@
--- For `carets_are_cells` and the caret rows of `codespan_rows`: how far the labels of a line
--- reach.
+-- For `carets_are_cells` and the carets of `rows`: how far the labels of a line reach.
 use Rattle.std.proofs.Common.{◌≡◌, ℕ, ◌<◌, ◌≤◌, max, min, Bool, true, false, ◌&&◌, List, [], ◌∷◌, fold, Some, refl, arith, ltb-true, ⊎_elim, ◌+◌}
 use Rattle.std.specs.List.{list_any}
 use Rattle.std.proofs.lemmas.Bool.{and_parts, or_cases}

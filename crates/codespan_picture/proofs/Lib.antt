@@ -52,3 +52,17 @@ pub mod ListElements
 pub mod SortedLists
 pub mod SortedFilters
 pub mod Greatest
+-- the rows, as they are written
+pub mod CharSteps
+pub mod RowEquations
+pub mod ScanState
+pub mod CaretRuns
+pub mod LaneCursor
+pub mod Hanging
+pub mod TrailingLabel
+pub mod Pieces
+pub mod TextRuns
+pub mod PlainText
+pub mod SkippedCells
+pub mod Widths
+pub mod UnderlineRows

@@ -48,3 +48,7 @@ pub mod TextLaws
 pub mod TrailingLaws
 pub mod StatedNames
 pub mod RichLaws
+-- what each call of `Renderer` renders
+pub mod RenderedRows
+-- definitions that private calls and proofs use
+pub mod Private

@@ -10,7 +10,7 @@ use Rattle.codespan_picture.proofs.Consecutive.{char_metrics-consecutive}
 use Rattle.codespan_renderer.specs.declared.term.renderer.char_metrics.CharMetrics.{CharMetrics}
 use Rattle.codespan_renderer.specs.Private.MetricsLeft.{MetricsAfterEnd, GoesOver, after_last, metrics_from, metrics_left, no_more}
 use Rattle.codespan_renderer.specs.Private.CachedMetrics.{AreCached}
-use Rattle.codespan_rows.proofs.Pieces.{taken-dropped}
+use Rattle.codespan_picture.proofs.Pieces.{taken-dropped}
 use Rattle.codespan_renderer.proofs.WidthSearch.{past-none}
 
 -- a scan that goes on elsewhere yields what the first one would

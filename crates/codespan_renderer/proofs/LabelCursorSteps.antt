@@ -19,7 +19,7 @@ use Rattle.codespan_picture.specs.Carets.{covers}
 use Rattle.codespan_picture.specs.Arguments.{SingleLabelTuple, single_label_view, single_label_views, starts_from}
 use Rattle.codespan_renderer.specs.declared.term.renderer.cached.cached_metrics.CachedMetrics.{CachedMetrics}
 use Rattle.codespan_renderer.specs.Private.CachedMetrics.{cached_left}
-use Rattle.codespan_rows.specs.CharCursors.{AreContiguous, is_covered}
+use Rattle.codespan_picture.specs.Private.CharCursors.{AreContiguous, is_covered}
 use Rattle.codespan_renderer.specs.Private.CursorStates.{IsBefore, HasReturned}
 use Rattle.codespan_renderer.specs.Private.LabelCursors.{end_with, IsReached, HasPassedLabels}
 

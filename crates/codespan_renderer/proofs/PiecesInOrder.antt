@@ -4,9 +4,9 @@ use Rattle.std.proofs.lemmas.Bool.{and_parts}
 use Rattle.std.proofs.lemmas.Bool.Decides.{nat_tests}
 use Rattle.codespan_base.specs.Labels.{LabelModel}
 use Rattle.codespan_picture.specs.Arguments.{SingleLabelTuple, single_label_views, starts_from, starts_in_order}
-use Rattle.codespan_rows.specs.Runs.{ArePrefixAndSuffix}
+use Rattle.codespan_picture.specs.Private.Runs.{ArePrefixAndSuffix}
 use Rattle.codespan_renderer.proofs.LabelCursorSteps.{starts-lower}
-use Rattle.codespan_rows.proofs.Pieces.{whole}
+use Rattle.codespan_picture.proofs.Pieces.{whole}
 
 front-ordered : (low : ℕ) (xs ys : List LabelModel) → starts_from low (xs ++ ys) ≡ true
     → starts_from low xs ≡ true

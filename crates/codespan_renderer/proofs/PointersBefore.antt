@@ -14,7 +14,7 @@ use Rattle.codespan_picture.specs.RowParts.{max_label_start, pointers, metrics_b
 use Rattle.codespan_renderer.specs.Private.PreferredStyles.{pointer_style_if_any}
 use Rattle.codespan_renderer.proofs.ScannedPointers.{spaces_last}
 use Rattle.codespan_picture.proofs.Consecutive.{AreConsecutive, none-before}
-use Rattle.codespan_rows.proofs.ScanState.{ConsecutiveWithin, ScanState}
+use Rattle.codespan_picture.proofs.ScanState.{ConsecutiveWithin, ScanState}
 use Rattle.codespan_renderer.proofs.SpacedPointers.{far-char_metrics, spaced-line}
 
 -- ---- the characters before a byte index

@@ -14,8 +14,8 @@ use Rattle.codespan_picture.proofs.Consecutive.{AreConsecutive, char_metrics-con
 use Rattle.codespan_renderer.specs.declared.term.renderer.char_metrics.CharMetrics.{CharMetrics}
 use Rattle.codespan_renderer.specs.Private.MetricsLeft.{metrics_from, no_more}
 use Rattle.codespan_renderer.specs.Private.CachedMetrics.{AreCached}
-use Rattle.codespan_rows.specs.LineCharacters.{EndBy}
-use Rattle.codespan_rows.specs.Runs.{least_start}
+use Rattle.codespan_picture.specs.Private.LineCharacters.{EndBy}
+use Rattle.codespan_picture.specs.Private.Runs.{least_start}
 use Rattle.codespan_renderer.proofs.WidthSearch.{consecutive-front, consecutive-low}
 
 -- the characters before one that begins at a byte index or before it end by that index

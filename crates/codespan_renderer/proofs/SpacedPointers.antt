@@ -19,7 +19,7 @@ use Rattle.std.specs.List.{list_any}
 use Rattle.codespan_renderer.proofs.ScannedPointers.{spaces_none, spaces_due, spaces_past, pointer_none, pointer_some}
 use Rattle.codespan_picture.proofs.HangingStarts.{any-below, any-hanging_labels, starts_in-low}
 use Rattle.codespan_picture.proofs.Consecutive.{AreConsecutive}
-use Rattle.codespan_rows.proofs.Widths.{width-in, width-out}
+use Rattle.codespan_picture.proofs.Widths.{width-in, width-out}
 
 -- ---- a loop over the pointers
 

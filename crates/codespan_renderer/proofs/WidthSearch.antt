@@ -16,7 +16,7 @@ use Rattle.codespan_picture.proofs.Consecutive.{AreConsecutive, char_metrics-con
 use Rattle.codespan_renderer.specs.declared.term.renderer.char_metrics.CharMetrics.{CharMetrics}
 use Rattle.codespan_renderer.specs.Private.MetricsLeft.{metrics_from, no_more}
 use Rattle.codespan_renderer.specs.Private.CachedMetrics.{AreCached}
-use Rattle.codespan_rows.proofs.Widths.{width-in}
+use Rattle.codespan_picture.proofs.Widths.{width-in}
 
 -- the default of `get_or`, for an index past the end of the list
 abbrev pub default_metrics : Metrics

@@ -28,6 +28,6 @@ pub use Rattle.codespan_picture.specs.Lookups
 pub use Rattle.codespan_picture.specs.Arguments
 -- a renderer, as its contracts see it, and what its calls render
 pub mod Renderers
-pub use Rattle.codespan_rows.specs.RenderedRows
+pub use Rattle.codespan_picture.specs.RenderedRows
 -- definitions that private calls and proofs use
 pub mod Private

@@ -1,5 +1,5 @@
 -- A renderer, as its contracts see it: a writer behind a reference, and a configuration. What its
--- calls render is in `RenderedRows` of `codespan_rows`.
+-- calls render is in `RenderedRows` of `codespan_picture`.
 use Rattle.std.specs.Prelude.{◌≡◌, ◌∷◌, Result, IfErr}
 use Rattle.std.specs.Borrow.{GName}
 use Rattle.codespan_picture.specs.Types.{Error, Config}

@@ -5,7 +5,7 @@ use Rattle.std.proofs.Common.{◌≡◌, ℕ, zero, suc, ◌+◌, ◌<◌, ◌�
 use Rattle.std.specs.List.{prefix_len, range_with_len, AllByRecursion}
 use Rattle.std.proofs.lemmas.Bool.{cases_Bool, eqb-true, eqb-false, eq-eqb, ltb-true, ltb-false, lt-ltb, le-ltb}
 use Rattle.codespan_picture.specs.Snippets.{has_any}
-use Rattle.codespan_annotations.specs.Annotations.{Annotation, is_on_line, shows_line}
+use Rattle.codespan_views.specs.Private.Annotations.{Annotation, is_on_line, shows_line}
 use Rattle.codespan_picture.specs.Sequences.{before_line, break_between, gap_between, in_sequence}
 use Rattle.codespan_views.specs.Private.SnippetLines.{SnippetLine, Labeled, Filled, Break, Group, are_shown, group_of, join_group, groups, lines_between, lines_to, lines_from, lines_of}
 use Rattle.codespan_picture.proofs.ListElements.{all-weaker, all-filter, filter-whole, filter-nothing}

@@ -11,15 +11,15 @@ use Rattle.codespan_base.specs.declared.term.config.Config.{Config}
 use Rattle.codespan_base.specs.FileModel.{FileModel, line_count}
 use Rattle.codespan_base.specs.Labels.{LaneMark, LabelModel, first_line, last_line, is_single, drawn_label, lane_mark_of, multi_line_labels, multi_label_on}
 use Rattle.codespan_views.specs.declared.label_annotations.LabelIndices.{LabelIndices}
-use Rattle.codespan_annotations.specs.Annotations.{Annotation, Single, Multi, is_before, is_on_line, is_of_file, annotation_if_any, shows_line}
+use Rattle.codespan_views.specs.Private.Annotations.{Annotation, Single, Multi, is_before, is_on_line, is_of_file, annotation_if_any, shows_line}
 use Rattle.codespan_views.specs.Private.LabelAnnotations.{line_annotations, annotations_of}
 use Rattle.codespan_picture.specs.Lines.{shows}
-use Rattle.codespan_annotations.specs.FileIndices.{index_of_file}
+use Rattle.codespan_views.specs.Private.FileIndices.{index_of_file}
 use Rattle.codespan_views.specs.Private.IndexedLabels.{indices_after, annotations_after}
 use Rattle.codespan_picture.specs.Snippets.{InFile}
-use Rattle.codespan_annotations.specs.LabeledFiles.{num_multi_labels_of}
+use Rattle.codespan_views.specs.Private.LabeledFiles.{num_multi_labels_of}
 use Rattle.codespan_views.specs.Private.SnippetLines.{single_labels_in}
-use Rattle.codespan_annotations.proofs.AnnotationOrder.{lane_mark_annotation, index_below}
+use Rattle.codespan_views.proofs.AnnotationOrder.{lane_mark_annotation, index_below}
 use Rattle.codespan_views.proofs.LinesOfLabels.{is_kind}
 use Rattle.codespan_views.proofs.LabelAnnotations.{all-of_file, all-below, annotations-on_line, lane_marks-on_line, single_labels-on_line, shown-on_line}
 use Rattle.codespan_views.proofs.LabelIndexing.{num_multi_labels_of-more, label_lanes}

@@ -10,23 +10,23 @@ use Rattle.codespan_base.specs.FileModel.{FileDatabase, FileModel, line_count}
 use Rattle.codespan_base.specs.Labels.{LaneMark, LabelModel, is_single, first_line, drawn_label, lane_marks_on, single_labels, sorted}
 use Rattle.codespan_picture.specs.Arguments.{ascend_from, starts_in_order}
 use Rattle.codespan_views.specs.declared.collected.Collected.{Collected}
-use Rattle.codespan_annotations.specs.Annotations.{Annotation, is_before, is_on_line, is_of_file, shows_line}
-use Rattle.codespan_annotations.specs.AnnotationViews.{annotation_view}
+use Rattle.codespan_views.specs.Private.Annotations.{Annotation, is_before, is_on_line, is_of_file, shows_line}
+use Rattle.codespan_views.specs.Private.AnnotationViews.{annotation_view}
 use Rattle.codespan_views.specs.Private.Collections.{IsCollected}
 use Rattle.codespan_picture.specs.Lines as lines
 use Rattle.codespan_picture.specs.Lines.{drawn_lines}
 use Rattle.codespan_picture.specs.Lookups.{filled_lines}
 use Rattle.codespan_picture.specs.Sequences.{break_between, in_sequence}
-use Rattle.codespan_annotations.specs.FileIndices.{IsIdAt}
+use Rattle.codespan_views.specs.Private.FileIndices.{IsIdAt}
 use Rattle.codespan_views.specs.Private.IndexedLabels.{all_annotations}
 use Rattle.codespan_picture.specs.Snippets.{InFile, LabeledFileModel, labeled_file_model, num_multi_labels, line_at, line_rows, break_rows, rows_after, file_ids}
 use Rattle.codespan_views.specs.Private.SnippetLines.{are_shown, lane_marks_in, lines_of, single_labels_in, line_of_group, rows_of_lines, filled_lines_of, are_lane_marks_in_order, is_line_in_order}
 use Rattle.codespan_views.proofs.AnnotationGroups.{lines_after, snippet_lines-by_line, all-on_line}
 use Rattle.codespan_views.proofs.AnnotationLines as annotation_lines
 use Rattle.codespan_views.proofs.FileLabels.{HasFileIndex, is_of_range}
-use Rattle.codespan_annotations.proofs.AnnotationOrder.{below_order, lane_mark_annotation}
+use Rattle.codespan_views.proofs.AnnotationOrder.{below_order, lane_mark_annotation}
 use Rattle.codespan_views.proofs.SingleLabelOrder.{IsOn, single_labels-ascend}
-use Rattle.codespan_annotations.proofs.FileIndices.{index_of_file-at}
+use Rattle.codespan_views.proofs.FileIndices.{index_of_file-at}
 use Rattle.codespan_views.proofs.LaneMarks.{ascend-climbs, lane_marks-ascend}
 use Rattle.codespan_picture.proofs.FillLemmas.{none_past}
 use Rattle.codespan_views.proofs.LinesOfLabels.{is_kind}

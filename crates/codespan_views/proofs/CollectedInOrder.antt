@@ -4,12 +4,12 @@ use Rattle.std.specs.List.Sorted.{IsPermutation, IsSortedBy}
 use Rattle.codespan_base.specs.declared.term.config.Config.{Config}
 use Rattle.codespan_base.specs.FileModel.{FileDatabase}
 use Rattle.codespan_picture.specs.Snippets.{InFile}
-use Rattle.codespan_annotations.specs.declared.annotation.Annotation.{Annotation as RustAnnotation}
+use Rattle.codespan_views.specs.declared.annotation.Annotation.{Annotation as RustAnnotation}
 use Rattle.codespan_views.specs.declared.collected.Collected.{Collected}
-use Rattle.codespan_annotations.specs.Annotations.{is_before}
-use Rattle.codespan_annotations.specs.AnnotationViews.{IsOfFiles, annotation_view}
+use Rattle.codespan_views.specs.Private.Annotations.{is_before}
+use Rattle.codespan_views.specs.Private.AnnotationViews.{IsOfFiles, annotation_view}
 use Rattle.codespan_views.specs.Private.Collections.{IsCollected, IsCollectedInTurn}
-use Rattle.codespan_annotations.specs.LabeledFiles.{ids_view}
+use Rattle.codespan_views.specs.Private.LabeledFiles.{ids_view}
 use Rattle.codespan_views.specs.Private.IndexedLabels.{all_annotations}
 use Rattle.codespan_views.proofs.Collecting.{collected-each, collected-kind, collected-sorted}
 

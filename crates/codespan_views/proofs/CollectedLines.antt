@@ -7,12 +7,12 @@ use Rattle.codespan_base.specs.Labels.{first_line, last_line}
 use Rattle.codespan_picture.specs.Lookups.{is_around, is_looked_up, line_lookups}
 use Rattle.codespan_picture.specs.Padding.{spans}
 use Rattle.codespan_picture.specs.Types.{Config}
-use Rattle.codespan_annotations.specs.declared.annotation.Annotation.{Annotation as RustAnnotation}
+use Rattle.codespan_views.specs.declared.annotation.Annotation.{Annotation as RustAnnotation}
 use Rattle.codespan_views.specs.Private.LabelAnnotations.{line_annotations, annotations_on}
-use Rattle.codespan_annotations.specs.AnnotationViews.{AddsOf}
+use Rattle.codespan_views.specs.Private.AnnotationViews.{AddsOf}
 use Rattle.codespan_views.specs.Private.CollectedLabels.{AddsLine, CollectedLabel, failure_on}
-use Rattle.codespan_annotations.specs.FileLookups.{failure_in}
-use Rattle.codespan_annotations.specs.LabelSpans.{IsFarInside, spans_line}
+use Rattle.codespan_views.specs.Private.FileLookups.{failure_in}
+use Rattle.codespan_views.specs.Private.LabelSpans.{IsFarInside, spans_line}
 use Rattle.codespan_views.specs.Private.SpannedDigits.{digits_on}
 use Rattle.codespan_views.proofs.Collecting.{Adds-as}
 

@@ -10,15 +10,15 @@ use Rattle.std.proofs.lemmas.List.Elements.{All-from_recursion, recursion_from_A
 use Rattle.std.proofs.lemmas.List.Sorted.{All-permutation, IsPermutation-map}
 use Rattle.codespan_base.specs.FileModel.{line_start}
 use Rattle.codespan_base.specs.Labels.{LabelModel, drawn_label, first_line, from_line_start, last_line}
-use Rattle.codespan_annotations.specs.declared.annotation.Annotation.{Annotation as RustAnnotation}
-use Rattle.codespan_annotations.specs.declared.annotation.LineInfo.{LineInfo}
+use Rattle.codespan_views.specs.declared.annotation.Annotation.{Annotation as RustAnnotation}
+use Rattle.codespan_views.specs.declared.annotation.LineInfo.{LineInfo}
 use Rattle.codespan_views.specs.Private.CollectedLabels.{CollectedLabel}
-use Rattle.codespan_annotations.specs.Annotations.{Annotation, AnnotationKind, Single, annotation_if_any}
+use Rattle.codespan_views.specs.Private.Annotations.{Annotation, AnnotationKind, Single, annotation_if_any}
 use Rattle.codespan_views.specs.Private.LabelAnnotations.{line_annotations, kind_on, lane_mark_at, kind_at}
-use Rattle.codespan_annotations.specs.AnnotationViews.{Adds, IsLineOf, annotation_view, kind_view}
-use Rattle.codespan_annotations.specs.LabelSpans.{IsFarInside}
-use Rattle.codespan_annotations.specs.declared.annotation.AnnotationKind.TheVariants as rust
-use Rattle.codespan_annotations.specs.declared.annotation.MultiLabelKind.TheVariants as label_kind
+use Rattle.codespan_views.specs.Private.AnnotationViews.{Adds, IsLineOf, annotation_view, kind_view}
+use Rattle.codespan_views.specs.Private.LabelSpans.{IsFarInside}
+use Rattle.codespan_views.specs.declared.annotation.AnnotationKind.TheVariants as rust
+use Rattle.codespan_views.specs.declared.annotation.MultiLabelKind.TheVariants as label_kind
 use Rattle.codespan_views.specs.declared.label_annotations.LabelIndices.{LabelIndices}
 use Rattle.codespan_picture.specs.Types.{Config, Label}
 use Rattle.codespan_picture.specs.OutputStreams.{label_of}

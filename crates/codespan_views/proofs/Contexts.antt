@@ -13,12 +13,12 @@ use Rattle.codespan_base.specs.FileModel.Lookup.{LineRange, LineNumber}
 use Rattle.codespan_base.specs.Labels.{first_line, last_line}
 use Rattle.codespan_base.specs.Lemmas.Lines.{lines_have_indices, lines_within_text}
 use Rattle.codespan_views.specs.Private.CollectedLabels.{CollectedLabel, IsLookedUp, FindsLine, FindsLines, HasLineLookedUp, ExtendsPadding, ExtendsPaddingForLine, lines_failure, failure_on}
-use Rattle.codespan_annotations.specs.SourceFiles.{line_failure}
-use Rattle.codespan_annotations.specs.Annotations.{Annotation}
+use Rattle.codespan_views.specs.Private.SourceFiles.{line_failure}
+use Rattle.codespan_views.specs.Private.Annotations.{Annotation}
 use Rattle.codespan_views.specs.Private.LabelAnnotations.{annotations_of, line_annotations, annotations_on, lookups_on}
 use Rattle.codespan_views.specs.declared.label_annotations.FoundAnnotations.{FoundAnnotations}
-use Rattle.codespan_annotations.specs.FileLookups.{failure_in}
-use Rattle.codespan_annotations.specs.AnnotationViews.{AddsOf}
+use Rattle.codespan_views.specs.Private.FileLookups.{failure_in}
+use Rattle.codespan_views.specs.Private.AnnotationViews.{AddsOf}
 use Rattle.codespan_views.specs.Private.SpannedDigits.{digits_on, label_digits}
 use Rattle.codespan_picture.specs.Lookups.{looked_up_lines, lookups_of_file, ends_context_lines, first_error, is_around, is_looked_up, line_lookups, lookup_past_end}
 use Rattle.codespan_picture.specs.Padding.{count_digits, spans}

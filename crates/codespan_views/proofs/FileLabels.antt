@@ -3,10 +3,10 @@
 use Rattle.std.proofs.Common.{◌≡◌, ℕ, ◌<◌, Bool, true, false, ◌==◌, List, Option, Some, None}
 use Rattle.codespan_base.specs.FileModel.{FileModel, line_count}
 use Rattle.codespan_base.specs.Labels.{LabelModel}
-use Rattle.codespan_annotations.specs.Annotations.{Annotation}
-use Rattle.codespan_annotations.specs.FileIndices.{index_of_file}
+use Rattle.codespan_views.specs.Private.Annotations.{Annotation}
+use Rattle.codespan_views.specs.Private.FileIndices.{index_of_file}
 use Rattle.codespan_picture.specs.Snippets.{InFile}
-use Rattle.codespan_annotations.specs.LabeledFiles.{num_multi_labels_of}
+use Rattle.codespan_views.specs.Private.LabeledFiles.{num_multi_labels_of}
 use Rattle.codespan_views.specs.Private.SnippetLines.{single_label_of}
 use Rattle.codespan_picture.proofs.OrderSorts.{has_range}
 

@@ -9,11 +9,11 @@ use Rattle.std.proofs.lemmas.Bool.{le-leb, leb-true, ne_eqb}
 use Rattle.std.proofs.lemmas.Bool.Decides.{nat_tests}
 use Rattle.std.proofs.lemmas.List.{drop-drop, drop-map, take-map, length-map}
 use Rattle.std.proofs.lemmas.List.Elements.{filter_agree}
-use Rattle.codespan_annotations.specs.declared.annotation.Annotation.{Annotation as RustAnnotation}
-use Rattle.codespan_annotations.specs.Annotations.{Annotation, is_before, is_of_file}
-use Rattle.codespan_annotations.specs.AnnotationViews.{annotation_view}
+use Rattle.codespan_views.specs.declared.annotation.Annotation.{Annotation as RustAnnotation}
+use Rattle.codespan_views.specs.Private.Annotations.{Annotation, is_before, is_of_file}
+use Rattle.codespan_views.specs.Private.AnnotationViews.{annotation_view}
 use Rattle.codespan_views.proofs.AnnotationGroups.{IsRising, rising-filter, split_at}
-use Rattle.codespan_annotations.proofs.AnnotationOrder.{below_order, file_rises}
+use Rattle.codespan_views.proofs.AnnotationOrder.{below_order, file_rises}
 use Rattle.codespan_picture.proofs.ListElements.{all-weaker, all-pass, filter-whole, filter-filter}
 use Rattle.codespan_picture.proofs.SortedLists.{Rises, rises-from_sorted}
 

@@ -10,18 +10,18 @@ use Rattle.std.proofs.lemmas.List.Elements.{All-from_recursion}
 use Rattle.codespan_base.specs.declared.term.config.Layout.{Layout}
 use Rattle.codespan_base.specs.FileModel.{FileModel}
 use Rattle.codespan_picture.specs.Lookups.{Failures, lookups_of_file, first_error}
-use Rattle.codespan_annotations.specs.declared.annotation.Annotation.{Annotation as RustAnnotation}
-use Rattle.codespan_annotations.specs.declared.labeled_files.LabeledFile.{LabeledFile as RustFile}
-use Rattle.codespan_annotations.specs.Annotations.{Annotation, is_before, is_of_file}
-use Rattle.codespan_annotations.specs.AnnotationViews.{IsLineOf, IsOfFiles, annotation_view}
+use Rattle.codespan_views.specs.declared.annotation.Annotation.{Annotation as RustAnnotation}
+use Rattle.codespan_views.specs.declared.labeled_files.LabeledFile.{LabeledFile as RustFile}
+use Rattle.codespan_views.specs.Private.Annotations.{Annotation, is_before, is_of_file}
+use Rattle.codespan_views.specs.Private.AnnotationViews.{IsLineOf, IsOfFiles, annotation_view}
 use Rattle.codespan_views.specs.Private.SnippetLineViews.{numbers_looked_up}
-use Rattle.codespan_annotations.specs.LabeledFiles.{ids_view}
-use Rattle.codespan_annotations.specs.FileIndices.{IsIdAt}
+use Rattle.codespan_views.specs.Private.LabeledFiles.{ids_view}
+use Rattle.codespan_views.specs.Private.FileIndices.{IsIdAt}
 use Rattle.codespan_views.specs.Private.SnippetPlans.{flat_map_indexed, lines_at}
 use Rattle.codespan_views.specs.Private.SnippetLines.{filled_lines_of, lines_of}
 use Rattle.codespan_views.proofs.FileSlices.{IsFileSlice, from_file, next-file, next_slice}
-use Rattle.codespan_annotations.proofs.FileIndices.{at-get}
-use Rattle.codespan_annotations.proofs.IndexedElements.{IsElementAt}
+use Rattle.codespan_views.proofs.FileIndices.{at-get}
+use Rattle.codespan_views.proofs.IndexedElements.{IsElementAt}
 use Rattle.codespan_picture.proofs.ListElements.{all-both, all-mapped, all-slice, all-pass, all-weaker}
 
 -- ---- ids at their indices

@@ -6,11 +6,11 @@ use Rattle.std.proofs.lemmas.Bool.{le-ltb, ltb-false}
 use Rattle.std.proofs.lemmas.List.{append-nil}
 use Rattle.std.proofs.lemmas.List.Elements.{filter_map-append, filter_agree}
 use Rattle.codespan_base.specs.Labels.{LaneMark, LabelModel}
-use Rattle.codespan_annotations.specs.Annotations.{Annotation, AnnotationKind, Shown, Single, Multi, rank_of, is_before, shows_line}
+use Rattle.codespan_views.specs.Private.Annotations.{Annotation, AnnotationKind, Shown, Single, Multi, rank_of, is_before, shows_line}
 use Rattle.codespan_views.specs.Private.SnippetLines.{are_shown, lane_mark_of_kind, lane_marks_in, single_label_of, single_labels_in}
 use Rattle.codespan_views.proofs.AnnotationGroups.{IsRising}
 use Rattle.codespan_views.proofs.FileLabels.{has_label_range, is_of_range}
-use Rattle.codespan_annotations.proofs.AnnotationOrder.{kind_rises, line_rises, lane_mark_annotation}
+use Rattle.codespan_views.proofs.AnnotationOrder.{kind_rises, line_rises, lane_mark_annotation}
 use Rattle.codespan_views.proofs.SingleLabelOrder.{IsOn}
 use Rattle.codespan_views.proofs.LinesOfLabels.{is_kind}
 use Rattle.codespan_picture.proofs.OrderSorts.{has_range}

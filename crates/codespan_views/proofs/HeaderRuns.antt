@@ -17,7 +17,7 @@ use Rattle.codespan_base.specs.WriterLaw.{Sink, with_written, is_known, PrefixWr
 use Rattle.codespan_base.proofs.Writes.{is_known-with_written, with_written-append, with_written-nil, PrefixWritten-first, PrefixWritten-last}
 use Rattle.codespan_picture.specs.Lookups.{first_error, header_lookups_of}
 use Rattle.codespan_picture.specs.OutputStreams.{AreLoci, IsLocus, header_text_of, label_locus_start, notes_of}
-use Rattle.codespan_annotations.specs.TextLoci.{IsLocusOfLabel}
+use Rattle.codespan_views.specs.Private.TextLoci.{IsLocusOfLabel}
 use Rattle.codespan_picture.specs.Rows.{Locus, Row}
 use Rattle.codespan_picture.specs.RowStreams.{stream_of_rows}
 use Rattle.codespan_picture.specs.Snippets.{InFile, has_any, header_rows, note_rows}

@@ -17,7 +17,7 @@ use Rattle.codespan_picture.specs.Picture.{stated_locus, headers}
 use Rattle.codespan_picture.specs.Rows.{HeaderRow, HeaderText, RowContext, Locus, Row}
 use Rattle.codespan_picture.specs.RowStreams.{header_row, stream_of, stream_of_rows}
 use Rattle.codespan_picture.specs.Snippets.{InFile, has_any, header_rows, note_rows, primary_of}
-use Rattle.codespan_annotations.proofs.IndexedElements.{IsElementAt}
+use Rattle.codespan_views.proofs.IndexedElements.{IsElementAt}
 
 -- what a filter keeps was there
 contained : {X : Type 0} (b : Bool) (x y : X) (ys zs : List X) → (Contains zs x → Contains ys x)

@@ -8,15 +8,15 @@ use Rattle.std.proofs.lemmas.List.Elements.{recursion_from_All}
 use Rattle.codespan_base.specs.declared.term.config.Config.{Config}
 use Rattle.codespan_base.specs.FileModel.{FileModel}
 use Rattle.codespan_picture.specs.Snippets.{InFile, file_ids}
-use Rattle.codespan_annotations.specs.declared.annotation.Annotation.{Annotation as RustAnnotation}
-use Rattle.codespan_annotations.specs.Annotations.{Annotation}
+use Rattle.codespan_views.specs.declared.annotation.Annotation.{Annotation as RustAnnotation}
+use Rattle.codespan_views.specs.Private.Annotations.{Annotation}
 use Rattle.codespan_views.specs.Private.LabelAnnotations.{annotations_of}
-use Rattle.codespan_annotations.specs.AnnotationViews.{Adds, IsOfFiles, annotation_view}
-use Rattle.codespan_annotations.specs.LabeledFiles.{num_multi_labels_of, with_file}
-use Rattle.codespan_annotations.specs.FileIndices.{IsIdAt, index_of_file}
+use Rattle.codespan_views.specs.Private.AnnotationViews.{Adds, IsOfFiles, annotation_view}
+use Rattle.codespan_views.specs.Private.LabeledFiles.{num_multi_labels_of, with_file}
+use Rattle.codespan_views.specs.Private.FileIndices.{IsIdAt, index_of_file}
 use Rattle.codespan_views.specs.Private.IndexedLabels.{annotations_after, indices_after}
-use Rattle.codespan_annotations.proofs.FileOrder.{file_ids-has, file_ids-more, has, none-of_file}
-use Rattle.codespan_annotations.proofs.FileIndices.{at-stays, index-stays, has-index}
+use Rattle.codespan_views.proofs.FileOrder.{file_ids-has, file_ids-more, has, none-of_file}
+use Rattle.codespan_views.proofs.FileIndices.{at-stays, index-stays, has-index}
 use Rattle.codespan_views.proofs.LabelAnnotations.{all-of_file}
 use Rattle.codespan_picture.proofs.ListElements.{all-append, all-both, all-mapped, all-weaker}
 

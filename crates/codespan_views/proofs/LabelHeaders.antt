@@ -16,12 +16,12 @@ use Rattle.codespan_base.specs.WriterLaw.{Sink, with_written, is_known, PrefixWr
 use Rattle.codespan_base.proofs.Writes.{is_known-with_written, with_written-append, with_written-nil}
 use Rattle.codespan_picture.specs.Lookups.{Failures, first_error, header_lookups_of}
 use Rattle.codespan_picture.specs.OutputStreams.{label_of}
-use Rattle.codespan_annotations.specs.TextLoci.{IsLocusOfLabel}
+use Rattle.codespan_views.specs.Private.TextLoci.{IsLocusOfLabel}
 use Rattle.codespan_picture.specs.Rows.{Locus}
 use Rattle.codespan_picture.specs.Snippets.{InFile, has_any, primary_of}
 use Rattle.codespan_views.specs.Private.Headers.{HeadersWritten, HeadersFailed}
 use Rattle.codespan_picture.proofs.Loci.{zip_append}
-use Rattle.codespan_annotations.proofs.IndexedElements.{IsElementAt}
+use Rattle.codespan_views.proofs.IndexedElements.{IsElementAt}
 use Rattle.codespan_views.proofs.FirstErrors.{first_error-none}
 use Rattle.codespan_views.proofs.HeaderStreams.{primary_next, primary_cut, primary_labels, headers_stream, headers_stream-append, header}
 

@@ -12,16 +12,16 @@ use Rattle.codespan_base.specs.declared.term.config.Config.{Config}
 use Rattle.codespan_base.specs.FileModel.{FileDatabase, FileModel, line_count}
 use Rattle.codespan_base.specs.LawfulFiles.{IsLawful}
 use Rattle.codespan_base.specs.Labels.{LabelModel, first_line, is_single, last_line, multi_line_labels}
-use Rattle.codespan_annotations.specs.declared.label_span.LabelSpan.{LabelSpan}
-use Rattle.codespan_annotations.specs.Annotations.{Annotation}
+use Rattle.codespan_views.specs.declared.label_span.LabelSpan.{LabelSpan}
+use Rattle.codespan_views.specs.Private.Annotations.{Annotation}
 use Rattle.codespan_views.specs.Private.LabelAnnotations.{annotations_of}
-use Rattle.codespan_annotations.specs.LabeledFiles.{lanes_by, num_multi_labels_of}
-use Rattle.codespan_annotations.specs.FileIndices.{index_of_file}
+use Rattle.codespan_views.specs.Private.LabeledFiles.{lanes_by, num_multi_labels_of}
+use Rattle.codespan_views.specs.Private.FileIndices.{index_of_file}
 use Rattle.codespan_views.specs.Private.IndexedLabels.{indices_after, annotations_after}
 use Rattle.codespan_picture.specs.Snippets.{InFile, num_multi_labels}
 use Rattle.codespan_picture.proofs.ListElements.{filter-nothing}
-use Rattle.codespan_annotations.proofs.FileOrder.{has}
-use Rattle.codespan_annotations.proofs.FileIndices.{Differ, index-here, index-later}
+use Rattle.codespan_views.proofs.FileOrder.{has}
+use Rattle.codespan_views.proofs.FileIndices.{Differ, index-here, index-later}
 
 -- the file database is lawful: sameness of ids is an equivalence, the same ids name one file, and
 -- each file has a line

@@ -6,10 +6,10 @@ use Rattle.std.proofs.lemmas.List.{get_or-map, get_or-take, length-map, length-t
 use Rattle.codespan_base.specs.declared.diagnostic.Label.{Label}
 use Rattle.codespan_picture.specs.OutputStreams.{label_of}
 use Rattle.codespan_picture.specs.Snippets.{InFile, file_ids}
-use Rattle.codespan_annotations.specs.FileIndices.{index_of_file}
-use Rattle.codespan_annotations.proofs.FileOrder.{file_ids-has, has}
-use Rattle.codespan_annotations.proofs.FileIndices.{Differ, first_seen-differ, has-index}
-use Rattle.codespan_annotations.proofs.IndexedElements.{IsElementAt, take-at}
+use Rattle.codespan_views.specs.Private.FileIndices.{index_of_file}
+use Rattle.codespan_views.proofs.FileOrder.{file_ids-has, has}
+use Rattle.codespan_views.proofs.FileIndices.{Differ, first_seen-differ, has-index}
+use Rattle.codespan_views.proofs.IndexedElements.{IsElementAt, take-at}
 
 -- the labels before an index
 abbrev pub before : {Id : Type 0} → List (Label Id) → ℕ → List (InFile Id)

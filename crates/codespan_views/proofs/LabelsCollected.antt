@@ -11,31 +11,31 @@ use Rattle.codespan_base.specs.declared.term.config.Config.{Config}
 use Rattle.codespan_base.specs.declared.diagnostic.Label.{Label}
 use Rattle.codespan_base.specs.declared.files.Error.{Error}
 use Rattle.codespan_base.specs.FileModel.{FileDatabase, FileModel}
-use Rattle.codespan_annotations.specs.declared.annotation.Annotation.{Annotation as RustAnnotation}
-use Rattle.codespan_annotations.specs.declared.labeled_files.LabeledFile.{LabeledFile as RustFile}
+use Rattle.codespan_views.specs.declared.annotation.Annotation.{Annotation as RustAnnotation}
+use Rattle.codespan_views.specs.declared.labeled_files.LabeledFile.{LabeledFile as RustFile}
 use Rattle.codespan_views.specs.declared.label_annotations.FoundAnnotations.{FoundAnnotations}
-use Rattle.codespan_annotations.specs.declared.locus_start.LocusStart.{LocusStart}
+use Rattle.codespan_views.specs.declared.locus_start.LocusStart.{LocusStart}
 use Rattle.codespan_views.specs.declared.label_annotations.LabelIndices.{LabelIndices}
 use Rattle.codespan_views.specs.Private.CollectedLabels.{FindsLines, ExtendsPadding, collected_label, label_failure, labels_failure, lookups_of_label}
-use Rattle.codespan_annotations.specs.Annotations.{Annotation}
+use Rattle.codespan_views.specs.Private.Annotations.{Annotation}
 use Rattle.codespan_views.specs.Private.LabelAnnotations.{annotations_of}
-use Rattle.codespan_annotations.specs.AnnotationViews.{Adds, AddsOf, IsLineOf, IsOfFiles, annotation_view}
-use Rattle.codespan_annotations.specs.LabeledFiles.{HasLabels, ids_view, lane_counts, num_multi_labels_of, lanes_with_label, starts_with_label, starts_view, with_file}
-use Rattle.codespan_annotations.specs.LocusStarts.{file_locus_start, no_start}
+use Rattle.codespan_views.specs.Private.AnnotationViews.{Adds, AddsOf, IsLineOf, IsOfFiles, annotation_view}
+use Rattle.codespan_views.specs.Private.LabeledFiles.{HasLabels, ids_view, lane_counts, num_multi_labels_of, lanes_with_label, starts_with_label, starts_view, with_file}
+use Rattle.codespan_views.specs.Private.LocusStarts.{file_locus_start, no_start}
 use Rattle.codespan_picture.specs.Lookups.{lookups_of_file, first_error, label_lookups, label_line_lookups}
 use Rattle.codespan_picture.specs.OutputStreams.{label_of}
-use Rattle.codespan_annotations.specs.FileIndices.{IsIdAt, index_of_file}
+use Rattle.codespan_views.specs.Private.FileIndices.{IsIdAt, index_of_file}
 use Rattle.codespan_views.specs.Private.IndexedLabels.{annotations_after, indices_after}
 use Rattle.codespan_views.specs.Private.SpannedDigits.{all_digits, label_digits}
 use Rattle.codespan_picture.specs.Snippets.{InFile, file_ids}
 use Rattle.codespan_picture.proofs.Greatest.{greatest-append}
 use Rattle.codespan_picture.proofs.ListElements.{all-both, all-mapped, all-weaker}
-use Rattle.codespan_annotations.proofs.FileOrder.{file_ids-more}
-use Rattle.codespan_annotations.proofs.FileIndices.{index_of_file-at}
+use Rattle.codespan_views.proofs.FileOrder.{file_ids-more}
+use Rattle.codespan_views.proofs.FileIndices.{index_of_file-at}
 use Rattle.codespan_views.proofs.Collecting.{Adds-as, Adds-both}
 use Rattle.codespan_views.proofs.LabelAnnotations.{all-of_file}
 use Rattle.codespan_views.proofs.LabelIndexing.{AreFiles, IsChanged, annotations_after-more, unchanged-at, label_lanes, num_multi_labels_of-equal, num_multi_labels_of-more, num_multi_labels_of-none, lanes-within, set-at}
-use Rattle.codespan_annotations.proofs.IndexedElements.{IsElementAt}
+use Rattle.codespan_views.proofs.IndexedElements.{IsElementAt}
 use Rattle.codespan_views.proofs.LabelFiles.{added-with_file, known-more}
 use Rattle.codespan_views.proofs.LocusStarts.{start-unknown, starts-set}
 use Rattle.codespan_views.proofs.LabelsBefore.{before, before-more, file-inside, has-file, ids-differ}

@@ -7,9 +7,9 @@ use Rattle.codespan_base.specs.FileModel.{FileModel}
 use Rattle.codespan_base.specs.Labels.{LabelModel, LaneMark, MultiLabel, lane_mark_of, lane_marks_on, multi_line_labels, multi_label_on}
 use Rattle.codespan_picture.specs.Arguments.{LaneMarkTuple, lane_mark_view, lanes_in_order, ascend_from}
 use Rattle.codespan_picture.specs.Snippets.{LabeledFileModel, num_multi_labels}
-use Rattle.codespan_annotations.specs.Annotations.{Annotation, is_before}
+use Rattle.codespan_views.specs.Private.Annotations.{Annotation, is_before}
 use Rattle.codespan_views.specs.Private.SnippetLines.{are_lane_marks_in_order, lane_marks_in}
-use Rattle.codespan_annotations.proofs.AnnotationOrder.{lane_below, lane_mark_annotation}
+use Rattle.codespan_views.proofs.AnnotationOrder.{lane_below, lane_mark_annotation}
 use Rattle.codespan_picture.proofs.ListElements.{all-weaker}
 use Rattle.codespan_picture.proofs.SortedLists.{Climbs}
 

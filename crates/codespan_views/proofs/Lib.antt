@@ -1,3 +1,13 @@
+-- files of labels, and the order of annotations
+pub mod IndexedElements
+pub mod FileOrder
+pub mod FileIndices
+pub mod FileSearch
+pub mod AnnotationOrder
+pub mod FileLengths
+pub mod KeptElements
+pub mod TextLoci
+-- what is collected, planned and rendered
 pub mod FewDigits
 pub mod FirstErrors
 pub mod LabelIndexing

@@ -11,7 +11,7 @@ use Rattle.codespan_base.specs.FileModel.Lookup.{LineNumber}
 use Rattle.codespan_picture.specs.Lookups.{Failures, lookups_of_file, first_error}
 use Rattle.codespan_views.specs.declared.plan.snippet_lines.SnippetLine.{SnippetLine as RustLine}
 use Rattle.codespan_views.specs.Private.SnippetLineViews.{AddsLines, IsSnippetLineIn, numbers_looked_up, snippet_line_view}
-use Rattle.codespan_annotations.specs.Annotations.{Annotation}
+use Rattle.codespan_views.specs.Private.Annotations.{Annotation}
 use Rattle.codespan_views.specs.Private.SnippetLines.{SnippetLine, Labeled, filled_line_of, filled_lines_of}
 use Rattle.codespan_views.proofs.FirstErrors.{first_error-lookups, or_failure-succeeded, or_failure-some}
 use Rattle.codespan_picture.proofs.ListElements.{all-append}

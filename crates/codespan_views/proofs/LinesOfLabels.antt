@@ -8,7 +8,7 @@ use Rattle.std.proofs.lemmas.List.{append-nil}
 use Rattle.std.proofs.lemmas.List.Elements.{filter-append}
 use Rattle.codespan_base.specs.declared.term.config.Config.{Config}
 use Rattle.codespan_base.specs.Labels.{LabelModel, multi_label_at}
-use Rattle.codespan_annotations.specs.Annotations.{Annotation, rank_of, is_on_line}
+use Rattle.codespan_views.specs.Private.Annotations.{Annotation, rank_of, is_on_line}
 use Rattle.codespan_picture.specs.Lines.{shows}
 use Rattle.codespan_picture.specs.Lookups.{is_around}
 use Rattle.codespan_picture.proofs.ListElements.{all-append, filter-whole, filter-nothing, all-weaker}

@@ -14,22 +14,22 @@ use Rattle.codespan_picture.specs.RowStreams.{stream_of, stream_of_rows}
 use Rattle.codespan_views.specs.declared.snippet.lines.Snippet.{Snippet}
 use Rattle.codespan_views.specs.declared.plan.snippet_lines.SnippetLine.{SnippetLine as RustLine}
 use Rattle.codespan_views.specs.Private.LookupsWhileRendering.{WritesWithLookups}
-use Rattle.codespan_annotations.specs.SourceFiles.{failure_of, model_of}
+use Rattle.codespan_views.specs.Private.SourceFiles.{failure_of, model_of}
 use Rattle.codespan_views.specs.Private.SnippetLineViews.{lookups_of_line, lookups_of_lines, snippet_line_view}
 use Rattle.codespan_views.specs.Private.SnippetLines.{SnippetLine, Filled, Labeled, lane_marks_in, line_of_group, rows_of_line, rows_of_lines, single_labels_in}
-use Rattle.codespan_annotations.specs.Annotations.{Annotation}
+use Rattle.codespan_views.specs.Private.Annotations.{Annotation}
 use Rattle.codespan_renderer.specs.declared.term.renderer.Renderer.{Renderer}
 use Rattle.codespan_renderer.specs.Renderers.{Renders, config_of}
-use Rattle.codespan_rows.specs.RenderedRows.{source_line}
+use Rattle.codespan_picture.specs.RenderedRows.{source_line}
 use Rattle.codespan_picture.specs.Arguments.{LaneMarkTuple, SingleLabelTuple, lane_mark_view, single_label_views}
-use Rattle.codespan_annotations.specs.declared.annotation.LineInfo.{LineInfo}
-use Rattle.codespan_annotations.specs.AnnotationViews.{IsLineOf}
+use Rattle.codespan_views.specs.declared.annotation.LineInfo.{LineInfo}
+use Rattle.codespan_views.specs.Private.AnnotationViews.{IsLineOf}
 use Rattle.std.specs.Prelude.{slice_range}
 use Rattle.codespan_views.specs.Private.LineRendering.{RendersLine}
 use Rattle.codespan_views.proofs.RendererRuns.{renders_after, renders_alone, renders_as}
 use Rattle.codespan_views.proofs.LookupRuns.{IsLookupRun, run_as, run_cut, run_of_nothing, run_then}
 use Rattle.codespan_views.proofs.FirstErrors.{first_error-lookups}
-use Rattle.codespan_annotations.proofs.IndexedElements.{IsElementAt, take-at}
+use Rattle.codespan_views.proofs.IndexedElements.{IsElementAt, take-at}
 
 module _ {F Id Name Source : Type 0} (database : F → FileDatabase Id)
     (snippet : Snippet F Id Name Source) (config : Config) where

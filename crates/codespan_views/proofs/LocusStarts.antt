@@ -11,12 +11,12 @@ use Rattle.codespan_base.specs.declared.diagnostic.Label.{Label}
 use Rattle.codespan_base.specs.Labels.{is_primary}
 use Rattle.codespan_picture.specs.OutputStreams.{label_of}
 use Rattle.codespan_picture.specs.Snippets.{InFile, file_ids}
-use Rattle.codespan_annotations.specs.declared.locus_start.LocusStart.{LocusStart}
-use Rattle.codespan_annotations.specs.LabeledFiles.{starts_with_label}
-use Rattle.codespan_annotations.specs.LocusStarts.{file_locus_start, is_locus_label, least_if_any, least_with, no_start, start_with, label_starts}
-use Rattle.codespan_annotations.specs.FileIndices.{index_of_file}
+use Rattle.codespan_views.specs.declared.locus_start.LocusStart.{LocusStart}
+use Rattle.codespan_views.specs.Private.LabeledFiles.{starts_with_label}
+use Rattle.codespan_views.specs.Private.LocusStarts.{file_locus_start, is_locus_label, least_if_any, least_with, no_start, start_with, label_starts}
+use Rattle.codespan_views.specs.Private.FileIndices.{index_of_file}
 use Rattle.codespan_picture.proofs.ListElements.{all-weaker, filter-nothing}
-use Rattle.codespan_annotations.proofs.IndexedElements.{IsElementAt}
+use Rattle.codespan_views.proofs.IndexedElements.{IsElementAt}
 use Rattle.codespan_views.proofs.LabelIndexing.{IsChanged, unchanged-at, set-at}
 use Rattle.codespan_views.proofs.LabelsBefore.{before, before-more, has-file, ids-differ}
 

@@ -2,7 +2,7 @@
 use Rattle.std.proofs.Common.{◌≡◌, ℕ, ◌+◌, ◌<◌, ◌≤◌, Bool, true, false, ◌&&◌, ◌||◌, List, [], ◌∷◌, ◌++◌, refl, ap, arith}
 use Rattle.std.specs.Prelude.{nat_lt, nat_le, if◌then◌else◌, filter, flat_map}
 use Rattle.std.proofs.lemmas.Grind.{common_steps}
-use Rattle.codespan_annotations.specs.LabelSpans.{spans_line}
+use Rattle.codespan_views.specs.Private.LabelSpans.{spans_line}
 
 -- the images of the elements that pass a test
 pub flat_map_filtered : {X : Type 0} (h : ℕ → List X) (p : ℕ → Bool) (ls : List ℕ)

@@ -7,7 +7,7 @@ use Rattle.std.proofs.lemmas.List.{append-nil, map-append, take-append-drop, tak
 use Rattle.codespan_base.specs.Streams.{Stream, newline}
 use Rattle.codespan_picture.specs.Rows.{RowContext, Row, FinalRow, LaterNoteRow}
 use Rattle.codespan_picture.specs.RowStreams.{first_note_row, later_note_row, stream_of, stream_of_rows}
-use Rattle.codespan_rows.specs.RenderedRows.{later_note_rows, note_stream}
+use Rattle.codespan_picture.specs.RenderedRows.{later_note_rows, note_stream}
 use Rattle.codespan_picture.specs.Snippets.{note_rows, note_line_rows}
 
 module _ (context : RowContext) where

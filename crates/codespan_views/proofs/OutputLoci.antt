@@ -8,7 +8,7 @@ use Rattle.codespan_picture.specs.OutputStreams.{AreLoci, IsLocus, NamesAreTexts
 use Rattle.codespan_picture.specs.Rows.{Locus}
 use Rattle.codespan_picture.specs.Snippets.{InFile, LabeledFileModel, primary_of}
 use Rattle.codespan_picture.proofs.Loci.{zip_map, zip_texts, zip_weaker}
-use Rattle.codespan_annotations.specs.TextLoci.{IsLocusOfFile, IsLocusOfLabel}
+use Rattle.codespan_views.specs.Private.TextLoci.{IsLocusOfFile, IsLocusOfLabel}
 use Rattle.codespan_base.specs.FileModel.{FileDatabase}
 
 module _ {Id : Type 0} (files : FileDatabase Id) (d : Diagnostic Id) (loci : List Locus) where

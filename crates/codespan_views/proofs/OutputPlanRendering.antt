@@ -25,7 +25,7 @@ use Rattle.codespan_views.specs.declared.plan.snippet_plans.SnippetPlan.{Snippet
 use Rattle.codespan_views.specs.declared.plan.snippet_lines.SnippetLine.{SnippetLine as RustLine}
 use Rattle.codespan_views.proofs.LookupRuns.{IsLookupRun, run_as, run_cut, run_of_nothing, run_of_writes, run_then}
 use Rattle.codespan_views.proofs.FirstErrors.{first_error-append, or_failure-none}
-use Rattle.codespan_annotations.proofs.IndexedElements.{IsElementAt, drop-one}
+use Rattle.codespan_views.proofs.IndexedElements.{IsElementAt, drop-one}
 use Rattle.codespan_views.proofs.SnippetParts.{rows-two, write_at}
 use Rattle.codespan_views.proofs.PlannedFiles.{drop-end, followed-at, ids-count, id-inside, id-at, locus-inside, locus-at, rows-are}
 

@@ -14,7 +14,7 @@ use Rattle.codespan_views.specs.Private.SnippetLineViews.{snippet_line_view}
 use Rattle.codespan_views.specs.Private.SnippetLines.{rows_of_lines}
 use Rattle.codespan_views.specs.declared.plan.snippet_plans.SnippetPlan.{SnippetPlan}
 use Rattle.codespan_views.specs.declared.plan.snippet_lines.SnippetLine.{SnippetLine as RustLine}
-use Rattle.codespan_annotations.proofs.IndexedElements.{IsElementAt, drop-one}
+use Rattle.codespan_views.proofs.IndexedElements.{IsElementAt, drop-one}
 
 -- no element from the end on
 pub drop-end : {X : Type 0} (xs : List X) (k : ℕ) → length xs ≤ k → drop k xs ≡ []

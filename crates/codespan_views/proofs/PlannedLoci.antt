@@ -5,7 +5,7 @@ use Rattle.std.specs.Prelude.{unwrap_or}
 use Rattle.codespan_base.specs.FileModel.{FileModel}
 use Rattle.codespan_base.specs.Labels.{LabelModel, is_primary}
 use Rattle.codespan_picture.specs.Snippets.{InFile, if_any, labeled_file_model, least, locus_start}
-use Rattle.codespan_annotations.specs.LocusStarts.{file_locus_start, is_locus_label, least_if_any, locus_byte, label_starts}
+use Rattle.codespan_views.specs.Private.LocusStarts.{file_locus_start, is_locus_label, least_if_any, locus_byte, label_starts}
 
 -- the least of some numbers is that of those that there are
 least-unwrap : (ns : List ℕ) → unwrap_or (least_if_any ns) 0 ≡ least ns

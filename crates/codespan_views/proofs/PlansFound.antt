@@ -12,22 +12,22 @@ use Rattle.codespan_base.specs.declared.term.config.Layout.{Layout}
 use Rattle.codespan_base.specs.FileModel.{FileModel, Lookup, or_failure}
 use Rattle.codespan_picture.specs.Arguments.{locus_view}
 use Rattle.codespan_picture.specs.Lookups.{Failures, lookups_of_file, first_error}
-use Rattle.codespan_annotations.specs.FileLookups.{FailsByOrFormatError}
-use Rattle.codespan_annotations.specs.declared.annotation.Annotation.{Annotation as RustAnnotation}
-use Rattle.codespan_annotations.specs.declared.labeled_files.LabeledFile.{LabeledFile as RustFile}
+use Rattle.codespan_views.specs.Private.FileLookups.{FailsByOrFormatError}
+use Rattle.codespan_views.specs.declared.annotation.Annotation.{Annotation as RustAnnotation}
+use Rattle.codespan_views.specs.declared.labeled_files.LabeledFile.{LabeledFile as RustFile}
 use Rattle.codespan_views.specs.declared.plan.snippet_plans.SnippetPlan.{SnippetPlan}
 use Rattle.codespan_views.specs.declared.plan.snippet_lines.SnippetLine.{SnippetLine as RustLine}
-use Rattle.codespan_annotations.specs.Annotations.{Annotation}
-use Rattle.codespan_annotations.specs.AnnotationViews.{annotation_view}
+use Rattle.codespan_views.specs.Private.Annotations.{Annotation}
+use Rattle.codespan_views.specs.Private.AnnotationViews.{annotation_view}
 use Rattle.codespan_views.specs.Private.SnippetLineViews.{AddsLines, numbers_looked_up}
-use Rattle.codespan_annotations.specs.LabeledFiles.{ids_view}
+use Rattle.codespan_views.specs.Private.LabeledFiles.{ids_view}
 use Rattle.codespan_views.specs.Private.Loci.{locus_lookups_of, loci_lookups, locus_start_of}
-use Rattle.codespan_annotations.specs.TextLoci.{IsTextLocus}
+use Rattle.codespan_views.specs.Private.TextLoci.{IsTextLocus}
 use Rattle.codespan_views.specs.Private.SnippetPlans.{ArePlans, IsPlan, number_lookups, lines_at}
 use Rattle.codespan_views.specs.Private.SnippetLines.{SnippetLine, filled_lines_of, lines_of}
 use Rattle.codespan_views.proofs.FirstErrors.{first_error-append, or_failure-succeeded, or_failure-none, or_failure-some, first_error-none, first_error-some}
 use Rattle.codespan_views.proofs.FileSlices.{next_slice}
-use Rattle.codespan_annotations.proofs.IndexedElements.{IsElementAt, take-at}
+use Rattle.codespan_views.proofs.IndexedElements.{IsElementAt, take-at}
 use Rattle.codespan_views.proofs.FileTurns.{flat_map_indexed-append, flat_map_indexed-more, IsAtFile, own_snippet_lines}
 
 -- ---- plans

@@ -16,7 +16,7 @@ use Rattle.codespan_base.specs.declared.term.config.DisplayStyle.TheVariants.{Ri
 use Rattle.codespan_picture.specs.OutputStreams.{files_of, labels_of, output}
 use Rattle.codespan_picture.specs.Picture.{stated_loci}
 use Rattle.codespan_picture.specs.Rows.{Locus}
-use Rattle.codespan_annotations.specs.TextLoci.{IsLocusOfFile}
+use Rattle.codespan_views.specs.Private.TextLoci.{IsLocusOfFile}
 use Rattle.std.specs.List.{AllZip}
 use Rattle.codespan_picture.specs.Lookups.{early_lookups, late_lookups, first_error}
 use Rattle.codespan_views.specs.WriteCalls.{WritesOutput}

@@ -3,11 +3,11 @@
 use Rattle.std.proofs.Common.{◌≡◌, ℕ, false, List, [], ◌∷◌, refl, sym, ◌∙◌}
 use Rattle.std.specs.List.{AllByRecursion, cons_option}
 use Rattle.codespan_base.specs.Labels.{LabelModel, range_precedes}
-use Rattle.codespan_annotations.specs.Annotations.{Annotation, AnnotationKind, Shown, Single, Multi, is_before}
+use Rattle.codespan_views.specs.Private.Annotations.{Annotation, AnnotationKind, Shown, Single, Multi, is_before}
 use Rattle.codespan_views.specs.Private.SnippetLines.{single_label_of, single_labels_in}
 use Rattle.codespan_picture.proofs.OrderSorts.{Ascends}
 use Rattle.codespan_picture.proofs.SortedLists.{Rises}
-use Rattle.codespan_annotations.proofs.AnnotationOrder.{range_rises}
+use Rattle.codespan_views.proofs.AnnotationOrder.{range_rises}
 
 -- the annotation is of this line of this file
 abbrev pub IsOn : ℕ → ℕ → Annotation → Type 0

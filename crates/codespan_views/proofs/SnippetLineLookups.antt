@@ -13,7 +13,7 @@ use Rattle.codespan_picture.specs.Padding.{count_digits}
 use Rattle.codespan_views.specs.declared.plan.snippet_lines.SnippetLine.{SnippetLine as RustLine}
 use Rattle.codespan_views.specs.declared.plan.snippet_lines.SnippetLine.TheVariants as rust
 use Rattle.codespan_views.specs.Private.SnippetLineViews.{IsSnippetLineIn, IsSnippetLineOf, lookups_of_line, lookups_of_lines, snippet_line_view}
-use Rattle.codespan_annotations.specs.SourceFiles.{lookups_of_filled}
+use Rattle.codespan_views.specs.Private.SourceFiles.{lookups_of_filled}
 use Rattle.codespan_views.specs.Private.SnippetPlans.{line_digits}
 use Rattle.codespan_views.specs.Private.SnippetLines.{filled_line_of, filled_lines_of}
 use Rattle.codespan_views.proofs.SnippetLineRows.{line_of_snippet_line, lines_of_snippet_lines}

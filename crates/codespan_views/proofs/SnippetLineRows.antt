@@ -9,7 +9,7 @@ use Rattle.codespan_picture.specs.Sequences.{break_between, gap_between, in_sequ
 use Rattle.codespan_picture.specs.Snippets.{break_rows, line_rows}
 use Rattle.codespan_picture.proofs.Filling.{given, is_drawn_among, lines-shown}
 use Rattle.codespan_picture.proofs.Sequences.{all-gap, all-sequence, flat_map-gap, flat_map-sequence, sequence-flat}
-use Rattle.codespan_annotations.specs.Annotations.{Annotation}
+use Rattle.codespan_views.specs.Private.Annotations.{Annotation}
 use Rattle.codespan_views.specs.Private.SnippetLines.{SnippetLine, Labeled, Filled, Break, line_of_group, rows_of_line, rows_of_lines, filled_line_of, filled_lines_of, are_annotations_in_order, are_lane_marks_in_order, is_line_in_order}
 use Rattle.codespan_views.proofs.AnnotationGroups.{lines_after}
 

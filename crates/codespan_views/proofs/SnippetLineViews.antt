@@ -5,9 +5,9 @@ use Rattle.std.specs.Prelude.{slice_get}
 use Rattle.std.specs.List.{prefix_len}
 use Rattle.std.proofs.Math.Seq.{take-length}
 use Rattle.std.proofs.lemmas.List.{drop-map, length-drop, take-map}
-use Rattle.codespan_annotations.specs.declared.annotation.Annotation.{Annotation as RustAnnotation}
-use Rattle.codespan_annotations.specs.Annotations.{Annotation, is_on_line, shows_line}
-use Rattle.codespan_annotations.specs.AnnotationViews.{annotation_view}
+use Rattle.codespan_views.specs.declared.annotation.Annotation.{Annotation as RustAnnotation}
+use Rattle.codespan_views.specs.Private.Annotations.{Annotation, is_on_line, shows_line}
+use Rattle.codespan_views.specs.Private.AnnotationViews.{annotation_view}
 use Rattle.codespan_views.specs.Private.SnippetLines.{SnippetLine, groups, lines_from, lines_to}
 use Rattle.codespan_views.proofs.FileSlices.{prefix-map}
 use Rattle.codespan_views.proofs.GroupLines.{IsGroup, next_group, snippet_lines-next, snippet_lines-skip}

@@ -13,14 +13,14 @@ use Rattle.codespan_base.specs.FileModel.{FileModel, line_count}
 use Rattle.codespan_base.specs.Labels.{LabelModel}
 use Rattle.codespan_picture.specs.Padding.{count_digits, digits_of, numbered_lines, padding_of, spanned_lines, spans}
 use Rattle.codespan_picture.specs.Snippets.{InFile, LabeledFileModel, labeled_file_model, labeled_file_models, file_ids}
-use Rattle.codespan_annotations.specs.FileIndices.{IsIdAt, index_of_file}
+use Rattle.codespan_views.specs.Private.FileIndices.{IsIdAt, index_of_file}
 use Rattle.codespan_views.specs.Private.SpannedDigits.{all_digits, digits_on, label_digits}
 use Rattle.codespan_picture.proofs.Greatest.{greatest-any, greatest-append, greatest-same}
 use Rattle.codespan_picture.proofs.PaddingLemmas.{contains-filter, contains-range, numbered-fits}
 use Rattle.codespan_picture.proofs.RefillLemmas.{any-map}
 use Rattle.codespan_picture.proofs.ListElements.{all-append, any-filtered}
-use Rattle.codespan_annotations.proofs.FileOrder.{file_ids-has}
-use Rattle.codespan_annotations.proofs.FileIndices.{at-get, index_of_file-at, has-index}
+use Rattle.codespan_views.proofs.FileOrder.{file_ids-has}
+use Rattle.codespan_views.proofs.FileIndices.{at-get, index_of_file-at, has-index}
 
 -- ---- ids and lines
 

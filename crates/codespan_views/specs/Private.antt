@@ -1,5 +1,15 @@
 -- Definitions that private calls and proofs use: a reader of the public contracts needs none of
 -- them.
+-- what is looked up in a file, and what a label does on a line
+pub mod TextLoci
+pub mod FileLookups
+pub mod SourceFiles
+pub mod LabelSpans
+pub mod LocusStarts
+pub mod FileIndices
+pub mod LabeledFiles
+pub mod Annotations
+pub mod AnnotationViews
 -- what is collected of labels
 pub mod LabelAnnotations
 pub mod SpannedDigits

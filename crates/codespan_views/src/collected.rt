@@ -6,12 +6,12 @@ ghost use Rattle.codespan_picture.specs.OutputStreams.{label_of};
 ghost use Rattle.codespan_views.specs.Private.CollectedLabels.{labels_failure};
 ghost use Rattle.codespan_views.specs.Private.Collections.{IsCollected, IsCollectedInTurn};
 
+use crate::annotation::Annotation;
+use crate::annotation::order::put_in_order;
 use crate::label_annotations::{FoundAnnotations, LabelIndices, collect_label};
-use crate::padding::PaddingWidth;
-use codespan_annotations::annotation::Annotation;
-use codespan_annotations::annotation::order::put_in_order;
-use codespan_annotations::label_span::LabelSpan;
-use codespan_annotations::labeled_files::{LabeledFile, add_label, get_or_insert_file};
+use crate::label_span::LabelSpan;
+use crate::labeled_files::{LabeledFile, add_label, get_or_insert_file};
+use crate::spanned_padding::PaddingWidth;
 use codespan_base::diagnostic::Label;
 use codespan_base::files::{Error, Files};
 use codespan_base::term::Config;

@@ -4,16 +4,14 @@ ghost use Rattle.std.specs.Prelude.{◌≡◌, ◌≢◌, true, None, IfErr, IfO
 ghost use Rattle.std.specs.Option.{option_map};
 ghost use Rattle.codespan_base.specs.LawfulFiles.{FailsBy};
 ghost use Rattle.codespan_views.specs.Private.CollectedLabels.{AddsLine, FindsLine, FindsLines, HasLineLookedUp, IfEnded, IfContinues, ExtendsPadding, ExtendsPaddingForLine, FailsLine, HasLabelLines, label_of_collector, collected_label, label_failure, lines_failure, failure_on, lane_mark_by, kind_by};
-ghost use Rattle.codespan_annotations.specs.SourceFiles.{EndsBefore, model_of};
-ghost use Rattle.codespan_annotations.specs.AnnotationViews.{IsLineOf, kind_view};
-ghost use Rattle.codespan_annotations.specs.LabelSpans.{IsFarInside, line_of_end, line_of_start};
+ghost use Rattle.codespan_views.specs.Private.SourceFiles.{EndsBefore, model_of};
+ghost use Rattle.codespan_views.specs.Private.AnnotationViews.{IsLineOf, kind_view};
+ghost use Rattle.codespan_views.specs.Private.LabelSpans.{IsFarInside, line_of_end, line_of_start};
 
-use crate::padding::PaddingWidth;
-use codespan_annotations::annotation::{
-    Annotation, AnnotationKind, LineInfo, MultiLabelKind, push_annotation,
-};
-use codespan_annotations::label_span::{LabelSpan, label_span};
-use codespan_annotations::source_file::SourceFile;
+use crate::annotation::{Annotation, AnnotationKind, LineInfo, MultiLabelKind, push_annotation};
+use crate::label_span::{LabelSpan, label_span};
+use crate::source_file::SourceFile;
+use crate::spanned_padding::PaddingWidth;
 use codespan_base::diagnostic::Label;
 use codespan_base::files::{Error, Files};
 use codespan_base::term::Config;

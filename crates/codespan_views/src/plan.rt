@@ -1,7 +1,7 @@
 //! The plan of a rich output: all that is known before its header is rendered.
 
 ghost use Rattle.std.specs.Prelude.{IfOk, map};
-ghost use Rattle.codespan_annotations.specs.FileLookups.{FailsByOrFormatError};
+ghost use Rattle.codespan_views.specs.Private.FileLookups.{FailsByOrFormatError};
 ghost use Rattle.codespan_picture.specs.OutputStreams.{label_of};
 ghost use Rattle.codespan_views.specs.Private.Collections.{IsCollected};
 ghost use Rattle.codespan_views.specs.Private.OutputPlans.{IsOutputPlan, output_plan_failure};

@@ -1,8 +1,8 @@
 //! Short and medium style: a header for each primary label, and in medium style the notes.
 
 ghost use Rattle.std.specs.Prelude.{◌≡◌, ◌∷◌, [], IfOk};
-ghost use Rattle.codespan_annotations.specs.FileLookups.{FailsByOrFormatError};
-ghost use Rattle.codespan_annotations.specs.TextLoci.{IsLocusOfLabel};
+ghost use Rattle.codespan_views.specs.Private.FileLookups.{FailsByOrFormatError};
+ghost use Rattle.codespan_views.specs.Private.TextLoci.{IsLocusOfLabel};
 ghost use Rattle.codespan_base.specs.declared.term.config.DisplayStyle.TheVariants.{Short, Medium};
 ghost use Rattle.codespan_picture.specs.Arguments.{locus_view};
 ghost use Rattle.codespan_picture.specs.Lookups.{first_error, header_lookups_of};
@@ -11,9 +11,9 @@ ghost use Rattle.codespan_renderer.specs.Renderers.{writer_of, config_of, SameRe
 ghost use Rattle.codespan_views.specs.WriteCalls.{WritesStyled};
 ghost use Rattle.codespan_views.specs.Private.ViewRendering.{RendersHeadersOf, RendersInStyle};
 
+use crate::locus_start::is_primary;
 use crate::parts::{render_diagnostic_header, render_notes};
-use codespan_annotations::locus_start::is_primary;
-use codespan_annotations::source_file::SourceFile;
+use crate::source_file::SourceFile;
 use codespan_base::diagnostic::{Diagnostic, Label};
 use codespan_base::files::{Error, Files};
 use codespan_base::term::WriteStyle;

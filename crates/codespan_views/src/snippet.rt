@@ -8,7 +8,7 @@ use crate::plan::snippet_lines::SnippetLine;
 use crate::plan::snippet_plans::SnippetPlan;
 use crate::snippet::line_buffers::LineBuffers;
 use crate::snippet::lines::{Snippet, SnippetContext};
-use codespan_annotations::source_file::SourceFile;
+use crate::source_file::SourceFile;
 use codespan_base::files::{Error, Files};
 use codespan_base::term::WriteStyle;
 use codespan_renderer::term::renderer::Renderer;

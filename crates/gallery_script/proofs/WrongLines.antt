@@ -6,7 +6,7 @@ use Rattle.gallery_script.specs.declared.errors.LineError.{LineError}
 use Rattle.gallery_script.specs.declared.errors.LineError.TheVariants.{BadNumber}
 use Rattle.gallery_script.specs.declared.statement.Statement.{Statement}
 use Rattle.gallery_script.specs.declared.words.Word.{Word}
-use Rattle.script_words.specs.Fields.{field_of, past_space}
+use Rattle.program_io.specs.Fields.{field_of, past_space}
 use Rattle.gallery_script.specs.Numbers.{IsBadNumber}
 use Rattle.gallery_script.specs.Statements.{IsWrong, HasBadNumber, HasBadNumberOfThree, past_two}
 

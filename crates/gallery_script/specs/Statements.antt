@@ -13,8 +13,8 @@ use Rattle.gallery_script.specs.declared.statement.Statement.TheVariants as stat
 use Rattle.gallery_script.specs.declared.words.Word.{Word}
 use Rattle.gallery_script.specs.declared.words.Word.TheVariants.{Database, File, Source, Number, Style, Layout, Tab, Context, Characters, Colors, Severity, Code, Message, Primary, Secondary, Note}
 use Rattle.gallery_script.specs.Escapes.{Unescapes}
-use Rattle.script_words.specs.Fields.{field_of, past_space, is_ignored_text}
-use Rattle.script_words.specs.Names.{severity_named, display_style_named}
+use Rattle.program_io.specs.Fields.{field_of, past_space, is_ignored_text}
+use Rattle.program_io.specs.Names.{severity_named, display_style_named}
 use Rattle.gallery_script.specs.Numbers.{IsNumber, IsBadNumber}
 use Rattle.gallery_script.specs.Words.{characters_named, colors_named, database_kind_named}
 use Rattle.gallery_script.specs.Words.{layout_named, case_word_named}

@@ -2,12 +2,12 @@
 
 ghost use Rattle.std.specs.Prelude.{◌≡◌, IfOk, IfErr};
 ghost use Rattle.std.specs.Str.Parse.{ParsesUnsigned};
-ghost use Rattle.script_words.specs.Fields.{field_of, past_space};
+ghost use Rattle.program_io.specs.Fields.{field_of, past_space};
 ghost use Rattle.gallery_script.specs.Numbers.{IsNumber, IsBadNumber};
 ghost use Rattle.gallery_script.specs.declared.errors.LineError.TheVariants.{BadNumber};
 
 use crate::errors::LineError;
-use script_words::fields::split_field;
+use program_io::fields::split_field;
 
 /// Parses a number of decimal digits, which may follow a plus sign.
 ///

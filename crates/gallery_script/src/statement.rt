@@ -15,8 +15,8 @@ use crate::words::{
 };
 use codespan_base::diagnostic::{Label, LabelStyle, Severity};
 use codespan_base::term::{DisplayStyle, Layout};
-use script_words::fields::{is_ignored, split_field};
-use script_words::names::{parse_display_style, parse_severity};
+use program_io::fields::{is_ignored, split_field};
+use program_io::names::{parse_display_style, parse_severity};
 use std::alloc::Global;
 
 /// A parsed line.

@@ -31,9 +31,11 @@ prefix_kept old mid new bs received kept =
 -- what was received is a prefix, whatever is left
 pub prefix_received : (old new : Option (List ℕ)) (bs done rest : List ℕ) → bs ≡ done ++ rest
     → Appends old new done → AppendsPrefix old new bs
-prefix_received old new bs done rest split received =
-    let starts = subst (λ (l : List ℕ). StartsWith l done) (sym split) (take-append_seam done rest) in
-    (done, starts, received)
+prefix_received old new bs done rest split received = (
+  done,
+  subst (λ (l : List ℕ). StartsWith l done) (sym split) (take-append_seam done rest),
+  received,
+)
 
 -- what holds anyway, where a call succeeded
 pub on_success : {T E X : Type 0} (r : Result T E) → X → OnOk r X

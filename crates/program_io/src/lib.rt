@@ -1,8 +1,11 @@
-//! The input and output of the programs: their arguments, the whole input as text, the output, and
-//! the line and the status of an error.
+//! What the programs share: their arguments, the whole input as text, the output, the line and the
+//! status of an error; and what the scripts of `report` and the cases of `gallery` have in common,
+//! the fields of a line, and the names of display styles and severities.
 #![tactic(auto)]
 
 pub mod arguments;
+pub mod fields;
 pub mod input;
+pub mod names;
 pub mod output;
 pub mod run_error;

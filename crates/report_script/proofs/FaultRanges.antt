@@ -9,8 +9,8 @@ use Rattle.std.proofs.lemmas.List.{get_or_append_left, get_or_at}
 use Rattle.std.proofs.lemmas.List.Splits.{join_with_byte-slice_split}
 use Rattle.std.proofs.lemmas.List.Sums.{passes_at_first, prefix_len-le-length}
 use Rattle.std.proofs.lemmas.Str.{IsCharBoundary-after_ascii, IsCharBoundary-before_ascii, IsCharBoundary-end, IsCharBoundary-start}
-use Rattle.script_words.specs.Fields.{field_of, is_space, past_space}
-use Rattle.script_words.specs.Names.{severity_named}
+use Rattle.program_io.specs.Fields.{field_of, is_space, past_space}
+use Rattle.program_io.specs.Names.{severity_named}
 use Rattle.report_script.proofs.ScriptCuts.{left_after}
 use Rattle.report_script.specs.declared.script.Fault.{Fault}
 use Rattle.report_script.specs.declared.script.FaultNumber.{FaultNumber}

@@ -9,8 +9,8 @@ use Rattle.std.proofs.lemmas.Option.{slice_get-map}
 use Rattle.codespan_base.specs.declared.diagnostic.LabelStyle.TheVariants.{Primary, Secondary}
 use Rattle.codespan_base.specs.declared.diagnostic.Severity.{Severity}
 use Rattle.codespan_base.specs.declared.diagnostic.Severity.TheVariants.{Error}
-use Rattle.script_words.specs.Fields.{field_of, past_space}
-use Rattle.script_words.specs.Names.{severity_named}
+use Rattle.program_io.specs.Fields.{field_of, past_space}
+use Rattle.program_io.specs.Names.{severity_named}
 use Rattle.report_script.specs.declared.script.Fault.{Fault}
 use Rattle.report_script.specs.declared.script.FaultNumber.TheVariants.{UnknownSeverity, RepeatedWord}
 use Rattle.report_script.specs.Requests.{number_of}

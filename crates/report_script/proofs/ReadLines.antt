@@ -7,8 +7,8 @@ use Rattle.codespan_base.specs.declared.diagnostic.LabelStyle.{LabelStyle}
 use Rattle.codespan_base.specs.declared.diagnostic.LabelStyle.TheVariants.{Primary, Secondary}
 use Rattle.codespan_base.specs.declared.diagnostic.Severity.{Severity}
 use Rattle.codespan_base.specs.declared.diagnostic.Severity.TheVariants.{Bug, Error, Warning, Note, Help}
-use Rattle.script_words.specs.Fields.{field_of, is_space, past_space}
-use Rattle.script_words.specs.Names.{severity_named}
+use Rattle.program_io.specs.Fields.{field_of, is_space, past_space}
+use Rattle.program_io.specs.Names.{severity_named}
 use Rattle.report_script.specs.Requests.{number_of}
 use Rattle.report_script.specs.Statements.{IsStatable, Statement, code_stated, fields, label_fields, label_stated, message_stated, note_stated, severity_field, severity_stated, statement_line}
 use Rattle.report_script.specs.Statements.Statement.{SeverityLine, CodeLine, MessageLine, LabelLine, NoteLine, CommentLine, EmptyLine}

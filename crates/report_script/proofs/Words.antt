@@ -3,7 +3,7 @@
 use Rattle.std.proofs.Common.{◌≡◌, ℕ, ◌<◌, ◌≤◌, ◌⊎◌, inl, inr, List, [], ◌∷◌, length, get_or, map, Option, None, refl, ap, sym, ◌∙◌, arith}
 use Rattle.codespan_base.specs.declared.term.config.DisplayStyle.{DisplayStyle}
 use Rattle.std.specs.Option.{option_map}
-use Rattle.script_words.specs.Names.{display_style_named}
+use Rattle.program_io.specs.Names.{display_style_named}
 use Rattle.report_script.specs.Requests.{request_of, number_of, label_request_of, with_parts}
 use Rattle.report_script.specs.Requests.RequestView.{OneLabel, OfScript}
 

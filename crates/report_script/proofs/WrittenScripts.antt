@@ -10,7 +10,7 @@ use Rattle.std.proofs.lemmas.List.Sums.{position_or_len_is}
 use Rattle.codespan_base.specs.declared.diagnostic.LabelStyle.TheVariants.{Primary, Secondary}
 use Rattle.codespan_base.specs.declared.diagnostic.Severity.{Severity}
 use Rattle.codespan_base.specs.declared.diagnostic.Severity.TheVariants.{Bug, Error, Warning, Note, Help}
-use Rattle.script_words.specs.Fields.{field_of, is_space, past_space}
+use Rattle.program_io.specs.Fields.{field_of, is_space, past_space}
 use Rattle.report_script.specs.Statements.{IsLineEnd, IsStatable, Statement, fields, label_fields, severity_field, statement_line, written}
 use Rattle.report_script.specs.Statements.Statement.{SeverityLine, CodeLine, MessageLine, LabelLine, NoteLine, CommentLine, EmptyLine}
 use Rattle.report_script.specs.ScriptLines.{ScriptLine, body, is_newline, script_lines_from, script_source}

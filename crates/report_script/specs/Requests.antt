@@ -4,7 +4,7 @@ use Rattle.std.specs.Str.{all_ascii_digits, bytes_eq}
 use Rattle.std.specs.Str.Parse.{digits_value}
 use Rattle.codespan_base.specs.declared.term.config.DisplayStyle.{DisplayStyle}
 use Rattle.std.specs.Option.{option_map}
-use Rattle.script_words.specs.Names.{display_style_named}
+use Rattle.program_io.specs.Names.{display_style_named}
 use Rattle.report_script.specs.declared.request.Request.{Request}
 use Rattle.report_script.specs.declared.request.Request.TheVariants as variants
 use Rattle.report_script.specs.declared.request.LabelRequest.{LabelRequest}

@@ -3,8 +3,8 @@ use Rattle.std.specs.Prelude.{◌≡◌, ℕ, List, [], ◌∷◌, ◌++◌, len
 use Rattle.std.specs.Option.{option_map}
 use Rattle.std.specs.Str.{bytes_eq}
 use Rattle.std.specs.declared.ops.Range.{Range}
-use Rattle.script_words.specs.Fields.{field_of, past_space}
-use Rattle.script_words.specs.Names.{severity_named}
+use Rattle.program_io.specs.Fields.{field_of, past_space}
+use Rattle.program_io.specs.Names.{severity_named}
 use Rattle.report_script.specs.declared.script.Fault.{Fault}
 use Rattle.report_script.specs.declared.script.FaultNumber.{FaultNumber}
 use Rattle.report_script.specs.declared.script.FaultNumber.TheVariants.{UnknownWord, UnknownSeverity, BadNumber, RepeatedWord, MissingEnd}

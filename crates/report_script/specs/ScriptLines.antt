@@ -4,7 +4,7 @@ use Rattle.std.specs.List.{slice_split, before_first, after_first}
 use Rattle.std.specs.Str.{bytes_eq}
 use Rattle.std.specs.Str.Lines.{strip_carriage_return}
 use Rattle.std.specs.declared.ops.Range.{Range}
-use Rattle.script_words.specs.Fields.{field_of, is_ignored_text, past_space}
+use Rattle.program_io.specs.Fields.{field_of, is_ignored_text, past_space}
 use Rattle.report_script.specs.declared.script.line.Line.{Line}
 
 -- a line: the byte at which it starts, its text without its newline and a carriage return before

@@ -10,8 +10,8 @@ use Rattle.codespan_base.specs.declared.diagnostic.LabelStyle.{LabelStyle}
 use Rattle.codespan_base.specs.declared.diagnostic.LabelStyle.TheVariants as styles
 use Rattle.codespan_base.specs.declared.diagnostic.Severity.{Severity}
 use Rattle.codespan_base.specs.declared.diagnostic.Severity.TheVariants as severities
-use Rattle.script_words.specs.Fields.{field_of, past_space}
-use Rattle.script_words.specs.Names.{severity_named}
+use Rattle.program_io.specs.Fields.{field_of, past_space}
+use Rattle.program_io.specs.Names.{severity_named}
 use Rattle.report_script.specs.declared.script.Fault.{Fault}
 use Rattle.report_script.specs.declared.script.Script.{Script}
 use Rattle.report_script.specs.declared.script.words.Word.{Word}

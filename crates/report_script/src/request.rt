@@ -5,7 +5,7 @@ ghost use Rattle.std.specs.Option.{option_map};
 ghost use Rattle.report_script.specs.Requests.{number_of};
 
 use codespan_base::term::DisplayStyle;
-use script_words::names::parse_display_style;
+use program_io::names::parse_display_style;
 
 /// A request for an error with one label, whose source is the input.
 #[derive(Clone, Copy)]

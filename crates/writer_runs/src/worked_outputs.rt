@@ -20,7 +20,7 @@ use codespan_base::term::Chars;
 use gallery_script::errors::LineError;
 use gallery_script::escape::unescape;
 use gallery_script::statement::{Line, Statement, parse_line};
-use script_words::fields::split_field;
+use program_io::fields::split_field;
 use std::alloc::Global;
 
 /// Returns the worked outputs of an input.

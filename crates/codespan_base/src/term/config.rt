@@ -18,7 +18,7 @@ pub mod write_style;
 pub mod writing;
 
 use crate::term::config::chars::Chars;
-use codespan_files::files::Error;
+use codespan_inputs::files::Error;
 
 /// The configuration of the output. `'chars` is the lifetime of the text before a locus, where that
 /// text is borrowed.

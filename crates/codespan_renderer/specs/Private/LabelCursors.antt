@@ -4,7 +4,7 @@ use Rattle.codespan_base.specs.Labels.{LabelModel, is_primary}
 use Rattle.codespan_picture.specs.declared.char_metrics.Metrics.{Metrics}
 use Rattle.codespan_renderer.specs.declared.term.renderer.cached.label_cursor.LabelCursor.{LabelCursor}
 use Rattle.codespan_picture.specs.Arguments.{single_label_views, starts_in_order}
-use Rattle.codespan_rows.specs.CharCursors.{is_covered}
+use Rattle.codespan_picture.specs.Private.CharCursors.{is_covered}
 
 -- the greatest end with that of a label that counts; one that covers no byte has none
 abbrev pub end_with : Bool → ℕ → LabelModel → ℕ

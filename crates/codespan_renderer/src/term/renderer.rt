@@ -14,12 +14,12 @@ use codespan_base::diagnostic::{LabelStyle, Severity};
 use codespan_base::files::Error;
 use codespan_base::term::{Config, WriteStyle};
 pub use codespan_picture::arguments::{Locus, MultiLabel, SingleLabel};
-use codespan_rows::header::{write_header, write_snippet_start};
-use codespan_rows::line::RowContext;
-pub use codespan_rows::line::{Lanes, Line};
-use codespan_rows::line_rows::write_line;
-use codespan_rows::notes::{write_break, write_note, write_snippet_empty};
-use codespan_rows::parts::write_newline;
+use codespan_picture::rows::header::{write_header, write_snippet_start};
+use codespan_picture::rows::line::RowContext;
+pub use codespan_picture::rows::line::{Lanes, Line};
+use codespan_picture::rows::line_rows::write_line;
+use codespan_picture::rows::notes::{write_break, write_note, write_snippet_empty};
+use codespan_picture::rows::parts::write_newline;
 use row_writer::{RowWriter, with_saved_error, write_zero_error};
 use scanned_line::ScannedLine;
 use std::cell::Cell;
@@ -63,12 +63,12 @@ pub struct Renderer<'writer, 'config, W> {
 impl<'writer, 'config, W: WriteStyle> Renderer<'writer, 'config, W> {
     ghost use Rattle.std.specs.Prelude.{◌≡◌, IsTrue};
     ghost use Rattle.codespan_base.specs.Streams.{newline};
-    ghost use Rattle.codespan_rows.specs.LineViews.{context_view};
+    ghost use Rattle.codespan_picture.specs.Private.LineViews.{context_view};
     ghost use Rattle.codespan_picture.specs.OutputStreams.{context_of};
     ghost use Rattle.codespan_renderer.specs.Renderers.{writer_of, reference_of, config_of, Renders};
-    ghost use Rattle.codespan_rows.specs.RenderedRows.{rendered_header, rendered_start, rendered_snippet_empty};
-    ghost use Rattle.codespan_rows.specs.RenderedRows.{rendered_break, rendered_note};
-    ghost use Rattle.codespan_rows.specs.RenderedRows.{rendered_source, source_line};
+    ghost use Rattle.codespan_picture.specs.RenderedRows.{rendered_header, rendered_start, rendered_snippet_empty};
+    ghost use Rattle.codespan_picture.specs.RenderedRows.{rendered_break, rendered_note};
+    ghost use Rattle.codespan_picture.specs.RenderedRows.{rendered_source, source_line};
 
     /// Returns a renderer over `writer` with the characters, tab width and layout of `config`.
     pub fn new(

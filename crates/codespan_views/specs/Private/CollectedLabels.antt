@@ -6,16 +6,16 @@ use Rattle.codespan_base.specs.Labels.{LabelModel, first_line, last_line}
 use Rattle.codespan_picture.specs.Lookups.{Failures, looked_up_lines, lookups_of_file, first_error, is_looked_up, label_lookups, label_line_lookups, line_lookups, lookup_past_end}
 use Rattle.codespan_picture.specs.OutputStreams.{label_of}
 use Rattle.codespan_picture.specs.Snippets.{InFile}
-use Rattle.codespan_annotations.specs.declared.annotation.Annotation.{Annotation as RustAnnotation}
-use Rattle.codespan_annotations.specs.declared.annotation.LineInfo.{LineInfo}
+use Rattle.codespan_views.specs.declared.annotation.Annotation.{Annotation as RustAnnotation}
+use Rattle.codespan_views.specs.declared.annotation.LineInfo.{LineInfo}
 use Rattle.codespan_views.specs.declared.label_annotations.LabelCollector.{LabelCollector}
 use Rattle.codespan_views.specs.declared.label_annotations.FoundAnnotations.{FoundAnnotations}
 use Rattle.codespan_views.specs.declared.label_annotations.LabelIndices.{LabelIndices}
-use Rattle.codespan_annotations.specs.Annotations.{AnnotationKind}
+use Rattle.codespan_views.specs.Private.Annotations.{AnnotationKind}
 use Rattle.codespan_views.specs.Private.LabelAnnotations.{annotations_of, line_annotations, annotations_on, lookups_on, lane_mark_at, kind_at}
-use Rattle.codespan_annotations.specs.FileLookups.{failure_in}
-use Rattle.codespan_annotations.specs.SourceFiles.{failure_unless_past_end, model_of}
-use Rattle.codespan_annotations.specs.AnnotationViews.{AddsOf}
+use Rattle.codespan_views.specs.Private.FileLookups.{failure_in}
+use Rattle.codespan_views.specs.Private.SourceFiles.{failure_unless_past_end, model_of}
+use Rattle.codespan_views.specs.Private.AnnotationViews.{AddsOf}
 use Rattle.codespan_views.specs.Private.SpannedDigits.{digits_on, label_digits}
 
 -- the lookups of one label

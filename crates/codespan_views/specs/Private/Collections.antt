@@ -6,9 +6,9 @@ use Rattle.codespan_picture.specs.Types.{Config}
 use Rattle.codespan_base.specs.FileModel.{FileDatabase}
 use Rattle.codespan_picture.specs.Snippets.{InFile, file_ids}
 use Rattle.codespan_views.specs.declared.collected.Collected.{Collected}
-use Rattle.codespan_annotations.specs.Annotations.{is_before}
-use Rattle.codespan_annotations.specs.AnnotationViews.{Adds, IsOfFiles, annotation_view}
-use Rattle.codespan_annotations.specs.LabeledFiles.{HasLabels, ids_view}
+use Rattle.codespan_views.specs.Private.Annotations.{is_before}
+use Rattle.codespan_views.specs.Private.AnnotationViews.{Adds, IsOfFiles, annotation_view}
+use Rattle.codespan_views.specs.Private.LabeledFiles.{HasLabels, ids_view}
 use Rattle.codespan_views.specs.Private.IndexedLabels.{all_annotations}
 use Rattle.codespan_views.specs.Private.SpannedDigits.{all_digits}
 

@@ -7,7 +7,7 @@ use Rattle.codespan_base.specs.Labels.{LabelModel, first_line, last_line, is_sin
 use Rattle.codespan_picture.specs.Lines.{shows}
 use Rattle.codespan_picture.specs.Lookups.{looked_up_lines, is_looked_up, line_lookups}
 use Rattle.codespan_views.specs.declared.label_annotations.LabelIndices.{LabelIndices}
-use Rattle.codespan_annotations.specs.Annotations.{Annotation, AnnotationKind, Shown, Single, Multi, annotation_if_any}
+use Rattle.codespan_views.specs.Private.Annotations.{Annotation, AnnotationKind, Shown, Single, Multi, annotation_if_any}
 
 module _ (config : Config) (f : FileModel) (indices : LabelIndices) (x : LabelModel) where
   -- what it does on a line, its lane mark aside

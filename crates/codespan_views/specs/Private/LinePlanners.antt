@@ -6,7 +6,7 @@ use Rattle.codespan_views.specs.declared.plan.snippet_lines.SnippetLine.{Snippet
 use Rattle.codespan_views.specs.declared.plan.snippet_lines.LinePlanner.{LinePlanner}
 use Rattle.codespan_views.specs.Private.SnippetLineViews.{AddsLines, numbers_looked_up}
 use Rattle.codespan_views.specs.Private.SnippetLines.{SnippetLine}
-use Rattle.codespan_annotations.specs.SourceFiles.{failure_of, model_of}
+use Rattle.codespan_views.specs.Private.SourceFiles.{failure_of, model_of}
 
 module _ {F Id Name Source : Type 0} (database : F → FileDatabase Id)
     (planner : LinePlanner F Id Name Source) where

@@ -8,7 +8,7 @@ use Rattle.codespan_picture.specs.Rows.{Row}
 use Rattle.codespan_renderer.specs.declared.term.renderer.Renderer.{Renderer}
 use Rattle.codespan_views.specs.declared.snippet.lines.Snippet.{Snippet}
 use Rattle.codespan_views.specs.declared.plan.snippet_lines.SnippetLine.{SnippetLine as RustLine}
-use Rattle.codespan_annotations.specs.SourceFiles.{failure_of, model_of}
+use Rattle.codespan_views.specs.Private.SourceFiles.{failure_of, model_of}
 use Rattle.codespan_views.specs.Private.SnippetLineViews.{IsSnippetLineOf, lookups_of_lines, snippet_line_view}
 use Rattle.codespan_views.specs.Private.Rendering.{RendersRowsWithLookups}
 use Rattle.codespan_views.specs.Private.SnippetLines.{SnippetLine, is_line_in_order, rows_of_line, rows_of_lines, AreInOrder}

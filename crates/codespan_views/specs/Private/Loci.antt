@@ -4,8 +4,8 @@ use Rattle.codespan_base.specs.FileModel.{FileModel, Lookup}
 use Rattle.codespan_base.specs.FileModel.Lookup.{LocationAt, Name}
 use Rattle.codespan_picture.specs.Types.{Error}
 use Rattle.codespan_picture.specs.Lookups.{Failures, lookups_of_file, first_error}
-use Rattle.codespan_annotations.specs.declared.labeled_files.LabeledFile.{LabeledFile as RustFile}
-use Rattle.codespan_annotations.specs.LocusStarts.{locus_byte}
+use Rattle.codespan_views.specs.declared.labeled_files.LabeledFile.{LabeledFile as RustFile}
+use Rattle.codespan_views.specs.Private.LocusStarts.{locus_byte}
 
 -- the byte of a file whose locus its snippet shows
 abbrev pub locus_start_of : {Id : Type 0} → (Id → FileModel) → RustFile Id → FileModel × ℕ

@@ -8,11 +8,11 @@ use Rattle.codespan_views.specs.declared.plan.snippet_lines.Gap.{Gap}
 use Rattle.codespan_views.specs.declared.plan.snippet_lines.Gap.TheVariants.{Nothing, Line, Lines}
 use Rattle.codespan_views.specs.declared.plan.snippet_lines.SnippetLine.{SnippetLine as RustLine}
 use Rattle.codespan_views.specs.declared.plan.snippet_lines.SnippetLine.TheVariants as rust
-use Rattle.codespan_annotations.specs.AnnotationViews.{IsLineOf, annotation_view}
-use Rattle.codespan_annotations.specs.Annotations.{Annotation}
+use Rattle.codespan_views.specs.Private.AnnotationViews.{IsLineOf, annotation_view}
+use Rattle.codespan_views.specs.Private.Annotations.{Annotation}
 use Rattle.codespan_views.specs.Private.SnippetLines.{SnippetLine, Labeled, Filled, Break, lines_between}
 use Rattle.codespan_picture.specs.Sequences.{before_line}
-use Rattle.codespan_annotations.specs.SourceFiles.{lookups_of_filled}
+use Rattle.codespan_views.specs.Private.SourceFiles.{lookups_of_filled}
 
 -- a line of a snippet
 abbrev pub snippet_line_view : {Id : Type 0} → RustLine Id → SnippetLine

@@ -7,7 +7,7 @@ use Rattle.codespan_picture.specs.CharMetrics.{text_without_line_end}
 use Rattle.codespan_picture.specs.Arguments.{ascend_from, starts_in_order}
 use Rattle.codespan_picture.specs.Rows.{Lanes, Line, Row, BreakRow, rows_of}
 use Rattle.codespan_picture.specs.Sequences.{before_line, gap_between}
-use Rattle.codespan_annotations.specs.Annotations.{Annotation, AnnotationKind, Shown, Single, Multi, shows_line}
+use Rattle.codespan_views.specs.Private.Annotations.{Annotation, AnnotationKind, Shown, Single, Multi, shows_line}
 
 -- a shown line with its annotations, the one line between two shown ones with its annotations, or a
 -- break before a line with these annotations

@@ -6,19 +6,19 @@ use Rattle.codespan_base.specs.FileModel.{FileModel, Lookup}
 use Rattle.codespan_picture.specs.Arguments.{locus_view}
 use Rattle.codespan_picture.specs.Lookups.{Failures, lookups_of_file, first_error}
 use Rattle.codespan_picture.specs.Padding.{count_digits}
-use Rattle.codespan_annotations.specs.declared.labeled_files.LabeledFile.{LabeledFile as RustFile}
+use Rattle.codespan_views.specs.declared.labeled_files.LabeledFile.{LabeledFile as RustFile}
 use Rattle.codespan_views.specs.declared.collected.Collected.{Collected}
 use Rattle.codespan_views.specs.declared.plan.snippet_plans.SnippetPlan.{SnippetPlan}
 use Rattle.codespan_views.specs.declared.plan.snippet_lines.SnippetLine.{SnippetLine as RustLine}
 use Rattle.codespan_views.specs.declared.plan.snippet_lines.SnippetLine.TheVariants as rust
-use Rattle.codespan_annotations.specs.Annotations.{Annotation, is_of_file}
-use Rattle.codespan_annotations.specs.AnnotationViews.{annotation_view}
+use Rattle.codespan_views.specs.Private.Annotations.{Annotation, is_of_file}
+use Rattle.codespan_views.specs.Private.AnnotationViews.{annotation_view}
 use Rattle.codespan_views.specs.Private.SnippetLineViews.{IsSnippetLineIn, numbers_looked_up, snippet_line_view}
-use Rattle.codespan_annotations.specs.LabeledFiles.{ids_view}
+use Rattle.codespan_views.specs.Private.LabeledFiles.{ids_view}
 use Rattle.codespan_views.specs.Private.Loci.{loci_lookups}
-use Rattle.codespan_annotations.specs.LocusStarts.{locus_byte}
+use Rattle.codespan_views.specs.Private.LocusStarts.{locus_byte}
 use Rattle.codespan_views.specs.Private.SnippetLines.{SnippetLine, filled_lines_of, lines_of}
-use Rattle.codespan_annotations.specs.TextLoci.{IsTextLocus}
+use Rattle.codespan_views.specs.Private.TextLoci.{IsTextLocus}
 
 -- the lines of the snippet of the file at an index
 abbrev pub lines_at : List Annotation → ℕ → List SnippetLine

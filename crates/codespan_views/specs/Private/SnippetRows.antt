@@ -10,7 +10,7 @@ use Rattle.codespan_renderer.specs.declared.term.renderer.Renderer.{Renderer}
 use Rattle.codespan_views.specs.declared.snippet.lines.SnippetContext.{SnippetContext}
 use Rattle.codespan_views.specs.declared.plan.snippet_plans.SnippetPlan.{SnippetPlan}
 use Rattle.codespan_views.specs.declared.plan.snippet_lines.SnippetLine.{SnippetLine as RustLine}
-use Rattle.codespan_annotations.specs.FileLookups.{failure_in}
+use Rattle.codespan_views.specs.Private.FileLookups.{failure_in}
 use Rattle.codespan_views.specs.Private.SnippetLineViews.{lookups_of_lines, snippet_line_view}
 use Rattle.codespan_views.specs.Private.Rendering.{RendersRowsWithLookups}
 use Rattle.codespan_views.specs.Private.SnippetLines.{rows_of_lines}

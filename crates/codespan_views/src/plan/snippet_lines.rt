@@ -2,15 +2,15 @@
 
 ghost use Rattle.std.specs.Prelude.{◌≡◌, ◌∷◌, [], All, IfOk, OnOk, map};
 ghost use Rattle.codespan_base.specs.LawfulFiles.{FailsBy};
-ghost use Rattle.codespan_annotations.specs.AnnotationViews.{IsLineOf, annotation_view};
+ghost use Rattle.codespan_views.specs.Private.AnnotationViews.{IsLineOf, annotation_view};
 ghost use Rattle.codespan_views.specs.Private.SnippetLineViews.{IsGapBefore, gap_lines, known_number};
 ghost use Rattle.codespan_views.specs.Private.SnippetLines.{filled_lines_of, lines_of, lines_to};
 ghost use Rattle.codespan_views.specs.Private.LinePlanners.{AddsPlanned, numbers_failure};
-ghost use Rattle.codespan_annotations.specs.SourceFiles.{model_of};
+ghost use Rattle.codespan_views.specs.Private.SourceFiles.{model_of};
 
-use codespan_annotations::annotation::groups::{count_on_line, shows_line};
-use codespan_annotations::annotation::{Annotation, LineInfo};
-use codespan_annotations::source_file::SourceFile;
+use crate::annotation::groups::{count_on_line, shows_line};
+use crate::annotation::{Annotation, LineInfo};
+use crate::source_file::SourceFile;
 use codespan_base::files::{Error, Files};
 use codespan_base::term::Layout;
 

@@ -1,16 +1,16 @@
 //! The lines of a file's snippet.
 
 ghost use Rattle.std.specs.Prelude.{◌≡◌, [], IsTrue, map};
-ghost use Rattle.codespan_annotations.specs.AnnotationViews.{IsLineOf, annotation_view};
+ghost use Rattle.codespan_views.specs.Private.AnnotationViews.{IsLineOf, annotation_view};
 ghost use Rattle.codespan_views.specs.Private.SnippetLineViews.{lookups_of_line, snippet_line_view};
 ghost use Rattle.codespan_views.specs.Private.LineRendering.{HasLine, HasLines, RendersLine, RendersLines};
-ghost use Rattle.codespan_annotations.specs.SourceFiles.{model_of};
+ghost use Rattle.codespan_views.specs.Private.SourceFiles.{model_of};
 ghost use Rattle.codespan_views.specs.Private.SnippetLines.{Labeled, Break, are_annotations_in_order, are_lane_marks_in_order};
 
+use crate::annotation::{Annotation, LineInfo};
 use crate::plan::snippet_lines::SnippetLine;
 use crate::snippet::line_buffers::{LineBuffers, fill_multi_labels};
-use codespan_annotations::annotation::{Annotation, LineInfo};
-use codespan_annotations::source_file::SourceFile;
+use crate::source_file::SourceFile;
 use codespan_base::diagnostic::Severity;
 use codespan_base::files::{Error, Files};
 use codespan_base::term::WriteStyle;

@@ -9,8 +9,8 @@ use super::parsed::line_of_word;
 use super::words::{Word, parse_word};
 use super::{Fault, FaultNumber};
 use crate::request::parse_number;
-use script_words::fields::split_field;
-use script_words::names::parse_severity;
+use program_io::fields::split_field;
+use program_io::names::parse_severity;
 use std::ops::Range;
 
 /// Returns the first error in the lines of a script.

@@ -2,7 +2,7 @@
 
 ghost use Rattle.std.specs.Prelude.{◌+◌, ◌<◌, ◌^◌, length};
 
-use script_words::fields::{is_ignored, split_field};
+use program_io::fields::{is_ignored, split_field};
 use std::ops::Range;
 
 /// A line of a script.

@@ -11,8 +11,8 @@ use super::line::Line;
 use super::words::{Word, parse_word};
 use crate::request::parse_number;
 use codespan_base::diagnostic::{LabelStyle, Severity};
-use script_words::fields::split_field;
-use script_words::names::parse_severity;
+use program_io::fields::split_field;
+use program_io::names::parse_severity;
 use std::alloc::{AllocError, Global};
 
 /// Returns the first line that begins with the word.

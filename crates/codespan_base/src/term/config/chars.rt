@@ -3,7 +3,7 @@
 ghost use Rattle.std.specs.Prelude.{◌≡◌, Ok, IsTrue, IfOk, OnErr, IsErrOf};
 ghost use Rattle.codespan_base.specs.SnippetStarts.{start_text, is_fixed};
 
-use codespan_files::files::Error;
+use codespan_inputs::files::Error;
 
 /// The text before the locus of a snippet.
 ///

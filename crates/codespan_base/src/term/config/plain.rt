@@ -7,7 +7,7 @@ ghost use Rattle.codespan_base.specs.Writers.{WritesNothing};
 
 use crate::term::config::write_style::WriteStyle;
 use crate::term::config::writing::forward_put;
-use codespan_diagnostics::diagnostic::{LabelStyle, Severity};
+use codespan_inputs::diagnostic::{LabelStyle, Severity};
 use std::io;
 use std::io::Write;
 

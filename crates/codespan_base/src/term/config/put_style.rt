@@ -7,7 +7,7 @@ ghost use Rattle.codespan_base.specs.Streams.{Header, HeaderMessage, LineNumber,
 ghost use Rattle.codespan_base.specs.WriterLaw.{Writes, Puts};
 
 use crate::term::config::write_style::WriteStyle;
-use codespan_diagnostics::diagnostic::{LabelStyle, Severity};
+use codespan_inputs::diagnostic::{LabelStyle, Severity};
 use std::io;
 use std::io::ErrorKind;
 

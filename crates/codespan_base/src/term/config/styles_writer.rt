@@ -8,7 +8,7 @@ use crate::term::config::color::{ColorSpec, WriteColor};
 use crate::term::config::styles::Styles;
 use crate::term::config::write_style::WriteStyle;
 use crate::term::config::writing::{forward_put, note_failure};
-use codespan_diagnostics::diagnostic::{LabelStyle, Severity};
+use codespan_inputs::diagnostic::{LabelStyle, Severity};
 use std::io;
 use std::io::Write;
 

@@ -4,7 +4,7 @@ ghost use Rattle.std.specs.Io.{WritesAtMost};
 ghost use Rattle.codespan_base.specs.Streams.{Header, HeaderMessage, LineNumber, NoteBullet, SourceBorder, LabelStyleMark, Reset, style_mark};
 ghost use Rattle.codespan_base.specs.WriterLaw.{Writes, Puts};
 
-use codespan_diagnostics::diagnostic::{LabelStyle, Severity};
+use codespan_inputs::diagnostic::{LabelStyle, Severity};
 use std::io;
 use std::io::Write;
 

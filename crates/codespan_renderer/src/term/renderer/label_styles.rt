@@ -6,14 +6,14 @@ ghost use Rattle.codespan_picture.specs.Arguments.{single_label_view, single_lab
 ghost use Rattle.codespan_picture.specs.Carets.{covers, style_under};
 ghost use Rattle.codespan_picture.specs.RowParts.{starts_in};
 ghost use Rattle.codespan_picture.specs.Rows.{hanging_labels};
-ghost use Rattle.codespan_rows.specs.CharCursors.{is_covered};
-ghost use Rattle.codespan_rows.specs.Runs.{AreHanging};
+ghost use Rattle.codespan_picture.specs.Private.CharCursors.{is_covered};
+ghost use Rattle.codespan_picture.specs.Private.Runs.{AreHanging};
 ghost use Rattle.codespan_renderer.specs.Private.PreferredStyles.{preferred_style, pointer_style_if_any, prefer_primary};
 
 use crate::term::renderer::SingleLabel;
 use crate::term::renderer::char_metrics::Metrics;
 use codespan_base::diagnostic::LabelStyle;
-use codespan_rows::messages::Messages;
+use codespan_picture::rows::messages::Messages;
 
 /// Returns whether the label covers a byte of the character.
 fn covers(label: &SingleLabel<'_>, metrics: Metrics) -> bool

@@ -3,20 +3,20 @@
 
 ghost use Rattle.std.specs.Prelude.{⊤};
 ghost use Rattle.codespan_base.specs.WriterLaw.{Writes};
-ghost use Rattle.codespan_rows.specs.RowViews.{pointers_before_view};
-ghost use Rattle.codespan_rows.specs.Runs.{AreHanging};
+ghost use Rattle.codespan_picture.specs.Private.RowViews.{pointers_before_view};
+ghost use Rattle.codespan_picture.specs.Private.Runs.{AreHanging};
 
 use crate::term::renderer::SingleLabel;
 use crate::term::renderer::char_metrics::{CharMetrics, Metrics};
 use crate::term::renderer::label_styles::{has_primary_label, pointer_style_if_any, style_under};
 use codespan_base::diagnostic::LabelStyle;
 use codespan_base::term::config::put_style::PutStyle;
-use codespan_rows::char_cursor::CharCursor;
-use codespan_rows::line::{Line, RowContext};
-use codespan_rows::line_characters::LineCharacters;
-use codespan_rows::messages::Messages;
-use codespan_rows::pointers::{caret_pointer, max_label_start};
-use codespan_rows::runs::write_spaces;
+use codespan_picture::rows::char_cursor::CharCursor;
+use codespan_picture::rows::line::{Line, RowContext};
+use codespan_picture::rows::line_characters::LineCharacters;
+use codespan_picture::rows::messages::Messages;
+use codespan_picture::rows::pointers::{caret_pointer, max_label_start};
+use codespan_picture::rows::runs::write_spaces;
 
 /// A cursor that scans the text of a line. It tests all labels at each character, so they may be in
 /// any order.

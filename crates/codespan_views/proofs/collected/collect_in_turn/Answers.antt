@@ -2,18 +2,18 @@ use contract.Lifetimes.{Lfts}
 use Rattle.std.proofs.Common.{◌≡◌, ℕ, ◌<◌, rules, ◌+◌, [], Err, length, get_or, map, sym, ap, ◌∙◌, subst, arith}
 use Rattle.std.proofs.lemmas.List.{get_or-map}
 use Rattle.std.proofs.lemmas.Result.{err_from_is_err_and}
-use Rattle.codespan_annotations.specs.declared.labeled_files.LabeledFile.{LabeledFile as RustFile}
+use Rattle.codespan_views.specs.declared.labeled_files.LabeledFile.{LabeledFile as RustFile}
 use Rattle.codespan_views.specs.Private.CollectedLabels.{FindsLines, collected_label}
-use Rattle.codespan_annotations.specs.AnnotationViews.{Adds, IsOfFiles}
-use Rattle.codespan_annotations.specs.LabeledFiles.{ids_view, lane_counts, num_multi_labels_of, lanes_with_label}
-use Rattle.codespan_annotations.specs.LocusStarts.{file_locus_start}
+use Rattle.codespan_views.specs.Private.AnnotationViews.{Adds, IsOfFiles}
+use Rattle.codespan_views.specs.Private.LabeledFiles.{ids_view, lane_counts, num_multi_labels_of, lanes_with_label}
+use Rattle.codespan_views.specs.Private.LocusStarts.{file_locus_start}
 use Rattle.codespan_picture.specs.OutputStreams.{label_of}
 use Rattle.codespan_picture.specs.Snippets.{file_ids}
-use Rattle.codespan_annotations.specs.FileIndices.{AreDistinct, index_of_file}
+use Rattle.codespan_views.specs.Private.FileIndices.{AreDistinct, index_of_file}
 use Rattle.codespan_views.specs.Private.IndexedLabels.{annotations_after}
-use Rattle.codespan_annotations.proofs.FileIndices.{first_seen-differ}
+use Rattle.codespan_views.proofs.FileIndices.{first_seen-differ}
 use Rattle.codespan_views.proofs.LabelIndexing.{AreFiles, are-files, lanes_by-are}
-use Rattle.codespan_annotations.proofs.IndexedElements.{IsElementAt}
+use Rattle.codespan_views.proofs.IndexedElements.{IsElementAt}
 use Rattle.codespan_views.proofs.LabelsBefore.{before}
 use Rattle.codespan_views.proofs.LabelsCollected.{AreCollected, IsIndexedFile, each-labels, file-indexed, collected-all, collected-more, collected-failed, lane-bound, index-inside}
 use Rattle.codespan_views.proofs.collected.collect_in_turn.Given.{Over}

@@ -7,7 +7,7 @@ use Rattle.codespan_base.specs.declared.term.config.Config.{Config}
 use Rattle.codespan_picture.specs.OutputStreams.{context_of}
 use Rattle.codespan_renderer.specs.declared.term.renderer.Renderer.{Renderer}
 use Rattle.codespan_renderer.specs.Renderers.{Renders, config_of}
-use Rattle.codespan_rows.specs.RenderedRows.{note_stream, rendered_note}
+use Rattle.codespan_picture.specs.RenderedRows.{note_stream, rendered_note}
 use Rattle.codespan_views.proofs.NoteRows.{notes-all, notes-cut, notes-next, stream_of_notes}
 use Rattle.codespan_views.proofs.RendererRuns.{renders_as, renders_cut, renders_nothing, renders_then}
 use Rattle.codespan_views.proofs.parts.render_notes.Given.{Over}

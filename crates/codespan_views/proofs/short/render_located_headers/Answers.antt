@@ -3,7 +3,7 @@ use Rattle.std.proofs.lemmas.Result.{err_from_is_err_and}
 use Rattle.codespan_views.specs.Private.ViewRendering.{RendersHeadersOf}
 use Rattle.codespan_views.proofs.HeaderStreams.{some_next}
 use Rattle.codespan_views.proofs.LabelHeaders.{all_written, written_next, failed_next, none_yet}
-use Rattle.codespan_annotations.proofs.IndexedElements.{element-equal}
+use Rattle.codespan_views.proofs.IndexedElements.{element-equal}
 use Rattle.codespan_views.proofs.short.render_located_headers.Goals as goal
 
 pub loop-label-init : goal.loop-label-init

@@ -1,5 +1,5 @@
 use Rattle.std.proofs.Common.{ℕ, List, ap, ◌∙◌, refl, subst, inl, inr}
-use Rattle.script_words.specs.Fields.{field_of, past_space}
+use Rattle.program_io.specs.Fields.{field_of, past_space}
 use Rattle.gallery_script.specs.Numbers.{IsNumber}
 use Rattle.gallery_script.specs.declared.words.Word.TheVariants as words
 use Rattle.gallery_script.proofs.WrongLines.{number_missing, no_number, lacks_second, lacks_third}

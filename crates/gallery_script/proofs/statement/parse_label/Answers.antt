@@ -1,6 +1,6 @@
 use Rattle.std.proofs.Common.{ℕ, List, ap, ◌∙◌, refl, string_bytes, subst}
 use Rattle.gallery_script.specs.Statements.{UnescapesTo}
-use Rattle.script_words.specs.Fields.{field_of, past_space}
+use Rattle.program_io.specs.Fields.{field_of, past_space}
 use Rattle.gallery_script.specs.Numbers.{IsNumber}
 use Rattle.gallery_script.proofs.statement.parse_label.Goals as goal
 

@@ -9,9 +9,9 @@ ghost use Rattle.codespan_picture.specs.Rows.{hanging_labels};
 ghost use Rattle.codespan_renderer.specs.Private.MetricsLeft.{after_last};
 ghost use Rattle.codespan_renderer.specs.Private.CursorStates.{IsBefore, HasReturned};
 ghost use Rattle.codespan_renderer.specs.Private.CachedMetrics.{AreCached, ReachesPast, cached_left, reach_of};
-ghost use Rattle.codespan_rows.specs.LineCharacters.{EndBy};
+ghost use Rattle.codespan_picture.specs.Private.LineCharacters.{EndBy};
 ghost use Rattle.codespan_renderer.specs.Private.PointerLists.{pointers_in};
-ghost use Rattle.codespan_rows.specs.Runs.{least_start};
+ghost use Rattle.codespan_picture.specs.Private.Runs.{least_start};
 
 use crate::term::renderer::Renderer;
 use crate::term::renderer::cached::cached_metrics::CachedMetrics;
@@ -23,12 +23,12 @@ use codespan_base::diagnostic::{LabelStyle, Severity};
 use codespan_base::files::Error;
 use codespan_base::term::WriteStyle;
 use codespan_base::term::config::put_style::PutStyle;
-use codespan_rows::char_cursor::CharCursor;
-use codespan_rows::line::{Line, RowContext};
-use codespan_rows::line_characters::LineCharacters;
-use codespan_rows::line_rows::write_line;
-use codespan_rows::messages::Messages;
-use codespan_rows::pointers::max_label_start;
+use codespan_picture::rows::char_cursor::CharCursor;
+use codespan_picture::rows::line::{Line, RowContext};
+use codespan_picture::rows::line_characters::LineCharacters;
+use codespan_picture::rows::line_rows::write_line;
+use codespan_picture::rows::messages::Messages;
+use codespan_picture::rows::pointers::max_label_start;
 
 /// A cursor over cached characters. It goes through the labels in the order of their starts, each
 /// of them once.
@@ -84,9 +84,9 @@ pub struct CachedLine<'cache, 'row, 'd> {
 }
 
 impl<'cache, 'row, 'd> CachedLine<'cache, 'row, 'd> {
-    ghost use Rattle.codespan_rows.specs.LineViews.{line_view};
+    ghost use Rattle.codespan_picture.specs.Private.LineViews.{line_view};
     ghost use Rattle.codespan_renderer.specs.Renderers.{config_of, Renders};
-    ghost use Rattle.codespan_rows.specs.RenderedRows.{rendered_source};
+    ghost use Rattle.codespan_picture.specs.RenderedRows.{rendered_source};
 
     /// Writes the line with its carets, its messages and its underlines. `outer_padding` is the
     /// padding width, in characters.

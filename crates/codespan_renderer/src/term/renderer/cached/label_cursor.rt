@@ -7,7 +7,7 @@ ghost use Rattle.codespan_picture.specs.Arguments.{single_label_view, single_lab
 ghost use Rattle.codespan_renderer.specs.Private.PointerLists.{HasPassedStarts};
 ghost use Rattle.codespan_picture.specs.RowParts.{starts_in};
 ghost use Rattle.codespan_renderer.specs.Private.PreferredStyles.{preferred_style};
-ghost use Rattle.codespan_rows.specs.CharCursors.{is_covered};
+ghost use Rattle.codespan_picture.specs.Private.CharCursors.{is_covered};
 ghost use Rattle.codespan_renderer.specs.Private.LabelCursors.{end_with, HasPassedLabels};
 
 use crate::term::renderer::SingleLabel;

@@ -13,8 +13,8 @@ use crate::term::renderer::cached::reach::reach_of;
 use crate::term::renderer::char_metrics::{CharMetrics, Metrics};
 use codespan_base::files::Error;
 use codespan_base::term::WriteStyle;
-use codespan_rows::line::Line;
-use codespan_rows::messages::Messages;
+use codespan_picture::rows::line::Line;
+use codespan_picture::rows::messages::Messages;
 use std::alloc::Global;
 
 /// The characters of a line and the pointers under them, cached for all its rows.

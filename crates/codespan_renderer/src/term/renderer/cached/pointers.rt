@@ -4,11 +4,11 @@ ghost use Rattle.std.specs.Prelude.{◌≡◌, ◌+◌, ◌^◌, ◌<◌, IfOk, 
 ghost use Rattle.codespan_base.specs.WriterLaw.{Writes};
 ghost use Rattle.codespan_picture.specs.CharMetrics.{char_metrics};
 ghost use Rattle.codespan_picture.specs.Arguments.{single_label_views, starts_in_order};
-ghost use Rattle.codespan_rows.specs.LineViews.{context_view};
+ghost use Rattle.codespan_picture.specs.Private.LineViews.{context_view};
 ghost use Rattle.codespan_renderer.specs.Private.CachedMetrics.{cached_left};
 ghost use Rattle.codespan_renderer.specs.Private.PointerLists.{pointer_under, pointers_in, pointers_before, spaced};
 ghost use Rattle.codespan_picture.specs.Rows.{hanging_labels};
-ghost use Rattle.codespan_rows.specs.Runs.{AreHanging};
+ghost use Rattle.codespan_picture.specs.Private.Runs.{AreHanging};
 
 use crate::term::renderer::cached::cached_metrics::CachedMetrics;
 use crate::term::renderer::cached::label_cursor::StartCursor;
@@ -16,10 +16,10 @@ use crate::term::renderer::char_metrics::Metrics;
 use codespan_base::diagnostic::LabelStyle;
 use codespan_base::files::Error;
 use codespan_base::term::config::put_style::PutStyle;
-use codespan_rows::line::{Line, RowContext};
-use codespan_rows::messages::{Messages, has_any_message};
-use codespan_rows::pointers::{caret_pointer, max_label_start};
-use codespan_rows::runs::write_spaces;
+use codespan_picture::rows::line::{Line, RowContext};
+use codespan_picture::rows::messages::{Messages, has_any_message};
+use codespan_picture::rows::pointers::{caret_pointer, max_label_start};
+use codespan_picture::rows::runs::write_spaces;
 
 /// The pointer under a character from which labels hang.
 #[derive(Clone, Copy)]

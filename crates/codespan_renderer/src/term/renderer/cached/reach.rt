@@ -5,7 +5,7 @@ ghost use Rattle.codespan_picture.specs.Arguments.{lane_mark_view, multi_label_v
 ghost use Rattle.codespan_renderer.specs.Private.CachedMetrics.{farther, farther_lane_mark, reach_of};
 
 use crate::term::renderer::MultiLabel;
-use codespan_rows::line::Line;
+use codespan_picture::rows::line::Line;
 
 /// Returns the greatest byte index that a row under the line may need: the greatest start or end of
 /// its labels, start of a `Top` or end of a `Bottom`; `None` where the line has none of them.

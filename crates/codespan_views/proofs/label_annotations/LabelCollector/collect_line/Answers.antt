@@ -2,13 +2,13 @@ use Rattle.std.proofs.Common.{◌≡◌, ◌<◌, ◌∙◌, false, true, rules,
 use Rattle.std.specs.Prelude.{if◌then◌else◌}
 use Rattle.codespan_base.specs.FileModel.{line_count}
 use Rattle.codespan_views.specs.Private.LabelAnnotations.{line_annotations}
-use Rattle.codespan_annotations.specs.AnnotationViews.{IsLineAt}
+use Rattle.codespan_views.specs.Private.AnnotationViews.{IsLineAt}
 use Rattle.codespan_views.specs.Private.CollectedLabels.{AddsLine, label_of_collector}
-use Rattle.codespan_annotations.specs.LabelSpans.{spans_line}
+use Rattle.codespan_views.specs.Private.LabelSpans.{spans_line}
 use Rattle.codespan_views.specs.declared.label_annotations.FoundAnnotations.{FoundAnnotations}
 use Rattle.codespan_picture.specs.Lookups.{is_looked_up}
 use Rattle.codespan_picture.specs.OutputStreams.{label_of}
-use Rattle.codespan_annotations.specs.SourceFiles.{model_of}
+use Rattle.codespan_views.specs.Private.SourceFiles.{model_of}
 use Rattle.codespan_views.proofs.Collecting.{Adds-none, Adds-as}
 use Rattle.codespan_views.proofs.CollectedLines.{added-looked_up, far-spans, looked_up-around, looked_up-spanned, padding-spanned, padding-unspanned, succeeded-looked_up}
 use Rattle.codespan_views.proofs.label_annotations.LabelCollector.collect_line.Given.{Over}

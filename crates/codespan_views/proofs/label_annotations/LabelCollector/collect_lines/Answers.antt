@@ -6,8 +6,8 @@ use Rattle.codespan_base.specs.Lemmas.Lines.{line_of_below}
 use Rattle.codespan_views.specs.declared.label_annotations.LabelCollector.{LabelCollector}
 use Rattle.codespan_views.specs.Private.CollectedLabels.{label_of_collector}
 use Rattle.std.specs.Ordering.{nat_cmp, partial_le, partial_lt}
-use Rattle.codespan_annotations.specs.LabelSpans.{IsFarInside}
-use Rattle.codespan_annotations.specs.SourceFiles.{line_failure}
+use Rattle.codespan_views.specs.Private.LabelSpans.{IsFarInside}
+use Rattle.codespan_views.specs.Private.SourceFiles.{line_failure}
 use Rattle.codespan_views.proofs.Contexts.{CollectsLabel, CollectsLines, HasEnds, collected-start, collected-context, collected-reach, collected-failed, collected-line}
 use Rattle.codespan_views.proofs.label_annotations.LabelCollector.collect_lines.Given.{Over}
 use Rattle.codespan_views.proofs.label_annotations.LabelCollector.collect_lines.Goals.{Else-not-branch}

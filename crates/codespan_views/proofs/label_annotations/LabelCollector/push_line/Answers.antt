@@ -1,6 +1,6 @@
 use Rattle.std.proofs.Common.{sym, subst}
 use Rattle.codespan_views.specs.Private.CollectedLabels.{label_of_collector}
-use Rattle.codespan_annotations.specs.AnnotationViews.{IsLineOf}
+use Rattle.codespan_views.specs.Private.AnnotationViews.{IsLineOf}
 use Rattle.codespan_views.proofs.Collecting.{Adds-as, Adds-both, Adds-weaker, annotation_if_any-line}
 use Rattle.codespan_views.proofs.label_annotations.LabelCollector.push_line.Goals as goal
 

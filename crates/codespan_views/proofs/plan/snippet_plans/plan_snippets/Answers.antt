@@ -1,9 +1,9 @@
 use Rattle.std.proofs.Common.{◌<◌, ◌≤◌, [], Err, length, map, get_or, refl, sym, ap, ◌∙◌, subst, arith}
 use Rattle.std.proofs.lemmas.Result.{err_from_is_err_and}
-use Rattle.codespan_annotations.specs.FileLookups.{FailsByOrFormatError}
-use Rattle.codespan_annotations.specs.AnnotationViews.{annotation_view}
+use Rattle.codespan_views.specs.Private.FileLookups.{FailsByOrFormatError}
+use Rattle.codespan_views.specs.Private.AnnotationViews.{annotation_view}
 use Rattle.codespan_views.specs.Private.SnippetPlans.{ArePlans, plans_failure}
-use Rattle.codespan_annotations.proofs.FileLengths.{rest-sorted}
+use Rattle.codespan_views.proofs.FileLengths.{rest-sorted}
 use Rattle.codespan_views.proofs.FileSlices.{from_file-first}
 use Rattle.codespan_views.proofs.FileTurns.{IsAtFile, next_inside, next_left, own_lookups, own_lines}
 use Rattle.codespan_views.proofs.PlansFound.{plan_found, planned-more, planned-fails, planned-unlocated, plans-add, plans-all}

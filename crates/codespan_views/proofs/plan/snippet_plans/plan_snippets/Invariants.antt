@@ -1,5 +1,5 @@
 use Rattle.std.proofs.Common.{◌≡◌, ◌≤◌, length, map, take, drop}
-use Rattle.codespan_annotations.specs.AnnotationViews.{annotation_view}
+use Rattle.codespan_views.specs.Private.AnnotationViews.{annotation_view}
 use Rattle.codespan_views.proofs.FileSlices.{from_file}
 use Rattle.codespan_views.proofs.PlansFound.{ArePlanned}
 use Rattle.codespan_views.proofs.plan.snippet_plans.plan_snippets.Given as goal

@@ -4,7 +4,7 @@ use Rattle.std.proofs.lemmas.Result.{err_from_is_err_and}
 use Rattle.codespan_picture.specs.OutputStreams.{notes_of}
 use Rattle.codespan_picture.specs.Snippets.{has_any}
 use Rattle.codespan_views.specs.Views.{diagnostic_of}
-use Rattle.codespan_annotations.proofs.IndexedElements.{element-equal}
+use Rattle.codespan_views.proofs.IndexedElements.{element-equal}
 use Rattle.codespan_views.proofs.PlannedFiles.{later-files, own-inside, own-snippet_lines}
 use Rattle.codespan_views.proofs.OutputPlanRendering.{cut-after_snippet, cut-in_snippet, left-end, left-start, next-file}
 use Rattle.codespan_views.proofs.RendererRuns.{same_renderer, same_twice}

@@ -5,27 +5,35 @@ use Rattle.program_io.proofs.run_error.RunErrorDisplay.fmt.Goals as goal
 pub returns-in-CannotReadInput : goal.returns-in-CannotReadInput
 returns-in-CannotReadInput g c =
     record {
-      writes = rw c.in-CannotReadInput.is (rw (sym c.program-program.ensures) c.write.ensures.writes);
+      writes =
+          rw c.in-CannotReadInput.is
+          (rw (sym c.program-program.ensures) c.write.ensures.writes);
       styled = tt;
     }
 
 pub returns-in-NotUtf8 : goal.returns-in-NotUtf8
 returns-in-NotUtf8 g c =
     record {
-      writes = rw c.in-NotUtf8.is (rw (sym c.program-program.ensures) c.write-in-NotUtf8.ensures.writes);
+      writes =
+          rw c.in-NotUtf8.is
+          (rw (sym c.program-program.ensures) c.write-in-NotUtf8.ensures.writes);
       styled = tt;
     }
 
 pub returns-in-OutOfMemory : goal.returns-in-OutOfMemory
 returns-in-OutOfMemory g c =
     record {
-      writes = rw c.in-OutOfMemory.is (rw (sym c.program-program.ensures) c.write-in-OutOfMemory.ensures.writes);
+      writes =
+          rw c.in-OutOfMemory.is
+          (rw (sym c.program-program.ensures) c.write-in-OutOfMemory.ensures.writes);
       styled = tt;
     }
 
 pub returns-in-CannotWriteOutput : goal.returns-in-CannotWriteOutput
 returns-in-CannotWriteOutput g c =
     record {
-      writes = rw c.in-CannotWriteOutput.is (rw (sym c.program-program.ensures) c.write-in-CannotWriteOutput.ensures.writes);
+      writes =
+          rw c.in-CannotWriteOutput.is
+          (rw (sym c.program-program.ensures) c.write-in-CannotWriteOutput.ensures.writes);
       styled = tt;
     }

@@ -1,6 +1,6 @@
 use Rattle.std.proofs.Common.{◌≡◌, string_bytes, Some, None, inl, inr, refl, ap, ◌∙◌, arith, rules, tests}
 use Rattle.std.specs.Option.{option_map}
-use Rattle.script_words.specs.Names.{display_style_named}
+use Rattle.program_io.specs.Names.{display_style_named}
 use Rattle.report_script.proofs.Words.{other_words, five_arguments}
 use Rattle.report_script.specs.Requests.{number_of, label_request_view}
 use Rattle.report_script.proofs.request.LabelRequest.from_arguments.Goals.{in_default-via-then-args-lt5, in_default-via-else-args-lt5+else-args-lt6}

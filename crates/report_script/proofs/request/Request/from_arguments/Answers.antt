@@ -1,6 +1,6 @@
 use Rattle.std.proofs.Common.{◌⊎◌, ◌<◌, ◌≤◌, length, string_bytes, Some, None, inl, inr, ap, sym, ◌∙◌, arith, rules, tests}
 use Rattle.std.specs.Option.{option_map}
-use Rattle.script_words.specs.Names.{display_style_named}
+use Rattle.program_io.specs.Names.{display_style_named}
 use Rattle.report_script.proofs.Words.{other_arguments, two_arguments}
 use Rattle.report_script.specs.Requests.{request_view}
 use Rattle.report_script.specs.Requests.RequestView.{OneLabel, OfScript}

@@ -6,11 +6,11 @@ use Rattle.codespan_base.specs.Streams.{spaces}
 use Rattle.codespan_base.proofs.Loops.{StillToWrite-start, StillToWrite-more, StillToWrite-same, StillToWrite-failed, StillToWrite-last}
 use Rattle.codespan_picture.specs.Arguments.{single_label_views}
 use Rattle.codespan_picture.specs.RowParts.{metrics_before, pointers}
-use Rattle.codespan_rows.specs.LineViews.{context_view}
+use Rattle.codespan_picture.specs.Private.LineViews.{context_view}
 use Rattle.codespan_renderer.specs.Private.MetricsLeft.{metrics_left}
 use Rattle.codespan_renderer.proofs.ScannedPointers.{spaces_none, pointer_first, spaces_first, spaces_last, spaces_due}
 use Rattle.codespan_renderer.proofs.PointersBefore.{spaces_rest}
-use Rattle.codespan_rows.proofs.ScanState.{scan_state-char_metrics, scan_state-more}
+use Rattle.codespan_picture.proofs.ScanState.{scan_state-char_metrics, scan_state-more}
 use Rattle.codespan_renderer.proofs.term.renderer.scanned_line.scanned_caret_pointers.Goals.{in-Some-pointer_style_if_any+in_ok-caret_pointer, in_default, in-None, in-Some+then-metrics-before}
 use Rattle.codespan_renderer.proofs.term.renderer.scanned_line.scanned_caret_pointers.Goals as goal
 

@@ -4,9 +4,9 @@ use Rattle.codespan_base.proofs.Loops.{StillToWrite}
 use Rattle.codespan_picture.specs.CharMetrics.{char_metrics}
 use Rattle.codespan_renderer.specs.Private.MetricsLeft.{metrics_left}
 use Rattle.codespan_picture.specs.Arguments.{single_label_views}
-use Rattle.codespan_rows.specs.LineViews.{context_view}
+use Rattle.codespan_picture.specs.Private.LineViews.{context_view}
 use Rattle.codespan_picture.specs.RowParts.{metrics_before, pointers}
-use Rattle.codespan_rows.proofs.ScanState.{ScanState}
+use Rattle.codespan_picture.proofs.ScanState.{ScanState}
 use Rattle.codespan_renderer.proofs.term.renderer.scanned_line.scanned_caret_pointers.Given as goal
 
 -- the spaces that are not written yet, and then what the remaining characters show

@@ -2,9 +2,9 @@ use Rattle.std.proofs.Common.{map, take, Err, refl, sym, ap, subst, ◌∙◌, a
 use Rattle.std.specs.Prelude.{All}
 use Rattle.std.proofs.lemmas.List.Elements.{All-drop}
 use Rattle.std.proofs.lemmas.Result.{err_from_is_err_and}
-use Rattle.codespan_annotations.specs.AnnotationViews.{IsLineOf, annotation_view}
+use Rattle.codespan_views.specs.Private.AnnotationViews.{IsLineOf, annotation_view}
 use Rattle.codespan_views.specs.Private.SnippetLines.{lines_to}
-use Rattle.codespan_annotations.specs.SourceFiles.{model_of}
+use Rattle.codespan_views.specs.Private.SourceFiles.{model_of}
 use Rattle.codespan_views.proofs.SnippetLineViews.{IsNextGroup, views_of-hidden, views_of-shown, later-are, later-fewer, later_than, lines_left-none}
 use Rattle.codespan_views.proofs.LinesFound.{left_added, left_all, left_more, left_failed, left_succeeded}
 use Rattle.codespan_views.proofs.plan.snippet_lines.LinePlanner.push_lines.Given.{Over}

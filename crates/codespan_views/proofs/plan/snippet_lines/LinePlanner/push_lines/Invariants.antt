@@ -1,8 +1,8 @@
 use Rattle.std.proofs.Common.{◌≤◌, length, map}
 use Rattle.std.specs.Prelude.{All}
-use Rattle.codespan_annotations.specs.AnnotationViews.{IsLineOf, annotation_view}
+use Rattle.codespan_views.specs.Private.AnnotationViews.{IsLineOf, annotation_view}
 use Rattle.codespan_views.specs.Private.SnippetLines.{lines_of}
-use Rattle.codespan_annotations.specs.SourceFiles.{model_of}
+use Rattle.codespan_views.specs.Private.SourceFiles.{model_of}
 use Rattle.codespan_views.proofs.SnippetLineViews.{lines_left}
 use Rattle.codespan_views.proofs.LinesFound.{LinesLeft}
 use Rattle.codespan_views.proofs.plan.snippet_lines.LinePlanner.push_lines.Given as goal

@@ -1,10 +1,10 @@
 use Rattle.std.proofs.Common.{◌∷◌, [], ◌++◌, map, Err, refl, sym, ap, ◌∙◌, subst}
 use Rattle.std.proofs.lemmas.Result.{err_from_is_err_and}
-use Rattle.codespan_annotations.specs.AnnotationViews.{annotation_view}
+use Rattle.codespan_views.specs.Private.AnnotationViews.{annotation_view}
 use Rattle.codespan_views.specs.Private.LinePlanners.{numbers_failure}
 use Rattle.codespan_views.specs.Private.SnippetLineViews.{AddsLines, gap_lines}
 use Rattle.codespan_views.specs.Private.SnippetLines.{Labeled, filled_lines_of}
-use Rattle.codespan_annotations.specs.SourceFiles.{model_of}
+use Rattle.codespan_views.specs.Private.SourceFiles.{model_of}
 use Rattle.codespan_views.proofs.LinesFound.{adds_then, filled_lines_of-shown}
 use Rattle.codespan_views.proofs.plan.snippet_lines.LinePlanner.push_shown.Goals as goal
 

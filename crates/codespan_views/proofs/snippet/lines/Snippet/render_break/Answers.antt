@@ -7,7 +7,7 @@ use Rattle.codespan_picture.specs.OutputStreams.{context_of}
 use Rattle.codespan_picture.specs.RowStreams.{break_row}
 use Rattle.codespan_renderer.specs.Renderers.{config_of}
 use Rattle.codespan_views.proofs.RendererRuns.{allocation_failed, renders_alone, renders_as}
-use Rattle.codespan_annotations.specs.AnnotationViews.{annotation_view}
+use Rattle.codespan_views.specs.Private.AnnotationViews.{annotation_view}
 use Rattle.codespan_views.proofs.LookupRuns.{out_of_memory}
 use Rattle.codespan_views.proofs.LaneMarks.{lanes_fit}
 use Rattle.codespan_views.proofs.snippet.lines.Snippet.render_break.Goals as goal

@@ -1,9 +1,9 @@
 use Rattle.std.proofs.Common.{map, ap, ◌∙◌}
 use Rattle.std.proofs.lemmas.Result.{err_from_is_err_and}
 use Rattle.codespan_picture.specs.Arguments.{lane_mark_view, single_label_views, starts_in_order}
-use Rattle.codespan_rows.specs.LineViews.{line_view}
+use Rattle.codespan_picture.specs.Private.LineViews.{line_view}
 use Rattle.codespan_views.proofs.LinesRendered.{line-rendered, line-shown}
-use Rattle.codespan_annotations.specs.AnnotationViews.{annotation_view}
+use Rattle.codespan_views.specs.Private.AnnotationViews.{annotation_view}
 use Rattle.codespan_views.specs.Private.SnippetLines.{single_labels_in}
 use Rattle.codespan_views.proofs.LookupRuns.{out_of_memory}
 use Rattle.codespan_views.proofs.RendererRuns.{allocation_failed}

@@ -4,8 +4,8 @@ use Rattle.std.proofs.lemmas.Result.{err_from_is_err_and}
 use Rattle.codespan_picture.proofs.ListElements.{all-mapped}
 use Rattle.codespan_views.specs.Private.SnippetLineViews.{IsSnippetLineOf, snippet_line_view}
 use Rattle.codespan_views.specs.Private.SnippetLines.{is_line_in_order}
-use Rattle.codespan_annotations.specs.SourceFiles.{model_of}
-use Rattle.codespan_annotations.proofs.IndexedElements.{IsElementAt}
+use Rattle.codespan_views.specs.Private.SourceFiles.{model_of}
+use Rattle.codespan_views.proofs.IndexedElements.{IsElementAt}
 use Rattle.codespan_views.proofs.LinesRendered.{rendered-all, rendered-cut, rendered-next, rendered-nothing}
 use Rattle.codespan_views.proofs.RendererRuns.{same_renderer, same_twice}
 use Rattle.codespan_views.proofs.snippet.lines.Snippet.render_lines.Given.{Over}

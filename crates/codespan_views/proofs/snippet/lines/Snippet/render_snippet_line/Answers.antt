@@ -1,7 +1,7 @@
 use Rattle.std.proofs.Common.{Err, map, ap, ◌∙◌}
 use Rattle.std.proofs.lemmas.Result.{err_from_is_err_and}
-use Rattle.codespan_annotations.specs.AnnotationViews.{annotation_view}
-use Rattle.codespan_annotations.specs.SourceFiles.{lookups_of_filled}
+use Rattle.codespan_views.specs.Private.AnnotationViews.{annotation_view}
+use Rattle.codespan_views.specs.Private.SourceFiles.{lookups_of_filled}
 use Rattle.codespan_views.proofs.LinesRendered.{filled-rendered}
 use Rattle.codespan_views.proofs.RendererRuns.{lookup_failed}
 use Rattle.codespan_views.proofs.snippet.lines.Snippet.render_snippet_line.Goals as goal

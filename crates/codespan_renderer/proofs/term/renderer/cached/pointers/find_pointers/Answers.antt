@@ -5,8 +5,8 @@ use Rattle.codespan_picture.specs.CharMetrics.{char_metrics}
 use Rattle.codespan_picture.specs.Arguments.{single_label_views}
 use Rattle.codespan_picture.proofs.Consecutive.{char_metrics-consecutive}
 use Rattle.codespan_renderer.specs.Private.CachedMetrics.{cached_left}
-use Rattle.codespan_rows.proofs.Hanging.{none_hangs}
-use Rattle.codespan_rows.proofs.ScanState.{scan_state-char_metrics, scan_state-more}
+use Rattle.codespan_picture.proofs.Hanging.{none_hangs}
+use Rattle.codespan_picture.proofs.ScanState.{scan_state-char_metrics, scan_state-more}
 use Rattle.codespan_renderer.proofs.PointerCursors.{no-pointers, passing-start, passing-at, passing-more, found-style, found-some, found-none, pointers-past-at}
 use Rattle.codespan_renderer.proofs.term.renderer.cached.pointers.find_pointers.Goals as goal
 

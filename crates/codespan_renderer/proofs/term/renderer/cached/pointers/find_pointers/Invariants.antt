@@ -4,7 +4,7 @@ use Rattle.codespan_picture.specs.Arguments.{single_label_views}
 use Rattle.codespan_renderer.specs.Private.CachedMetrics.{cached_left}
 use Rattle.codespan_renderer.specs.Private.PointerLists.{pointers_in}
 use Rattle.codespan_picture.specs.Rows.{hanging_labels}
-use Rattle.codespan_rows.proofs.ScanState.{ScanState}
+use Rattle.codespan_picture.proofs.ScanState.{ScanState}
 use Rattle.codespan_renderer.proofs.PointerCursors.{IsPassing}
 use Rattle.codespan_renderer.proofs.term.renderer.cached.pointers.find_pointers.Given as goal
 

@@ -3,7 +3,7 @@ use Rattle.codespan_picture.specs.CharMetrics.{width_of}
 use Rattle.codespan_picture.specs.RowParts.{metrics_up_to}
 use Rattle.codespan_renderer.specs.Private.MetricsLeft.{metrics_from, no_more}
 use Rattle.codespan_renderer.proofs.CachedScans.{past-scan}
-use Rattle.codespan_rows.proofs.Widths.{width-out}
+use Rattle.codespan_picture.proofs.Widths.{width-out}
 use Rattle.codespan_renderer.proofs.term.renderer.char_metrics.CharMetrics.column_past.Goals as goal
 
 pub returns-then-metrics-byte_index : goal.returns-then-metrics-byte_index

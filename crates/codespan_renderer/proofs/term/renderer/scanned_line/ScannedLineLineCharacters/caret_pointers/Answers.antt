@@ -1,7 +1,7 @@
 use Rattle.std.proofs.Common.{◌≡◌, ◌-◌, ◌^◌, arith}
 use Rattle.codespan_picture.specs.CharMetrics.{char_metrics}
 use Rattle.codespan_picture.specs.RowParts.{metrics_before}
-use Rattle.codespan_rows.proofs.RowEquations.{all_before}
+use Rattle.codespan_picture.proofs.RowEquations.{all_before}
 use Rattle.codespan_renderer.proofs.term.renderer.scanned_line.ScannedLineLineCharacters.caret_pointers.Goals as goal
 
 pub returns : goal.returns

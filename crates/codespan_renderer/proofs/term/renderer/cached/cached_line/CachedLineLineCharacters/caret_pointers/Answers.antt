@@ -2,11 +2,11 @@ use Rattle.std.proofs.Common.{◌≡◌, ◌-◌, ◌^◌, ap, arith}
 use Rattle.std.specs.Str.{chars}
 use Rattle.codespan_picture.specs.CharMetrics.{char_metrics}
 use Rattle.codespan_picture.specs.Arguments.{single_label_views}
-use Rattle.codespan_rows.specs.LineViews.{context_view}
-use Rattle.codespan_rows.specs.LineCharacters.{CharInput}
+use Rattle.codespan_picture.specs.Private.LineViews.{context_view}
+use Rattle.codespan_picture.specs.Private.LineCharacters.{CharInput}
 use Rattle.codespan_picture.specs.RowParts.{metrics_before}
 use Rattle.codespan_picture.proofs.Consecutive.{char_metrics-consecutive}
-use Rattle.codespan_rows.proofs.RowEquations.{all_before}
+use Rattle.codespan_picture.proofs.RowEquations.{all_before}
 use Rattle.codespan_renderer.proofs.PointersBefore.{spaced-all}
 use Rattle.codespan_renderer.proofs.term.renderer.cached.cached_line.CachedLineLineCharacters.caret_pointers.Goals as goal
 

@@ -4,8 +4,8 @@ use Rattle.std.specs.Str.{chars}
 use Rattle.codespan_picture.specs.CharMetrics.{char_metrics}
 use Rattle.codespan_picture.specs.Arguments.{SingleLabelTuple, single_label_views}
 use Rattle.codespan_picture.specs.RowParts.{max_label_start}
-use Rattle.codespan_rows.specs.LineViews.{context_view}
-use Rattle.codespan_rows.specs.LineCharacters.{CharInput}
+use Rattle.codespan_picture.specs.Private.LineViews.{context_view}
+use Rattle.codespan_picture.specs.Private.LineCharacters.{CharInput}
 use Rattle.codespan_picture.proofs.Consecutive.{char_metrics-consecutive}
 use Rattle.codespan_renderer.proofs.PointersBefore.{spaced-near}
 use Rattle.codespan_renderer.proofs.term.renderer.cached.cached_line.CachedLineLineCharacters.caret_pointers_before.Goals as goal

@@ -1,9 +1,0 @@
-pub mod TextLoci
-pub mod FileLookups
-pub mod SourceFiles
-pub mod LabelSpans
-pub mod LocusStarts
-pub mod FileIndices
-pub mod LabeledFiles
-pub mod Annotations
-pub mod AnnotationViews

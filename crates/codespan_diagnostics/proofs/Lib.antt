@@ -1,2 +1,0 @@
--- texts and lists of diagnostics
-pub mod TextLemmas

@@ -1,2 +1,0 @@
--- diagnostics
-pub mod Diagnostics

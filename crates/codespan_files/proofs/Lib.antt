@@ -1,9 +1,0 @@
--- columns, line numbers and line starts
-pub mod ColumnLemmas
-pub mod SetLineNumbers
-pub mod NumbersCountOn
-pub mod LineCuts
-pub mod LineCounts
-pub mod LineStartsEnd
-pub mod PastEndFailures
-pub mod SimpleFilesNumbers

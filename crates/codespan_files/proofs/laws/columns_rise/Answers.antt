@@ -1,5 +1,0 @@
-use Rattle.codespan_files.proofs.LineCuts as cuts
-use Rattle.codespan_files.proofs.laws.columns_rise.Goals as goal
-
-pub returns : goal.returns
-returns c = cuts.columns_rise

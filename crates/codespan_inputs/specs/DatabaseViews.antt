@@ -1,0 +1,66 @@
+-- What contracts see of the file databases: names, sources, files, errors, and set line numbers.
+use Rattle.std.specs.Prelude.{ℕ, List, map, Option}
+use Rattle.std.specs.declared.convert.AsStr.{Ghosts}
+use Rattle.codespan_inputs.specs.declared.files.error.Error.{Error}
+use Rattle.codespan_inputs.specs.declared.files.simple.SimpleFile.{SimpleFile}
+use Rattle.codespan_inputs.specs.declared.files.database.SimpleFiles.{SimpleFiles}
+use Rattle.codespan_inputs.specs.declared.files.mapped.MappedFile.{MappedFile}
+use Rattle.codespan_inputs.specs.FileModel.{FileModel, Lookup}
+use Rattle.codespan_inputs.specs.SetLineNumbers.{set_pairs}
+use Rattle.codespan_inputs.specs.SimpleModel.{simple_file, database_file, database_failure}
+use Rattle.codespan_inputs.specs.MappedModel.{mapped_file, mapped_failure}
+
+module _ {Name Source : Type 0} {texts : Ghosts Source} where
+  -- the name of a `SimpleFile`
+  abbrev pub name_of : SimpleFile Name Source texts → Name
+  name_of file = file.name
+
+  -- the source of a `SimpleFile`
+  abbrev pub source_of : SimpleFile Name Source texts → Source
+  source_of file = file.source
+
+  -- the text of a `SimpleFile`
+  abbrev pub file_text_of : SimpleFile Name Source texts → List ℕ
+  file_text_of file = texts.text file.source
+
+  -- the file that the lookups of a `SimpleFile` describe, where `output` is what names display
+  abbrev pub file_of : (Name → Option (List ℕ)) → SimpleFile Name Source texts → FileModel
+  file_of output file = simple_file (output (name_of file)) (file_text_of file)
+
+  -- the names and sources of the files of a `SimpleFiles`, in the order of their ids
+  abbrev pub entries : SimpleFiles Name Source texts → List (Name × Source)
+  entries database = map (λ file. (name_of file, source_of file)) database.files.items
+
+  -- the file of an id in a `SimpleFiles`, where `output` is what names display
+  abbrev pub database_file_of : (Name → Option (List ℕ)) → SimpleFiles Name Source texts → ℕ
+      → FileModel
+  database_file_of output database id = database_file output texts.text (entries database) id
+
+  -- what a lookup of an id in a `SimpleFiles` fails with
+  abbrev pub database_failure_of : SimpleFiles Name Source texts → ℕ → Lookup → Option Error
+  database_failure_of database id lookup = database_failure texts.text (entries database) id lookup
+
+  -- the name of a `MappedFile`
+  abbrev pub mapped_name_of : MappedFile Name Source texts → Name
+  mapped_name_of file = name_of file.file
+
+  -- the source of a `MappedFile`
+  abbrev pub mapped_source_of : MappedFile Name Source texts → Source
+  mapped_source_of file = source_of file.file
+
+  -- the text of a `MappedFile`
+  abbrev pub mapped_text_of : MappedFile Name Source texts → List ℕ
+  mapped_text_of file = file_text_of file.file
+
+  -- the line indices whose numbers are set in a `MappedFile`, ascending, each with its number
+  abbrev pub set_numbers_of : MappedFile Name Source texts → List (ℕ × ℕ)
+  set_numbers_of file = set_pairs file.numbers.items
+
+  -- the file that the lookups of a `MappedFile` describe, where `output` is what names display
+  abbrev pub mapped_file_of : (Name → Option (List ℕ)) → MappedFile Name Source texts → FileModel
+  mapped_file_of output file =
+      mapped_file (output (mapped_name_of file)) (mapped_text_of file) (set_numbers_of file)
+
+  -- what a lookup of a `MappedFile` fails with
+  abbrev pub mapped_failure_of : MappedFile Name Source texts → Lookup → Option Error
+  mapped_failure_of file lookup = mapped_failure (mapped_text_of file) (set_numbers_of file) lookup

@@ -1,0 +1,248 @@
+-- For `is_plain` and `plain_from`: text of a line that is rendered unchanged.
+use Rattle.std.proofs.Common.{◌≡◌, ℕ, ◌+◌, ◌-◌, ◌<◌, ◌≤◌, Option, length, take, drop, length-append, length-drop, append_assoc, append-nil, arith, ◌++◌, Bool, true, false, ◌&&◌, ◌||◌, ◌==◌, List, [], ◌∷◌, None, refl, sym, ap, ◌∙◌}
+use Rattle.std.specs.Char.{encode_utf8, len_utf8}
+use Rattle.std.specs.Prelude.{not}
+use Rattle.std.specs.List.{list_any}
+use Rattle.std.specs.Str.{IsUtf8, chars}
+use Rattle.std.proofs.lemmas.Bool.{false≢true, ne_eqb}
+use Rattle.std.proofs.lemmas.List.Folds.{list_any-append}
+use Rattle.std.proofs.Math.Seq.{take-length}
+use Rattle.std.proofs.lemmas.List.{drop-drop, take-append-drop}
+use Rattle.std.proofs.lemmas.Str.{encodes-chars, length-encode, len_utf8_bounds}
+use lib.Utf8.{encodes}
+use Rattle.codespan_base.specs.Labels.{LabelModel, LaneMark, is_primary, is_primary_style}
+use Rattle.codespan_base.specs.Streams.{bytes, glyph}
+use Rattle.codespan_base.proofs.Writes.{bytes-append}
+use Rattle.codespan_picture.specs.declared.char_metrics.Metrics.{Metrics}
+use Rattle.codespan_picture.specs.Carets.{covers, max_label_end}
+use Rattle.codespan_picture.specs.Types.{LabelStyle, Primary}
+use Rattle.codespan_picture.proofs.CaretEnds.{style_under-below}
+use Rattle.codespan_picture.specs.declared.rows.primary_cover.PrimaryCover.{PrimaryCover}
+use Rattle.codespan_picture.specs.Private.PrimaryCover.{CoversAsLaneMarks, covers_char}
+use Rattle.codespan_picture.proofs.RowEquations.{style_change-same}
+use Rattle.codespan_picture.proofs.TextRuns.{IsOver, text-end, text_rest}
+use Rattle.codespan_picture.specs.CharMetrics.{metrics_then, width_at}
+use Rattle.codespan_picture.specs.Rows.{Line, RowContext}
+use Rattle.codespan_picture.specs.RowParts.{style_change, colored_text, source_glyph, source_style, styled, multi_label_covers}
+
+-- ---- no label is primary
+
+or_parts : (a b : Bool) → (a || b) ≡ false → (a ≡ false) × (b ≡ false)
+or_parts true b e = absurd (cc)
+or_parts false b e = (refl, e)
+
+-- none of these labels is primary and has a byte of the character
+no-label : (c : Metrics) (xs : List LabelModel) → list_any is_primary xs ≡ false
+    → list_any (λ x. is_primary x && covers x c) xs ≡ false
+no-label c [] e = refl
+no-label c (x ∷ xs) e =
+    let parts = or_parts (is_primary x) (list_any is_primary xs) e in
+    rw (parts.0, no-label c xs parts.1) refl
+
+-- none of these lane marks is of a primary label that covers the character
+no-lane_mark : (c : Metrics) (ms : List LaneMark)
+    → list_any (λ (m : LaneMark). is_primary_style m.style) ms ≡ false
+    → list_any (λ (m : LaneMark). is_primary_style m.style && multi_label_covers c m.multi_label)
+    ms ≡ false
+no-lane_mark c [] e = refl
+no-lane_mark c (m ∷ ms) e =
+    let parts = or_parts (is_primary_style m.style)
+    (list_any (λ (x : LaneMark). is_primary_style x.style) ms) e in
+    rw (parts.0, no-lane_mark c ms parts.1) refl
+
+-- no character is primary
+no-style : (line : Line) (c : Metrics) → list_any is_primary line.labels ≡ false
+    → list_any (λ (m : LaneMark). is_primary_style m.style) line.lanes.lane_marks ≡ false
+    → source_style line c ≡ None
+no-style line c labels lane_marks =
+    rw (no-label c line.labels labels, no-lane_mark c line.lanes.lane_marks lane_marks) refl
+
+-- ---- no character is a tab
+
+-- a tab is one byte
+tab-there : (c : ℕ) → c ≡ 9 → list_any (λ b. b == 9) (encode_utf8 c) ≡ true
+unfolding encode_utf8
+tab-there c e = rw e refl
+
+-- a character of a text without a tab is not a tab, and the text after it has none
+no-tab : (c : ℕ) (cs : List ℕ) → list_any (λ b. b == 9) (encodes (c ∷ cs)) ≡ false
+    → (c ≡ 9 → ⊥) × (list_any (λ b. b == 9) (encodes cs) ≡ false)
+no-tab c cs e =
+    let parts =
+    or_parts (list_any (λ b. b == 9) (encode_utf8 c)) (list_any (λ b. b == 9) (encodes cs))
+    (sym (list_any-append (λ b. b == 9) (encode_utf8 c) (encodes cs)) ∙ e) in
+    (λ is. false≢true (sym parts.0 ∙ tab-there c is), parts.1)
+
+-- a character that is not a tab is written unchanged
+as_is : (c : Metrics) → (c.ch ≡ 9 → ⊥) → source_glyph c ≡ glyph c.ch
+unfolding source_glyph
+as_is c h = rw (ne_eqb c.ch 9 h) refl
+
+-- so are the characters of a text without a tab
+plain-left : (context : RowContext) (line : Line) (tab byte_index column : ℕ) (cs : List ℕ)
+    → ((c : Metrics) → source_style line c ≡ None) → list_any (λ b. b == 9) (encodes cs) ≡ false
+    → styled context.severity (source_style line) source_glyph None
+    (metrics_then (λ _ _. []) tab byte_index column cs) ≡ bytes (encodes cs)
+unfolding style_change bytes
+plain-left context line tab byte_index column [] none e = refl
+plain-left context line tab byte_index column (c ∷ cs) none e =
+    let here : Metrics = record {
+      ch =
+          c;
+      byte_index = byte_index;
+      bytes = len_utf8 c;
+      column = column;
+      unicode_width = width_at tab column c;
+    } in
+    let parts = no-tab c cs e in
+    rw (none here, as_is here parts.0, plain-left context line tab (byte_index + len_utf8 c) (column + width_at tab column c) cs none parts.1)
+    (sym (bytes-append (encode_utf8 c) (encodes cs)))
+
+-- a text without a tab, in a line without a primary label
+colored-plain : (context : RowContext) (line : Line) → list_any is_primary line.labels ≡ false
+    → list_any (λ (m : LaneMark). is_primary_style m.style) line.lanes.lane_marks ≡ false
+    → list_any (λ b. b == 9) line.text ≡ false → IsUtf8 line.text
+    → colored_text context line ≡ bytes line.text
+unfolding colored_text
+colored-plain context line labels lane_marks tab u =
+    let is = encodes-chars line.text u in
+    plain-left context line context.tab_width 0 0 (chars line.text)
+    (λ c. no-style line c labels lane_marks) (ap (list_any (λ b. b == 9)) is ∙ tab)
+    ∙ ap bytes is
+
+-- a test that failed
+pub not_true : (b : Bool) → not b ≡ true → b ≡ false
+not_true true e = cc
+not_true false e = refl
+
+-- the same by tests that were made
+pub colored-seen : (context : RowContext) (line : Line) (labels lane_marks tab : Bool)
+    → labels ≡ list_any is_primary line.labels
+    → lane_marks ≡ list_any (λ (m : LaneMark). is_primary_style m.style) line.lanes.lane_marks
+    → tab ≡ list_any (λ b. b == 9) line.text → IsUtf8 line.text
+    → labels ≡ false → not lane_marks ≡ true → not tab ≡ true
+    → colored_text context line ≡ bytes line.text
+colored-seen context line labels lane_marks tab l m t u no_label no_lane_mark no_tab =
+    colored-plain context line (sym l ∙ no_label) (sym m ∙ not_true lane_marks no_lane_mark)
+    (sym t ∙ not_true tab no_tab) u
+
+-- ---- the end of a text
+
+-- past the greatest end of the labels none of them has a byte of a character
+no-label-past : (labels : List LabelModel) (c : Metrics) → max_label_end labels ≤ c.byte_index
+    → list_any (λ x. is_primary x && covers x c) labels ≡ false
+no-label-past labels c past = by_test (list_any (λ x. is_primary x && covers x c) labels) refl
+  where
+    by_test : (b : Bool) → list_any (λ x. is_primary x && covers x c) labels ≡ b
+        → list_any (λ x. is_primary x && covers x c) labels ≡ false
+    by_test true is = let low = style_under-below labels c Primary (rw is refl) in
+        absurd (omega arith)
+    by_test false is = is
+
+-- past that and past what lane marks cover no character is primary
+pub no-style-past : (line : Line) (given : PrimaryCover) (c : Metrics)
+    → CoversAsLaneMarks line.lanes.lane_marks given → covers_char given c ≡ false
+    → max_label_end line.labels ≤ c.byte_index → 1 ≤ c.bytes → source_style line c ≡ None
+no-style-past line given c are none past some =
+    rw (no-label-past line.labels c past, ← are c some, none) refl
+
+-- the text from one byte index on has no tab where that from an earlier one has none
+pub no-tab-later : (from byte_index : ℕ) (text : List ℕ) → from ≤ byte_index
+    → list_any (λ b. b == 9) (drop from text) ≡ false
+    → list_any (λ b. b == 9) (drop byte_index text) ≡ false
+no-tab-later from byte_index text h none =
+    let step : drop (byte_index - from) (drop from text) ≡ drop byte_index text =
+    drop-drop (byte_index - from) from text
+    ∙ (let i : from + (byte_index - from) ≡ byte_index =
+    omega arith in ap (λ k. drop k text) i) in
+    let rest = drop from text in
+    let parts = or_parts (list_any (λ b. b == 9) (take (byte_index - from) rest))
+    (list_any (λ b. b == 9) (drop (byte_index - from) rest))
+    (sym
+    (list_any-append (λ b. b == 9) (take (byte_index - from) rest) (drop (byte_index - from) rest)) ∙ ap (list_any (λ b. b == 9)) (take-append-drop (byte_index - from) rest) ∙ none) in
+    ap (list_any (λ b. b == 9)) (sym step) ∙ parts.1
+
+-- such characters are written unchanged, after the style before them ends
+plain-past : (context : RowContext) (line : Line) (tab byte_index column from top : ℕ)
+    (previous : Option LabelStyle) (cs : List ℕ)
+    → from ≤ byte_index → byte_index + length (encodes cs) ≤ top
+    → ((c : Metrics) → from ≤ c.byte_index → c.byte_index < top → 1 ≤ c.bytes
+    → source_style line c ≡ None)
+    → list_any (λ b. b == 9) (encodes cs) ≡ false
+    → styled context.severity (source_style line) source_glyph previous
+    (metrics_then (λ _ _. []) tab byte_index column cs) ≡ style_change context.severity previous None
+    ++ bytes (encodes cs)
+unfolding bytes
+plain-past context line tab byte_index column from top previous [] low high none e =
+    sym (append-nil (style_change context.severity previous None))
+plain-past context line tab byte_index column from top previous (c ∷ cs) low high none e =
+    let here : Metrics = record {
+      ch =
+          c;
+      byte_index = byte_index;
+      bytes = len_utf8 c;
+      column = column;
+      unicode_width = width_at tab column c;
+    } in
+    let parts = no-tab c cs e in
+    let some = (len_utf8_bounds c).0 in
+    let size = length-append (encode_utf8 c) (encodes cs) in
+    let bare = none here low (omega (arith, high, size, some, length-encode c)) some in
+    let rest =
+    plain-past context line tab (byte_index + len_utf8 c) (column + width_at tab column c) from
+    top None cs (omega arith) (omega (arith, high, size, length-encode c)) none parts.1 in
+    rw (bare, as_is here parts.0, rest, style_change-same context.severity None)
+    (append_assoc (style_change context.severity previous None) (glyph c) (bytes (encodes cs))
+    ∙ ap (λ l. style_change context.severity previous None ++ l)
+    (sym (bytes-append (encode_utf8 c) (encodes cs))))
+
+-- what is left of a text after a run
+pub text-past : (context : RowContext) (line : Line) (previous : Option LabelStyle) (run : List ℕ)
+    (from byte_index : ℕ) (left : List Metrics)
+    → IsOver context.tab_width line.text byte_index left
+    → from ≤ byte_index
+    → ((c : Metrics) → from ≤ c.byte_index → c.byte_index < length line.text → 1 ≤ c.bytes
+    → source_style line c ≡ None)
+    → list_any (λ b. b == 9) (drop from line.text) ≡ false
+    → (bytes run ++ style_change context.severity previous None) ++ bytes
+    (drop byte_index line.text) ≡ text_rest context line previous run left
+text-past context line previous run from byte_index left over low none tab =
+    let rest =
+    plain-past context line context.tab_width byte_index over.column from (length line.text)
+    previous over.codes low
+    (omega (arith, ap length over.text_left, length-drop byte_index line.text, over.within)) none
+    (ap (list_any (λ b. b == 9)) (sym over.text_left)
+    ∙ no-tab-later from byte_index line.text low tab) in
+    append_assoc (bytes run) (style_change context.severity previous None)
+    (bytes (drop byte_index line.text))
+    ∙ ap (λ l. bytes run ++ (style_change context.severity previous None ++ bytes l)) over.text_left
+    ∙ ap (λ l. bytes run ++ l) (sym rest)
+    ∙ ap (λ cs. bytes run ++ styled context.severity (source_style line) source_glyph previous cs)
+    (sym over.char_metrics)
+
+-- nothing is left
+pub text-over : (context : RowContext) (line : Line) (previous : Option LabelStyle) (run : List ℕ)
+    (byte_index : ℕ) (left : List Metrics)
+    → IsOver context.tab_width line.text byte_index left → left ≡ []
+    → (bytes run ++ style_change context.severity previous None) ++ bytes
+    (drop byte_index line.text) ≡ text_rest context line previous run left
+unfolding bytes
+text-over context line previous run byte_index left over ends =
+    by_codes over.codes (sym over.char_metrics ∙ ends) over.text_left
+  where
+    by_codes : (codes : List ℕ)
+        → metrics_then (λ _ _. []) context.tab_width byte_index over.column codes ≡ []
+        → drop byte_index line.text ≡ encodes codes
+        → (bytes run ++ style_change context.severity previous None) ++ bytes
+        (drop byte_index line.text) ≡ text_rest context line previous run left
+    by_codes [] none rest =
+        rw rest (append-nil (bytes run ++ style_change context.severity previous None))
+        ∙ text-end context line previous run left ends
+    by_codes (c ∷ cs) none rest = absurd (omega (arith, ap length none))
+
+-- the text from a byte index on, as it is borrowed
+pub tail-taken : (n : ℕ) (text bs : List ℕ) → bs ≡ text
+    → take (length bs - n) (drop n bs) ≡ drop n text
+tail-taken n text bs same =
+    ap (λ k. take k (drop n bs)) (sym (length-drop n bs)) ∙ take-length (drop n bs)
+    ∙ ap (drop n) same

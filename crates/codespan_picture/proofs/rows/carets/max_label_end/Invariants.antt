@@ -1,0 +1,12 @@
+use Rattle.std.proofs.Common.{◌≡◌, drop, max, fold}
+use Rattle.codespan_base.specs.Labels.{LabelModel}
+use Rattle.codespan_picture.specs.Carets.{max_label_end}
+use Rattle.codespan_picture.specs.Arguments.{single_label_views}
+use Rattle.codespan_picture.proofs.rows.carets.max_label_end.Given as goal
+
+-- the remaining labels decide
+abbrev pub invariant-loop-label : goal.invariant-loop-label
+invariant-loop-label l =
+    fold (λ m (x : LabelModel). max m x.end) l.greatest
+    (single_label_views (drop l.label-index l.labels))
+    ≡ max_label_end (single_label_views l.labels)

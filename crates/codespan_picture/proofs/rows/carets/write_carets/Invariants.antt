@@ -1,0 +1,24 @@
+use Rattle.std.proofs.Common.{◌≡◌, ◌+◌, length}
+use Rattle.codespan_base.proofs.Loops.{StillToWrite}
+use Rattle.codespan_picture.specs.CharMetrics.{char_metrics_to_end}
+use Rattle.codespan_picture.specs.Arguments.{single_label_views}
+use Rattle.codespan_picture.specs.Private.LineViews.{context_view}
+use Rattle.codespan_picture.specs.RowParts.{carets}
+use Rattle.codespan_picture.proofs.CaretRuns.{carets_left}
+use Rattle.codespan_picture.proofs.ScanState.{ScanState}
+use Rattle.codespan_picture.proofs.rows.carets.write_carets.Given as goal
+
+abbrev pub invariant-loop-metrics : goal.invariant-loop-metrics
+invariant-loop-metrics g l = record {
+  written_so_far : StillToWrite (g.W.PutStyle.sink l.fn.w)
+      (carets (context_view l.context) (single_label_views l.line.labels.now)
+      (char_metrics_to_end l.context.tab_width l.line.text.now))
+      (carets_left (context_view l.context) (single_label_views l.line.labels.now) l.previous l.run
+      (g.S.Cursor.CharCursor.left l.cursor))
+      (g.W.PutStyle.sink l.w);
+  scan_state : ScanState (length l.line.text.now + 1) l.run (g.S.Cursor.CharCursor.left l.cursor);
+  same : g.S.Cursor.CharCursor.labels l.cursor ≡ l.line.labels.now;
+}
+
+abbrev pub decreases-loop-metrics : goal.decreases-loop-metrics
+decreases-loop-metrics g l = length (g.S.Cursor.CharCursor.left l.cursor)

@@ -1,0 +1,25 @@
+use Rattle.codespan_base.proofs.Chains.{written-then, failed-then, failed-before, failed, writes-last}
+use Rattle.codespan_picture.specs.RowParts.{label_message}
+use Rattle.codespan_picture.proofs.rows.carets.write_message.Goals as goal
+
+pub returns-in_err-set_label : goal.returns-in_err-set_label
+unfolding label_message
+returns-in_err-set_label g c =
+    failed _ _ _ _ _ c.from_residual.ensures.1
+    (failed-before _ (failed-before _ c.in_err-set_label.ensures))
+
+pub returns-in_err-put_all : goal.returns-in_err-put_all
+unfolding label_message
+returns-in_err-put_all g c =
+    failed _ _ _ _ _ c.from_residual-in_err-put_all.ensures.1
+    (failed-before _
+    (failed-then _ c.in_ok-set_label.ensures
+    (rw c.as_bytes.ensures.value at c.in_err-put_all.ensures)))
+
+pub returns : goal.returns
+unfolding label_message
+returns g c =
+    writes-last _ _ _ _ _
+    (written-then _ _ _ c.in_ok-set_label.ensures
+    (rw c.as_bytes.ensures.value at c.in_ok-put_all.ensures))
+    c.reset.ensures

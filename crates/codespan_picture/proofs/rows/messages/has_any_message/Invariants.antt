@@ -1,0 +1,11 @@
+use Rattle.std.proofs.Common.{◌≡◌, drop}
+use Rattle.std.specs.List.{list_any}
+use Rattle.codespan_base.specs.Labels.{has_message}
+use Rattle.codespan_picture.specs.Arguments.{single_label_views}
+use Rattle.codespan_picture.proofs.rows.messages.has_any_message.Given as goal
+
+-- the remaining labels decide
+abbrev pub invariant-loop-label : goal.invariant-loop-label
+invariant-loop-label l =
+    list_any has_message (single_label_views (drop l.label-index l.labels))
+    ≡ list_any has_message (single_label_views l.labels)

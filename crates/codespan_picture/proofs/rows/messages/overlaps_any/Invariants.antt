@@ -1,0 +1,10 @@
+use Rattle.std.proofs.Common.{◌≡◌, drop}
+use Rattle.codespan_picture.specs.Arguments.{single_label_view, single_label_views}
+use Rattle.codespan_picture.specs.Rows.{overlaps_any}
+use Rattle.codespan_picture.proofs.rows.messages.overlaps_any.Given as goal
+
+-- the remaining others decide
+abbrev pub invariant-loop-other : goal.invariant-loop-other
+invariant-loop-other l =
+    overlaps_any (single_label_view l.label) (single_label_views (drop l.other-index l.others))
+    ≡ overlaps_any (single_label_view l.label) (single_label_views l.others)

@@ -1,0 +1,55 @@
+use Rattle.codespan_base.proofs.Chains.{written-then, failed-then, failed-before, failed, writes-last}
+use Rattle.codespan_picture.specs.RowParts.{outer_gutter_number}
+use Rattle.codespan_picture.proofs.rows.parts.outer_gutter_number.Goals as goal
+
+pub returns-in_err-set_line_number : goal.returns-in_err-set_line_number
+unfolding outer_gutter_number
+returns-in_err-set_line_number g c =
+    failed _ _ _ _ _ c.from_residual.ensures.1
+    (failed-before _
+    (failed-before _ (failed-before _ (failed-before _ c.in_err-set_line_number.ensures))))
+
+pub returns-in_err-put_spaces : goal.returns-in_err-put_spaces
+unfolding outer_gutter_number
+returns-in_err-put_spaces g c =
+    failed _ _ _ _ _ c.from_residual-in_err-put_spaces.ensures.1
+    (failed-before _
+    (failed-before _
+    (failed-before _
+    (failed-then _ c.in_ok-set_line_number.ensures
+    (rw (c.saturating_sub.ensures, c.count_digits.ensures) at c.in_err-put_spaces.ensures)))))
+
+pub returns-in_err-put_number : goal.returns-in_err-put_number
+unfolding outer_gutter_number
+returns-in_err-put_number g c =
+    failed _ _ _ _ _ c.from_residual-in_err-put_number.ensures.1
+    (failed-before _
+    (failed-before _
+    (failed-then _
+    (written-then _ _ _ c.in_ok-set_line_number.ensures
+    (rw (c.saturating_sub.ensures, c.count_digits.ensures) at c.in_ok-put_spaces.ensures))
+    c.in_err-put_number.ensures)))
+
+pub returns-in_err-reset : goal.returns-in_err-reset
+unfolding outer_gutter_number
+returns-in_err-reset g c =
+    failed _ _ _ _ _ c.from_residual-in_err-reset.ensures.1
+    (failed-before _
+    (failed-then _
+    (written-then _ _ _
+    (written-then _ _ _ c.in_ok-set_line_number.ensures
+    (rw (c.saturating_sub.ensures, c.count_digits.ensures) at c.in_ok-put_spaces.ensures))
+    c.in_ok-put_number.ensures)
+    c.in_err-reset.ensures))
+
+pub returns : goal.returns
+unfolding outer_gutter_number
+returns g c =
+    writes-last _ _ _ _ _
+    (written-then _ _ _
+    (written-then _ _ _
+    (written-then _ _ _ c.in_ok-set_line_number.ensures
+    (rw (c.saturating_sub.ensures, c.count_digits.ensures) at c.in_ok-put_spaces.ensures))
+    c.in_ok-put_number.ensures)
+    c.in_ok-reset.ensures)
+    c.write_space.ensures

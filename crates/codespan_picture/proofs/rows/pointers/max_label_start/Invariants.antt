@@ -1,0 +1,12 @@
+use Rattle.std.proofs.Common.{◌≡◌, fold, drop, max}
+use Rattle.codespan_base.specs.Labels.{LabelModel}
+use Rattle.codespan_picture.specs.Arguments.{single_label_views}
+use Rattle.codespan_picture.specs.RowParts.{max_label_start}
+use Rattle.codespan_picture.proofs.rows.pointers.max_label_start.Given as goal
+
+-- the remaining labels decide
+abbrev pub invariant-loop-label : goal.invariant-loop-label
+invariant-loop-label l =
+    fold (λ m (x : LabelModel). max m x.start) l.greatest
+    (single_label_views (drop l.label-index l.labels))
+    ≡ max_label_start (single_label_views l.labels)

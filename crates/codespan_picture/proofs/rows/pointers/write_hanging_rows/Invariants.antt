@@ -1,0 +1,21 @@
+use Rattle.std.specs.Prelude.{filter, ◌≤◌}
+use Rattle.codespan_base.specs.Labels.{has_message}
+use Rattle.codespan_base.proofs.Loops.{StillToWrite}
+use Rattle.codespan_picture.specs.Arguments.{single_label_views}
+use Rattle.codespan_picture.specs.Private.LineViews.{context_view, line_view}
+use Rattle.codespan_picture.specs.RowParts.{max_label_start}
+use Rattle.codespan_picture.specs.Private.Runs.{hanging_stream}
+use Rattle.codespan_picture.proofs.rows.pointers.write_hanging_rows.Given as goal
+
+-- the remaining labels are the first ones
+abbrev pub invariant-loop-label : goal.invariant-loop-label
+invariant-loop-label g l = record {
+  with_written : StillToWrite (g.W.PutStyle.sink l.fn.w)
+      (hanging_stream (context_view l.rows.context) (line_view l.rows.line)
+      (filter has_message (single_label_views l.labels)))
+      (hanging_stream (context_view l.rows.context) (line_view l.rows.line)
+      (filter has_message (single_label_views l.label-iterator.iter.rest.now)))
+      (g.W.PutStyle.sink l.w);
+  near : max_label_start (single_label_views l.label-iterator.iter.rest.now) ≤ max_label_start
+      (single_label_views l.rows.line.labels.now);
+}

@@ -1,0 +1,26 @@
+use Rattle.codespan_base.proofs.Chains.{written-then, failed-then, failed-before, failed, writes-last}
+use Rattle.codespan_picture.proofs.Pieces.{before-near, after-near}
+use Rattle.codespan_picture.proofs.rows.pointers.write_pointers_and_messages.Goals as goal
+
+pub returns-in_err-write_pointer_row : goal.returns-in_err-write_pointer_row
+returns-in_err-write_pointer_row g c =
+    failed _ _ _ _ _ c.from_residual.ensures.1
+    (failed-before _ (failed-before _ c.in_err-write_pointer_row.ensures))
+
+pub write_hanging_rows-requires-clause-near : goal.write_hanging_rows-requires-clause-near
+write_hanging_rows-requires-clause-near g c = after-near _ _ _ c.requires.slices
+
+pub write_hanging_rows-requires-2-clause-near : goal.write_hanging_rows-requires-2-clause-near
+write_hanging_rows-requires-2-clause-near g c = before-near _ _ _ c.requires.slices
+
+pub returns-in_err-write_hanging_rows : goal.returns-in_err-write_hanging_rows
+returns-in_err-write_hanging_rows g c =
+    failed _ _ _ _ _ c.from_residual-in_err-write_hanging_rows.ensures.1
+    (failed-before _
+    (failed-then _ c.in_ok-write_pointer_row.ensures c.in_err-write_hanging_rows.ensures))
+
+pub returns : goal.returns
+returns g c =
+    writes-last _ _ _ _ _
+    (written-then _ _ _ c.in_ok-write_pointer_row.ensures c.in_ok-write_hanging_rows.ensures)
+    c.write_hanging_rows-2.ensures

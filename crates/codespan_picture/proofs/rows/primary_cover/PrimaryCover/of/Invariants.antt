@@ -1,0 +1,18 @@
+use Rattle.std.proofs.Common.{◌≡◌, ◌≤◌, ◌&&◌, ◌||◌, drop, map}
+use Rattle.std.specs.List.{list_any}
+use Rattle.codespan_base.specs.Labels.{LaneMark, is_primary_style}
+use Rattle.codespan_picture.specs.declared.char_metrics.Metrics.{Metrics}
+use Rattle.codespan_picture.specs.Arguments.{lane_mark_view}
+use Rattle.codespan_picture.specs.Private.PrimaryCover.{covers_char}
+use Rattle.codespan_picture.specs.RowParts.{multi_label_covers}
+use Rattle.codespan_picture.proofs.rows.primary_cover.PrimaryCover.of.Given as goal
+
+-- what was found and the remaining lane marks cover what all of them cover
+abbrev pub invariant-loop-lane_mark : goal.invariant-loop-lane_mark
+invariant-loop-lane_mark l =
+    (c : Metrics) → 1 ≤ c.bytes
+    → (covers_char l.found c || list_any
+    (λ (m : LaneMark). is_primary_style m.style && multi_label_covers c m.multi_label)
+    (map lane_mark_view (drop l.lane_mark-index l.lane_marks)))
+    ≡ list_any (λ (m : LaneMark). is_primary_style m.style && multi_label_covers c m.multi_label)
+    (map lane_mark_view l.lane_marks)

@@ -1,0 +1,22 @@
+use Rattle.std.proofs.Common.{◌≡◌, ◌≤◌, length}
+use Rattle.codespan_base.proofs.Loops.{StillToWrite}
+use Rattle.codespan_picture.specs.Private.LineViews.{context_view, line_view}
+use Rattle.codespan_picture.specs.RowParts.{colored_text}
+use Rattle.codespan_picture.proofs.TextRuns.{IsOver, piece, text_rest}
+use Rattle.codespan_picture.proofs.rows.source.write_colored_text.Given as goal
+
+abbrev pub invariant-loop-metrics : goal.invariant-loop-metrics
+invariant-loop-metrics g l = record {
+  written_so_far : StillToWrite (g.W.PutStyle.sink l.fn.w)
+      (colored_text (context_view l.context) (line_view l.line))
+      (text_rest (context_view l.context) (line_view l.line) l.previous (piece l.text l.start l.end)
+      (g.C.CharCursor.left l.characters))
+      (g.W.PutStyle.sink l.w);
+  over : IsOver l.context.tab_width l.line.text.now l.end (g.C.CharCursor.left l.characters);
+  same : g.C.CharCursor.labels l.characters ≡ l.line.labels.now;
+  ordered : l.start ≤ l.end;
+  within : l.end ≤ length l.line.text.now;
+}
+
+abbrev pub decreases-loop-metrics : goal.decreases-loop-metrics
+decreases-loop-metrics g l = length (g.C.CharCursor.left l.characters)

@@ -1,0 +1,18 @@
+use Rattle.std.proofs.Common.{◌<◌, length, arith}
+use Rattle.std.proofs.lemmas.Bool.Decides.{nat_tests}
+use Rattle.codespan_base.proofs.Chains.{failed-before, failed, writes-last}
+use Rattle.codespan_picture.proofs.UnderlineRows.{underline_message-some}
+use Rattle.codespan_picture.proofs.rows.underlines.write_underline_message.Goals as goal
+
+pub returns-in_err-write_space : goal.returns-in_err-write_space
+returns-in_err-write_space g c =
+    let some : 0 < length c.args.message.now = grind (arith, nat_tests) in
+    rw (underline_message-some _ some)
+    (failed _ _ _ _ _ c.from_residual.ensures.1 (failed-before _ c.in_err-write_space.ensures))
+
+pub returns : goal.returns
+returns g c =
+    let some : 0 < length c.args.message.now = grind (arith, nat_tests) in
+    rw (underline_message-some _ some)
+    (writes-last _ _ _ _ _ c.in_ok-write_space.ensures
+    (rw c.as_bytes.ensures.value at c.put_all.ensures))

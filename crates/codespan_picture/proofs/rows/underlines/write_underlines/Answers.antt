@@ -1,0 +1,41 @@
+use Rattle.std.proofs.Common.{◌≡◌, ◌∙◌, [], arith, refl, sym, drop}
+use Rattle.std.proofs.lemmas.Grind.{common_steps}
+use Rattle.std.proofs.lemmas.Result.{err_from_is_err_and}
+use Rattle.codespan_base.proofs.Loops.{StillToWrite-start, StillToWrite-more, StillToWrite-same, StillToWrite-failed, StillToWrite-end}
+use Rattle.codespan_picture.proofs.UnderlineRows.{underlines-in, underlines-out}
+use Rattle.codespan_picture.proofs.rows.underlines.write_underlines.Goals as goal
+use Rattle.codespan_picture.proofs.rows.underlines.write_underlines.Goals.{then-has_underline+in_ok-write_underline_row, else-has_underline}
+
+pub loop-lane_mark-init : goal.loop-lane_mark-init
+loop-lane_mark-init g c = StillToWrite-start _ _ _ refl
+
+pub returns-in_err-write_underline_row : goal.returns-in_err-write_underline_row
+returns-in_err-write_underline_row g c =
+    let p = err_from_is_err_and c.from_residual.result c.from_residual.ensures.1 in
+    rw p.1
+    (StillToWrite-failed _ _ _ _ _ _ _ c.loop-lane_mark.invariant
+    c.in_err-write_underline_row.ensures
+    (underlines-in _ _ c.args.line.leading c.args.line.lanes.lane_marks.now
+    c.loop-lane_mark.lane_mark-index _ (omega arith) c.args.line.measured
+    (sym c.has_underline.ensures ∙ c.if-has_underline.true)))
+
+pub loop-lane_mark-preserved : goal.loop-lane_mark-preserved
+loop-lane_mark-preserved g c = elim c.if-has_underline.branch [
+  | then-has_underline+in_ok-write_underline_row w ↦ rw w.w-is
+      (StillToWrite-more _ _ _ _ _ _ _ c.loop-lane_mark.invariant
+      w.in_ok-write_underline_row.ensures
+      (underlines-in _ _ c.args.line.leading c.args.line.lanes.lane_marks.now
+      c.loop-lane_mark.lane_mark-index _ (omega arith) c.args.line.measured
+      (sym c.has_underline.ensures ∙ w.if-has_underline.true)))
+  | else-has_underline w ↦ rw w.w-is (StillToWrite-same _ _ _ _ _
+      (underlines-out _ _ c.args.line.leading c.args.line.lanes.lane_marks.now
+      c.loop-lane_mark.lane_mark-index _ (omega arith) c.args.line.measured
+      (sym c.has_underline.ensures ∙ w.if-has_underline.false))
+      c.loop-lane_mark.invariant)
+]
+
+pub returns : goal.returns
+returns g c =
+    StillToWrite-end _ _ _ _ c.loop-lane_mark.invariant
+    (let e : drop c.loop-lane_mark.lane_mark-index c.args.line.lanes.lane_marks.now ≡ [] =
+    grind (arith, common_steps) in rw e refl)

@@ -1,0 +1,15 @@
+use Rattle.std.proofs.Common.{drop}
+use Rattle.codespan_base.proofs.Loops.{StillToWrite}
+use Rattle.codespan_picture.specs.Private.LineViews.{context_view, line_view}
+use Rattle.codespan_picture.specs.Rows.{underline_rows}
+use Rattle.codespan_picture.specs.RowStreams.{stream_of_rows}
+use Rattle.codespan_picture.proofs.UnderlineRows.{underlines_of}
+use Rattle.codespan_picture.proofs.rows.underlines.write_underlines.Given as goal
+
+abbrev pub invariant-loop-lane_mark : goal.invariant-loop-lane_mark
+invariant-loop-lane_mark g l =
+    StillToWrite (g.W.PutStyle.sink l.fn.w)
+    (stream_of_rows (context_view l.context) (underline_rows (line_view l.line)))
+    (underlines_of (context_view l.context) (line_view l.line)
+    (drop l.lane_mark-index l.lane_mark-items))
+    (g.W.PutStyle.sink l.w)

@@ -1,0 +1,43 @@
+-- What the characters of a line are made from.
+use Rattle.std.specs.Prelude.{◌≡◌, ℕ, ◌+◌, ◌≤◌, List, [], ◌∷◌, ◌++◌}
+use Rattle.codespan_picture.specs.declared.char_metrics.Metrics.{Metrics}
+use Rattle.codespan_picture.specs.CharMetrics.{char_metrics, char_metrics_to_end, width_of}
+use Rattle.codespan_picture.specs.Arguments.{SingleLabelTuple}
+use Rattle.codespan_picture.specs.declared.rows.line.RowContext as context
+use Rattle.codespan_picture.specs.declared.rows.line.Line as rust_line
+
+-- what they are made from: the tab width, the text and the labels of the line
+pub record CharInput : Type 0 where
+  pub tab_width : ℕ
+  pub text : List ℕ
+  pub labels : List SingleLabelTuple
+
+-- what those of a drawn line are made from
+abbrev pub char_input : context.RowContext → rust_line.Line → CharInput
+char_input x line = record {
+  tab_width = x.tab_width;
+  text = line.text.now;
+  labels = line.labels.now;
+}
+
+-- the characters of the line
+abbrev pub characters_of : CharInput → List Metrics
+characters_of x = char_metrics x.tab_width x.text
+
+-- the characters of the line, and the placeholder after the last one
+abbrev pub characters_to_end_of : CharInput → List Metrics
+characters_to_end_of x = char_metrics_to_end x.tab_width x.text
+
+-- the characters end at this byte index or before it
+abbrev pub EndBy : ℕ → List Metrics → Type 0
+EndBy byte_index [] = Unit {0}
+EndBy byte_index (c ∷ cs) = (c.byte_index + c.bytes ≤ byte_index) × EndBy byte_index cs
+
+-- `left` are the characters `all` but for some at the start, which end at this byte index or before
+-- it and occupy so many cells that the others begin at this column
+pub record LeavesOut (byte_index : ℕ) (all : List Metrics) (column : ℕ)
+    (left : List Metrics) : Type 0 where
+  pub before : List Metrics
+  pub whole : before ++ left ≡ all
+  pub ended : EndBy byte_index before
+  pub width : column ≡ width_of before

@@ -1,0 +1,55 @@
+-- What the rows of a line are rendered from, by the structs of `line` and `lanes`.
+use Rattle.std.specs.Prelude.{ℕ, Option}
+use Rattle.std.specs.Option.{option_map}
+use Rattle.codespan_base.specs.Streams.{Stream}
+use Rattle.codespan_picture.specs.declared.rows.lanes.LaneRow.{LaneRow as RustLaneRow}
+use Rattle.codespan_picture.specs.declared.rows.lanes.LaneRow.TheVariants as rust_variant
+use Rattle.codespan_picture.specs.declared.rows.line.RowContext as context
+use Rattle.codespan_picture.specs.declared.rows.line.Lanes as lanes
+use Rattle.codespan_picture.specs.declared.rows.line.Line as line
+use Rattle.codespan_picture.specs.Arguments.{LaneMarkTuple, single_label_views, lanes_of, lane_mark_view}
+use Rattle.codespan_picture.specs.Lanes.{LaneRow, Source, Empty, SingleLabels, Underline, row_shape, row_crossing}
+use Rattle.codespan_picture.specs.Rows.{RowContext, Lanes, Line}
+use Rattle.codespan_picture.specs.RowParts.{inner_gutter_column, inner_gutter}
+
+-- what all rows of a line are rendered by
+abbrev pub context_view : context.RowContext → RowContext
+context_view x = record {
+  chars = x.chars.now;
+  tab_width = x.tab_width;
+  layout = x.layout;
+  severity = x.severity;
+  padding = x.padding;
+}
+
+-- how many lanes a row has, and the lane marks in them
+abbrev pub lanes_view : lanes.Lanes → Lanes
+lanes_view x = lanes_of x.count x.lane_marks.now
+
+-- a drawn line
+abbrev pub line_view : line.Line → Line
+line_view x = record {
+  number = x.number;
+  text = x.text.now;
+  labels = single_label_views x.labels.now;
+  lanes = lanes_view x.lanes;
+}
+
+-- a kind of row, as far as its lanes go
+abbrev pub lane_row_view : RustLaneRow → LaneRow
+lane_row_view rust_variant.Source = Source
+lane_row_view rust_variant.Empty = Empty
+lane_row_view rust_variant.SingleLabels = SingleLabels
+lane_row_view (rust_variant.Underline corner_lane style multi_label) =
+    Underline (lane_mark_view (corner_lane, style, multi_label))
+
+-- one lane of a kind of row, from the lane mark in it
+unfoldable pub row_lane_view : RowContext → ℕ → RustLaneRow → ℕ → Option LaneMarkTuple → Stream
+row_lane_view context leading row lane lane_mark =
+    inner_gutter_column context (row_crossing (lane_row_view row) lane)
+    (row_shape context.layout leading (lane_row_view row) lane)
+    (option_map lane_mark_view lane_mark)
+
+-- the lanes of a kind of row
+unfoldable pub row_lanes_view : RowContext → ℕ → RustLaneRow → Lanes → Stream
+row_lanes_view context leading row lanes = inner_gutter context leading (lane_row_view row) lanes

@@ -1,0 +1,108 @@
+-- Parts of rows, by the arguments of the functions that write them.
+use Rattle.std.specs.Prelude.{ℕ, List, ◌++◌, filter, Option}
+use Rattle.std.specs.Option.{option_map}
+use Rattle.std.specs.Borrow.{Bor}
+use Rattle.codespan_picture.specs.Types.{LabelStyle, Severity}
+use Rattle.codespan_base.specs.Labels.{has_message}
+use Rattle.codespan_base.specs.Streams.{Stream, Header, bytes, newline, style_mark, space}
+use Rattle.codespan_picture.specs.declared.char_metrics.Metrics.{Metrics}
+use Rattle.codespan_picture.specs.CharMetrics.{char_metrics, char_metrics_to_end}
+use Rattle.codespan_picture.specs.Arguments.{SingleLabelTuple, LaneMarkTuple, single_label_view, single_label_views, lane_mark_view, locus_view, text_now}
+use Rattle.codespan_picture.specs.Lanes.{Source, Underline, crossing_cells, label_glyph}
+use Rattle.codespan_picture.specs.Rows.{caret_rows, hanging_labels, hanging_rows}
+use Rattle.codespan_picture.specs.RowParts.{border_left, carets, metrics_before, outer_gutter, label_message, leading_of, outer_gutter_number, pointers, inner_gutter, severity_name}
+use Rattle.codespan_picture.specs.RowStreams.{bracketed, leading_locus, pointer_row, stream_of_rows}
+use Rattle.codespan_picture.specs.declared.arguments.Locus as rust_locus
+use Rattle.codespan_picture.specs.declared.rows.line.RowContext as context
+use Rattle.codespan_picture.specs.declared.rows.line.Line as rust_line
+use Rattle.codespan_picture.specs.declared.rows.messages.Messages as messages
+use Rattle.codespan_picture.specs.Private.LineViews.{context_view, lanes_view, line_view}
+use Rattle.codespan_picture.specs.Private.Runs.{hanging_stream}
+
+-- ---- the header
+
+-- a header up to its message
+abbrev pub header_start_view : Option (Bor rust_locus.Locus) → Severity → Option (Bor (List ℕ))
+    → Stream
+header_start_view locus severity code =
+    leading_locus (option_map (λ (at : Bor rust_locus.Locus). locus_view at.now) locus)
+    ++ style_mark (Header severity) ++ bytes (severity_name severity)
+    ++ bracketed (option_map text_now code)
+
+-- ---- the starts of rows
+
+-- the start of a source row: up to its text
+abbrev pub source_lanes_view : context.RowContext → rust_line.Line → Stream
+source_lanes_view x line =
+    outer_gutter_number x.padding line.number ++ border_left x.chars.now
+    ++ inner_gutter (context_view x) (leading_of (line_view line)) Source (lanes_view line.lanes)
+    ++ space
+
+-- the start of an underline row: up to the end of its lanes
+abbrev pub underline_lanes_view : context.RowContext → rust_line.Line → LaneMarkTuple → Stream
+underline_lanes_view x line lane_mark =
+    outer_gutter x.padding ++ border_left x.chars.now
+    ++ inner_gutter (context_view x) (leading_of (line_view line))
+    (Underline (lane_mark_view lane_mark))
+    (lanes_view line.lanes)
+
+-- the two characters of a lane that is not empty: the line that crosses it, if one does, or a
+-- space, and its own character
+abbrev pub lane_glyph_view : context.RowContext → Option LaneMarkTuple → LabelStyle → ℕ → Stream
+lane_glyph_view x crossing style own =
+    crossing_cells x.severity x.chars.now (option_map lane_mark_view crossing) 1
+    ++ label_glyph x.severity style own
+
+-- ---- the rows under a line
+
+-- the characters of a line
+abbrev pub line_metrics_view : context.RowContext → rust_line.Line → List Metrics
+line_metrics_view x line = char_metrics x.tab_width line.text.now
+
+-- the characters of a line, and the placeholder after the last one
+abbrev pub line_metrics_to_end_view : context.RowContext → rust_line.Line → List Metrics
+line_metrics_to_end_view x line = char_metrics_to_end x.tab_width line.text.now
+
+-- the carets of labels under characters
+abbrev pub carets_view : context.RowContext → List SingleLabelTuple → List Metrics → Stream
+carets_view x labels cs = carets (context_view x) (single_label_views labels) cs
+
+-- the caret row of a line that has labels
+abbrev pub caret_rows_view : context.RowContext → rust_line.Line → Stream
+caret_rows_view x line =
+    stream_of_rows (context_view x)
+    (caret_rows (line_view line) (single_label_views line.labels.now))
+
+-- the pointers of a line's labels under characters
+abbrev pub pointers_view : context.RowContext → rust_line.Line → List Metrics → Stream
+pointers_view x line cs = pointers (context_view x) (single_label_views line.labels.now) cs
+
+-- the pointers under the characters that begin before a byte index
+abbrev pub pointers_before_view : context.RowContext → rust_line.Line → ℕ → Stream
+pointers_before_view x line before =
+    pointers_view x line (metrics_before before (line_metrics_view x line))
+
+-- a label's message, in its style
+abbrev pub label_message_view : Severity → SingleLabelTuple → Stream
+label_message_view severity x =
+    label_message severity (single_label_view x).style (single_label_view x).message
+
+-- the rows of the messages of these labels, the last one first
+abbrev pub hanging_stream_view : context.RowContext → rust_line.Line → List SingleLabelTuple
+    → Stream
+hanging_stream_view x line labels =
+    hanging_stream (context_view x) (line_view line)
+    (filter has_message (single_label_views labels))
+
+-- the pointer row, and the rows of the messages of these labels that may hang
+abbrev pub pointer_and_hanging_view : context.RowContext → rust_line.Line → messages.Messages
+    → Stream
+pointer_and_hanging_view x line found =
+    pointer_row (context_view x) (line_view line) ++ newline
+    ++ hanging_stream_view x line found.after.now ++ hanging_stream_view x line found.before.now
+
+-- the pointer row and the rows of all messages of the line that hang, or nothing where none hangs
+abbrev pub hanging_rows_view : context.RowContext → rust_line.Line → Stream
+hanging_rows_view x line =
+    stream_of_rows (context_view x)
+    (hanging_rows (line_view line) (hanging_labels (single_label_views line.labels.now)))

@@ -1,0 +1,183 @@
+//! The carets under a line.
+
+ghost use Rattle.std.specs.Prelude.{◌≡◌, ◌++◌};
+ghost use Rattle.codespan_base.specs.Streams.{newline};
+ghost use Rattle.codespan_base.specs.WriterLaw.{Writes};
+ghost use Rattle.codespan_picture.specs.Carets.{is_overlapping, max_label_end};
+ghost use Rattle.codespan_picture.specs.Arguments.{single_label_view, single_label_views};
+ghost use Rattle.codespan_picture.specs.Private.Runs.{caret_run, optional_label_view};
+ghost use Rattle.codespan_picture.specs.Private.LineViews.{context_view, line_view};
+ghost use Rattle.codespan_picture.specs.Private.RowViews.{carets_view, line_metrics_to_end_view, label_message_view};
+ghost use Rattle.codespan_picture.specs.RowParts.{carets, style_change, trailing_message};
+ghost use Rattle.codespan_picture.specs.RowStreams.{caret_row};
+ghost use Rattle.codespan_picture.specs.Rows.{trailing_label};
+ghost use Rattle.codespan_picture.specs.Private.LineCharacters.{char_input};
+
+use crate::arguments::SingleLabel;
+use crate::rows::char_cursor::CharCursor;
+use crate::rows::line::{Line, RowContext};
+use crate::rows::line_characters::LineCharacters;
+use crate::rows::messages::Messages;
+use crate::rows::parts::{change_style, write_newline, write_row_start, write_space};
+use crate::rows::runs::{write_repeated, write_spaces};
+use codespan_base::diagnostic::{LabelStyle, Severity};
+use codespan_base::term::Chars;
+use codespan_base::term::config::put_style::PutStyle;
+use codespan_base::term::config::writing::put_all;
+
+/// Returns whether the label has a byte from the index `start` to before the index `end`.
+pub fn is_overlapping(label: &SingleLabel<'_>, start: usize, end: usize) -> bool
+    ensures { result ≡ is_overlapping (single_label_view label.now) start end }
+{
+    label.1.start.max(start) < label.1.end.min(end)
+}
+
+/// Returns the greatest end of the labels, in bytes from the line's start, or 0 where there is
+/// none.
+pub fn max_label_end(labels: &[SingleLabel<'_>]) -> usize
+    ensures { result ≡ max_label_end (single_label_views labels.now) }
+{
+    let mut greatest = 0;
+    for label in labels {
+        greatest = label.1.end.max(greatest);
+    }
+    greatest
+}
+
+/// Writes `count` carets of a style, or spaces where there is no style.
+#[tactic(auto, unfolding(crate::specs::Private::Runs::caret_run))]
+#[inline(always)]
+fn write_caret_run<W: PutStyle>(
+    w: &mut W,
+    chars: &Chars<'_>,
+    style: Option<LabelStyle>,
+    count: u128,
+) -> Result<(), W::Error>
+    ensures { Writes (W.sink w.old) (caret_run chars.now style count) result (W.sink w.new) }
+{
+    match style {
+        None => write_spaces(w, count)?,
+        Some(LabelStyle::Primary) => write_repeated(w, chars.single_primary_caret, count)?,
+        Some(LabelStyle::Secondary) => write_repeated(w, chars.single_secondary_caret, count)?,
+    }
+    Ok(())
+}
+
+/// Writes a run of `count` carets of one style, or of spaces, and the style mark of the next run.
+#[inline(always)]
+fn end_caret_run<W: PutStyle>(
+    w: &mut W,
+    context: RowContext<'_>,
+    previous: Option<LabelStyle>,
+    count: u128,
+    style: Option<LabelStyle>,
+) -> Result<(), W::Error>
+    ensures { Writes (W.sink w.old)
+        (caret_run context.entry.chars.now previous count
+        ++ style_change context.entry.severity previous style)
+        result (W.sink w.new) }
+{
+    write_caret_run(w, context.chars, previous, count)?;
+    change_style(w, context.severity, previous, style)
+}
+
+/// Writes the carets under the characters of a line, the last of which is the placeholder after the
+/// text.
+fn write_carets<W: PutStyle, S: LineCharacters>(
+    w: &mut W,
+    context: RowContext<'_>,
+    line: Line<'_, '_>,
+    characters: &S,
+) -> Result<(), W::Error>
+    requires input { S.input characters.now ≡ char_input context line }
+    ensures { Writes (W.sink w.old)
+        (carets_view context.entry line.entry.labels.now
+        (line_metrics_to_end_view context.entry line.entry))
+        result (W.sink w.new) }
+{
+    let end = max_label_end(line.labels);
+    let (mut run, mut cursor) = characters.characters_from_labels(end);
+    let mut previous = None;
+    while let Some(metrics) = cursor.next_metrics() {
+        if metrics.byte_index >= end {
+            break;
+        }
+        let style = cursor.style_under(metrics);
+        if style != previous {
+            end_caret_run(w, context, previous, run, style)?;
+            run = 0;
+            previous = style;
+        }
+        run += metrics.unicode_width as u128;
+    }
+    end_caret_run(w, context, previous, run, None)
+}
+
+/// Writes a label's message in its style.
+///
+/// # Errors
+///
+/// The writer's error; a prefix has then been written.
+pub fn write_message<W: PutStyle>(
+    w: &mut W,
+    severity: Severity,
+    label: &SingleLabel<'_>,
+) -> Result<(), W::Error>
+    ensures { Writes (W.sink w.old) (label_message_view severity label.now)
+        result (W.sink w.new) }
+{
+    w.set_label(severity, label.0)?;
+    put_all(w, label.2.as_bytes())?;
+    w.reset()
+}
+
+/// Writes a space and the trailing message, where a message trails.
+#[tactic(auto, using(codespan_base::proofs::Writes::write_chains), unfolding(crate::specs::RowParts::trailing_message))]
+#[inline(always)]
+fn write_trailing<W: PutStyle>(
+    w: &mut W,
+    severity: Severity,
+    trailing_label: Option<&SingleLabel<'_>>,
+) -> Result<(), W::Error>
+    ensures { Writes (W.sink w.old)
+        (trailing_message severity (optional_label_view trailing_label.entry))
+        result (W.sink w.new) }
+{
+    match trailing_label {
+        Some(label) => {
+            write_space(w)?;
+            write_message(w, severity, label)
+        }
+        None => Ok(()),
+    }
+}
+
+/// Writes the caret row of a line: its carets, and the message that trails them.
+///
+/// # Errors
+///
+/// The writer's error; a prefix has then been written.
+///
+/// # Requires
+///
+/// - `characters` has the context's tab width, and the text and labels of `line`.
+/// - `messages.trailing_label` is the label of `line` whose message trails, where there is one.
+pub fn write_caret_row<W: PutStyle, S: LineCharacters>(
+    w: &mut W,
+    context: RowContext<'_>,
+    line: Line<'_, '_>,
+    characters: &S,
+    messages: Messages<'_, '_>,
+) -> Result<(), W::Error>
+    requires input { S.input characters.now ≡ char_input context line }
+    requires trailing_label { optional_label_view messages.trailing_label
+        ≡ trailing_label (single_label_views line.labels.now) }
+    ensures { Writes (W.sink w.old)
+        (caret_row (context_view context.entry) (line_view line.entry) ++ newline) result
+        (W.sink w.new) }
+{
+    write_row_start(w, context, line)?;
+    write_carets(w, context, line, characters)?;
+    write_trailing(w, context.severity, messages.trailing_label)?;
+    write_newline(w)
+}

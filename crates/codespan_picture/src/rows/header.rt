@@ -1,0 +1,134 @@
+//! The header of a diagnostic, and the start of a snippet.
+
+ghost use Rattle.std.specs.Prelude.{◌≡◌, ◌++◌};
+ghost use Rattle.std.specs.Option.{option_map};
+ghost use Rattle.codespan_base.specs.Streams.{newline};
+ghost use Rattle.codespan_base.specs.WriterLaw.{Writes};
+ghost use Rattle.codespan_base.specs.SnippetStarts.{start_text};
+ghost use Rattle.codespan_picture.specs.Arguments.{locus_view, text_now};
+ghost use Rattle.codespan_picture.specs.RowParts.{severity_name};
+ghost use Rattle.codespan_picture.specs.RowStreams.{bracketed, leading_locus, snippet_start_row};
+ghost use Rattle.codespan_picture.specs.Private.RowViews.{header_start_view};
+ghost use Rattle.codespan_picture.specs.RenderedRows.{rendered_header};
+
+use crate::arguments::Locus;
+use crate::rows::parts::{outer_gutter, snippet_locus, write_newline, write_space};
+use codespan_base::diagnostic::Severity;
+use codespan_base::term::config::put_style::PutStyle;
+use codespan_base::term::config::writing::put_all;
+use codespan_base::term::{Chars, SnippetStart};
+
+/// Returns the name of a severity.
+fn severity_name(severity: Severity) -> &'static str
+    ensures { result.now ≡ severity_name severity }
+{
+    match severity {
+        Severity::Bug => "bug",
+        Severity::Error => "error",
+        Severity::Warning => "warning",
+        Severity::Note => "note",
+        Severity::Help => "help",
+    }
+}
+
+/// Writes the locus of a header, a colon and a space, or nothing where there is no locus.
+#[tactic(auto, using(codespan_base::proofs::Writes::write_chains), unfolding(crate::specs::RowStreams::leading_locus))]
+fn write_leading_locus<W: PutStyle>(w: &mut W, locus: Option<&Locus>) -> Result<(), W::Error>
+    ensures { Writes (W.sink w.old)
+        (leading_locus (option_map (λ at. locus_view at.now) locus.entry)) result (W.sink w.new) }
+{
+    if let Some(locus) = locus {
+        snippet_locus(w, locus)?;
+        put_all(w, b": ")?;
+    }
+    Ok(())
+}
+
+/// Writes the code in brackets, or nothing where it is `None` or empty.
+#[tactic(auto, using(codespan_base::proofs::Writes::write_chains), unfolding(crate::specs::RowStreams::bracketed))]
+fn write_code<W: PutStyle>(w: &mut W, code: Option<&str>) -> Result<(), W::Error>
+    ensures { Writes (W.sink w.old) (bracketed (option_map text_now code.entry))
+        result (W.sink w.new) }
+{
+    match code {
+        Some(code) if !code.is_empty() => {
+            put_all(w, b"[")?;
+            put_all(w, code.as_bytes())?;
+            put_all(w, b"]")
+        }
+        _ => Ok(()),
+    }
+}
+
+/// Writes the start of a header: locus, severity and code.
+fn write_header_start<W: PutStyle>(
+    w: &mut W,
+    locus: Option<&Locus>,
+    severity: Severity,
+    code: Option<&str>,
+) -> Result<(), W::Error>
+    ensures { Writes (W.sink w.old) (header_start_view locus.entry severity code.entry)
+        result (W.sink w.new) }
+{
+    write_leading_locus(w, locus)?;
+    w.set_header(severity)?;
+    put_all(w, severity_name(severity).as_bytes())?;
+    write_code(w, code)
+}
+
+/// Writes the header of a diagnostic: locus, severity, code and message. An empty code is left out.
+///
+/// # Errors
+///
+/// The writer's error; a prefix has then been written.
+pub fn write_header<W: PutStyle>(
+    w: &mut W,
+    locus: Option<&Locus>,
+    severity: Severity,
+    code: Option<&str>,
+    message: &str,
+) -> Result<(), W::Error>
+    ensures { Writes (W.sink w.old) (rendered_header locus.entry severity code.entry message.now)
+        result (W.sink w.new) }
+{
+    write_header_start(w, locus, severity, code)?;
+    w.set_header_message()?;
+    put_all(w, b": ")?;
+    put_all(w, message.as_bytes())?;
+    w.reset()?;
+    write_newline(w)
+}
+
+/// Returns the text before a locus at the start of a snippet.
+fn start_text<'a>(chars: &'a Chars<'_>) -> &'a str
+    ensures { result.now ≡ start_text chars.now.snippet_start }
+{
+    match &chars.snippet_start {
+        SnippetStart::Fixed(text) => text,
+        SnippetStart::Owned(text) => text.as_str(),
+    }
+}
+
+/// Writes the start of a file's snippet: outer gutter, [`Chars::snippet_start`] and locus.
+///
+/// # Errors
+///
+/// The writer's error; a prefix has then been written.
+pub fn write_snippet_start<W: PutStyle>(
+    w: &mut W,
+    chars: &Chars<'_>,
+    padding: usize,
+    locus: &Locus,
+) -> Result<(), W::Error>
+    ensures { Writes (W.sink w.old)
+        (snippet_start_row chars.now padding (locus_view locus.now) ++ newline)
+        result (W.sink w.new) }
+{
+    outer_gutter(w, padding)?;
+    w.set_source_border()?;
+    put_all(w, start_text(chars).as_bytes())?;
+    w.reset()?;
+    write_space(w)?;
+    snippet_locus(w, locus)?;
+    write_newline(w)
+}

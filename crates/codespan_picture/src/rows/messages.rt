@@ -1,0 +1,98 @@
+//! Which message trails the carets of a line, and which hang below them.
+
+ghost use Rattle.std.specs.Prelude.{◌≡◌, ◌<◌, length, false, IfSome};
+ghost use Rattle.std.specs.List.{list_any};
+ghost use Rattle.std.specs.Option.{option_map_or};
+ghost use Rattle.codespan_base.specs.Labels.{has_message};
+ghost use Rattle.codespan_picture.specs.Arguments.{single_label_view, single_label_views};
+ghost use Rattle.codespan_picture.specs.Private.Runs.{optional_label_view, label_entry_view, AreHanging, ArePrefixAndSuffix};
+ghost use Rattle.codespan_picture.specs.Rows.{trailing_label, last_with_end, overlaps_any, does_trail};
+
+use crate::arguments::SingleLabel;
+use crate::rows::carets::{is_overlapping, max_label_end};
+
+/// Which label of a line trails, and which may hang: those of them that have a message do.
+#[derive(Clone, Copy)]
+pub struct Messages<'row, 'd> {
+    /// The label whose message trails.
+    pub trailing_label: Option<&'row SingleLabel<'d>>,
+    /// The labels that may hang: those before the trailing one, or all where none trails.
+    pub before: &'row [SingleLabel<'d>],
+    /// The labels that may hang after these: those after the trailing one, or none.
+    pub after: &'row [SingleLabel<'d>],
+}
+
+impl<'row, 'd> Messages<'row, 'd> {
+    /// Finds the trailing label: the last of those with the greatest end, where it has a message
+    /// and overlaps no other label. Each other label with a message hangs.
+    pub fn of(labels: &'row [SingleLabel<'d>]) -> Messages<'row, 'd>
+        ensures trailing_label { optional_label_view result.trailing_label
+            ≡ trailing_label (single_label_views labels.now) }
+        ensures hanging_labels { AreHanging labels.now result.before.now result.after.now }
+        ensures slices { ArePrefixAndSuffix labels.now result.before.now result.after.now }
+    {
+        match last_with_end(labels, max_label_end(labels)) {
+            Some(index) if does_trail(labels, index) => Messages {
+                trailing_label: Some(&labels[index]),
+                before: &labels[..index],
+                after: &labels[index + 1..],
+            },
+            _ => Messages {
+                trailing_label: None,
+                before: labels,
+                after: &[],
+            },
+        }
+    }
+}
+
+/// Returns the index of the last label with this end.
+fn last_with_end(labels: &[SingleLabel<'_>], end: usize) -> Option<usize>
+    ensures value { last_with_end end (single_label_views labels.now)
+        ≡ label_entry_view labels.now result }
+    ensures within { IfSome result (λ index. index < length labels.now) }
+{
+    for index in (0..labels.len()).rev() {
+        if labels[index].1.end == end {
+            return Some(index);
+        }
+    }
+    None
+}
+
+/// Returns whether the message of the label at this index trails: it has one, and overlaps no other
+/// label of the line.
+fn does_trail(labels: &[SingleLabel<'_>], index: usize) -> bool
+    requires { index < length labels.now }
+    ensures { result ≡ option_map_or (does_trail (single_label_views labels.now))
+        (label_entry_view labels.now (Some index)) false }
+{
+    let label = &labels[index];
+    !label.2.is_empty()
+        && !overlaps_any(label, &labels[..index])
+        && !overlaps_any(label, &labels[index + 1..])
+}
+
+/// Returns whether one of the other labels overlaps the label.
+fn overlaps_any(label: &SingleLabel<'_>, others: &[SingleLabel<'_>]) -> bool
+    ensures { result ≡ overlaps_any (single_label_view label.now) (single_label_views others.now) }
+{
+    for other in others {
+        if is_overlapping(label, other.1.start, other.1.end) {
+            return true;
+        }
+    }
+    false
+}
+
+/// Returns whether one of the labels has a message.
+pub fn has_any_message(labels: &[SingleLabel<'_>]) -> bool
+    ensures { result ≡ list_any has_message (single_label_views labels.now) }
+{
+    for label in labels {
+        if !label.2.is_empty() {
+            return true;
+        }
+    }
+    false
+}

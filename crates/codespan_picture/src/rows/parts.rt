@@ -1,0 +1,181 @@
+//! Parts that several kinds of rows have.
+
+ghost use Rattle.codespan_base.specs.Streams.{space, newline};
+ghost use Rattle.codespan_base.specs.WriterLaw.{Writes};
+ghost use Rattle.codespan_picture.specs.Arguments.{locus_view};
+ghost use Rattle.codespan_picture.specs.Private.LineViews.{context_view, line_view};
+ghost use Rattle.codespan_picture.specs.Lanes.{label_glyph};
+ghost use Rattle.codespan_picture.specs.RowParts.{outer_gutter, outer_gutter_number, border_left, border_left_break, locus, style_change};
+ghost use Rattle.codespan_picture.specs.RowStreams.{row_start};
+
+use crate::arguments::Locus;
+use crate::padding::count_digits;
+use crate::rows::lanes::{LaneRow, inner_gutter};
+use crate::rows::line::{Line, RowContext};
+use crate::rows::runs::write_spaces;
+use codespan_base::diagnostic::{LabelStyle, Severity};
+use codespan_base::term::Chars;
+use codespan_base::term::config::put_style::PutStyle;
+use codespan_base::term::config::writing::{put_all, put_char, put_number, put_spaces};
+
+/// Writes a newline, the end of a row.
+///
+/// # Errors
+///
+/// The writer's error; a prefix has then been written.
+pub fn write_newline<W: PutStyle>(w: &mut W) -> Result<(), W::Error>
+    ensures { Writes (W.sink w.old) newline result (W.sink w.new) }
+{
+    put_all(w, b"\n")
+}
+
+/// Writes a space.
+///
+/// # Errors
+///
+/// The writer's error; a prefix has then been written.
+pub fn write_space<W: PutStyle>(w: &mut W) -> Result<(), W::Error>
+    ensures { Writes (W.sink w.old) space result (W.sink w.new) }
+{
+    put_all(w, b" ")
+}
+
+/// Writes the outer gutter without a line number: the padding and one space more.
+///
+/// # Errors
+///
+/// The writer's error; a prefix has then been written.
+#[inline(always)]
+pub fn outer_gutter<W: PutStyle>(w: &mut W, padding: usize) -> Result<(), W::Error>
+    ensures { Writes (W.sink w.old) (outer_gutter padding) result (W.sink w.new) }
+{
+    write_spaces(w, padding as u128 + 1)
+}
+
+/// Writes the outer gutter with a line number, which is aligned to the right in the padding and may
+/// be wider.
+///
+/// # Errors
+///
+/// The writer's error; a prefix has then been written.
+#[inline(always)]
+pub fn outer_gutter_number<W: PutStyle>(
+    w: &mut W,
+    padding: usize,
+    number: usize,
+) -> Result<(), W::Error>
+    ensures { Writes (W.sink w.old) (outer_gutter_number padding number) result (W.sink w.new) }
+{
+    w.set_line_number()?;
+    put_spaces(w, padding.saturating_sub(count_digits(number)))?;
+    put_number(w, number)?;
+    w.reset()?;
+    write_space(w)
+}
+
+/// Writes the left border of a row that is not a break row.
+///
+/// # Errors
+///
+/// The writer's error; a prefix has then been written.
+#[inline(always)]
+pub fn border_left<W: PutStyle>(w: &mut W, chars: &Chars<'_>) -> Result<(), W::Error>
+    ensures { Writes (W.sink w.old) (border_left chars.now) result (W.sink w.new) }
+{
+    w.set_source_border()?;
+    put_char(w, chars.source_border_left)?;
+    w.reset()
+}
+
+/// Writes the left border of a break row.
+///
+/// # Errors
+///
+/// The writer's error; a prefix has then been written.
+pub fn border_left_break<W: PutStyle>(w: &mut W, chars: &Chars<'_>) -> Result<(), W::Error>
+    ensures { Writes (W.sink w.old) (border_left_break chars.now) result (W.sink w.new) }
+{
+    w.set_source_border()?;
+    put_char(w, chars.source_border_left_break)?;
+    w.reset()
+}
+
+/// Writes one character in a label's style.
+///
+/// # Errors
+///
+/// The writer's error; a prefix has then been written.
+#[inline(always)]
+pub fn write_label_glyph<W: PutStyle>(
+    w: &mut W,
+    severity: Severity,
+    style: LabelStyle,
+    c: char,
+) -> Result<(), W::Error>
+    ensures { Writes (W.sink w.old) (label_glyph severity style c) result (W.sink w.new) }
+{
+    w.set_label(severity, style)?;
+    put_char(w, c)?;
+    w.reset()
+}
+
+/// Writes nothing where `style` is `previous`, else its style mark, or a reset where it is `None`.
+///
+/// # Errors
+///
+/// The writer's error; a prefix has then been written.
+#[tactic(auto, using(codespan_base::proofs::Writes::write_chains), unfolding(crate::specs::RowParts::style_change))]
+pub fn change_style<W: PutStyle>(
+    w: &mut W,
+    severity: Severity,
+    previous: Option<LabelStyle>,
+    style: Option<LabelStyle>,
+) -> Result<(), W::Error>
+    ensures { Writes (W.sink w.old) (style_change severity previous style) result (W.sink w.new) }
+{
+    match (previous, style) {
+        (None, None)
+        | (Some(LabelStyle::Primary), Some(LabelStyle::Primary))
+        | (Some(LabelStyle::Secondary), Some(LabelStyle::Secondary)) => Ok(()),
+        (Some(_), None) => w.reset(),
+        (_, Some(style)) => w.set_label(severity, style),
+    }
+}
+
+/// Writes a locus: name, line number and column number.
+///
+/// # Errors
+///
+/// The writer's error; a prefix has then been written.
+#[inline(always)]
+pub fn snippet_locus<W: PutStyle>(w: &mut W, at: &Locus) -> Result<(), W::Error>
+    ensures { Writes (W.sink w.old) (locus (locus_view at.now)) result (W.sink w.new) }
+{
+    put_all(w, at.name.as_bytes())?;
+    put_all(w, b":")?;
+    put_number(w, at.location.line_number)?;
+    put_all(w, b":")?;
+    put_number(w, at.location.column_number)?;
+    Ok(())
+}
+
+/// Writes the start of a caret, pointer or hanging row: outer gutter, left border, inner gutter and
+/// a space.
+///
+/// # Errors
+///
+/// The writer's error; a prefix has then been written.
+#[inline(always)]
+pub fn write_row_start<W: PutStyle>(
+    w: &mut W,
+    context: RowContext<'_>,
+    line: Line<'_, '_>,
+) -> Result<(), W::Error>
+    ensures { Writes (W.sink w.old) (row_start (context_view context.entry) (line_view line.entry))
+        result (W.sink w.new) }
+{
+    outer_gutter(w, context.padding)?;
+    border_left(w, context.chars)?;
+    inner_gutter(w, context, line.leading, LaneRow::SingleLabels, line.lanes)?;
+    write_space(w)
+}

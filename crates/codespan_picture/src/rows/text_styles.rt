@@ -1,0 +1,122 @@
+//! Which characters of a line have a style in its source row, and which of its text is written
+//! unchanged.
+
+ghost use Rattle.std.specs.Prelude.{◌≡◌, ◌<◌, ◌≤◌, ◌==◌, None, drop, false, length, map, true};
+ghost use Rattle.std.specs.List.{list_any};
+ghost use Rattle.codespan_base.specs.Labels.{LaneMark, is_primary, is_primary_style};
+ghost use Rattle.codespan_base.specs.Streams.{bytes};
+ghost use Rattle.codespan_picture.specs.declared.char_metrics.Metrics as metrics;
+ghost use Rattle.codespan_picture.specs.Arguments.{single_label_views, lane_mark_view};
+ghost use Rattle.codespan_picture.specs.Private.LineViews.{line_view};
+ghost use Rattle.codespan_picture.specs.Private.PrimaryCover.{CoversAsLaneMarks};
+ghost use Rattle.codespan_picture.specs.Rows.{RowContext as RowContextSpec};
+ghost use Rattle.codespan_picture.specs.RowParts.{colored_text, source_style};
+
+use crate::arguments::{MultiLabel, SingleLabel};
+use crate::char_metrics::Metrics;
+use crate::rows::carets::max_label_end;
+use crate::rows::char_cursor::CharCursor;
+use crate::rows::line::Line;
+use crate::rows::primary_cover::PrimaryCover;
+use codespan_base::diagnostic::LabelStyle;
+
+/// Returns the style of a character of the source: primary where a primary label covers it, a
+/// single-line or a multi-line one, else `None`.
+///
+/// # Requires
+///
+/// - The character has a byte, and `characters` has just returned it.
+/// - `characters` has the labels of `line`.
+/// - `primary` is [`PrimaryCover::of`] the lane marks of `line`.
+pub fn text_style<C: CharCursor>(
+    characters: &mut C,
+    primary: PrimaryCover,
+    line: Line<'_, '_>,
+    metrics: Metrics,
+) -> Option<LabelStyle>
+    requires has_byte { 1 ≤ metrics.bytes }
+    requires returned { C.has_returned metrics characters.old }
+    requires labels { C.labels characters.old ≡ line.labels.now }
+    requires primary { CoversAsLaneMarks (map lane_mark_view line.lanes.lane_marks.now) primary }
+    ensures left { C.left characters.new ≡ C.left characters.old }
+    ensures labels { C.labels characters.new ≡ C.labels characters.old }
+    ensures style { result ≡ source_style (line_view line.entry) metrics }
+{
+    if characters.has_primary(metrics) || primary.covers_char(metrics) {
+        Some(LabelStyle::Primary)
+    } else {
+        None
+    }
+}
+
+/// Returns whether one of these labels is primary.
+fn has_primary(labels: &[SingleLabel<'_>]) -> bool
+    ensures { result ≡ list_any is_primary (single_label_views labels.now) }
+{
+    for label in labels {
+        if label.0 == LabelStyle::Primary {
+            return true;
+        }
+    }
+    false
+}
+
+/// Returns whether one of these lane marks is primary.
+fn has_primary_lane_mark(lane_marks: &[(usize, LabelStyle, MultiLabel<'_>)]) -> bool
+    ensures { result
+        ≡ list_any (λ (m : LaneMark). is_primary_style m.style)
+        (map lane_mark_view lane_marks.now) }
+{
+    for lane_mark in lane_marks {
+        if lane_mark.1 == LabelStyle::Primary {
+            return true;
+        }
+    }
+    false
+}
+
+/// Returns whether the text has a tab.
+fn has_tab(text: &str) -> bool
+    ensures { result ≡ list_any (λ b. b == 9) text.now }
+{
+    text.as_bytes().contains(&b'\t')
+}
+
+/// Returns whether the text of a line is known to be written unchanged: it has no tab, and no label
+/// of the line and no lane mark is primary.
+#[inline(always)]
+pub fn is_plain(line: Line<'_, '_>) -> bool
+    ensures { result ≡ true → (context : RowContextSpec)
+        → colored_text context (line_view line.entry) ≡ bytes line.entry.text.now }
+{
+    !has_primary(line.labels)
+        && !has_primary_lane_mark(line.lanes.lane_marks)
+        && !has_tab(line.text)
+}
+
+/// Returns a byte index from which on the text of a line is written unchanged: no primary label,
+/// single-line or multi-line, covers a character there, and there is no tab. It is the length of
+/// the text where no smaller one is found.
+///
+/// # Requires
+///
+/// `primary` is [`PrimaryCover::of`] the lane marks of `line`.
+#[inline(always)]
+pub fn plain_from(line: Line<'_, '_>, primary: PrimaryCover) -> usize
+    requires primary { CoversAsLaneMarks (map lane_mark_view line.lanes.lane_marks.now) primary }
+    ensures style { (c : metrics.Metrics) → result ≤ c.byte_index
+        → c.byte_index < length line.entry.text.now
+        → 1 ≤ c.bytes → source_style (line_view line.entry) c ≡ None }
+    ensures tab { list_any (λ b. b == 9) (drop result line.entry.text.now) ≡ false }
+{
+    let text = line.text.as_bytes();
+    let end = primary
+        .end()
+        .max(max_label_end(line.labels))
+        .min(text.len());
+    if text[end..].contains(&b'\t') {
+        text.len()
+    } else {
+        end
+    }
+}

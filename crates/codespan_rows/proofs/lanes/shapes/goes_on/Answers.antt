@@ -1,5 +1,0 @@
-use Rattle.std.proofs.Common.{refl}
-use Rattle.codespan_rows.proofs.lanes.shapes.goes_on.Goals as goal
-
-pub returns-in-Unbroken : goal.returns-in-Unbroken
-returns-in-Unbroken c = rw c.in-Unbroken.is refl

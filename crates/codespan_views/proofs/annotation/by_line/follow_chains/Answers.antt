@@ -1,0 +1,60 @@
+use Rattle.std.proofs.Common.{◌≡◌, ℕ, List, ◌<◌, ◌+◌, ◌==◌, ◌∙◌, ap, Bool, false, refl, sym, subst, arith, get_or, set, length}
+use Rattle.std.proofs.lemmas.Bool.{ne_eqb}
+use Rattle.std.proofs.lemmas.List.{length-append}
+use Rattle.codespan_views.specs.declared.annotation.by_line.TheConstants.{MOVED}
+use Rattle.codespan_views.proofs.KeptElements.{AreKept, AreKept-all, AreKept-more, AreKept-room}
+use Rattle.codespan_views.proofs.annotation.by_line.follow_chains.Goals as goal
+
+-- which annotations were moved
+abbrev is_moved : ℕ → Bool
+is_moved n = n == MOVED
+
+-- there is room for one more
+room : {X : Type 0} (ms ns : List ℕ) (xs ys : List X) (i : ℕ) (y : X) → AreKept is_moved ms ns xs ys
+    → length ns ≡ length xs → i < length xs → is_moved (get_or ns i 0) ≡ false
+    → y ≡ get_or xs i y → length ys < length xs
+room ms ns xs ys i y h long inside out is =
+    AreKept-room is_moved ms ns xs ys i MOVED y h long inside out refl is
+
+pub push_reserved-requires : goal.push_reserved-requires
+push_reserved-requires g c =
+    omega (
+      arith,
+      c.loop-source.moved.ok.0,
+      c.loop-source.invariant.room,
+      room c.args.next.now c.loop-source.next c.args.annotations.now c.loop-source.moved.items
+          c.loop-source.source c.index-annotations-source.result c.loop-source.invariant.moved
+          (c.loop-source.auto.next ∙ c.loop-start.auto.next ∙ c.requires) c.loop-source-test.true
+          (ne_eqb _ MOVED c.if-following.false) c.index-annotations-source.is,
+    )
+
+pub loop-source-smaller : goal.loop-source-smaller
+loop-source-smaller g c =
+    let below = room c.args.next.now c.loop-source.next c.args.annotations.now
+    c.loop-source.moved.items c.loop-source.source c.index-annotations-source.result
+    c.loop-source.invariant.moved (c.loop-source.auto.next ∙ c.loop-start.auto.next
+    ∙ c.requires) c.loop-source-test.true (ne_eqb _ MOVED c.if-following.false)
+    c.index-annotations-source.is in
+    let more : length c.push_reserved.new.self.items ≡ length c.loop-source.moved.items + 1 =
+    ap length c.push_reserved.ensures.items ∙ length-append c.loop-source.moved.items _ in
+    omega (arith, below, more)
+
+pub loop-source-preserved : goal.loop-source-preserved
+loop-source-preserved g c = record {
+  moved =
+      subst
+      (λ ys. AreKept is_moved c.args.next.now (set c.loop-source.next c.loop-source.source MOVED)
+      c.args.annotations.now ys)
+      (sym c.push_reserved.ensures.items)
+      (AreKept-more is_moved c.args.next.now c.loop-source.next c.args.annotations.now
+      c.loop-source.moved.items c.loop-source.source MOVED c.index-annotations-source.result
+      c.loop-source.invariant.moved (c.loop-source.auto.next ∙ c.loop-start.auto.next
+      ∙ c.requires) c.loop-source-test.true (ne_eqb _ MOVED c.if-following.false) refl
+      c.index-annotations-source.is);
+  room = omega (arith, c.push_reserved.ensures.capacity, c.loop-source.invariant.room);
+}
+
+pub returns-clause-permutation : goal.returns-clause-permutation
+returns-clause-permutation g c =
+    λ all. AreKept-all is_moved c.args.next.now c.loop-start.next c.args.annotations.now
+    c.loop-start.moved.items c.loop-start.invariant.moved all

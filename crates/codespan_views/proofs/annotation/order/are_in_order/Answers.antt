@@ -1,0 +1,24 @@
+use Rattle.std.proofs.Common.{◌∙◌, sym, arith}
+use Rattle.codespan_picture.proofs.SortedLists.{sorted-map}
+use Rattle.codespan_views.specs.Private.Annotations.{is_before}
+use Rattle.codespan_views.specs.Private.AnnotationViews.{annotation_view}
+use Rattle.codespan_views.proofs.AnnotationOrder.{sorted-join}
+use Rattle.codespan_views.proofs.annotation.order.are_in_order.Goals as goal
+
+pub loop-end-preserved : goal.loop-end-preserved
+loop-end-preserved g c = record {
+  some = omega arith;
+  sorted =
+      sorted-join (λ x y. is_before (annotation_view x) (annotation_view y)) c.args.annotations.now
+      0 c.loop-end.end c.lane_marks_end-end.result
+      c.index-annotations-end-in-loop-end.result c.index-annotations-end.result
+      c.index-annotations-end-in-loop-end.is c.index-annotations-end.is (omega arith)
+      (sym c.is_before.ensures ∙ c.if-is_before.false) c.loop-end.invariant.sorted
+      c.lane_marks_end-end.ensures.sorted;
+}
+
+pub returns : goal.returns
+returns g c = λ _.
+    sorted-map annotation_view is_before c.args.annotations.now
+    (λ k d from below. c.loop-end.invariant.sorted k d from
+    (omega (arith, c.loop-end-test.false)))

@@ -1,0 +1,22 @@
+use Rattle.std.proofs.Common.{rules, ◌≡◌}
+use Rattle.std.specs.Ordering.{is_lt}
+use Rattle.std.proofs.lemmas.List.Sorted.{answers_always}
+use Rattle.codespan_views.specs.Private.Annotations.{is_before}
+use Rattle.codespan_views.specs.Private.AnnotationViews.{annotation_view}
+use Rattle.codespan_views.proofs.AnnotationOrder.{below_order}
+use Rattle.codespan_picture.proofs.SortedLists.{sorted-map}
+use Rattle.codespan_views.proofs.annotation.order.sort.Goals as goal
+
+pub returns-clause-sorted : goal.returns-clause-sorted
+returns-clause-sorted g c =
+    sorted-map annotation_view is_before _
+    (c.sort_unstable_by.ensures.sorted (λ x y. is_before (annotation_view x) (annotation_view y))
+    (record {
+      one_way =
+          λ x y. below_order.one_way (annotation_view x) (annotation_view y);
+      chain =
+          λ x y z. below_order.chain (annotation_view x) (annotation_view y) (annotation_view z);
+    })
+    (answers_always _
+    (λ a r. is_lt r ≡ is_before (annotation_view a.0.now) (annotation_view a.1.0.now)) _
+    (λ f a r f' k. search rules)))

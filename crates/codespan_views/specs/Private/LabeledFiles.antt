@@ -1,0 +1,57 @@
+-- The files of an output, as a view has them.
+use Rattle.std.specs.Prelude.{◌≡◌, ◌==◌, ℕ, ◌+◌, Bool, List, [], ◌∷◌, ◌++◌, if◌then◌else◌, map, slice_index_or, slice_set}
+use Rattle.std.specs.List.{list_any}
+use Rattle.codespan_base.specs.FileModel.{FileModel}
+use Rattle.codespan_base.specs.Labels.{LabelModel}
+use Rattle.codespan_picture.specs.Snippets.{InFile, labeled_file_model, num_multi_labels}
+use Rattle.codespan_views.specs.declared.labeled_files.LabeledFile.{LabeledFile as RustFile}
+use Rattle.codespan_views.specs.declared.label_span.LabelSpan.{LabelSpan}
+use Rattle.codespan_views.specs.declared.locus_start.LocusStart.{LocusStart}
+use Rattle.codespan_views.specs.Private.LocusStarts.{file_locus_start, no_start, start_with}
+
+-- ---- all files
+
+-- the id of each
+abbrev pub ids_view : {Id : Type 0} → List (RustFile Id) → List Id
+ids_view {Id} files = map (λ (f : RustFile Id). f.file_id) files
+
+-- the byte of the locus of each
+abbrev pub starts_view : {Id : Type 0} → List (RustFile Id) → List LocusStart
+starts_view {Id} files = map (λ (f : RustFile Id). f.start) files
+
+-- how many lanes each has
+abbrev pub lane_counts : {Id : Type 0} → List (RustFile Id) → List ℕ
+lane_counts {Id} files = map (λ (f : RustFile Id). f.num_multi_labels) files
+
+-- how many lanes the file of an id has for these labels
+abbrev pub num_multi_labels_of : {Id : Type 0} → (Id → Id → Bool) → (Id → FileModel)
+    → List (InFile Id) → Id → ℕ
+num_multi_labels_of same file xs id = num_multi_labels (labeled_file_model same file xs id)
+
+-- the byte of the file's locus and the number of its lanes are those of these labels
+pub record HasLabels {Id : Type 0} (same : Id → Id → Bool) (file : Id → FileModel)
+    (xs : List (InFile Id)) (f : RustFile Id) : Type 0 where
+  pub start_is : f.start ≡ file_locus_start same xs f.file_id
+  pub lanes_are : f.num_multi_labels ≡ num_multi_labels_of same file xs f.file_id
+
+-- ---- one file more
+
+-- a list with an element for each of these ids, and with `one` at its end where this id is none of
+-- them
+abbrev pub with_file : {Id A : Type 0} → (Id → Id → Bool) → List Id → Id → List A → A → List A
+with_file same ids id known one = if list_any (λ j. same j id) ids then known else known ++ one ∷ []
+
+-- ---- one label more
+
+-- how many lanes a label takes that starts and ends on these lines
+abbrev pub lanes_by : LabelSpan → ℕ
+lanes_by lines = if lines.first == lines.last then 0 else 1
+
+-- the bytes of loci, with one more label of the file at this index
+abbrev pub starts_with_label : List LocusStart → ℕ → LabelModel → List LocusStart
+starts_with_label starts index x =
+    slice_set starts index (start_with (slice_index_or starts index no_start) x)
+
+-- how many lanes all files have, with those of one more label of the file at this index
+abbrev pub lanes_with_label : List ℕ → ℕ → ℕ → List ℕ
+lanes_with_label lanes index own = slice_set lanes index (slice_index_or lanes index 0 + own)

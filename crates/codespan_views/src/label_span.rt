@@ -1,0 +1,168 @@
+//! The lines of a label: which it spans, and which it makes shown.
+
+ghost use Rattle.std.specs.Prelude.{◌≡◌, ◌<◌, ◌≤◌, ℕ, ◌==◌, ◌&&◌, nat_lt, IfOk};
+ghost use Rattle.codespan_base.specs.LawfulFiles.{FailsBy};
+ghost use Rattle.codespan_picture.specs.Lines.{shows};
+ghost use Rattle.codespan_picture.specs.Lookups.{is_around};
+ghost use Rattle.codespan_views.specs.Private.AnnotationViews.{multi_label_kind};
+ghost use Rattle.codespan_views.specs.Private.LabelSpans.{IsFarInside, ends_failure, is_near_end, line_of_end, line_of_start, spans_line};
+
+use crate::annotation::MultiLabelKind;
+use codespan_base::diagnostic::Label;
+use codespan_base::files::{Error, Files};
+use codespan_base::term::Config;
+use std::ops::Range;
+
+/// The indices of the lines on which a label starts and ends, 0-based. It may start after the line
+/// on which it ends.
+#[derive(Clone, Copy)]
+pub struct LabelSpan {
+    /// The index of the line on which the label starts.
+    pub first: usize,
+    /// The index of the line on which it ends.
+    pub last: usize,
+}
+
+impl LabelSpan {
+    /// Returns whether the label is a single-line label.
+    pub fn is_single(self) -> bool
+        ensures { result ≡ (self.first == self.last) }
+    {
+        self.first == self.last
+    }
+
+    /// Returns whether the line at this 0-based index is after the first line and before the last
+    /// one.
+    fn is_inside(self, index: usize) -> bool
+        ensures { result ≡ nat_lt self.first index && nat_lt index self.last }
+    {
+        self.first < index && index < self.last
+    }
+
+    /// Returns the kind of the multi-line label mark on the line at this 0-based index, if the
+    /// label is a multi-line label that has one.
+    pub fn multi_label_kind(self, index: usize) -> Option<MultiLabelKind>
+        ensures { result ≡ multi_label_kind self.first self.last index }
+    {
+        if self.is_single() {
+            None
+        } else if self.first == index {
+            Some(MultiLabelKind::Top)
+        } else if self.last == index {
+            Some(MultiLabelKind::Bottom)
+        } else if self.is_inside(index) {
+            Some(MultiLabelKind::Left)
+        } else {
+            None
+        }
+    }
+
+    /// Returns whether the line at this 0-based index is the first or the last line, or between
+    /// them.
+    pub fn spans(self, index: usize) -> bool
+        ensures { result ≡ spans_line self.first self.last index }
+    {
+        index == self.first || index == self.last || self.is_inside(index)
+    }
+
+    /// Returns the number of annotations to reserve memory for: as many as the spanned lines have
+    /// at most, or 1 where the label starts after the line on which it ends.
+    pub fn annotation_capacity(self, config: &Config<'_>) -> usize {
+        let others = self.last.saturating_sub(self.first);
+        if others == 0 {
+            return 1;
+        }
+        let near_ends = config
+            .start_context_lines
+            .saturating_add(config.end_context_lines)
+            .saturating_add(2);
+        let lines = others.saturating_add(1);
+        lines.saturating_add(near_ends.min(lines))
+    }
+
+    /// Returns the lines inside the label that are far from its ends: after the context lines of
+    /// the first line, and before those of the last one. They are 0-based indices, the end
+    /// exclusive; where there are none, the end may be before the start.
+    #[inline(always)]
+    pub fn far_lines(self, config: &Config<'_>) -> Range<usize>
+        ensures { (k : ℕ) → result.start ≤ k → k < result.end
+            → IsFarInside config.now self.first self.last k }
+    {
+        if self.is_single() {
+            return 0..0;
+        }
+        let start = self.first.saturating_add(config.start_context_lines);
+        let end = self.last.saturating_sub(config.end_context_lines);
+        start.saturating_add(1)..end
+    }
+
+    /// Returns the span from the lesser of both first lines to the greater of both last ones.
+    #[inline(always)]
+    pub fn join(self, other: LabelSpan) -> LabelSpan {
+        LabelSpan {
+            first: self.first.min(other.first),
+            last: self.last.max(other.last),
+        }
+    }
+
+    /// Returns the lines of the span and the context lines around them, as 0-based indices, the end
+    /// exclusive. The line at index `usize::MAX` is left out.
+    pub fn with_context_lines(self, config: &Config<'_>) -> Range<usize> {
+        let start = self.first.saturating_sub(config.before_label_lines);
+        let end = self.last.saturating_add(config.after_label_lines);
+        start..end.saturating_add(1)
+    }
+
+    /// Returns whether the line at this 0-based index is one of the context lines around the label:
+    /// before its first line or after its last one.
+    pub fn is_around(self, config: &Config<'_>, index: usize) -> bool
+        ensures { result ≡ is_around config.now self.first self.last index }
+    {
+        (index < self.first && self.first - index <= config.before_label_lines)
+            || (self.last < index && index - self.last <= config.after_label_lines)
+    }
+
+    /// Returns whether the label makes the line at this 0-based index shown: an end of the label, a
+    /// context line around it, or one inside it, near an end.
+    pub fn shows(self, config: &Config<'_>, index: usize) -> bool
+        ensures { result ≡ shows config.now self.first self.last index }
+    {
+        // Most lines of a long label are inside it.
+        if self.is_inside(index) {
+            self.is_near_end(config, index)
+        } else {
+            index == self.first || index == self.last || self.is_around(config, index)
+        }
+    }
+
+    /// Returns whether the line at this 0-based index is one of the context lines inside the label:
+    /// after its first line or before its last one.
+    fn is_near_end(self, config: &Config<'_>, index: usize) -> bool
+        ensures { result ≡ is_near_end config.now self.first self.last index }
+    {
+        self.is_inside(index)
+            && (index - self.first <= config.start_context_lines
+                || self.last - index <= config.end_context_lines)
+    }
+}
+
+/// Looks up the lines on which a label starts and ends.
+///
+/// # Errors
+///
+/// That of the first lookup that fails: the line of the start, then that of the end.
+pub fn label_span<'files, F: Files<'files>>(
+    files: &'files F,
+    label: &Label<F::FileId>,
+) -> Result<LabelSpan, Error>
+    ensures first { IfOk result (λ lines. lines.first
+        ≡ line_of_start (F.database files.now).file label.now) }
+    ensures last { IfOk result (λ lines. lines.last
+        ≡ line_of_end (F.database files.now).file label.now) }
+    ensures failed { FailsBy (ends_failure (F.database files.now).failure label.now) result }
+{
+    Ok(LabelSpan {
+        first: files.line_index(label.file_id, label.range.start)?,
+        last: files.line_index(label.file_id, label.range.end)?,
+    })
+}

@@ -1,0 +1,181 @@
+//! The files of labels, in the order of their first labels.
+
+ghost use Rattle.std.specs.Prelude.{◌≡◌, ◌<◌, ◌≤◌, ◌+◌, ◌^◌, false, [], ◌∷◌, ◌++◌, IfOk, OnOk, OnErr, IsErrOf, length, slice_index_or, take};
+ghost use Rattle.std.specs.List.{AllByRecursion};
+ghost use Rattle.codespan_picture.specs.OutputStreams.{label_of};
+ghost use Rattle.codespan_views.specs.Private.LabeledFiles.{ids_view, lanes_by, lane_counts, lanes_with_label, starts_with_label, starts_view, with_file};
+ghost use Rattle.codespan_views.specs.Private.LocusStarts.{no_start, start_with};
+ghost use Rattle.codespan_views.specs.Private.FileIndices.{AreDistinct, index_of_file};
+
+use crate::label_span::LabelSpan;
+use crate::locus_start::LocusStart;
+use codespan_base::diagnostic::Label;
+use codespan_base::files::Error;
+
+/// A file with labels.
+#[derive(Drop)]
+pub struct LabeledFile<FileId> {
+    /// The file's id.
+    pub file_id: FileId,
+    /// The byte of its locus.
+    pub start: LocusStart,
+    /// The number of its multi-line labels, each of which has a lane.
+    pub num_multi_labels: usize,
+}
+
+impl<FileId> LabeledFile<FileId> {
+    /// Adds a label of the file. `lines` are those on which the label starts and ends.
+    ///
+    /// # Requires
+    ///
+    /// One more lane can be counted.
+    fn add(&mut self, label: &Label<FileId>, lines: LabelSpan)
+        requires { self.old.num_multi_labels + 1 < 2 ^ 64 }
+        ensures id { self.new.file_id ≡ self.old.file_id }
+        ensures start { self.new.start ≡ start_with self.old.start (label_of label.now).label }
+        ensures lanes { self.new.num_multi_labels ≡ self.old.num_multi_labels + lanes_by lines }
+    {
+        self.start = self.start.with(label);
+        if !lines.is_single() {
+            self.num_multi_labels += 1;
+        }
+    }
+}
+
+/// Adds a label to the file at this 0-based index. `lines` are those on which the label starts and
+/// ends.
+///
+/// # Requires
+///
+/// There is a file at this index, and one more lane of it can be counted.
+pub fn add_label<FileId>(
+    files: &mut Vec<LabeledFile<FileId>>,
+    index: usize,
+    label: &Label<FileId>,
+    lines: LabelSpan,
+)
+    requires index { index < length files.old.items }
+    requires bound { slice_index_or (lane_counts files.old.items) index 0 + 1 < 2 ^ 64 }
+    ensures ids { ids_view files.new.items ≡ ids_view files.old.items }
+    ensures starts { starts_view files.new.items
+        ≡ starts_with_label (starts_view files.old.items) index (label_of label.now).label }
+    ensures lanes { lane_counts files.new.items
+        ≡ lanes_with_label (lane_counts files.old.items) index (lanes_by lines) }
+{
+    files[index].add(label, lines);
+}
+
+/// Returns the 0-based index of the file with this id, which is appended without labels if there is
+/// none. The file at index `previous`, that of the label before, is compared first.
+///
+/// # Errors
+///
+/// `OutOfMemory`: an allocation fails.
+///
+/// # Requires
+///
+/// No two files have the same id.
+pub fn get_or_insert_file<FileId: Copy + Eq>(
+    files: &mut Vec<LabeledFile<FileId>>,
+    previous: usize,
+    id: FileId,
+) -> Result<usize, Error>
+    requires { AreDistinct FileId.eq (ids_view files.old.items) }
+    ensures index { IfOk result (λ index. index
+        ≡ index_of_file FileId.eq (ids_view files.new.items) id) }
+    ensures ids { OnOk result (ids_view files.new.items
+        ≡ with_file FileId.eq (ids_view files.old.items) id (ids_view files.old.items) id) }
+    ensures starts { OnOk result (starts_view files.new.items
+        ≡ with_file FileId.eq (ids_view files.old.items) id (starts_view files.old.items)
+        no_start) }
+    ensures lanes { OnOk result (lane_counts files.new.items
+        ≡ with_file FileId.eq (ids_view files.old.items) id (lane_counts files.old.items) 0) }
+    ensures failed { OnErr result (IsErrOf result Error.OutOfMemory) }
+{
+    let index = find_file(files, previous, id);
+    if index == files.len() {
+        push_file(files, id)?;
+    }
+    Ok(index)
+}
+
+/// Appends a file without labels.
+///
+/// # Errors
+///
+/// `OutOfMemory`: an allocation fails.
+fn push_file<FileId: Copy>(files: &mut Vec<LabeledFile<FileId>>, id: FileId) -> Result<(), Error>
+    ensures ids { OnOk result (ids_view files.new.items ≡ ids_view files.old.items ++ id ∷ []) }
+    ensures starts { OnOk result (starts_view files.new.items ≡ starts_view files.old.items
+        ++ no_start ∷ []) }
+    ensures lanes { OnOk result (lane_counts files.new.items ≡ lane_counts files.old.items
+        ++ 0 ∷ []) }
+    ensures failed { OnErr result (IsErrOf result Error.OutOfMemory) }
+{
+    files.push(LabeledFile {
+        file_id: id,
+        start: LocusStart::unknown(),
+        num_multi_labels: 0,
+    })?;
+    Ok(())
+}
+
+/// Returns the 0-based index of the file with this id, or the number of files if there is none. The
+/// file at index `previous` is compared first.
+///
+/// # Requires
+///
+/// No two files have the same id.
+fn find_file<FileId: Copy + Eq>(files: &[LabeledFile<FileId>], previous: usize, id: FileId) -> usize
+    requires { AreDistinct FileId.eq (ids_view files.now) }
+    ensures { result ≡ index_of_file FileId.eq (ids_view files.now) id }
+{
+    match files.get(previous) {
+        Some(file) if file.file_id == id => previous,
+        _ => first_file(files, id),
+    }
+}
+
+/// Returns the 0-based index of the first file with this id, or the number of files if there is
+/// none. Each iteration compares two files, which takes fewer instructions than one iteration for
+/// each.
+fn first_file<FileId: Copy + Eq>(files: &[LabeledFile<FileId>], id: FileId) -> usize
+    ensures { result ≡ index_of_file FileId.eq (ids_view files.now) id }
+{
+    let last = files.len().saturating_sub(1);
+    let mut index = 0;
+    while index < last {
+        if files[index].file_id == id {
+            return index;
+        }
+        let next = index + 1;
+        let is_next = files[next].file_id == id;
+        if is_next {
+            return next;
+        }
+        index += 2;
+    }
+    last_file(files, index, id)
+}
+
+/// Returns this index, if the file there has the id, or else the number of files.
+///
+/// # Requires
+///
+/// No file before this index has the id, and there is none after it.
+#[inline(always)]
+fn last_file<FileId: Copy + Eq>(files: &[LabeledFile<FileId>], index: usize, id: FileId) -> usize
+    requires last { length files.now ≤ index + 1 }
+    requires none { AllByRecursion (λ other. FileId.eq other id ≡ false)
+        (ids_view (take index files.now)) }
+    ensures { result ≡ index_of_file FileId.eq (ids_view files.now) id }
+{
+    let Some(file) = files.get(index) else {
+        return files.len();
+    };
+    if file.file_id == id {
+        index
+    } else {
+        files.len()
+    }
+}

@@ -1,0 +1,67 @@
+//! The byte of each file's locus.
+
+ghost use Rattle.std.specs.Prelude.{◌≡◌};
+ghost use Rattle.codespan_base.specs.Labels.{is_primary};
+ghost use Rattle.codespan_picture.specs.OutputStreams.{label_of};
+ghost use Rattle.codespan_views.specs.Private.LocusStarts.{least_with, no_start, locus_byte, start_with};
+
+use codespan_base::diagnostic::{Label, LabelStyle};
+
+/// Returns whether a label is primary.
+pub fn is_primary<FileId>(label: &Label<FileId>) -> bool
+    ensures { result ≡ is_primary (label_of label.now).label }
+{
+    matches!(label.style, LabelStyle::Primary)
+}
+
+/// Returns the lesser of a byte index and a known one; the index itself if none is known.
+fn least(known: Option<usize>, start: usize) -> usize
+    ensures { result ≡ least_with known start }
+{
+    known.map_or(start, |byte| byte.min(start))
+}
+
+/// The byte of a file's locus, by the labels that were added. Byte indices are 0-based.
+#[derive(Clone, Copy)]
+pub struct LocusStart {
+    /// The least byte index at which a primary label starts; `None` where none is primary.
+    pub primary: Option<usize>,
+    /// The least byte index at which any label starts; `None` where there is none.
+    pub any: Option<usize>,
+}
+
+impl LocusStart {
+    /// Returns that of a file without labels.
+    pub fn unknown() -> LocusStart
+        ensures { result ≡ no_start }
+    {
+        LocusStart {
+            primary: None,
+            any: None,
+        }
+    }
+
+    /// Returns that with one more label of the file.
+    pub fn with<FileId>(self, label: &Label<FileId>) -> LocusStart
+        ensures { result ≡ start_with self (label_of label.now).label }
+    {
+        let start = label.range.start;
+        let primary = if is_primary(label) {
+            Some(least(self.primary, start))
+        } else {
+            self.primary
+        };
+        LocusStart {
+            primary,
+            any: Some(least(self.any, start)),
+        }
+    }
+
+    /// Returns the byte index of the locus: the least start of a primary label, or of any label
+    /// where none is primary; 0 without labels.
+    pub fn byte(self) -> usize
+        ensures { result ≡ locus_byte self }
+    {
+        self.primary.or(self.any).unwrap_or(0)
+    }
+}

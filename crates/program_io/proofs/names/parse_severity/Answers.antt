@@ -1,0 +1,8 @@
+use Rattle.std.proofs.Common.{refl}
+use Rattle.program_io.specs.Names.{severity_named}
+use Rattle.program_io.proofs.names.parse_severity.Goals as goal
+
+-- the severity of the word `help`
+pub returns-in-help : goal.returns-in-help
+unfolding severity_named
+returns-in-help c = rw c.in-help.is refl

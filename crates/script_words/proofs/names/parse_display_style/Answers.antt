@@ -1,8 +1,0 @@
-use Rattle.std.proofs.Common.{refl}
-use Rattle.script_words.specs.Names.{display_style_named}
-use Rattle.script_words.proofs.names.parse_display_style.Goals as goal
-
--- the style of the word `short`
-pub returns-in-short : goal.returns-in-short
-unfolding display_style_named
-returns-in-short c = rw c.in-short.is refl
