@@ -12,18 +12,21 @@ pub use Rattle.codespan_inputs.specs.Errors
 pub use Rattle.codespan_inputs.specs.FileLaws
 pub use Rattle.codespan_inputs.specs.DatabaseViews
 pub mod Lemmas
--- the configuration: characters, styles, defaults and equality
-pub mod SnippetStarts
-pub mod Characters
+-- the file database of many files
+pub mod SimpleFilesViews
+-- re-exports: the configuration, labels, and the writers of plain text
+pub use Rattle.codespan_config.specs.SnippetStarts
+pub use Rattle.codespan_config.specs.Characters
+pub use Rattle.codespan_config.specs.Defaults
+pub use Rattle.codespan_config.specs.ConfigEquality
+pub use Rattle.codespan_config.specs.Labels
+pub use Rattle.codespan_config.specs.Streams
+pub use Rattle.codespan_config.specs.WriterLaw
+pub use Rattle.codespan_config.specs.Writers
+-- the styles of the parts of the output
 pub mod PartStyles
-pub mod Defaults
-pub mod ConfigEquality
--- labels
-pub mod Labels
--- writers
-pub mod Streams
-pub mod WriterLaw
-pub mod Writers
 -- tables
 pub mod StyleTables
 pub mod Ansi
+-- the writers of colors and styles
+pub mod StyleWriters

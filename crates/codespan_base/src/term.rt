@@ -2,13 +2,12 @@
 
 pub mod config;
 
+pub use codespan_config::term::{
+    Chars, Config, DisplayStyle, GeneralWrite, GeneralWriteResult, Layout, PlainWriter,
+    SnippetStart, WriteStyle,
+};
 pub use config::ansi::Ansi;
-pub use config::chars::{Chars, SnippetStart};
 pub use config::color::{Color, ColorSpec, WriteColor};
 pub use config::no_color::NoColor;
-pub use config::plain::PlainWriter;
 pub use config::styles::Styles;
 pub use config::styles_writer::StylesWriter;
-pub use config::write_style::{GeneralWriteResult, WriteStyle};
-pub use config::{Config, DisplayStyle, Layout};
-pub use std::io::Write as GeneralWrite;

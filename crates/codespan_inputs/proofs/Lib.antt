@@ -8,4 +8,3 @@ pub mod LineCuts
 pub mod LineCounts
 pub mod LineStartsEnd
 pub mod PastEndFailures
-pub mod SimpleFilesNumbers

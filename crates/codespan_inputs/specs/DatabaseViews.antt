@@ -1,13 +1,13 @@
--- What contracts see of the file databases: names, sources, files, errors, and set line numbers.
-use Rattle.std.specs.Prelude.{ℕ, List, map, Option}
+-- What contracts see of the file databases of one file: names, sources, files, errors, and set line
+-- numbers.
+use Rattle.std.specs.Prelude.{ℕ, List, Option}
 use Rattle.std.specs.declared.convert.AsStr.{Ghosts}
 use Rattle.codespan_inputs.specs.declared.files.error.Error.{Error}
 use Rattle.codespan_inputs.specs.declared.files.simple.SimpleFile.{SimpleFile}
-use Rattle.codespan_inputs.specs.declared.files.database.SimpleFiles.{SimpleFiles}
 use Rattle.codespan_inputs.specs.declared.files.mapped.MappedFile.{MappedFile}
 use Rattle.codespan_inputs.specs.FileModel.{FileModel, Lookup}
 use Rattle.codespan_inputs.specs.SetLineNumbers.{set_pairs}
-use Rattle.codespan_inputs.specs.SimpleModel.{simple_file, database_file, database_failure}
+use Rattle.codespan_inputs.specs.SimpleModel.{simple_file}
 use Rattle.codespan_inputs.specs.MappedModel.{mapped_file, mapped_failure}
 
 module _ {Name Source : Type 0} {texts : Ghosts Source} where
@@ -26,19 +26,6 @@ module _ {Name Source : Type 0} {texts : Ghosts Source} where
   -- the file that the lookups of a `SimpleFile` describe, where `output` is what names display
   abbrev pub file_of : (Name → Option (List ℕ)) → SimpleFile Name Source texts → FileModel
   file_of output file = simple_file (output (name_of file)) (file_text_of file)
-
-  -- the names and sources of the files of a `SimpleFiles`, in the order of their ids
-  abbrev pub entries : SimpleFiles Name Source texts → List (Name × Source)
-  entries database = map (λ file. (name_of file, source_of file)) database.files.items
-
-  -- the file of an id in a `SimpleFiles`, where `output` is what names display
-  abbrev pub database_file_of : (Name → Option (List ℕ)) → SimpleFiles Name Source texts → ℕ
-      → FileModel
-  database_file_of output database id = database_file output texts.text (entries database) id
-
-  -- what a lookup of an id in a `SimpleFiles` fails with
-  abbrev pub database_failure_of : SimpleFiles Name Source texts → ℕ → Lookup → Option Error
-  database_failure_of database id lookup = database_failure texts.text (entries database) id lookup
 
   -- the name of a `MappedFile`
   abbrev pub mapped_name_of : MappedFile Name Source texts → Name

@@ -1,8 +1,8 @@
 //! The lookups that rendering makes, and file databases.
 //!
-//! [`Files`] is the trait of file databases. This module has three implementations: [`SimpleFile`]
-//! has one text, [`SimpleFiles`] many, and [`MappedFile`] one text whose line numbers can be set as
-//! `#line` does in C. They keep one text for each file; implement [`Files`] for any other database,
+//! [`Files`] is the trait of file databases. This module has two implementations, of one text each:
+//! [`SimpleFile`], and [`MappedFile`], whose line numbers can be set as `#line` does in C;
+//! `codespan_base` adds `SimpleFiles`, of many texts. Implement [`Files`] for any other database,
 //! such as one over the sources that a compiler holds.
 //!
 //! Line indices and byte indices count from 0, and the end of a range is exclusive. Line numbers
@@ -11,7 +11,6 @@
 ghost use Rattle.std.specs.Prelude.{◌≡◌, true, Option, IfOk, ℕ};
 ghost use Rattle.codespan_inputs.specs.LawfulFiles.{FailsBy};
 
-mod database;
 mod defaults;
 mod error;
 mod lines;
@@ -19,7 +18,6 @@ mod mapped;
 mod simple;
 mod starts;
 
-pub use database::SimpleFiles;
 pub use defaults::default_line_number;
 pub use error::Error;
 pub use lines::{column_index, line_starts};

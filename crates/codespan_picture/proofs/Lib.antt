@@ -8,11 +8,9 @@ pub mod Digits
 pub mod BarLemmas
 pub mod BreakLemmas
 pub mod CaretLemmas
-pub mod ColorLemmas
 pub mod FillLemmas
 pub mod Filling
 pub mod Sequences
-pub mod LaneWidths
 pub mod LanesShown
 pub mod LaneLineLemmas
 pub mod LaneLineRows
@@ -28,8 +26,6 @@ pub mod RangeLemmas
 pub mod RefillLemmas
 pub mod RefillPicture
 pub mod RefillRows
-pub mod ResetLemmas
-pub mod RowResets
 pub mod RowBoundLemmas
 pub mod StreamTexts
 pub mod RowTexts
@@ -42,10 +38,7 @@ pub mod SlotLemmas
 pub mod LineSlots
 pub mod FileSlots
 pub mod SlotSums
-pub mod CharacterLemmas
 pub mod RichLemmas
-pub mod OrderMembers
-pub mod OrderPictures
 pub mod OrderSorts
 pub mod Texts
 pub mod ListElements

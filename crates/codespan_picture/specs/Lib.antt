@@ -1,18 +1,15 @@
--- the definitions of the crate below: files, labels, streams, writers, and the tables of
--- characters and styles
-pub use Rattle.codespan_base.specs.FileModel
-pub use Rattle.codespan_base.specs.LawfulFiles
-pub use Rattle.codespan_base.specs.SimpleModel
-pub use Rattle.codespan_base.specs.MappedModel
-pub use Rattle.codespan_base.specs.Labels
-pub use Rattle.codespan_base.specs.Streams
-pub use Rattle.codespan_base.specs.WriterLaw
-pub use Rattle.codespan_base.specs.Errors
-pub use Rattle.codespan_base.specs.SnippetStarts
-pub use Rattle.codespan_base.specs.Characters
-pub use Rattle.codespan_base.specs.Defaults
-pub use Rattle.codespan_base.specs.StyleTables
-pub use Rattle.codespan_base.specs.Ansi
+-- the definitions of the crate below: files, labels, streams, writers, and the characters
+pub use Rattle.codespan_config.specs.FileModel
+pub use Rattle.codespan_config.specs.LawfulFiles
+pub use Rattle.codespan_config.specs.SimpleModel
+pub use Rattle.codespan_config.specs.MappedModel
+pub use Rattle.codespan_config.specs.Labels
+pub use Rattle.codespan_config.specs.Streams
+pub use Rattle.codespan_config.specs.WriterLaw
+pub use Rattle.codespan_config.specs.Errors
+pub use Rattle.codespan_config.specs.SnippetStarts
+pub use Rattle.codespan_config.specs.Characters
+pub use Rattle.codespan_config.specs.Defaults
 -- the Rust types of all of these
 pub mod Types
 -- a line: its characters, carets and lanes
@@ -37,11 +34,9 @@ pub mod Lookups
 pub mod Arguments
 -- what an output means
 pub mod CaretLaws
-pub mod ColorLaws
 pub mod LaneLaws
 pub mod LineLaws
 pub mod MessageLaws
-pub mod OrderLaws
 pub mod RowLaws
 pub mod SortLaws
 pub mod TextLaws
@@ -50,5 +45,5 @@ pub mod StatedNames
 pub mod RichLaws
 -- what each call of `Renderer` renders
 pub mod RenderedRows
--- definitions that private calls and proofs use
+-- definitions that proofs use, and calls that users do not name
 pub mod Private

@@ -1,5 +1,5 @@
--- Definitions that private calls and proofs use, here and in the crates above: a reader of the
--- public contracts needs none of them.
+-- Definitions that proofs use, and calls that users do not name, here and in the crates above: a
+-- reader of the contracts of what users name needs none of them.
 pub mod LineViews
 pub mod RowViews
 pub mod CharCursors

@@ -1,17 +1,15 @@
--- what is below: files, labels, streams, writers, and the tables of characters and styles
-pub use Rattle.codespan_base.specs.FileModel
-pub use Rattle.codespan_base.specs.SimpleModel
-pub use Rattle.codespan_base.specs.MappedModel
+-- what is below: files, labels, streams, writers, and the characters
+pub use Rattle.codespan_config.specs.FileModel
+pub use Rattle.codespan_config.specs.SimpleModel
+pub use Rattle.codespan_config.specs.MappedModel
 pub use Rattle.codespan_picture.specs.Types
-pub use Rattle.codespan_base.specs.Labels
-pub use Rattle.codespan_base.specs.Streams
-pub use Rattle.codespan_base.specs.WriterLaw
-pub use Rattle.codespan_base.specs.Errors
-pub use Rattle.codespan_base.specs.SnippetStarts
-pub use Rattle.codespan_base.specs.Characters
-pub use Rattle.codespan_base.specs.Defaults
-pub use Rattle.codespan_base.specs.StyleTables
-pub use Rattle.codespan_base.specs.Ansi
+pub use Rattle.codespan_config.specs.Labels
+pub use Rattle.codespan_config.specs.Streams
+pub use Rattle.codespan_config.specs.WriterLaw
+pub use Rattle.codespan_config.specs.Errors
+pub use Rattle.codespan_config.specs.SnippetStarts
+pub use Rattle.codespan_config.specs.Characters
+pub use Rattle.codespan_config.specs.Defaults
 -- the definition of an output
 pub use Rattle.codespan_picture.specs.CharMetrics
 pub use Rattle.codespan_picture.specs.Carets
@@ -29,5 +27,5 @@ pub use Rattle.codespan_picture.specs.Arguments
 -- a renderer, as its contracts see it, and what its calls render
 pub mod Renderers
 pub use Rattle.codespan_picture.specs.RenderedRows
--- definitions that private calls and proofs use
+-- definitions that proofs use, and calls that users do not name
 pub mod Private

@@ -1,5 +1,6 @@
 //! The calls that render the rows of a diagnostic, over those of `codespan_picture::rows`. Users
-//! name what is public here as `codespan_reporting::term::renderer`.
+//! name `term::renderer` as `codespan_reporting::term::renderer`, without `Lanes`, `Line` and
+//! `cached`, which the views use.
 #![tactic(auto)]
 
 pub mod term;

@@ -30,11 +30,11 @@ pub use Rattle.codespan_picture.specs.Lookups
 pub use Rattle.codespan_picture.specs.Arguments
 -- what an output means
 pub use Rattle.codespan_picture.specs.CaretLaws
-pub use Rattle.codespan_picture.specs.ColorLaws
+pub use Rattle.codespan_laws.specs.ColorLaws
 pub use Rattle.codespan_picture.specs.LaneLaws
 pub use Rattle.codespan_picture.specs.LineLaws
 pub use Rattle.codespan_picture.specs.MessageLaws
-pub use Rattle.codespan_picture.specs.OrderLaws
+pub use Rattle.codespan_laws.specs.OrderLaws
 pub use Rattle.codespan_picture.specs.RowLaws
 pub use Rattle.codespan_picture.specs.SortLaws
 pub use Rattle.codespan_picture.specs.TextLaws

@@ -9,4 +9,4 @@
 pub mod term;
 
 pub use codespan_base::{diagnostic, files};
-pub use codespan_picture::laws;
+pub use codespan_laws::laws;

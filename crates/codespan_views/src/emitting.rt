@@ -1,16 +1,16 @@
 //! The five calls that emit a diagnostic.
 
 ghost use Rattle.std.specs.Prelude.{◌≡◌, if◌then◌else◌, string_bytes};
-ghost use Rattle.codespan_base.specs.declared.files.Error.TheVariants.{OutOfMemory};
+ghost use Rattle.codespan_config.specs.declared.files.Error.TheVariants.{OutOfMemory};
 ghost use Rattle.codespan_views.specs.Output.{Appends, Emits};
 ghost use Rattle.codespan_views.specs.WriteCalls.{WritesStyled, WritesText};
 
 use crate::rich::RichDiagnostic;
 use crate::short::ShortDiagnostic;
-use codespan_base::diagnostic::Diagnostic;
-use codespan_base::files::{Error, Files};
-use codespan_base::term::config::plain_ref::PlainWriterRef;
-use codespan_base::term::{Config, DisplayStyle, PlainWriter, WriteStyle};
+use codespan_config::diagnostic::Diagnostic;
+use codespan_config::files::{Error, Files};
+use codespan_config::term::config::plain_ref::PlainWriterRef;
+use codespan_config::term::{Config, DisplayStyle, PlainWriter, WriteStyle};
 use codespan_picture::characters::are_characters;
 use codespan_renderer::term::renderer::Renderer;
 use std::io::Write;
@@ -73,7 +73,7 @@ pub fn emit_into_string<'files, F: Files<'files>>(
     match rendered {
         // SAFETY: an output is UTF-8: its characters are Unicode scalar values, its texts are
         // UTF-8, and a line is cut at character boundaries only. The condition of the call is
-        // proved from `codespan_picture::laws::outputs_are_texts`.
+        // proved from `OutputIsText`, the law that `codespan_laws::laws::outputs_are_texts` states.
         Ok(()) => Ok(unsafe { String::from_utf8_unchecked(plain.into_inner()) }),
         Err(error) => Err(string_error(plain.has_failed(), error)),
     }

@@ -6,8 +6,8 @@ ghost use Rattle.codespan_picture.specs.CharMetrics.{leading_whitespace, text_wi
 ghost use Rattle.codespan_picture.specs.Arguments.{lanes_in_order};
 
 use crate::arguments::{MultiLabel, SingleLabel};
-use codespan_base::diagnostic::{LabelStyle, Severity};
-use codespan_base::term::{Chars, Layout};
+use codespan_config::diagnostic::{LabelStyle, Severity};
+use codespan_config::term::{Chars, Layout};
 
 /// What all rows of a line are rendered by.
 #[derive(Clone, Copy)]

@@ -1,8 +1,8 @@
 //! Text without styles.
 
 ghost use Rattle.std.specs.Prelude.{◌≡◌, []};
-ghost use Rattle.codespan_base.specs.WriterLaw.{AppendsBytes};
-ghost use Rattle.codespan_base.specs.Writers.{WritesNothing};
+ghost use Rattle.codespan_config.specs.WriterLaw.{AppendsBytes};
+ghost use Rattle.codespan_config.specs.Writers.{WritesNothing};
 
 use crate::term::config::color::{ColorSpec, WriteColor};
 use std::io;
@@ -15,7 +15,7 @@ pub struct NoColor<W> {
 }
 
 impl<W: Write> NoColor<W> {
-    ghost use Rattle.codespan_base.specs.Writers.{no_color_inner};
+    ghost use Rattle.codespan_base.specs.StyleWriters.{no_color_inner};
 
     /// Returns a writer without styles over `writer`.
     pub fn new(writer: W) -> NoColor<W>
@@ -33,7 +33,7 @@ impl<W: Write> NoColor<W> {
 }
 
 impl<W: Write> Write for NoColor<W> {
-    ghost use Rattle.codespan_base.specs.Writers.{no_color_inner};
+    ghost use Rattle.codespan_base.specs.StyleWriters.{no_color_inner};
 
     ghost contents = { λ p. W.contents (no_color_inner p) };
 
@@ -46,9 +46,9 @@ impl<W: Write> Write for NoColor<W> {
     }
 }
 
-#[tactic(auto, using(crate::proofs::AppendsBytes::append_chains))]
+#[tactic(auto, using(codespan_config::proofs::AppendsBytes::append_chains))]
 impl<W: Write> WriteColor for NoColor<W> {
-    ghost use Rattle.codespan_base.specs.Writers.{no_color_inner};
+    ghost use Rattle.codespan_base.specs.StyleWriters.{no_color_inner};
 
     ghost color_bytes = { λ _. [] };
 

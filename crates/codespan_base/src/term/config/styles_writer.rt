@@ -1,13 +1,13 @@
 //! Text with styles.
 
 ghost use Rattle.std.specs.Prelude.{◌≡◌, refl};
-ghost use Rattle.codespan_base.specs.Streams.{bytes};
-ghost use Rattle.codespan_base.specs.WriterLaw.{Writes};
+ghost use Rattle.codespan_config.specs.Streams.{bytes};
+ghost use Rattle.codespan_config.specs.WriterLaw.{Writes};
 
 use crate::term::config::color::{ColorSpec, WriteColor};
 use crate::term::config::styles::Styles;
-use crate::term::config::write_style::WriteStyle;
-use crate::term::config::writing::{forward_put, note_failure};
+use codespan_config::term::config::write_style::WriteStyle;
+use codespan_config::term::config::writing::{forward_put, note_failure};
 use codespan_inputs::diagnostic::{LabelStyle, Severity};
 use std::io;
 use std::io::Write;
@@ -37,7 +37,8 @@ pub struct StylesWriter<'a, W> {
 
 impl<'a, W: WriteColor> StylesWriter<'a, W> {
     ghost use Rattle.codespan_base.specs.StyleTables.{spelling_by};
-    ghost use Rattle.codespan_base.specs.Writers.{fresh_sink, styles_sink, styles_inner};
+    ghost use Rattle.codespan_config.specs.Writers.{fresh_sink};
+    ghost use Rattle.codespan_base.specs.StyleWriters.{styles_sink, styles_inner};
 
     /// Returns a writer over `writer` that writes these styles. Its flag is not set.
     pub fn new(writer: W, styles: &'a Styles) -> StylesWriter<'a, W>
@@ -80,7 +81,7 @@ impl<'a, W: WriteColor> StylesWriter<'a, W> {
 
 /// Passes writes and flushes on to the inner writer; they do not change the flag.
 impl<W: WriteColor> Write for StylesWriter<'_, W> {
-    ghost use Rattle.codespan_base.specs.Writers.{styles_inner};
+    ghost use Rattle.codespan_base.specs.StyleWriters.{styles_inner};
 
     ghost contents = { λ p. W.contents (styles_inner p) };
 
@@ -93,9 +94,9 @@ impl<W: WriteColor> Write for StylesWriter<'_, W> {
     }
 }
 
-#[tactic(auto, using(crate::proofs::StyleMarks::marking))]
+#[tactic(auto, using(codespan_config::proofs::StyleMarks::marking))]
 impl<W: WriteColor> WriteStyle for StylesWriter<'_, W> {
-    ghost use Rattle.codespan_base.specs.Writers.{styles_sink};
+    ghost use Rattle.codespan_base.specs.StyleWriters.{styles_sink};
 
     ghost sink = { λ p. styles_sink W.contents W.color_bytes W.reset_bytes p };
 

@@ -1,7 +1,7 @@
 use Rattle.std.proofs.Common.{◌∙◌, ◌++◌, ap, refl, ℕ, List, Vec, Global}
 use Rattle.codespan_base.specs.declared.term.config.ansi.Ansi.{Ansi}
 use Rattle.codespan_base.specs.Streams.{spelled}
-use Rattle.codespan_base.specs.Writers.{ansi_inner}
+use Rattle.codespan_base.specs.StyleWriters.{ansi_inner}
 use Rattle.codespan_native.proofs.Rendered.{fresh_known, text_after}
 use Rattle.codespan_base.specs.StyleTables.{ansi_spelling}
 use Rattle.codespan_sources.specs.SourceModel.{native_file_views}

@@ -1,6 +1,6 @@
 use Rattle.std.proofs.Common.{ℕ, List, [], ◌∷◌, ◌++◌, ap, ◌∙◌, map, string_bytes, sym, take}
 use Rattle.std.proofs.lemmas.List.{map_more, map_push}
-use Rattle.codespan_base.specs.DatabaseViews.{entries}
+use Rattle.codespan_base.specs.SimpleFilesViews.{entries}
 use Rattle.gallery_script.specs.Database.{borrowed_view}
 use Rattle.gallery_script.specs.Cases.{file_view}
 use Rattle.gallery_script.proofs.database.several_files.Goals as goal

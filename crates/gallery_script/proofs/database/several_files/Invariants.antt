@@ -1,5 +1,5 @@
 use Rattle.std.proofs.Common.{◌≡◌, map, take}
-use Rattle.codespan_base.specs.DatabaseViews.{entries}
+use Rattle.codespan_base.specs.SimpleFilesViews.{entries}
 use Rattle.gallery_script.specs.Cases.{file_view}
 use Rattle.gallery_script.specs.Database.{borrowed_view}
 use Rattle.gallery_script.proofs.database.several_files.Given as goal

@@ -1,4 +1,4 @@
-use Rattle.codespan_base.specs.Writers.{styles_sink}
+use Rattle.codespan_base.specs.StyleWriters.{styles_sink}
 use Rattle.codespan_base.proofs.term.config.styles_writer.StylesWriterWriteStyle.put.Goals as goal
 
 pub returns-clause-took : goal.returns-clause-took

@@ -1,0 +1,15 @@
+use Rattle.std.proofs.Common.{ap, rules}
+use Rattle.codespan_base.proofs.files.database.SimpleFilesFiles.name.Goals as goal
+
+-- the file of the id is the one that was found
+pub returns-clause-value : goal.returns-clause-value
+returns-clause-value g c = rw c.in_ok-get.ensures.found (ap g.Name.Display.output c.name.ensures)
+
+pub returns-clause-failed : goal.returns-clause-failed
+returns-clause-failed g c = search rules depth 2 fits 100
+
+pub returns-in_err-get-clause-failed : goal.returns-in_err-get-clause-failed
+returns-in_err-get-clause-failed g c = search rules depth 2 fits 100
+
+pub returns-clause-borrowed : goal.returns-clause-borrowed
+returns-clause-borrowed g c = search rules depth 2 fits 100

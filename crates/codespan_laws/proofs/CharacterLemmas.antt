@@ -1,0 +1,229 @@
+-- For `characters_are_free`: the length of rows does not depend on the characters that they are
+-- rendered with.
+use Rattle.std.proofs.Common.{◌≡◌, ℕ, ◌-◌, Bool, true, false, List, [], ◌∷◌, ◌++◌, flat_map, Option, Some, None, if◌then◌else◌, refl, sym, ap, ◌∙◌, arith}
+use Rattle.std.specs.List.{list_any}
+use Rattle.codespan_base.specs.declared.diagnostic.Severity.{Severity}
+use Rattle.codespan_base.specs.declared.diagnostic.LabelStyle.{LabelStyle}
+use Rattle.codespan_base.specs.declared.term.config.chars.Chars.{Chars}
+use Rattle.codespan_base.specs.Labels.{LabelModel, LaneMark, MultiLabel, Top, Left, Bottom}
+use Rattle.codespan_base.specs.Streams.{Stream, StyleMark, Reset, LabelStyleMark, SourceBorder, NoteBullet, style_mark, bytes, glyph, repeated, space}
+use Rattle.codespan_picture.specs.RowLaws.{row_length, character_count, CharactersAreFree}
+use Rattle.codespan_base.specs.SnippetStarts.{start_text}
+use Rattle.codespan_picture.specs.declared.char_metrics.Metrics.{Metrics}
+use Rattle.codespan_picture.specs.Carets.{style_under, max_label_end}
+use Rattle.codespan_picture.specs.Lanes.{label_glyph}
+use Rattle.codespan_picture.specs.Rows.{RowContext, Locus, Lanes, Line, Row, HeaderRow, SnippetStartRow, EmptyRow, BreakRow, SourceRow, CaretRow, PointerRow, HangingRow, UnderlineRow, FirstNoteRow, LaterNoteRow, FinalRow, hanging_labels, trailing_label}
+use Rattle.codespan_picture.specs.RowParts.{outer_gutter, outer_gutter_number, border_left, border_left_break, style_change, styled, lanes_in, locus, line_metrics, line_metrics_to_end, inner_gutter, colored_text, caret_glyphs, carets, trailing_message, label_message, starts_in, max_label_start, spaces_up_to, pointer_style, pointer_at, pointers, metrics_before, underline, underline_message}
+use Rattle.codespan_picture.specs.RowStreams.{stream_of, snippet_start_row, empty_row, break_row, source_row, row_start, caret_row, pointer_row, hanging_row, underline_row, first_note_row}
+use Rattle.codespan_picture.proofs.Texts.{row_length-append, row_length-glyph, row_length-repeated, text_of-bytes}
+use Rattle.codespan_laws.proofs.LaneWidths.{row_length-lanes_in, row_length-label_glyph}
+
+-- two streams have equally many characters
+record AreAsLong (s t : Stream) : Type 0 where
+  same : row_length s ≡ row_length t
+
+as_long : (s : Stream) → AreAsLong s s
+as_long s = record { same = refl }
+
+joined : (s t u v : Stream) → AreAsLong s t → AreAsLong u v → AreAsLong (s ++ u) (t ++ v)
+joined s t u v e f =
+    record { same = row_length-append s u ∙ omega (arith, row_length-append t v, e.same, f.same) }
+
+same_before : (s t after : Stream) → AreAsLong s t → AreAsLong (s ++ after) (t ++ after)
+same_before s t after e = joined s t after after e (as_long after)
+
+same_after : (before s t : Stream) → AreAsLong s t → AreAsLong (before ++ s) (before ++ t)
+same_after before s t e = joined before before s t (as_long before) e
+
+flat_as_long : {A : Type 0} (f g : A → Stream) → ((x : A) → AreAsLong (f x) (g x)) → (xs : List A)
+    → AreAsLong (flat_map f xs) (flat_map g xs)
+flat_as_long f g e [] = as_long []
+flat_as_long f g e (x ∷ xs) =
+    joined (f x) (g x) (flat_map f xs) (flat_map g xs) (e x) (flat_as_long f g e xs)
+
+-- ---- single characters
+
+texts : (a b : List ℕ) → character_count a ≡ character_count b → AreAsLong (bytes a) (bytes b)
+texts a b e =
+    record {
+      same =
+          ap character_count (text_of-bytes a) ∙ e ∙ sym (ap character_count (text_of-bytes b));
+    }
+
+glyphs : (c d : ℕ) → AreAsLong (glyph c) (glyph d)
+glyphs c d = record { same = row_length-glyph c ∙ sym (row_length-glyph d) }
+
+repeats : (n c d : ℕ) → AreAsLong (repeated n c) (repeated n d)
+repeats n c d = record { same = row_length-repeated n c ∙ sym (row_length-repeated n d) }
+
+in_style : (severity : Severity) (style : LabelStyle) (c d : ℕ)
+    → AreAsLong (label_glyph severity style c) (label_glyph severity style d)
+in_style severity style c d =
+    record {
+      same =
+          row_length-label_glyph severity style c ∙ sym (row_length-label_glyph severity style d);
+    }
+
+marked : (m : StyleMark) (c d : ℕ)
+    → AreAsLong (style_mark m ++ glyph c ++ style_mark Reset)
+    (style_mark m ++ glyph d ++ style_mark Reset)
+marked m c d =
+    same_before (style_mark m ++ glyph c) (style_mark m ++ glyph d) (style_mark Reset)
+    (same_after (style_mark m) (glyph c) (glyph d) (glyphs c d))
+
+-- ---- parts of rows
+
+module _ (context : RowContext) (chars : Chars) where
+  -- the context with the other characters
+  abbrev other : RowContext
+  other = record context { chars = chars }
+
+  lanes_as_long : (crossing crossing' : ℕ → Option LaneMark) (shape shape' : ℕ → MultiLabel → _)
+      (lanes : Lanes)
+      → AreAsLong (lanes_in other crossing shape lanes) (lanes_in context crossing' shape' lanes)
+  lanes_as_long crossing crossing' shape shape' lanes =
+      record {
+        same =
+            row_length-lanes_in other crossing shape lanes
+            ∙ sym (row_length-lanes_in context crossing' shape' lanes);
+      }
+
+  border_left_as_long : AreAsLong (border_left chars) (border_left context.chars)
+  unfolding border_left
+  border_left_as_long =
+      marked SourceBorder chars.source_border_left context.chars.source_border_left
+
+  border_left_break_as_long : AreAsLong (border_left_break chars) (border_left_break context.chars)
+  unfolding border_left_break
+  border_left_break_as_long =
+      marked SourceBorder chars.source_border_left_break context.chars.source_border_left_break
+
+  row_start_as_long : (line : Line) → AreAsLong (row_start other line) (row_start context line)
+  unfolding row_start inner_gutter
+  row_start_as_long line =
+      same_before _ _ space
+      (joined (outer_gutter context.padding ++ border_left chars)
+      (outer_gutter context.padding ++ border_left context.chars) _ _
+      (same_after (outer_gutter context.padding) (border_left chars) (border_left context.chars)
+      border_left_as_long)
+      (lanes_as_long _ _ _ _ line.lanes))
+
+  styled_as_long : (style : Metrics → Option LabelStyle) (shown shown' : Metrics → Stream)
+      → ((c : Metrics) → AreAsLong (shown c) (shown' c))
+      → (previous : Option LabelStyle) (cs : List Metrics)
+      → AreAsLong (styled context.severity style shown previous cs)
+      (styled context.severity style shown' previous cs)
+  styled_as_long style shown shown' e previous [] = as_long (style_change context.severity previous None)
+  styled_as_long style shown shown' e previous (c ∷ cs) =
+      joined (style_change context.severity previous (style c) ++ shown c)
+      (style_change context.severity previous (style c) ++ shown' c) _ _
+      (same_after (style_change context.severity previous (style c)) (shown c) (shown' c) (e c))
+      (styled_as_long style shown shown' e (style c) cs)
+
+  caret_glyphs_as_long : (end : ℕ) (style : Option LabelStyle) (c : Metrics)
+      → AreAsLong (caret_glyphs chars end style c) (caret_glyphs context.chars end style c)
+  unfolding caret_glyphs
+  caret_glyphs_as_long end None c = as_long _
+  caret_glyphs_as_long end (Some style) c = repeats c.unicode_width _ _
+
+  carets_as_long : (labels : List LabelModel) (cs : List Metrics)
+      → AreAsLong (carets other labels cs) (carets context labels cs)
+  unfolding carets
+  carets_as_long labels cs =
+      styled_as_long (style_under labels) _ _
+      (λ c. caret_glyphs_as_long (max_label_end labels) (style_under labels c) c) None cs
+
+  pointed : (points : Bool) (style : LabelStyle) (after without : Stream)
+      → AreAsLong
+      (if points then label_glyph context.severity style chars.pointer_left ++ after else without)
+      (if points then label_glyph context.severity style context.chars.pointer_left ++ after
+      else without)
+  pointed true style after without =
+      same_before _ _ after
+      (in_style context.severity style chars.pointer_left context.chars.pointer_left)
+  pointed false style after without = as_long without
+
+  pointers_as_long : (labels : List LabelModel) (cs : List Metrics)
+      → AreAsLong (pointers other labels cs) (pointers context labels cs)
+  unfolding pointers pointer_at
+  pointers_as_long labels cs =
+      flat_as_long _ _
+      (λ c. pointed (list_any (starts_in c) (hanging_labels labels))
+      (pointer_style (hanging_labels labels) c)
+      (spaces_up_to (max_label_start labels) c (c.unicode_width - 1)) (spaces_up_to (max_label_start labels) c c.unicode_width)) cs
+
+  underline_as_long : (style : LabelStyle) (cs : List Metrics) (multi_label : MultiLabel)
+      → AreAsLong (underline chars style cs multi_label)
+      (underline context.chars style cs multi_label)
+  unfolding underline
+  underline_as_long style cs (Top start) = joined _ _ _ _ (repeats _ _ _) (glyphs _ _)
+  underline_as_long style cs Left = as_long []
+  underline_as_long style cs (Bottom end message) =
+      same_before _ _ (underline_message message) (joined _ _ _ _ (repeats _ _ _) (glyphs _ _))
+
+  -- ---- rows
+
+  start_as_long : character_count (start_text chars.snippet_start) ≡ character_count
+      (start_text context.chars.snippet_start)
+      → (at : Locus)
+      → AreAsLong (snippet_start_row chars context.padding at)
+      (snippet_start_row context.chars context.padding at)
+  unfolding snippet_start_row
+  start_as_long e at =
+      same_before _ _ (locus at) (same_before _ _ space (same_before _ _ (style_mark Reset)
+      (same_after (outer_gutter context.padding ++ style_mark SourceBorder) _ _
+      (texts (start_text chars.snippet_start) (start_text context.chars.snippet_start) e))))
+
+  rows_as_long : character_count (start_text chars.snippet_start) ≡ character_count
+      (start_text context.chars.snippet_start)
+      → (row : Row)
+      → AreAsLong (stream_of other row) (stream_of context row)
+  unfolding empty_row break_row source_row caret_row pointer_row hanging_row underline_row
+      first_note_row colored_text inner_gutter
+  rows_as_long e (HeaderRow at header_text) = as_long _
+  rows_as_long e (SnippetStartRow at) = start_as_long e at
+  rows_as_long e (EmptyRow lanes) =
+      joined _ _ _ _
+      (same_after (outer_gutter context.padding) (border_left chars) (border_left context.chars)
+      border_left_as_long)
+      (lanes_as_long _ _ _ _ lanes)
+  rows_as_long e (BreakRow lanes) =
+      joined _ _ _ _
+      (same_after (outer_gutter context.padding) (border_left_break chars)
+      (border_left_break context.chars) border_left_break_as_long)
+      (lanes_as_long _ _ _ _ lanes)
+  rows_as_long e (SourceRow line) =
+      same_before _ _ (colored_text context line) (same_before _ _ space
+      (joined _ _ _ _
+      (same_after (outer_gutter_number context.padding line.number) (border_left chars)
+      (border_left context.chars) border_left_as_long)
+      (lanes_as_long _ _ _ _ line.lanes)))
+  rows_as_long e (CaretRow line) =
+      same_before _ _ (trailing_message context.severity (trailing_label line.labels))
+      (joined _ _ _ _ (row_start_as_long line)
+      (carets_as_long line.labels (line_metrics_to_end context line)))
+  rows_as_long e (PointerRow line) =
+      joined _ _ _ _ (row_start_as_long line)
+      (pointers_as_long line.labels (line_metrics context line))
+  rows_as_long e (HangingRow line x) =
+      same_before _ _ (label_message context.severity x.style x.message)
+      (joined _ _ _ _ (row_start_as_long line)
+      (pointers_as_long line.labels (metrics_before x.start (line_metrics context line))))
+  rows_as_long e (UnderlineRow line m) =
+      same_before _ _ (style_mark Reset)
+      (joined _ _ _ _ (same_before _ _ (style_mark (LabelStyleMark context.severity m.style))
+      (joined _ _ _ _
+      (same_after (outer_gutter context.padding) (border_left chars) (border_left context.chars)
+      border_left_as_long)
+      (lanes_as_long _ _ _ _ line.lanes)))
+      (underline_as_long m.style (line_metrics context line) m.multi_label))
+  rows_as_long e (FirstNoteRow note_line) =
+      same_before _ _ (bytes note_line) (same_before _ _ space (same_before _ _ (style_mark Reset)
+      (same_after (outer_gutter context.padding ++ style_mark NoteBullet) (glyph chars.note_bullet)
+      (glyph context.chars.note_bullet) (glyphs chars.note_bullet context.chars.note_bullet))))
+  rows_as_long e (LaterNoteRow note_line) = as_long _
+  rows_as_long e FinalRow = as_long []
+
+-- with other characters each row is as long
+pub characters_are_free : CharactersAreFree
+characters_are_free context chars row e = (rows_as_long context chars e row).same

@@ -1,0 +1,189 @@
+-- For `rows_end_reset`: the rows of an output.
+use Rattle.std.proofs.Common.{◌≡◌, ℕ, ◌+◌, ◌-◌, nat_le, nat_lt, Bool, true, false, List, [], ◌++◌, Option, Some, None, refl}
+use Rattle.std.specs.Prelude.{◌==◌, if◌then◌else◌}
+use Rattle.std.specs.List.{list_any}
+use Rattle.codespan_base.specs.declared.diagnostic.Severity.{Severity}
+use Rattle.codespan_base.specs.declared.diagnostic.LabelStyle.{LabelStyle}
+use Rattle.codespan_base.specs.declared.term.config.chars.Chars.{Chars}
+use Rattle.codespan_base.specs.Labels.{LabelModel}
+use Rattle.codespan_base.specs.Streams.{Stream, LabelStyleMark, bytes, spaces, glyph, space}
+use Rattle.codespan_picture.specs.declared.char_metrics.Metrics.{Metrics}
+use Rattle.codespan_picture.specs.Carets.{style_under, max_label_end}
+use Rattle.codespan_picture.specs.Lanes.{label_glyph}
+use Rattle.codespan_picture.specs.Rows.{Locus, RowContext, Line, Row, HeaderRow, SnippetStartRow, EmptyRow, BreakRow, SourceRow, CaretRow, PointerRow, HangingRow, UnderlineRow, FirstNoteRow, LaterNoteRow, FinalRow, hanging_labels}
+use Rattle.codespan_picture.specs.RowParts.{inner_gutter, source_glyph, source_style, colored_text, caret_glyphs, carets, trailing_message, label_message, spaces_up_to, pointer_at, pointer_style, pointers, starts_in, max_label_start, outer_gutter, outer_gutter_number, border_left, border_left_break, locus, line_metrics}
+use Rattle.codespan_picture.specs.RowStreams.{stream_of, header_row, snippet_start_row, empty_row, break_row, source_row, row_start, caret_row, pointer_row, hanging_row, underline_row, first_note_row, later_note_row}
+use Rattle.codespan_picture.specs.RowLaws.{ends_reset, RowsEndReset}
+use Rattle.codespan_laws.proofs.ResetLemmas.{Closes, closes-append, closes-reset, ends_reset-bytes, ends_reset-spaces, ends_reset-repeated, closes-in_style, closes-label_glyph, closes-flat_map, closes-lanes_in, ends_reset-styled}
+
+-- ---- rows
+
+closes-bytes : (bs : List ℕ) → Closes (bytes bs)
+closes-bytes bs = record { closed = ends_reset-bytes true bs }
+
+ends_reset-source_glyph : (closed : Bool) (c : Metrics)
+    → ends_reset closed (source_glyph c) ≡ closed
+unfolding source_glyph
+ends_reset-source_glyph closed c = by_test (c.ch == 9)
+  where
+    by_test : (b : Bool)
+        → ends_reset closed (if b then spaces c.unicode_width else glyph c.ch) ≡ closed
+    by_test true = ends_reset-spaces closed c.unicode_width
+    by_test false = ends_reset-bytes closed _
+
+ends_reset-caret_glyphs : (chars : Chars) (end : ℕ) (style : Option LabelStyle) (closed : Bool)
+    (c : Metrics)
+    → ends_reset closed (caret_glyphs chars end style c) ≡ closed
+unfolding caret_glyphs
+ends_reset-caret_glyphs chars end (Some style) closed c =
+    ends_reset-repeated closed c.unicode_width _
+ends_reset-caret_glyphs chars end None closed c = by_test (nat_lt c.byte_index end)
+  where
+    by_test : (b : Bool) → ends_reset closed (if b then spaces c.unicode_width else []) ≡ closed
+    by_test true = ends_reset-spaces closed c.unicode_width
+    by_test false = refl
+
+closes-carets : (context : RowContext) (labels : List LabelModel) (cs : List Metrics)
+    → Closes (carets context labels cs)
+unfolding carets
+closes-carets context labels cs =
+    record {
+      closed =
+          ends_reset-styled context.severity (style_under labels)
+          (λ c. caret_glyphs context.chars (max_label_end labels) (style_under labels c) c)
+          (λ closed c. ends_reset-caret_glyphs context.chars (max_label_end labels)
+          (style_under labels c) closed c)
+          None cs;
+    }
+
+closes-colored_text : (context : RowContext) (line : Line) → Closes (colored_text context line)
+unfolding colored_text
+closes-colored_text context line =
+    record {
+      closed =
+          ends_reset-styled context.severity (source_style line) source_glyph ends_reset-source_glyph None
+          (line_metrics context line);
+    }
+
+closes-label_message : (severity : Severity) (style : LabelStyle) (message : Stream)
+    → Closes (label_message severity style message)
+unfolding label_message
+closes-label_message severity style message =
+    closes-in_style (LabelStyleMark severity style) message
+
+closes-trailing_message : (severity : Severity) (x : Option LabelModel)
+    → Closes (trailing_message severity x)
+unfolding trailing_message
+closes-trailing_message severity None = record { closed = refl }
+closes-trailing_message severity (Some x) =
+    closes-append space _ (closes-bytes _) (closes-label_message severity x.style x.message)
+
+closes-spaces_up_to : (byte_index : ℕ) (c : Metrics) (n : ℕ) → Closes (spaces_up_to byte_index c n)
+unfolding spaces_up_to
+closes-spaces_up_to byte_index c n = by_test (nat_le c.byte_index byte_index)
+  where
+    by_test : (b : Bool) → Closes (if b then spaces n else [])
+    by_test true = record { closed = ends_reset-spaces true n }
+    by_test false = record { closed = refl }
+
+closes-pointer_at : (context : RowContext) (labels xs : List LabelModel) (c : Metrics)
+    → Closes (pointer_at context labels xs c)
+unfolding pointer_at
+closes-pointer_at context labels xs c = by_test (list_any (starts_in c) xs)
+  where
+    by_test : (b : Bool)
+        → Closes
+        (if b then label_glyph context.severity (pointer_style xs c) context.chars.pointer_left
+        ++ spaces_up_to (max_label_start labels) c (c.unicode_width - 1)
+        else spaces_up_to (max_label_start labels) c c.unicode_width)
+    by_test true =
+        closes-append (label_glyph context.severity (pointer_style xs c) context.chars.pointer_left)
+        (spaces_up_to (max_label_start labels) c (c.unicode_width - 1))
+        (closes-label_glyph context.severity (pointer_style xs c) context.chars.pointer_left)
+        (closes-spaces_up_to (max_label_start labels) c (c.unicode_width - 1))
+    by_test false = closes-spaces_up_to (max_label_start labels) c c.unicode_width
+
+closes-pointers : (context : RowContext) (labels : List LabelModel) (cs : List Metrics)
+    → Closes (pointers context labels cs)
+unfolding pointers
+closes-pointers context labels cs =
+    closes-flat_map (pointer_at context labels (hanging_labels labels))
+    (closes-pointer_at context labels (hanging_labels labels)) cs
+
+closes-outer_gutter : (n : ℕ) → Closes (outer_gutter n)
+unfolding outer_gutter
+closes-outer_gutter n = record { closed = ends_reset-spaces true (n + 1) }
+
+closes-outer_gutter_number : (padding n : ℕ) → Closes (outer_gutter_number padding n)
+unfolding outer_gutter_number
+closes-outer_gutter_number padding n = closes-append _ space (closes-reset _) (closes-bytes _)
+
+closes-border_left : (chars : Chars) → Closes (border_left chars)
+unfolding border_left
+closes-border_left chars = closes-reset _
+
+closes-border_left_break : (chars : Chars) → Closes (border_left_break chars)
+unfolding border_left_break
+closes-border_left_break chars = closes-reset _
+
+closes-locus : (p : Locus) → Closes (locus p)
+unfolding locus
+closes-locus p =
+    closes-append _ _
+    (closes-append _ _
+    (closes-append _ _ (closes-append _ _ (closes-bytes _) (closes-bytes _)) (closes-bytes _))
+    (closes-bytes _))
+    (closes-bytes _)
+
+closes-row_start : (context : RowContext) (line : Line) → Closes (row_start context line)
+unfolding row_start inner_gutter
+closes-row_start context line =
+    closes-append _ space
+    (closes-append _ _ (closes-append _ _ (closes-outer_gutter _) (closes-border_left _))
+    (closes-lanes_in context _ _ line.lanes))
+    (closes-bytes _)
+
+closes-row : (context : RowContext) (row : Row) → Closes (stream_of context row)
+unfolding header_row snippet_start_row empty_row break_row source_row caret_row pointer_row
+    hanging_row underline_row first_note_row later_note_row inner_gutter
+closes-row context (HeaderRow at header_text) = closes-reset _
+closes-row context (SnippetStartRow at) =
+    closes-append _ (locus at) (closes-append _ space (closes-reset _) (closes-bytes _))
+    (closes-locus at)
+closes-row context (EmptyRow lanes) =
+    closes-append _ _ (closes-append _ _ (closes-outer_gutter _) (closes-border_left _))
+    (closes-lanes_in context _ _ lanes)
+closes-row context (BreakRow lanes) =
+    closes-append _ _ (closes-append _ _ (closes-outer_gutter _) (closes-border_left_break _))
+    (closes-lanes_in context _ _ lanes)
+closes-row context (SourceRow line) =
+    closes-append _ _
+    (closes-append _ space
+    (closes-append _ _
+    (closes-append _ _ (closes-outer_gutter_number _ _) (closes-border_left _))
+    (closes-lanes_in context _ _ line.lanes))
+    (closes-bytes _))
+    (closes-colored_text context line)
+closes-row context (CaretRow line) =
+    closes-append _ _
+    (closes-append _ _ (closes-row_start context line) (closes-carets context line.labels _))
+    (closes-trailing_message context.severity _)
+closes-row context (PointerRow line) =
+    closes-append _ _ (closes-row_start context line) (closes-pointers context line.labels _)
+closes-row context (HangingRow line x) =
+    closes-append _ _
+    (closes-append _ _ (closes-row_start context line) (closes-pointers context line.labels _))
+    (closes-label_message context.severity x.style x.message)
+closes-row context (UnderlineRow line m) = closes-reset _
+closes-row context (FirstNoteRow note_line) =
+    closes-append _ (bytes note_line) (closes-append _ space (closes-reset _) (closes-bytes _))
+    (closes-bytes note_line)
+closes-row context (LaterNoteRow note_line) =
+    closes-append _ (bytes note_line)
+    (closes-append _ space (closes-append _ space (closes-outer_gutter _) (closes-bytes _))
+    (closes-bytes _))
+    (closes-bytes note_line)
+closes-row context FinalRow = record { closed = refl }
+
+pub rows_end_reset : RowsEndReset
+rows_end_reset context row = (closes-row context row).closed

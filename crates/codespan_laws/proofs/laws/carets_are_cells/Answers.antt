@@ -1,0 +1,5 @@
+use Rattle.codespan_picture.proofs.RichLemmas as meaning
+use Rattle.codespan_laws.proofs.laws.carets_are_cells.Goals as goal
+
+pub returns : goal.returns
+returns c = meaning.carets_are_cells

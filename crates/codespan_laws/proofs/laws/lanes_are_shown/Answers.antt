@@ -1,0 +1,5 @@
+use Rattle.codespan_picture.proofs.LanesShown as lanes
+use Rattle.codespan_laws.proofs.laws.lanes_are_shown.Goals as goal
+
+pub returns : goal.returns
+returns c = lanes.lanes_are_shown

@@ -1,0 +1,7 @@
+use Rattle.codespan_picture.proofs.MessagesOnce as messages
+use Rattle.codespan_laws.proofs.laws.messages_appear_once.Goals as goal
+
+pub returns : goal.returns
+returns g c =
+    λ renderer_config view_config files d equal has_line loci are. messages.messages_appear_once
+    renderer_config view_config files d equal has_line loci are

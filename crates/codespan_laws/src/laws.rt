@@ -1,0 +1,216 @@
+//! Laws of the output of a diagnostic. Each is the contract of a function that does nothing, and is
+//! stated of the definitions alone.
+//!
+//! The calls of `codespan_reporting::term` promise the outputs that these laws are about.
+
+ghost use Rattle.std.specs.Prelude.{◌≡◌, ◌*◌, ◌<◌, ℕ, Bool, List};
+ghost use Rattle.std.specs.Cmp.{IsEquivalence};
+ghost use Rattle.codespan_base.specs.declared.term.config.Config.{Config};
+ghost use Rattle.codespan_base.specs.declared.term.config.DisplayStyle.{DisplayStyle};
+ghost use Rattle.codespan_base.specs.declared.term.config.DisplayStyle.TheVariants.{Rich};
+ghost use Rattle.codespan_base.specs.declared.term.config.Layout.{Layout};
+ghost use Rattle.codespan_base.specs.declared.diagnostic.Diagnostic.{Diagnostic};
+ghost use Rattle.codespan_base.specs.FileModel.{FileDatabase, FileModel, line_count};
+ghost use Rattle.codespan_base.specs.Labels.{LabelModel};
+ghost use Rattle.codespan_base.specs.declared.term.config.styles.Styles.{Styles};
+ghost use Rattle.codespan_base.specs.Streams.{Spelling};
+ghost use Rattle.codespan_picture.specs.RowLaws.{row_length, CharactersAreFree, RowsEndReset};
+ghost use Rattle.codespan_laws.specs.ColorLaws.{ColorsChangeNoText, NoColorIsPlain};
+ghost use Rattle.codespan_picture.specs.CaretLaws.{CaretsAreCells, PointersAreCells, StartsHaveCells};
+ghost use Rattle.codespan_picture.specs.RichLaws.{MeansLabels, NoneReversed};
+ghost use Rattle.codespan_picture.specs.LaneLaws.{BarsAreLabels, LanesJoinCorners, LanesAreShown};
+ghost use Rattle.codespan_picture.specs.LineLaws.{BreaksHaveBars, BreaksAreGaps, RowsOfShown, PaddingFits, SourceRowsAreFew};
+ghost use Rattle.codespan_picture.specs.MessageLaws.{MessagesAppearOnce};
+ghost use Rattle.codespan_picture.specs.TrailingLaws.{EachTrailsOrHangs};
+ghost use Rattle.codespan_laws.specs.OrderLaws.{OrderIsFree};
+ghost use Rattle.codespan_picture.specs.SortLaws.{SortsLabels};
+ghost use Rattle.codespan_picture.specs.StatedNames.{HeadersAreBeforeFailure, OutputIsPicture};
+ghost use Rattle.codespan_picture.specs.TextLaws.{OutputIsText, PictureIsText};
+ghost use Rattle.codespan_picture.specs.Lanes.{LaneRow};
+ghost use Rattle.codespan_picture.specs.RowParts.{line_metrics, inner_gutter};
+ghost use Rattle.codespan_picture.specs.OutputStreams.{AreLoci, output};
+ghost use Rattle.codespan_picture.specs.Picture.{stated_loci};
+ghost use Rattle.codespan_picture.specs.Rows.{Locus, RowContext, Lanes, Line};
+ghost use Rattle.codespan_picture.specs.Snippets.{LabeledFileModel};
+
+/// States that a rich output means its labels, whatever the loci in it: the laws of its lines,
+/// breaks, carets, pointers, lanes, messages and padding together, each with its own premises,
+/// where ids are compared by an equivalence and each file has a line.
+pub fn outputs_mean_labels<Id>()
+    ensures { (renderer_config view_config : Config) (files : FileDatabase Id) (d : Diagnostic Id)
+        → IsEquivalence files.same → ((id : Id) → 0 < line_count (files.file id))
+        → MeansLabels renderer_config view_config files d }
+{}
+
+// ---- drawn lines and breaks
+
+/// States that the drawn lines and the breaks follow from the shown lines: between two consecutive
+/// shown lines a single line is filled in, and two or more are replaced by a break.
+pub fn rows_are_of_shown_lines()
+    ensures { (config : Config) (s : LabeledFileModel) → RowsOfShown config s }
+{}
+
+/// States that a snippet has one break row for each two consecutive shown lines that are three or
+/// more apart, in their order, with the lanes of the later line.
+pub fn breaks_are_gaps()
+    ensures { (config : Config) (s : LabeledFileModel) → BreaksAreGaps config s }
+{}
+
+/// States that a lane has a bar in a break row exactly where its label covers every line that is
+/// left out there, where no label of the file starts after its end.
+pub fn breaks_have_bars()
+    ensures { (config : Config) (layout : Layout) (s : LabeledFileModel)
+        → NoneReversed s.labels → BreaksHaveBars config layout s }
+{}
+
+/// States that a file has at most twice as many source rows as its labels may show lines by the
+/// configuration: for each label two lines, and all its context lines.
+pub fn source_rows_are_few()
+    ensures { (config : Config) (s : LabeledFileModel) → SourceRowsAreFew config s }
+{}
+
+// ---- carets and pointers
+
+/// States that the text of a caret row, between its lanes and its trailing message, is the caret
+/// cells of its line.
+pub fn carets_are_cells()
+    ensures { (context : RowContext) → CaretsAreCells context }
+{}
+
+/// States that pointers are in the first cells of the characters in which hanging labels start, and
+/// that the message of a label that starts at a character boundary begins there, where each of
+/// these characters has a cell.
+pub fn pointers_are_cells()
+    ensures { (context : RowContext) (line : Line)
+        → StartsHaveCells line.labels (line_metrics context line) → PointersAreCells context line }
+{}
+
+// ---- lanes
+
+/// States that on source and break rows a lane has a bar exactly on the lines after its label's
+/// first, up to its last, where no label of the file starts after its end.
+pub fn bars_are_labels()
+    ensures { (layout : Layout) (s : LabeledFileModel)
+        → NoneReversed s.labels → BarsAreLabels layout s }
+{}
+
+/// States that each lane is one line, a top corner, bars, and a bottom corner below it, where no
+/// label of the file starts after its end. In the classic layout rows of the first line may leave
+/// the lane out below a corner in the source row.
+pub fn lanes_are_lines()
+    ensures { (config : Config) (layout : Layout) (s : LabeledFileModel)
+        → NoneReversed s.labels → LanesJoinCorners config layout s }
+{}
+
+/// States that after the left border the stream of each row that has lanes has what the row shows
+/// in each of them, from left to right.
+pub fn lanes_are_shown()
+    ensures { (context : RowContext) → LanesAreShown context }
+{}
+
+/// States that each lane takes two characters.
+pub fn lanes_take_two()
+    ensures { (context : RowContext) (leading : ℕ) (row : LaneRow) (lanes : Lanes)
+        → row_length (inner_gutter context leading row lanes) ≡ 2 * lanes.count }
+{}
+
+// ---- messages
+
+/// States that each label with a message has it exactly once in a rich output, and that no other
+/// message is in it, where ids are compared by an equivalence and each file has a line.
+pub fn messages_appear_once<Id>()
+    ensures { (renderer_config view_config : Config) (files : FileDatabase Id) (d : Diagnostic Id)
+        → IsEquivalence files.same → ((id : Id) → 0 < line_count (files.file id))
+        → (loci : List Locus) → AreLoci files d Rich loci
+        → MessagesAppearOnce renderer_config view_config files d loci }
+{}
+
+/// States that of a line's labels with a message at most one trails, and each other one hangs.
+pub fn each_message_trails_or_hangs()
+    ensures { EachTrailsOrHangs }
+{}
+
+// ---- the order of labels
+
+/// States that a reordering of the labels changes nothing in a rich output, its loci included, if
+/// it keeps the order of the files by their first labels, of each file's multi-line labels, and of
+/// the single-line labels of one line and one drawn range, where ids are compared by an equivalence
+/// and equal ids have one file. The two orders may have different ids of a file, if these are
+/// equal.
+pub fn order_is_free<Id>()
+    ensures { (same : Id → Id → Bool) (file : Id → FileModel) → OrderIsFree same file }
+{}
+
+/// States that `sorted` returns the one stable sort of its argument by ranges. The labels of a line
+/// are sorted from their reverse, so of labels with equal ranges the last one comes first.
+pub fn labels_are_sorted()
+    ensures { (labels : List LabelModel) → SortsLabels labels }
+{}
+
+// ---- padding, and every row
+
+/// States that the number of each drawn line fits the padding: in the unbroken layout always, and
+/// in the classic one where the configuration shows no lines after labels and the numbers never
+/// fall.
+pub fn padding_fits()
+    ensures { (config : Config) (ss : List LabeledFileModel) → PaddingFits config ss }
+{}
+
+/// States that a configuration with other characters, whose text before a locus has as many
+/// characters, changes no row's number of characters.
+pub fn characters_are_free()
+    ensures { CharactersAreFree }
+{}
+
+/// States that the last style mark of a row, if it has one, is a reset.
+pub fn rows_end_reset()
+    ensures { RowsEndReset }
+{}
+
+// ---- names, texts and colors
+
+/// States that every output has loci: those with the names that the files state, or an empty name
+/// where a file states none.
+pub fn stated_loci_are_loci<Id>()
+    ensures { (files : FileDatabase Id) (d : Diagnostic Id) (style : DisplayStyle)
+        → AreLoci files d style (stated_loci files d style) }
+{}
+
+/// States that the output is the picture of the diagnostic, where the names of the labels' files
+/// are stated.
+pub fn stated_names_make_the_picture<Id>()
+    ensures { (files : FileDatabase Id) (d : Diagnostic Id) → OutputIsPicture files d }
+{}
+
+/// States that the headers that a failed lookup leaves written are those of the primary labels
+/// before the first one for which a lookup fails, where the names of the labels' files are stated.
+pub fn stated_names_make_the_headers<Id>()
+    ensures { (files : FileDatabase Id) (d : Diagnostic Id) → HeadersAreBeforeFailure files d }
+{}
+
+/// States that in each style the bytes of an output are UTF-8, and that no style mark is inside a
+/// character, where the characters of the configuration are Unicode scalar values, the files are
+/// lawful, and the names of the loci are UTF-8. The same holds of the picture where the stated
+/// names are UTF-8.
+pub fn outputs_are_texts<Id>()
+    ensures output { (style : DisplayStyle) (renderer_config view_config : Config)
+        (files : FileDatabase Id) (d : Diagnostic Id)
+        → OutputIsText style renderer_config view_config files d }
+    ensures picture { (style : DisplayStyle) (renderer_config view_config : Config)
+        (files : FileDatabase Id) (d : Diagnostic Id)
+        → PictureIsText style renderer_config view_config files d }
+{}
+
+/// States that colors change no text: however a writer spells style marks, what it writes of an
+/// output is the plain text with the bytes of style marks between. Over `NoColor` a style mark has
+/// no bytes, whatever the styles.
+pub fn colors_change_no_text<Id>()
+    ensures spelled { (spelling : Spelling) (style : DisplayStyle)
+        (renderer_config view_config : Config) (files : FileDatabase Id) (d : Diagnostic Id)
+        (loci : List Locus)
+        → ColorsChangeNoText spelling (output style renderer_config view_config files d loci) }
+    ensures colorless { (styles : Styles) (style : DisplayStyle)
+        (renderer_config view_config : Config) (files : FileDatabase Id) (d : Diagnostic Id)
+        (loci : List Locus)
+        → NoColorIsPlain styles (output style renderer_config view_config files d loci) }
+{}

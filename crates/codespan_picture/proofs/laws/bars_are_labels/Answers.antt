@@ -1,5 +1,0 @@
-use Rattle.codespan_picture.proofs.RangeLemmas as ranges
-use Rattle.codespan_picture.proofs.laws.bars_are_labels.Goals as goal
-
-pub returns : goal.returns
-returns c = λ layout s ordered. ranges.bars_are_labels layout s ordered

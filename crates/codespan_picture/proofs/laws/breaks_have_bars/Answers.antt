@@ -1,5 +1,0 @@
-use Rattle.codespan_picture.proofs.RangeLemmas as ranges
-use Rattle.codespan_picture.proofs.laws.breaks_have_bars.Goals as goal
-
-pub returns : goal.returns
-returns c = λ config layout s ordered. ranges.breaks_have_bars config layout s ordered

@@ -1,5 +1,0 @@
-use Rattle.codespan_picture.proofs.MessageLemmas.{trails_or_hangs}
-use Rattle.codespan_picture.proofs.laws.each_message_trails_or_hangs.Goals as goal
-
-pub returns : goal.returns
-returns c = trails_or_hangs

@@ -1,5 +1,0 @@
-use Rattle.codespan_picture.proofs.LanesShown as lanes
-use Rattle.codespan_picture.proofs.laws.lanes_are_shown.Goals as goal
-
-pub returns : goal.returns
-returns c = lanes.lanes_are_shown

@@ -1,6 +1,0 @@
-use Rattle.codespan_picture.proofs.RichLemmas.{output_means_labels}
-use Rattle.codespan_picture.proofs.laws.outputs_mean_labels.Goals as goal
-
-pub returns : goal.returns
-returns g c =
-    λ renderer view files d equal has_line. output_means_labels renderer view files d equal has_line

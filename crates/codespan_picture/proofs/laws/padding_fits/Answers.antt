@@ -1,5 +1,0 @@
-use Rattle.codespan_picture.proofs.PaddingLemmas as padding
-use Rattle.codespan_picture.proofs.laws.padding_fits.Goals as goal
-
-pub returns : goal.returns
-returns c = λ config ss. padding.padding_fits config ss

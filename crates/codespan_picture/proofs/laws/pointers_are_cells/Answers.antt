@@ -1,5 +1,0 @@
-use Rattle.codespan_picture.proofs.PointerTexts as pointers
-use Rattle.codespan_picture.proofs.laws.pointers_are_cells.Goals as goal
-
-pub returns : goal.returns
-returns c = λ context line wide. pointers.pointers_are_cells context line wide

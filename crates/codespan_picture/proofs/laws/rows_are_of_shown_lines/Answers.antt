@@ -1,5 +1,0 @@
-use Rattle.codespan_picture.proofs.FillLemmas.{rows_of_shown_lines}
-use Rattle.codespan_picture.proofs.laws.rows_are_of_shown_lines.Goals as goal
-
-pub returns : goal.returns
-returns c = λ config s. rows_of_shown_lines config s

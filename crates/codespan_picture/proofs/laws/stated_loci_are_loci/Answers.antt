@@ -1,5 +1,0 @@
-use Rattle.codespan_picture.proofs.Loci.{stated_are_loci}
-use Rattle.codespan_picture.proofs.laws.stated_loci_are_loci.Goals as goal
-
-pub returns : goal.returns
-returns g c = λ files d style. stated_are_loci files d style
