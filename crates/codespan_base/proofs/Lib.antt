@@ -1,6 +1,6 @@
 -- the line numbers of `SimpleFiles`
 pub mod SimpleFilesNumbers
--- what writers write
+-- re-exports for custom writers, and the bytes of colors
 pub mod StyleMarks
 pub mod AppendsBytes
 pub mod AnsiLemmas

@@ -1,5 +1,5 @@
--- For the clauses of `write_all` and of `set_color` of `Ansi`: bytes that a writer takes, call
--- after call.
+-- For the clauses of `write_all`, and of `set_color` of `Ansi` of `codespan_base`: bytes that a
+-- writer takes, call after call.
 use Rattle.std.proofs.Common.{◌≡◌, ℕ, true, List, [], ◌∷◌, ◌++◌, Option, Result, Ok, Err, sym, ap, subst, ◌∙◌}
 use Rattle.std.specs.Borrow.{GName}
 use Rattle.std.specs.Result.{IsErrAnd}

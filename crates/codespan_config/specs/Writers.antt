@@ -1,4 +1,5 @@
--- What the laws of writers see of the writers of plain text.
+-- What the laws of writers see of the writers of plain text, of any writer that has just been made,
+-- and of a call that writes nothing.
 use Rattle.std.specs.Prelude.{◌≡◌, ℕ, false, List, [], ◌∷◌, Option, Result, Ok}
 use Rattle.std.specs.Borrow.{GName}
 use Rattle.codespan_config.specs.declared.term.config.plain_ref.PlainWriterRef.{PlainWriterRef}

@@ -1,3 +1,4 @@
+-- equal configurations, digits, and the laws of outputs, whose functions are in `codespan_laws`
 pub mod EqualConfigs
 pub mod ViewPictures
 pub mod Rightmost

@@ -18,12 +18,12 @@ SingleLabelTuple = LabelStyle × Range ℕ × Bor (List ℕ)
 abbrev pub LaneMarkTuple : Type 0
 LaneMarkTuple = ℕ × LabelStyle × rust_multi_label.MultiLabel
 
--- a label inside a line, from the argument
+-- a single-line label, from the argument
 abbrev pub single_label_view : SingleLabelTuple → LabelModel
 single_label_view x =
     record { style = x.0; start = x.1.start; end = x.1.end; message = bytes x.2.now }
 
--- the labels inside a line
+-- single-line labels, from the arguments
 abbrev pub single_label_views : List SingleLabelTuple → List LabelModel
 single_label_views xs = map single_label_view xs
 

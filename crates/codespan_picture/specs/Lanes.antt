@@ -79,7 +79,7 @@ style_of_lane_mark (Some m) = m.style
 
 -- ---- the characters of lanes
 
--- the line that runs right from a corner
+-- the underline that runs right from a corner
 abbrev pub underline_char : Chars → MultiLabel → ℕ
 underline_char chars (Top start) = chars.multi_top
 underline_char chars _ = chars.multi_bottom
@@ -89,7 +89,7 @@ unfoldable pub label_glyph : Severity → LabelStyle → ℕ → Stream
 label_glyph severity style c =
     style_mark (LabelStyleMark severity style) ++ glyph c ++ style_mark Reset
 
--- `n` characters of a lane: of the line that crosses it, or spaces
+-- `n` characters of a lane: of the underline that crosses it, or spaces
 unfoldable pub crossing_cells : Severity → Chars → Option LaneMark → ℕ → Stream
 crossing_cells severity chars None n = spaces n
 crossing_cells severity chars (Some m) n =

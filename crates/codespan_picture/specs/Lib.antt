@@ -1,4 +1,5 @@
--- the definitions of the crate below: files, labels, streams, writers, and the characters
+-- the definitions of the crates below: files, labels, streams, writers, errors, the characters, and
+-- the default configuration
 pub use Rattle.codespan_config.specs.FileModel
 pub use Rattle.codespan_config.specs.LawfulFiles
 pub use Rattle.codespan_config.specs.SimpleModel

@@ -24,7 +24,7 @@ abbrev pub rendered_start : Config → ℕ → rust_locus.Locus → Stream
 rendered_start config padding locus =
     snippet_start_row config.chars padding (locus_view locus) ++ newline
 
--- a line of the source, with the labels inside it and the lane marks on it
+-- a line of the source, with its single-line labels and the lane marks on it
 abbrev pub source_line : ℕ → List ℕ → List SingleLabelTuple → ℕ → List LaneMarkTuple → Line
 source_line number source labels num_multi_labels lane_marks = record {
   number = number;

@@ -1,4 +1,4 @@
--- The law of the order of the labels inside a line.
+-- The law of the order of the single-line labels of a line.
 use Rattle.std.specs.Prelude.{◌≡◌, List}
 use Rattle.std.specs.List.Sorted.{IsPermutation, IsSortedBy, IsStableBy}
 use Rattle.codespan_config.specs.Labels.{LabelModel, sorted, range_precedes}

@@ -18,7 +18,7 @@ pub struct Locus {
     pub location: Location,
 }
 
-/// A label inside one line: its style, its range and its message.
+/// A single-line label: its style, its range and its message.
 ///
 /// The range is in bytes from the line's start, the end exclusive. A range without a byte has no
 /// caret; the views make it one byte long, as the Rust crate does. An empty message is not

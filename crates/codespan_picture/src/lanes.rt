@@ -3,7 +3,7 @@
 /// What a lane shows in a row.
 #[derive(Clone, Copy)]
 pub enum Shape {
-    /// Spaces, or the line that runs right from another lane's corner.
+    /// Spaces, or the underline that runs right from another lane's corner.
     Space,
     /// A vertical bar: the label continues.
     Bar,

@@ -143,9 +143,9 @@ pub fn multi_label<FileId>(
     }
 }
 
-/// Returns the range of a single-line label in its line, in bytes from `line_start`, the byte index
-/// in the file at which the line starts; the end is exclusive. It is at least one byte long, unless
-/// it starts at `usize::MAX`.
+/// Returns the drawn range of a single-line label, in bytes from `line_start`, the byte index in
+/// the file at which its line starts; the end is exclusive. It is at least one byte long, unless it
+/// starts at `usize::MAX`.
 #[inline(always)]
 pub fn range_in_line<FileId>(label: &Label<FileId>, line_start: usize) -> Range<usize>
     ensures start { result.start ≡ (from_line_start line_start (label_of label.now).label).start }

@@ -100,8 +100,8 @@ fn string_error(has_failed: bool, error: Error) -> Error
 ///
 /// # Example
 ///
-/// The test `bare_bug` of `crates/codespan_tests` has this code, where `prefix` is a `&str`, and
-/// `docs/USING.md` a proved caller.
+/// The test `bare_bug` of `crates/codespan_tests` makes this call, with a string that has a prefix,
+/// and `docs/USING.md` has a proved caller.
 ///
 /// ```rust
 /// let mut string = prefix.to_string(alloc)?;

@@ -32,8 +32,8 @@ use codespan_renderer::term::renderer::Renderer;
 ///
 /// # Example
 ///
-/// The test `bare_views` of `crates/codespan_tests` has this code. It writes `bug: ` and an empty
-/// line.
+/// The test `bare_views` of `crates/codespan_tests` does the same. It writes the line `bug: ` and
+/// an empty line.
 ///
 /// ```rust
 /// let bug = Diagnostic::bug(alloc);

@@ -25,7 +25,7 @@ use codespan_renderer::term::renderer::{Locus, Renderer};
 ///
 /// # Example
 ///
-/// The test `bare_views` of `crates/codespan_tests` has this code. It writes `bug: `.
+/// The test `bare_views` of `crates/codespan_tests` does the same. It writes the line `bug: `.
 ///
 /// ```rust
 /// let bug = Diagnostic::bug(alloc);

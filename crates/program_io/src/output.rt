@@ -24,7 +24,8 @@ pub fn write_and_flush<W: Write>(output: &mut W, bytes: &[u8]) -> io::Result<()>
 
 /// Writes all the bytes. An interrupted write is tried again.
 ///
-/// `write_all` does the same, but its contract leaves open what has been written if it fails.
+/// [`Write::write_all`] does the same, but its contract leaves open what has been written if it
+/// fails.
 ///
 /// # Errors
 ///

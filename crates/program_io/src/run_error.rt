@@ -38,14 +38,14 @@ pub trait ProgramError: Error {
     /// The program's name.
     ghost program_name: { List ℕ };
 
-    /// The line of wrong arguments, without its newline.
+    /// The usage, which is the line of wrong arguments, without its newline.
     ghost usage_line: { List ℕ };
 
     /// Returns the program's name.
     fn program() -> &'static str
         ensures { result.now ≡ program_name };
 
-    /// Returns the line of wrong arguments, without its newline.
+    /// Returns the usage, which is the line of wrong arguments, without its newline.
     fn usage() -> &'static str
         ensures { result.now ≡ usage_line };
 }

@@ -1,4 +1,5 @@
-//! The configuration of the output, and the writers that it is written to.
+//! The configuration of the output, the writers of plain text, and the traits and functions by
+//! which rows are written.
 
 ghost use Rattle.std.specs.Prelude.{◌≡◌, Ok, IsTrue, IfOk, OnErr, IsErrOf};
 ghost use Rattle.codespan_config.specs.SnippetStarts.{is_fixed};

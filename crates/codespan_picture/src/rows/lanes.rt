@@ -60,7 +60,7 @@ fn crossing<'d>(row: LaneRow<'d>, lane: usize) -> Option<(usize, LabelStyle, Mul
     }
 }
 
-/// Returns the character of the line that runs right from a corner.
+/// Returns the character of the underline that runs right from a corner.
 fn underline_char(chars: &Chars<'_>, multi_label: MultiLabel<'_>) -> char
     ensures { result ≡ underline_char chars.now (multi_label_view multi_label.entry) }
 {
@@ -70,7 +70,7 @@ fn underline_char(chars: &Chars<'_>, multi_label: MultiLabel<'_>) -> char
     }
 }
 
-/// Writes `count` characters of a lane: of the line that crosses it, or spaces.
+/// Writes `count` characters of a lane: of the underline that crosses it, or spaces.
 #[inline(always)]
 fn write_crossing_cells<W: PutStyle>(
     w: &mut W,
@@ -93,8 +93,8 @@ fn write_crossing_cells<W: PutStyle>(
     }
 }
 
-/// Writes the two characters of a lane that is not empty: the line that crosses it, if one does,
-/// or a space, and its own character.
+/// Writes the two characters of a lane that shows a bar or a corner: the underline that crosses it,
+/// if one does, or a space, and its own character.
 #[inline(always)]
 fn write_lane_glyph<W: PutStyle>(
     w: &mut W,
@@ -208,7 +208,7 @@ fn next_lane(lanes: Lanes<'_, '_>, next: usize) -> usize
 const MAX_EMPTY_LANES: usize = 32;
 
 /// Returns how many lanes from `lane` on and before `until`, the lane of the next lane mark, are
-/// empty: no line from a corner crosses them. At most [`MAX_EMPTY_LANES`] are counted.
+/// empty: no underline from a corner crosses them. At most [`MAX_EMPTY_LANES`] are counted.
 fn num_empty_lanes(row: LaneRow<'_>, lane: usize, until: usize) -> usize
     ensures no_crossing { (other : ℕ) → lane ≤ other → other < lane + result
         → row_crossing (lane_row_view row.entry) other ≡ None }

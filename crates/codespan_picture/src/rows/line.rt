@@ -9,7 +9,7 @@ use crate::arguments::{MultiLabel, SingleLabel};
 use codespan_config::diagnostic::{LabelStyle, Severity};
 use codespan_config::term::{Chars, Layout};
 
-/// What all rows of a line are rendered by.
+/// What all rows of an output are rendered by.
 #[derive(Clone, Copy)]
 pub struct RowContext<'config> {
     /// The characters of borders, carets, pointers and lanes.
@@ -45,7 +45,7 @@ pub struct Line<'row, 'd> {
     pub text: &'row str,
     /// The length in bytes of the white space that the text begins with.
     pub leading: usize,
-    /// The labels inside the line, their ranges in bytes of the text.
+    /// The single-line labels of the line, their ranges in bytes of the text.
     pub labels: &'row [SingleLabel<'d>],
     /// What the multi-line labels do on it.
     pub lanes: Lanes<'row, 'd>,

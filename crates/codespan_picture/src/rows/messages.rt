@@ -18,7 +18,8 @@ pub struct Messages<'row, 'd> {
     pub trailing_label: Option<&'row SingleLabel<'d>>,
     /// The labels that may hang: those before the trailing one, or all where none trails.
     pub before: &'row [SingleLabel<'d>],
-    /// The labels that may hang after these: those after the trailing one, or none.
+    /// The labels after the trailing one, or none. They may hang too, in the rows above those of
+    /// `before`.
     pub after: &'row [SingleLabel<'d>],
 }
 

@@ -1,4 +1,4 @@
-//! The rows that have no line of the source: notes, breaks, and the empty rows of a snippet.
+//! The rows of notes and of breaks, and the empty rows of a snippet.
 
 ghost use Rattle.std.specs.Prelude.{◌++◌};
 ghost use Rattle.std.specs.Str.Lines.{lines};

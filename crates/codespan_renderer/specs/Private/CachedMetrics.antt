@@ -25,7 +25,7 @@ abbrev pub metrics_within : Option ℕ → List Metrics → List Metrics
 metrics_within None cs = []
 metrics_within (Some byte_index) cs = metrics_up_to byte_index cs
 
--- all characters that the iterator has left begin past the byte index up to which they are cached
+-- all characters that the iterator has left begin past the reach, if there is one
 abbrev pub ReachesPast : Option ℕ → CharMetrics → Type 0
 ReachesPast reach rest = metrics_within reach (metrics_from no_more rest) ≡ []
 
@@ -34,15 +34,15 @@ abbrev pub farther : Option ℕ → ℕ → Option ℕ
 farther None byte_index = Some byte_index
 farther (Some reach) byte_index = Some (max reach byte_index)
 
--- the greater of a reach and the byte index of a multi-line label mark: the start of a top mark,
--- the end of a bottom mark
+-- the greater of a reach and the byte index of a multi-line label mark: the start of a `Top`, the
+-- end of a `Bottom`
 abbrev pub farther_lane_mark : Option ℕ → MultiLabel → Option ℕ
 farther_lane_mark reach (Top start) = farther reach start
 farther_lane_mark reach Left = reach
 farther_lane_mark reach (Bottom end message) = farther reach end
 
--- how far the rows under a line reach: the greatest start or end of its labels, start of a top mark
--- and end of a bottom mark; none where it has none of them
+-- how far the rows under a line reach: the greatest start or end of its labels, start of a `Top`
+-- and end of a `Bottom`; none where it has none of them
 abbrev pub reach_of : List LabelModel → List LaneMark → Option ℕ
 reach_of labels lane_marks =
     fold (λ reach (m : LaneMark). farther_lane_mark reach m.multi_label)

@@ -1,4 +1,4 @@
--- What a cursor over cached characters has returned, and which labels it has passed.
+-- What a cursor over a cached line has returned, and which labels it has passed.
 use Rattle.std.specs.Prelude.{ℕ, ◌+◌, ◌≤◌, List}
 use Rattle.codespan_picture.specs.declared.char_metrics.Metrics.{Metrics}
 use Rattle.codespan_renderer.specs.declared.term.renderer.cached.label_cursor.LabelCursor.{LabelCursor}

@@ -1,8 +1,8 @@
 //! Annotations brought into the order of their lines, before they are sorted.
 //!
 //! Labels that overlap, or that return to the same lines in turn, leave many short runs of
-//! annotations. Once each annotation is moved to its line, the sort meets one run, or nearly so,
-//! and takes linear time.
+//! annotations. Once each annotation is moved to its line, they are mostly in order, and are not
+//! sorted.
 
 ghost use Rattle.std.specs.Prelude.{◌≡◌, IfOk, OnErr, IsErrOf, length};
 ghost use Rattle.std.specs.List.Sorted.{IsPermutation};
@@ -13,7 +13,7 @@ use codespan_config::files::Error;
 use std::alloc::Global;
 use std::ops::Range;
 
-/// The least number of annotations that are worth moving: fewer are sorted by insertion.
+/// The least number of annotations that are worth moving: fewer are sorted about as fast.
 const MIN_LEN: usize = 32;
 
 /// The entry in `next` of an annotation that has been moved. No annotation has this index.

@@ -240,6 +240,10 @@ pub fn forward_all<W: Write>(writer: &mut W, failed: &mut bool, text: &[u8]) -> 
 }
 
 /// Returns what a call of the inner writer returned, and sets the flag where it is an error.
+///
+/// # Errors
+///
+/// The error that it is passed.
 pub fn note_failure(returned: io::Result<()>, failed: &mut bool) -> io::Result<()>
     ensures same { result ≡ returned }
     ensures flag { MatchResult result (λ _. failed.new ≡ failed.old) (λ _. failed.new ≡ true) }

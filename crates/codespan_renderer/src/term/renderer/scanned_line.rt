@@ -59,7 +59,7 @@ pub struct ScannedLine<'row, 'd> {
     pub tab_width: usize,
     /// The text of the line.
     pub text: &'row str,
-    /// The labels inside the line.
+    /// The single-line labels of the line.
     pub labels: &'row [SingleLabel<'d>],
 }
 

@@ -30,8 +30,8 @@ use codespan_picture::rows::line_rows::write_line;
 use codespan_picture::rows::messages::Messages;
 use codespan_picture::rows::pointers::max_label_start;
 
-/// A cursor over cached characters. It goes through the labels in the order of their starts, each
-/// of them once.
+/// A cursor over the characters of a cached line. It goes through the labels in the order of their
+/// starts, each of them once.
 #[derive(Drop)]
 pub struct CachedCursor<'cache, 'row, 'd> {
     characters: CachedMetrics<'cache, 'row>,
@@ -126,8 +126,8 @@ impl<'cache, 'row, 'd> CachedLine<'cache, 'row, 'd> {
     }
 
     /// Returns the width in cells and the number of the characters before a byte index, where each
-    /// of them has one byte, so that the character there is found without a search. Otherwise
-    /// returns two zeros.
+    /// of them has one byte and a cached character begins at the index, so that it is found without
+    /// a search. Otherwise returns two zeros.
     #[inline(always)]
     fn skipped_before(&self, byte_index: usize) -> (u128, usize)
         ensures within { result.1 ≤ length self.now.cached.now }

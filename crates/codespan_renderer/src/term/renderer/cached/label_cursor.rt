@@ -94,7 +94,7 @@ impl<'row, 'd> LabelCursor<'row, 'd> {
     }
 
     /// Passes the labels that start before the character's end, and returns whether a primary one
-    /// has a byte of it.
+    /// covers it.
     ///
     /// # Requires
     ///
@@ -111,7 +111,7 @@ impl<'row, 'd> LabelCursor<'row, 'd> {
         metrics.byte_index < self.primary_end
     }
 
-    /// Passes a label. One that covers no byte is over no character.
+    /// Raises the greatest ends to that of a label, unless it covers no byte.
     fn pass(&mut self, label: &SingleLabel<'_>)
         ensures primary { self.new.primary_end
             ≡ end_with (is_primary (single_label_view label.now)) self.old.primary_end
