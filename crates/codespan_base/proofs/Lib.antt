@@ -1,5 +1,11 @@
--- the line numbers of `SimpleFiles`
+-- the line numbers of `MappedFile` and of `SimpleFiles`
+pub mod SetLineNumbers
+pub mod NumbersCountOn
 pub mod SimpleFilesNumbers
+-- laws of lines, line starts and columns
+pub mod LineCuts
+pub mod LineCounts
+pub mod LineStartsEnd
 -- re-exports for custom writers, and the bytes of colors
 pub mod StyleMarks
 pub mod AppendsBytes

@@ -1,11 +1,11 @@
 -- What contracts see of a `SimpleFiles`: its names and sources, its files, and its errors.
 use Rattle.std.specs.Prelude.{ℕ, List, map, Option}
 use Rattle.std.specs.declared.convert.AsStr.{Ghosts}
-use Rattle.codespan_inputs.specs.declared.files.Error.{Error}
+use Rattle.codespan_core.specs.declared.files.Error.{Error}
 use Rattle.codespan_base.specs.declared.files.database.SimpleFiles.{SimpleFiles}
-use Rattle.codespan_inputs.specs.FileModel.{FileModel, Lookup}
-use Rattle.codespan_inputs.specs.SimpleModel.{database_file, database_failure}
-use Rattle.codespan_inputs.specs.DatabaseViews.{name_of, source_of}
+use Rattle.codespan_core.specs.FileModel.{FileModel, Lookup}
+use Rattle.codespan_core.specs.SimpleModel.{database_file, database_failure}
+use Rattle.codespan_core.specs.DatabaseViews.{name_of, source_of}
 
 module _ {Name Source : Type 0} {texts : Ghosts Source} where
   -- the names and sources of the files, in the order of their ids

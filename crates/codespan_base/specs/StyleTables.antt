@@ -3,7 +3,7 @@ pub use Rattle.codespan_base.specs.PartStyles.{bright, colored, default_styles, 
 use Rattle.std.specs.Prelude.{ℕ, List}
 use Rattle.codespan_base.specs.declared.term.config.color.ColorSpec.{ColorSpec}
 use Rattle.codespan_base.specs.declared.term.config.styles.Styles.{Styles}
-use Rattle.codespan_config.specs.Streams.{StyleMark, Header, HeaderMessage, LineNumber, NoteBullet, SourceBorder, LabelStyleMark, Reset, Spelling}
+use Rattle.codespan_core.specs.Streams.{StyleMark, Header, HeaderMessage, LineNumber, NoteBullet, SourceBorder, LabelStyleMark, Reset, Spelling}
 use Rattle.codespan_base.specs.Ansi.{ansi_reset, ansi_style}
 
 -- how a writer of colors spells a style mark, where `set` is its bytes for each style, and `reset`

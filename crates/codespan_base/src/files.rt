@@ -1,12 +1,13 @@
-//! The lookups that rendering makes, and file databases: [`SimpleFiles`], and columns and locations
-//! as most databases count them, are here, and the rest is re-exported.
+//! The lookups that rendering makes, and file databases: [`SimpleFiles`], [`MappedFile`], and columns
+//! and locations as most databases count them, are here, and the rest is re-exported.
 
 mod database;
 mod defaults;
+mod mapped;
 
-pub use codespan_inputs::files::{
-    Error, Files, LineStarts, Location, MappedFile, SimpleFile, column_index, default_line_number,
-    line_starts,
+pub use codespan_core::files::{
+    Error, Files, LineStarts, Location, SimpleFile, column_index, default_line_number, line_starts,
 };
 pub use database::SimpleFiles;
 pub use defaults::{default_column_number, default_location};
+pub use mapped::MappedFile;

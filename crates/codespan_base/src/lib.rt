@@ -7,5 +7,6 @@
 pub mod files;
 pub mod laws;
 pub mod term;
+mod worked;
 
-pub use codespan_inputs::diagnostic;
+pub use codespan_core::diagnostic;

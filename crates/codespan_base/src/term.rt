@@ -2,7 +2,7 @@
 
 pub mod config;
 
-pub use codespan_config::term::{
+pub use codespan_core::term::{
     Chars, Config, DisplayStyle, GeneralWrite, GeneralWriteResult, Layout, PlainWriter,
     SnippetStart, WriteStyle,
 };

@@ -2,16 +2,16 @@
 use Rattle.std.proofs.Common.{◌≡◌, ℕ, zero, suc, ◌+◌, ◌-◌, ◌<◌, ◌↔◌, Bool, true, false, ◌==◌, nat_lt, nat_le, ◌&&◌, if◌then◌else◌, List, [], ◌∷◌, filter_map, Option, Some, None, slice_get, add-zero, zero-add, refl, sym, ap, ◌∙◌, arith}
 use Rattle.std.specs.List.{enumerate_from, cons_option}
 use Rattle.std.proofs.lemmas.Bool.Decides.{nat_tests}
-use Rattle.codespan_config.specs.FileModel.{FileModel, line_start, line_text}
-use Rattle.codespan_config.specs.declared.term.config.Layout.{Layout}
-use Rattle.codespan_config.specs.Labels.{LabelModel, first_line, last_line, multi_label_on, lane_mark_of, lane_marks_on, multi_line_labels, LaneMark, MultiLabel, Top, Left, Bottom}
+use Rattle.codespan_core.specs.FileModel.{FileModel, line_start, line_text}
+use Rattle.codespan_core.specs.declared.term.config.Layout.{Layout}
+use Rattle.codespan_core.specs.Labels.{LabelModel, first_line, last_line, multi_label_on, lane_mark_of, lane_marks_on, multi_line_labels, LaneMark, MultiLabel, Top, Left, Bottom}
 use Rattle.codespan_picture.specs.declared.lanes.Shape.{Shape}
 use Rattle.codespan_picture.specs.declared.lanes.Shape.TheVariants.{Space, Bar, TopCorner}
 use Rattle.codespan_picture.specs.Lanes.{source_shape, empty_shape, lane_mark_in, shape_of}
 use Rattle.codespan_picture.specs.LaneLaws.{shape_in, HasLane, IsBarLine}
 use Rattle.codespan_picture.specs.Rows.{SourceRow, BreakRow}
 use Rattle.codespan_picture.specs.CharMetrics.{leading_whitespace, text_without_line_end}
-use Rattle.codespan_config.specs.Streams.{Stream}
+use Rattle.codespan_core.specs.Streams.{Stream}
 use Rattle.codespan_picture.specs.Snippets.{LabeledFileModel, line_at}
 
 -- ---- the multi-line label mark of a lane

@@ -1,11 +1,11 @@
 -- For `write_carets`: the carets under a line, run by run.
 use Rattle.std.proofs.Common.{◌≡◌, ℕ, ◌+◌, ◌<◌, ◌≤◌, Bool, true, false, List, [], ◌∷◌, ◌++◌, Option, None, Some, refl, sym, ap, ◌∙◌, append_assoc, append-nil, add-zero, arith, le-ltb, lt-ltb}
 use Rattle.std.specs.Prelude.{nat_lt, if◌then◌else◌}
-use Rattle.codespan_config.specs.declared.diagnostic.Severity.{Severity}
-use Rattle.codespan_config.specs.declared.diagnostic.LabelStyle.{LabelStyle}
-use Rattle.codespan_config.specs.declared.term.config.chars.Chars.{Chars}
-use Rattle.codespan_config.specs.Labels.{LabelModel}
-use Rattle.codespan_config.specs.Streams.{Stream, spaces, bytes, repeated}
+use Rattle.codespan_core.specs.declared.diagnostic.Severity.{Severity}
+use Rattle.codespan_core.specs.declared.diagnostic.LabelStyle.{LabelStyle}
+use Rattle.codespan_core.specs.declared.term.config.chars.Chars.{Chars}
+use Rattle.codespan_core.specs.Labels.{LabelModel}
+use Rattle.codespan_core.specs.Streams.{Stream, spaces, bytes, repeated}
 use Rattle.codespan_picture.specs.declared.char_metrics.Metrics.{Metrics}
 use Rattle.codespan_picture.specs.Carets.{style_under, caret_for, max_label_end}
 use Rattle.codespan_picture.specs.Rows.{RowContext}

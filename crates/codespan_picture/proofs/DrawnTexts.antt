@@ -11,8 +11,8 @@ use Rattle.std.proofs.lemmas.List.{get_or_past, take_all}
 use Rattle.std.proofs.lemmas.List.Elements.{recursion_from_All}
 use Rattle.std.proofs.lemmas.List.Sums.{suffix_len-take_no, suffix_len-take_yes}
 use Rattle.std.proofs.lemmas.Str.{IsCharBoundary-before_ascii, IsCharBoundary-end, IsUtf8-append, IsUtf8-between, IsUtf8-encode, IsUtf8-nil, IsUtf8-take, encode_ascii, inside_one}
-use Rattle.codespan_config.specs.FileModel.{FileModel, line_text}
-use Rattle.codespan_config.specs.LawfulFiles.{IsLawful}
+use Rattle.codespan_core.specs.FileModel.{FileModel, line_text}
+use Rattle.codespan_core.specs.LawfulFiles.{IsLawful}
 use Rattle.codespan_picture.specs.CharMetrics.{text_without_line_end, is_line_end}
 use Rattle.codespan_picture.specs.OutputStreams.{locus_starts}
 use Rattle.codespan_picture.specs.Rows.{LaterNoteRow}

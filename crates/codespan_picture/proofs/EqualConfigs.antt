@@ -1,14 +1,14 @@
 -- For the clauses `value` of `codespan_native`, and for the outputs of `report`: equal
 -- configurations render the same.
 use Rattle.std.proofs.Common.{◌≡◌, ℕ, List, [], ◌∷◌, ◌++◌, refl, ap, ◌∙◌}
-use Rattle.codespan_config.specs.declared.term.config.Config.{Config}
-use Rattle.codespan_config.specs.declared.term.config.chars.SnippetStart.{SnippetStart}
-use Rattle.codespan_config.specs.declared.diagnostic.Severity.{Severity}
-use Rattle.codespan_config.specs.SnippetStarts.{start_text}
-use Rattle.codespan_config.specs.declared.term.config.DisplayStyle.{DisplayStyle}
-use Rattle.codespan_config.specs.declared.term.config.DisplayStyle.TheVariants.{Rich, Medium, Short}
-use Rattle.codespan_config.specs.ConfigEquality.{IsEqualConfig}
-use Rattle.codespan_config.specs.Streams.{bytes, style_mark, Reset, SourceBorder, space}
+use Rattle.codespan_core.specs.declared.term.config.Config.{Config}
+use Rattle.codespan_core.specs.declared.term.config.chars.SnippetStart.{SnippetStart}
+use Rattle.codespan_core.specs.declared.diagnostic.Severity.{Severity}
+use Rattle.codespan_core.specs.SnippetStarts.{start_text}
+use Rattle.codespan_core.specs.declared.term.config.DisplayStyle.{DisplayStyle}
+use Rattle.codespan_core.specs.declared.term.config.DisplayStyle.TheVariants.{Rich, Medium, Short}
+use Rattle.codespan_core.specs.ConfigEquality.{IsEqualConfig}
+use Rattle.codespan_core.specs.Streams.{bytes, style_mark, Reset, SourceBorder, space}
 use Rattle.codespan_picture.specs.Rows.{HeaderText, Locus, RowContext, Row, HeaderRow, SnippetStartRow, EmptyRow, BreakRow, SourceRow, CaretRow, PointerRow, HangingRow, UnderlineRow, FirstNoteRow, LaterNoteRow, FinalRow}
 use Rattle.codespan_picture.specs.RowParts.{outer_gutter, locus}
 use Rattle.codespan_picture.specs.RowStreams.{stream_of, stream_of_rows}

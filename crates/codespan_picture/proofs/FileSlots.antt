@@ -5,9 +5,9 @@ use Rattle.std.specs.List.{list_any, range_with_len}
 use Rattle.std.specs.Str.Lines.{lines}
 use Rattle.std.proofs.lemmas.Bool.Decides.{nat_tests}
 use Rattle.std.proofs.lemmas.List.Sums.{sum_by-cons, sum_by-append, count_by-le-length}
-use Rattle.codespan_config.specs.declared.term.config.Config.{Config}
-use Rattle.codespan_config.specs.FileModel.{FileModel, line_count, line_of}
-use Rattle.codespan_config.specs.Labels.{LabelModel, first_line, last_line}
+use Rattle.codespan_core.specs.declared.term.config.Config.{Config}
+use Rattle.codespan_core.specs.FileModel.{FileModel, line_count, line_of}
+use Rattle.codespan_core.specs.Labels.{LabelModel, first_line, last_line}
 use Rattle.codespan_picture.specs.Lines.{shows, is_drawn, drawn_lines, has_break_between}
 use Rattle.codespan_picture.specs.Rows.{HeaderText, Locus, HeaderRow, SnippetStartRow, EmptyRow, BreakRow, FirstNoteRow, LaterNoteRow, FinalRow, rows_of}
 use Rattle.codespan_picture.specs.Snippets.{LabeledFileModel, empty_lanes, line_at, rows_after, snippet, has_any, row_after, snippets, note_line_rows, note_rows, rich_rows}

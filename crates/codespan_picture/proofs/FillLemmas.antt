@@ -2,8 +2,8 @@
 -- shown lines alone. Between two consecutive ones there is nothing, one filled line, or a break.
 use Rattle.std.proofs.Common.{◌≡◌, ℕ, ◌≤◌, Bool, true, false, cond, nat_lt, List, Option, refl, arith}
 use Rattle.std.proofs.lemmas.Bool.Decides.{nat_tests}
-use Rattle.codespan_config.specs.declared.term.config.Config.{Config}
-use Rattle.codespan_config.specs.FileModel.{line_count}
+use Rattle.codespan_core.specs.declared.term.config.Config.{Config}
+use Rattle.codespan_core.specs.FileModel.{line_count}
 use Rattle.codespan_picture.specs.Lines.{is_shown}
 use Rattle.codespan_picture.specs.LineLaws.{RowsOfShown}
 use Rattle.codespan_picture.specs.Rows.{Row}

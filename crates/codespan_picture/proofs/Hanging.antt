@@ -7,8 +7,8 @@ use Rattle.std.specs.Option.{option_map, option_map_or}
 use Rattle.std.proofs.lemmas.List.{map-append, reverse-append}
 use Rattle.std.proofs.lemmas.List.Elements.{filter-append}
 use Rattle.std.proofs.lemmas.Grind.{flat_map-append}
-use Rattle.codespan_config.specs.Labels.{LabelModel, has_message}
-use Rattle.codespan_config.specs.Streams.{Stream, newline}
+use Rattle.codespan_core.specs.Labels.{LabelModel, has_message}
+use Rattle.codespan_core.specs.Streams.{Stream, newline}
 use Rattle.codespan_picture.specs.Carets.{max_label_end}
 use Rattle.codespan_picture.specs.Arguments.{SingleLabelTuple, single_label_view, single_label_views}
 use Rattle.codespan_picture.specs.Rows.{RowContext, Line, HangingRow, last_with_end, does_trail, trailing_entry, trailing_label, hanging_labels, hanging_rows}

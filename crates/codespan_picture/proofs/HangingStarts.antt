@@ -6,7 +6,7 @@ use Rattle.std.specs.List.{list_any}
 use Rattle.std.proofs.lemmas.Bool.{or_cases, or_left, or_right}
 use Rattle.std.proofs.lemmas.Bool.Decides.{nat_tests}
 use Rattle.std.proofs.lemmas.List.Folds.{list_any-append}
-use Rattle.codespan_config.specs.Labels.{LabelModel, has_message}
+use Rattle.codespan_core.specs.Labels.{LabelModel, has_message}
 use Rattle.codespan_picture.specs.declared.char_metrics.Metrics.{Metrics}
 use Rattle.codespan_picture.specs.Carets.{max_label_end}
 use Rattle.codespan_picture.specs.Rows.{hanging_labels}

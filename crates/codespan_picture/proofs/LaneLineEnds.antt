@@ -4,11 +4,11 @@ use Rattle.std.proofs.Common.{◌≡◌, ℕ, ◌<◌, Bool, true, false, not, c
 use Rattle.std.proofs.lemmas.Bool.Decides.{nat_tests}
 use Rattle.std.specs.List.{AllByRecursion}
 use Rattle.std.proofs.Math.Bool.{and-false}
-use Rattle.codespan_config.specs.declared.term.config.Layout.{Layout}
-use Rattle.codespan_config.specs.declared.term.config.Layout.TheVariants.{Classic, Unbroken}
-use Rattle.codespan_config.specs.declared.diagnostic.LabelStyle.{LabelStyle}
-use Rattle.codespan_config.specs.Streams.{Stream}
-use Rattle.codespan_config.specs.Labels.{LaneMark, Top, Bottom}
+use Rattle.codespan_core.specs.declared.term.config.Layout.{Layout}
+use Rattle.codespan_core.specs.declared.term.config.Layout.TheVariants.{Classic, Unbroken}
+use Rattle.codespan_core.specs.declared.diagnostic.LabelStyle.{LabelStyle}
+use Rattle.codespan_core.specs.Streams.{Stream}
+use Rattle.codespan_core.specs.Labels.{LaneMark, Top, Bottom}
 use Rattle.codespan_picture.specs.declared.lanes.Shape.{Shape}
 use Rattle.codespan_picture.specs.declared.lanes.Shape.TheVariants.{Space, Bar, TopCorner, BottomCorner}
 use Rattle.codespan_picture.specs.Lanes.{source_shape, single_labels_shape, underline_shape, lane_mark_in, is_unbroken, begins_in_source_row, shape_of}

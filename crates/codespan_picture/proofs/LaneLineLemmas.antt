@@ -3,8 +3,8 @@ use Rattle.std.proofs.Common.{◌≡◌, ℕ, zero, suc, ◌+◌, ◌-◌, ◌<�
 use Rattle.std.specs.List.{AllByRecursion}
 use Rattle.std.specs.Option.{option_map}
 use Rattle.std.proofs.lemmas.List.{length-append}
-use Rattle.codespan_config.specs.declared.term.config.Layout.{Layout}
-use Rattle.codespan_config.specs.Labels.{LabelModel, first_line}
+use Rattle.codespan_core.specs.declared.term.config.Layout.{Layout}
+use Rattle.codespan_core.specs.Labels.{LabelModel, first_line}
 use Rattle.codespan_picture.specs.declared.lanes.Shape.{Shape}
 use Rattle.codespan_picture.specs.declared.lanes.Shape.TheVariants.{Space, Bar, TopCorner, BottomCorner}
 use Rattle.codespan_picture.specs.Lanes.{is_unbroken}

@@ -3,10 +3,10 @@ use Rattle.std.proofs.Common.{◌≡◌, ℕ, zero, suc, ◌+◌, ◌-◌, ◌<�
 use Rattle.std.specs.List.{range_with_len, AllByRecursion}
 use Rattle.std.proofs.lemmas.Bool.{cases_lt}
 use Rattle.std.proofs.lemmas.List.Sums.{count_by-le-length}
-use Rattle.codespan_config.specs.declared.term.config.Config.{Config}
-use Rattle.codespan_config.specs.declared.term.config.Layout.{Layout}
-use Rattle.codespan_config.specs.FileModel.{line_start, line_of, line_count}
-use Rattle.codespan_config.specs.Labels.{LabelModel, is_single, first_line, last_line, multi_label_on, lane_mark_of, lane_marks_on, multi_line_labels, MultiLabel, Top, Left, Bottom}
+use Rattle.codespan_core.specs.declared.term.config.Config.{Config}
+use Rattle.codespan_core.specs.declared.term.config.Layout.{Layout}
+use Rattle.codespan_core.specs.FileModel.{line_start, line_of, line_count}
+use Rattle.codespan_core.specs.Labels.{LabelModel, is_single, first_line, last_line, multi_label_on, lane_mark_of, lane_marks_on, multi_line_labels, MultiLabel, Top, Left, Bottom}
 use Rattle.codespan_picture.specs.declared.lanes.Shape.TheVariants.{Space, Bar}
 use Rattle.codespan_picture.specs.Lanes.{empty_shape, lane_mark_in, shape_of}
 use Rattle.codespan_picture.specs.Lines.{is_shown, is_drawn, drawn_lines, has_break_between}

@@ -3,8 +3,8 @@
 use Rattle.std.proofs.Common.{◌≡◌, ℕ, zero, suc, ◌+◌, ◌-◌, ◌<◌, ◌≤◌, true, false, ◌&&◌, ◌==◌, nat_lt, List, [], ◌∷◌, Option, Some, None, slice_get, ap, ◌∙◌, arith, if◌then◌else◌}
 use Rattle.std.specs.List.{cons_option, AllByRecursion}
 use Rattle.std.proofs.lemmas.Bool.Decides.{nat_tests}
-use Rattle.codespan_config.specs.FileModel.{FileModel}
-use Rattle.codespan_config.specs.Labels.{LabelModel, multi_label_on, lane_mark_of, LaneMark, MultiLabel, Left}
+use Rattle.codespan_core.specs.FileModel.{FileModel}
+use Rattle.codespan_core.specs.Labels.{LabelModel, multi_label_on, lane_mark_of, LaneMark, MultiLabel, Left}
 use Rattle.codespan_picture.proofs.BarLemmas.{marks_from}
 use Rattle.codespan_picture.proofs.LaneLineRows.{lane_mark_with}
 use Rattle.codespan_picture.proofs.LaneLineEnds.{Split}

@@ -2,8 +2,8 @@
 use Rattle.std.proofs.Common.{◌≡◌, ℕ, [], ◌++◌, flat_map, Option, None, refl, sym, ap, subst, ◌∙◌, append-nil, append_assoc}
 use Rattle.std.proofs.lemmas.Option.{none-some, same_Some}
 use Rattle.std.specs.List.{range_with_len}
-use Rattle.codespan_config.specs.Labels.{LabelModel, LaneMark, MultiLabel}
-use Rattle.codespan_config.specs.Streams.{Stream, LabelStyleMark, Reset, style_mark, space}
+use Rattle.codespan_core.specs.Labels.{LabelModel, LaneMark, MultiLabel}
+use Rattle.codespan_core.specs.Streams.{Stream, LabelStyleMark, Reset, style_mark, space}
 use Rattle.codespan_picture.specs.declared.lanes.Shape.{Shape}
 use Rattle.codespan_picture.specs.Lanes.{Source, Empty, SingleLabels, Underline, row_shape, row_crossing, source_shape, empty_shape, single_labels_shape, lane_mark_in, shape_of, style_of_lane_mark, lane_cells}
 use Rattle.codespan_picture.specs.Rows.{RowContext, Lanes, Line, Row, HeaderRow, SnippetStartRow, EmptyRow, BreakRow, SourceRow, CaretRow, PointerRow, HangingRow, UnderlineRow, FirstNoteRow, LaterNoteRow, FinalRow, trailing_label}

@@ -5,18 +5,18 @@ use Rattle.std.specs.Prelude.{sum_by, string_bytes}
 use Rattle.std.proofs.lemmas.Bool.Decides.{nat_tests}
 use Rattle.std.proofs.lemmas.Option.{slice_get-map}
 use Rattle.std.proofs.lemmas.List.Sums.{sum_by-cons, sum_by-le-sum_by}
-use Rattle.codespan_config.specs.declared.term.config.Config.{Config}
-use Rattle.codespan_config.specs.declared.diagnostic.Diagnostic.{Diagnostic}
-use Rattle.codespan_config.specs.declared.diagnostic.Label.{Label}
-use Rattle.codespan_config.specs.declared.diagnostic.Severity.{Severity}
-use Rattle.codespan_config.specs.FileModel.{FileDatabase, FileModel, line_count}
-use Rattle.codespan_config.specs.declared.term.config.DisplayStyle.TheVariants.{Rich}
+use Rattle.codespan_core.specs.declared.term.config.Config.{Config}
+use Rattle.codespan_core.specs.declared.diagnostic.Diagnostic.{Diagnostic}
+use Rattle.codespan_core.specs.declared.diagnostic.Label.{Label}
+use Rattle.codespan_core.specs.declared.diagnostic.Severity.{Severity}
+use Rattle.codespan_core.specs.FileModel.{FileDatabase, FileModel, line_count}
+use Rattle.codespan_core.specs.declared.term.config.DisplayStyle.TheVariants.{Rich}
 use Rattle.std.specs.Cmp.{IsEquivalence}
 use Rattle.std.specs.Option.{option_map_or}
 use Rattle.std.specs.List.{AllZip}
 use Rattle.std.proofs.lemmas.List.{length-map}
-use Rattle.codespan_config.specs.Streams.{Stream, Byte, Slot, bytes, text_of, with_messages}
-use Rattle.codespan_config.specs.Labels.{LabelModel, has_message, is_empty_stream, last_line, first_seen}
+use Rattle.codespan_core.specs.Streams.{Stream, Byte, Slot, bytes, text_of, with_messages}
+use Rattle.codespan_core.specs.Labels.{LabelModel, has_message, is_empty_stream, last_line, first_seen}
 use Rattle.codespan_picture.specs.Lines.{drawn_lines}
 use Rattle.codespan_picture.specs.Rows.{HeaderText, Locus, RowContext}
 use Rattle.codespan_picture.specs.RowStreams.{stream_of_rows}

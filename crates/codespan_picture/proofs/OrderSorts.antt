@@ -8,8 +8,8 @@ use Rattle.std.proofs.lemmas.List.Sorted.{IsPermutation-refl, IsPermutation-tran
 use Rattle.std.specs.Cmp.{IsStrictWeakOrder}
 use Rattle.std.specs.List.{AllByRecursion}
 use Rattle.std.specs.List.Sorted.{IsPermutation, IsStableBy, ties}
-use Rattle.codespan_config.specs.declared.diagnostic.LabelStyle.TheVariants.{Primary}
-use Rattle.codespan_config.specs.Labels.{LabelModel, range_precedes, insert_sorted, sorted}
+use Rattle.codespan_core.specs.declared.diagnostic.LabelStyle.TheVariants.{Primary}
+use Rattle.codespan_core.specs.Labels.{LabelModel, range_precedes, insert_sorted, sorted}
 use Rattle.codespan_picture.specs.SortLaws.{SortsLabels}
 use Rattle.codespan_picture.proofs.ListElements.{all-weaker, filter-nothing}
 use Rattle.codespan_picture.proofs.SortedLists.{Rises, rises-from_sorted, sorted_from_rises}

@@ -6,11 +6,11 @@ use Rattle.std.specs.List.{range_with_len, list_any}
 use Rattle.std.proofs.lemmas.Bool.{cases_lt, and_parts, false≢true}
 use Rattle.std.proofs.lemmas.Bool.Decides.{nat_tests}
 use Rattle.std.proofs.lemmas.List.Folds.{list_any_at}
-use Rattle.codespan_config.specs.declared.term.config.Config.{Config}
-use Rattle.codespan_config.specs.declared.term.config.Layout.{Layout}
-use Rattle.codespan_config.specs.declared.term.config.Layout.TheVariants.{Classic, Unbroken}
-use Rattle.codespan_config.specs.FileModel.{FileModel, line_count}
-use Rattle.codespan_config.specs.Labels.{LabelModel, first_line, last_line}
+use Rattle.codespan_core.specs.declared.term.config.Config.{Config}
+use Rattle.codespan_core.specs.declared.term.config.Layout.{Layout}
+use Rattle.codespan_core.specs.declared.term.config.Layout.TheVariants.{Classic, Unbroken}
+use Rattle.codespan_core.specs.FileModel.{FileModel, line_count}
+use Rattle.codespan_core.specs.Labels.{LabelModel, first_line, last_line}
 use Rattle.codespan_picture.specs.Lanes.{is_unbroken}
 use Rattle.codespan_picture.specs.Lines.{shows, is_shown, is_drawn, drawn_lines}
 use Rattle.codespan_picture.specs.Snippets.{LabeledFileModel}

@@ -6,14 +6,14 @@ use Rattle.std.specs.Option.{option_map}
 use Rattle.std.specs.Str.{IsUtf8}
 use Rattle.std.proofs.lemmas.Bool.{cond_both}
 use Rattle.std.proofs.lemmas.Str.{IsUtf8-string_bytes}
-use Rattle.codespan_config.specs.declared.diagnostic.Diagnostic.{Diagnostic}
-use Rattle.codespan_config.specs.declared.diagnostic.Label.{Label}
-use Rattle.codespan_config.specs.declared.term.config.Config.{Config}
-use Rattle.codespan_config.specs.declared.term.config.DisplayStyle.{DisplayStyle}
-use Rattle.codespan_config.specs.declared.term.config.DisplayStyle.TheVariants.{Rich, Medium, Short}
-use Rattle.codespan_config.specs.FileModel.{FileDatabase, FileModel, line_text}
-use Rattle.codespan_config.specs.LawfulFiles.{IsLawful}
-use Rattle.codespan_config.specs.Labels.{LabelModel, LaneMark, Top, Left, Bottom, drawn_label, first_line, has_message, is_single, lane_mark_of, multi_line_labels, multi_label_at, multi_label_on, insert_sorted, single_labels, sorted, range_precedes}
+use Rattle.codespan_core.specs.declared.diagnostic.Diagnostic.{Diagnostic}
+use Rattle.codespan_core.specs.declared.diagnostic.Label.{Label}
+use Rattle.codespan_core.specs.declared.term.config.Config.{Config}
+use Rattle.codespan_core.specs.declared.term.config.DisplayStyle.{DisplayStyle}
+use Rattle.codespan_core.specs.declared.term.config.DisplayStyle.TheVariants.{Rich, Medium, Short}
+use Rattle.codespan_core.specs.FileModel.{FileDatabase, FileModel, line_text}
+use Rattle.codespan_core.specs.LawfulFiles.{IsLawful}
+use Rattle.codespan_core.specs.Labels.{LabelModel, LaneMark, Top, Left, Bottom, drawn_label, first_line, has_message, is_single, lane_mark_of, multi_line_labels, multi_label_at, multi_label_on, insert_sorted, single_labels, sorted, range_precedes}
 use Rattle.codespan_picture.specs.Lines.{drawn_lines}
 use Rattle.codespan_picture.specs.Padding.{padding_of}
 use Rattle.codespan_picture.specs.OutputStreams.{NamesAreTexts, files_of, header_text_of, label_of, labels_of, context_of, notes_of, output, locus_starts}

@@ -10,9 +10,9 @@ use Rattle.std.proofs.Math.Seq.{take-length}
 use Rattle.std.proofs.lemmas.List.{drop-drop, take-append-drop}
 use Rattle.std.proofs.lemmas.Str.{encodes-chars, length-encode, len_utf8_bounds}
 use lib.Utf8.{encodes}
-use Rattle.codespan_config.specs.Labels.{LabelModel, LaneMark, is_primary, is_primary_style}
-use Rattle.codespan_config.specs.Streams.{bytes, glyph}
-use Rattle.codespan_config.proofs.Writes.{bytes-append}
+use Rattle.codespan_core.specs.Labels.{LabelModel, LaneMark, is_primary, is_primary_style}
+use Rattle.codespan_core.specs.Streams.{bytes, glyph}
+use Rattle.codespan_core.proofs.Writes.{bytes-append}
 use Rattle.codespan_picture.specs.declared.char_metrics.Metrics.{Metrics}
 use Rattle.codespan_picture.specs.Carets.{covers, max_label_end}
 use Rattle.codespan_picture.specs.Types.{LabelStyle, Primary}

@@ -7,10 +7,10 @@ use Rattle.std.proofs.lemmas.Bool.{cases_lt, and_parts, false≢true, and_from}
 use Rattle.std.proofs.lemmas.Bool.Decides.{nat_tests}
 use Rattle.std.proofs.lemmas.List.Folds.{list_any_at}
 use Rattle.std.proofs.lemmas.List.Sums.{sum_by-le-sum_by, count_by-le-length}
-use Rattle.codespan_config.specs.declared.term.config.Layout.{Layout}
-use Rattle.codespan_config.specs.FileModel.{line_of, line_count}
-use Rattle.codespan_config.specs.declared.term.config.Config.{Config}
-use Rattle.codespan_config.specs.Labels.{LabelModel, is_single, first_line, last_line}
+use Rattle.codespan_core.specs.declared.term.config.Layout.{Layout}
+use Rattle.codespan_core.specs.FileModel.{line_of, line_count}
+use Rattle.codespan_core.specs.declared.term.config.Config.{Config}
+use Rattle.codespan_core.specs.Labels.{LabelModel, is_single, first_line, last_line}
 use Rattle.codespan_picture.specs.RichLaws.{NoneReversed}
 use Rattle.codespan_picture.specs.LaneLaws.{HasLane, BarsAreLabels}
 use Rattle.codespan_picture.specs.LineLaws.{BreaksHaveBars}

@@ -1,9 +1,9 @@
 -- For `outputs_mean_labels`: a rich output means its labels, by the laws of its parts together.
 use Rattle.std.proofs.Common.{◌<◌}
 use Rattle.std.specs.Cmp.{IsEquivalence}
-use Rattle.codespan_config.specs.declared.term.config.Config.{Config}
-use Rattle.codespan_config.specs.declared.diagnostic.Diagnostic.{Diagnostic}
-use Rattle.codespan_config.specs.FileModel.{FileDatabase, line_count}
+use Rattle.codespan_core.specs.declared.term.config.Config.{Config}
+use Rattle.codespan_core.specs.declared.diagnostic.Diagnostic.{Diagnostic}
+use Rattle.codespan_core.specs.FileModel.{FileDatabase, line_count}
 use Rattle.codespan_picture.specs.Rows.{RowContext}
 use Rattle.codespan_picture.specs.Snippets.{LabeledFileModel, line_at}
 use Rattle.codespan_picture.specs.RowStreams.{caret_row}

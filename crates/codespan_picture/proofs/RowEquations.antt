@@ -2,13 +2,13 @@
 -- write them put them together.
 use Rattle.std.proofs.Common.{◌≡◌, ℕ, ◌+◌, ◌-◌, ◌^◌, ◌<◌, ◌≤◌, ◌==◌, List, [], ◌∷◌, ◌++◌, true, false, nat_lt, lt-ltb, Option, None, Some, append_assoc, append-nil, length, replicate, refl, ap, sym, ◌∙◌, arith}
 use Rattle.std.proofs.lemmas.List.{replicate-append-replicate}
-use Rattle.codespan_config.specs.declared.diagnostic.LabelStyle.{LabelStyle}
-use Rattle.codespan_config.specs.declared.diagnostic.LabelStyle.TheVariants.{Primary, Secondary}
-use Rattle.codespan_config.specs.declared.diagnostic.Severity.{Severity}
-use Rattle.codespan_config.specs.Streams.{Stream, bytes, spaces, repeated, glyph, newline}
-use Rattle.codespan_config.proofs.Writes.{bytes-append}
+use Rattle.codespan_core.specs.declared.diagnostic.LabelStyle.{LabelStyle}
+use Rattle.codespan_core.specs.declared.diagnostic.LabelStyle.TheVariants.{Primary, Secondary}
+use Rattle.codespan_core.specs.declared.diagnostic.Severity.{Severity}
+use Rattle.codespan_core.specs.Streams.{Stream, bytes, spaces, repeated, glyph, newline}
+use Rattle.codespan_core.proofs.Writes.{bytes-append}
 use Rattle.std.proofs.lemmas.Grind.{flat_map-append}
-use Rattle.codespan_config.proofs.Repeats.{repeat-add}
+use Rattle.codespan_core.proofs.Repeats.{repeat-add}
 use Rattle.codespan_picture.specs.declared.rows.lanes.LaneRow.TheVariants.{Source, Empty, SingleLabels}
 use Rattle.codespan_picture.specs.Arguments.{SingleLabelTuple, single_label_views}
 use Rattle.codespan_picture.specs.Private.LineViews.{row_lanes_view}

@@ -8,7 +8,7 @@ use Rattle.std.specs.Prelude.{if◌then◌else◌}
 use Rattle.std.proofs.lemmas.Bool.Decides.{nat_tests}
 use Rattle.std.proofs.lemmas.List.Sums.{sum_by-cons}
 use Rattle.unicode_width.proofs.Rules.{width_or_zero, width_or_zero-le}
-use Rattle.codespan_config.specs.Labels.{LabelModel, is_primary}
+use Rattle.codespan_core.specs.Labels.{LabelModel, is_primary}
 use Rattle.codespan_picture.specs.declared.char_metrics.Metrics.{Metrics}
 use Rattle.codespan_picture.specs.Carets.{covers, max_label_end, style_under}
 use Rattle.codespan_picture.specs.CharMetrics.{metrics_then, char_metrics_to_end, placeholder, width_at, width_of}

@@ -3,12 +3,12 @@ use Rattle.std.proofs.Common.{◌≡◌, ℕ, zero, suc, ◌+◌, ◌-◌, Bool,
 use Rattle.std.specs.Prelude.{sum_by, count_by, flat_map}
 use Rattle.std.specs.List.{repeat, list_any, range_with_len}
 use Rattle.std.proofs.lemmas.List.Sums.{sum_by-cons, sum_by-append}
-use Rattle.codespan_config.specs.declared.diagnostic.Severity.{Severity}
-use Rattle.codespan_config.specs.declared.diagnostic.LabelStyle.{LabelStyle}
-use Rattle.codespan_config.specs.declared.diagnostic.LabelStyle.TheVariants.{Primary, Secondary}
-use Rattle.codespan_config.specs.declared.term.config.chars.Chars.{Chars}
-use Rattle.codespan_config.specs.Streams.{Stream, StyleMark, Byte, style_mark, bytes, spaces, space, glyph, repeated, newline}
-use Rattle.codespan_config.specs.Labels.{LabelModel, LaneMark, MultiLabel, Top, Left, Bottom}
+use Rattle.codespan_core.specs.declared.diagnostic.Severity.{Severity}
+use Rattle.codespan_core.specs.declared.diagnostic.LabelStyle.{LabelStyle}
+use Rattle.codespan_core.specs.declared.diagnostic.LabelStyle.TheVariants.{Primary, Secondary}
+use Rattle.codespan_core.specs.declared.term.config.chars.Chars.{Chars}
+use Rattle.codespan_core.specs.Streams.{Stream, StyleMark, Byte, style_mark, bytes, spaces, space, glyph, repeated, newline}
+use Rattle.codespan_core.specs.Labels.{LabelModel, LaneMark, MultiLabel, Top, Left, Bottom}
 use Rattle.codespan_picture.specs.declared.char_metrics.Metrics.{Metrics}
 use Rattle.codespan_picture.specs.Carets.{style_under, max_label_end}
 use Rattle.codespan_picture.specs.declared.lanes.Shape.{Shape}

@@ -5,10 +5,10 @@ use Rattle.std.specs.List.{list_any, enumerate_from}
 use Rattle.std.proofs.lemmas.Bool.Decides.{nat_tests}
 use Rattle.std.proofs.lemmas.List.Sums.{sum_by-cons}
 use Rattle.std.specs.Cmp.{IsEquivalence}
-use Rattle.codespan_config.specs.declared.term.config.Config.{Config}
-use Rattle.codespan_config.specs.FileModel.{FileModel, line_count}
-use Rattle.codespan_config.specs.Streams.{Slot}
-use Rattle.codespan_config.specs.Labels.{has_message, is_empty_stream, first_seen}
+use Rattle.codespan_core.specs.declared.term.config.Config.{Config}
+use Rattle.codespan_core.specs.FileModel.{FileModel, line_count}
+use Rattle.codespan_core.specs.Streams.{Slot}
+use Rattle.codespan_core.specs.Labels.{has_message, is_empty_stream, first_seen}
 use Rattle.codespan_picture.specs.Rows.{HeaderText, Locus, RowContext}
 use Rattle.codespan_picture.specs.RowStreams.{stream_of_rows}
 use Rattle.codespan_picture.specs.Snippets.{InFile, labeled_file_model, labeled_file_models, rich_rows}

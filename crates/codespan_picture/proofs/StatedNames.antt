@@ -6,13 +6,13 @@ use Rattle.std.proofs.Math.Seq.{take-append_seam}
 use Rattle.std.proofs.lemmas.List.{length-map, map-append}
 use Rattle.std.proofs.lemmas.List.Elements.{Contains-append_right}
 use Rattle.std.proofs.lemmas.List.Sums.{take_while-cons}
-use Rattle.codespan_config.specs.declared.diagnostic.Diagnostic.{Diagnostic}
-use Rattle.codespan_config.specs.declared.files.Error.{Error}
-use Rattle.codespan_config.specs.declared.term.config.Config.{Config}
-use Rattle.codespan_config.specs.declared.term.config.DisplayStyle.{DisplayStyle}
-use Rattle.codespan_config.specs.declared.term.config.DisplayStyle.TheVariants.{Short}
-use Rattle.codespan_config.specs.FileModel.{FileDatabase, FileModel, Lookup, or_failure}
-use Rattle.codespan_config.specs.FileModel.Lookup.{Name, LocationAt}
+use Rattle.codespan_core.specs.declared.diagnostic.Diagnostic.{Diagnostic}
+use Rattle.codespan_core.specs.declared.files.Error.{Error}
+use Rattle.codespan_core.specs.declared.term.config.Config.{Config}
+use Rattle.codespan_core.specs.declared.term.config.DisplayStyle.{DisplayStyle}
+use Rattle.codespan_core.specs.declared.term.config.DisplayStyle.TheVariants.{Short}
+use Rattle.codespan_core.specs.FileModel.{FileDatabase, FileModel, Lookup, or_failure}
+use Rattle.codespan_core.specs.FileModel.Lookup.{Name, LocationAt}
 use Rattle.codespan_picture.specs.Lookups.{AllSucceed, Failures, first_error, header_lookups_of}
 use Rattle.codespan_picture.specs.OutputStreams.{AreLoci, label_locus_start, labels_of, output, locus_starts}
 use Rattle.codespan_picture.specs.Picture.{headers_at, stated_loci, stated_locus}

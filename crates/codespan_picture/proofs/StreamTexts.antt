@@ -9,12 +9,12 @@ use Rattle.std.proofs.lemmas.Bool.{cond_both}
 use Rattle.std.proofs.lemmas.Bool.Decides.{nat_tests}
 use Rattle.std.proofs.lemmas.Str.{IsUtf8-append, IsUtf8-encode, IsUtf8-from_ascii, IsUtf8-nil}
 use Rattle.std.proofs.lemmas.Str.Ascii.{IsAscii-cons, IsAscii-nil}
-use Rattle.codespan_config.specs.declared.diagnostic.LabelStyle.{LabelStyle}
-use Rattle.codespan_config.specs.declared.diagnostic.LabelStyle.TheVariants.{Primary, Secondary}
-use Rattle.codespan_config.specs.declared.diagnostic.Severity.{Severity}
-use Rattle.codespan_config.specs.declared.diagnostic.Severity.TheVariants.{Bug, Error, Warning, Note, Help}
-use Rattle.codespan_config.specs.declared.term.config.chars.Chars.{Chars}
-use Rattle.codespan_config.specs.Streams.{Stream, Byte, Mark, Slot, StyleMark, LabelStyleMark, Reset, style_mark, glyph, bytes, spaces, space, repeated, newline, text_of}
+use Rattle.codespan_core.specs.declared.diagnostic.LabelStyle.{LabelStyle}
+use Rattle.codespan_core.specs.declared.diagnostic.LabelStyle.TheVariants.{Primary, Secondary}
+use Rattle.codespan_core.specs.declared.diagnostic.Severity.{Severity}
+use Rattle.codespan_core.specs.declared.diagnostic.Severity.TheVariants.{Bug, Error, Warning, Note, Help}
+use Rattle.codespan_core.specs.declared.term.config.chars.Chars.{Chars}
+use Rattle.codespan_core.specs.Streams.{Stream, Byte, Mark, Slot, StyleMark, LabelStyleMark, Reset, style_mark, glyph, bytes, spaces, space, repeated, newline, text_of}
 use Rattle.codespan_picture.specs.declared.char_metrics.Metrics.{Metrics}
 use Rattle.codespan_picture.specs.Rows.{Locus}
 use Rattle.codespan_picture.specs.RowParts.{severity_name, locus, outer_gutter, outer_gutter_number, border_left, border_left_break, style_change, styled, label_message}

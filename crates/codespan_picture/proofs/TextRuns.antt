@@ -7,9 +7,9 @@ use Rattle.std.proofs.lemmas.List.{drop-drop}
 use Rattle.std.proofs.lemmas.Str.{encodes-chars, drop_past_char}
 use Rattle.std.proofs.lemmas.Bool.{ne_eqb, eq-eqb}
 use lib.Utf8.{encodes}
-use Rattle.codespan_config.specs.declared.diagnostic.LabelStyle.{LabelStyle}
-use Rattle.codespan_config.specs.Streams.{Stream, bytes, spaces, glyph}
-use Rattle.codespan_config.proofs.Writes.{bytes-append}
+use Rattle.codespan_core.specs.declared.diagnostic.LabelStyle.{LabelStyle}
+use Rattle.codespan_core.specs.Streams.{Stream, bytes, spaces, glyph}
+use Rattle.codespan_core.proofs.Writes.{bytes-append}
 use Rattle.codespan_picture.specs.declared.char_metrics.Metrics.{Metrics}
 use Rattle.codespan_picture.proofs.CharSteps.{bytes_left}
 use Rattle.codespan_picture.proofs.RowEquations.{style_change-same, regroup}

@@ -6,8 +6,8 @@ use Rattle.std.specs.Option.{option_map, option_map_or}
 use Rattle.std.proofs.lemmas.Bool.{eq-eqb, ne_eqb}
 use Rattle.std.proofs.lemmas.Option.{slice_get-get_or}
 use Rattle.std.proofs.lemmas.List.Folds.{list_any-append}
-use Rattle.codespan_config.specs.Labels.{LabelModel, has_message, is_empty_stream}
-use Rattle.codespan_config.specs.Streams.{bytes}
+use Rattle.codespan_core.specs.Labels.{LabelModel, has_message, is_empty_stream}
+use Rattle.codespan_core.specs.Streams.{bytes}
 use Rattle.codespan_picture.specs.Arguments.{SingleLabelTuple, single_label_view, single_label_views}
 use Rattle.codespan_picture.specs.Rows.{last_with_end, overlaps_any, does_trail}
 use Rattle.codespan_picture.specs.Private.Runs.{label_entry_view}

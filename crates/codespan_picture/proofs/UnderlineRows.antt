@@ -3,18 +3,18 @@
 use Rattle.std.proofs.Common.{◌≡◌, ℕ, ◌+◌, ◌≤◌, ◌<◌, Bool, true, false, cond, List, [], ◌∷◌, ◌++◌, length, drop, None, Some, refl, sym, ap, ◌∙◌, arith, get_or, add-one, drop-cons}
 use Rattle.std.specs.Prelude.{nat_lt, nat_le, filter, map}
 use Rattle.std.specs.Borrow.{Bor}
-use Rattle.codespan_config.specs.declared.diagnostic.LabelStyle.{LabelStyle}
+use Rattle.codespan_core.specs.declared.diagnostic.LabelStyle.{LabelStyle}
 use Rattle.std.specs.declared.str.Lines.{Lines as TextLines}
 use Rattle.std.specs.Str.Iter.{lines_steps}
 use Rattle.std.proofs.lemmas.Bool.{le-leb, lt-leb, le-ltb}
 use Rattle.std.proofs.lemmas.Bool.Decides.{nat_tests}
 use Rattle.std.proofs.lemmas.Iterator.{YieldsList}
 use Rattle.std.proofs.lemmas.List.Sums.{sum_by-cons}
-use Rattle.codespan_config.specs.Labels.{LaneMark, MultiLabel, Top, Left, Bottom}
-use Rattle.codespan_config.specs.declared.term.config.chars.Chars.{Chars}
-use Rattle.codespan_config.specs.Streams.{Stream, bytes, newline, space}
-use Rattle.codespan_config.specs.WriterLaw.{Sink}
-use Rattle.codespan_config.proofs.Loops.{StillToWrite}
+use Rattle.codespan_core.specs.Labels.{LaneMark, MultiLabel, Top, Left, Bottom}
+use Rattle.codespan_core.specs.declared.term.config.chars.Chars.{Chars}
+use Rattle.codespan_core.specs.Streams.{Stream, bytes, newline, space}
+use Rattle.codespan_core.specs.WriterLaw.{Sink}
+use Rattle.codespan_core.proofs.Loops.{StillToWrite}
 use Rattle.codespan_picture.specs.declared.char_metrics.Metrics.{Metrics}
 use Rattle.codespan_picture.specs.declared.arguments.MultiLabel as rust_multi_label
 use Rattle.codespan_picture.specs.declared.rows.lanes.LaneRow.TheVariants.{Underline}

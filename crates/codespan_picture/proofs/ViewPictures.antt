@@ -1,14 +1,14 @@
 -- For the clauses `value` of `codespan_native`, and for the outputs of `report`: the picture
 -- of a diagnostic is that of its view, by an equal configuration.
 use Rattle.std.proofs.Common.{◌≡◌, List, [], ◌∷◌, map, refl, ap, ◌∙◌}
-use Rattle.codespan_config.specs.declared.diagnostic.Diagnostic.{Diagnostic}
-use Rattle.codespan_config.specs.declared.diagnostic.Label.{Label}
-use Rattle.codespan_config.specs.declared.term.config.Config.{Config}
-use Rattle.codespan_config.specs.declared.term.config.DisplayStyle.{DisplayStyle}
-use Rattle.codespan_config.specs.ConfigEquality.{IsEqualConfig}
-use Rattle.codespan_config.specs.Diagnostics.{diagnostic_view, label_view}
-use Rattle.codespan_config.specs.FileModel.{FileDatabase}
-use Rattle.codespan_config.specs.Streams.{Stream}
+use Rattle.codespan_core.specs.declared.diagnostic.Diagnostic.{Diagnostic}
+use Rattle.codespan_core.specs.declared.diagnostic.Label.{Label}
+use Rattle.codespan_core.specs.declared.term.config.Config.{Config}
+use Rattle.codespan_core.specs.declared.term.config.DisplayStyle.{DisplayStyle}
+use Rattle.codespan_core.specs.ConfigEquality.{IsEqualConfig}
+use Rattle.codespan_core.specs.Diagnostics.{diagnostic_view, label_view}
+use Rattle.codespan_core.specs.FileModel.{FileDatabase}
+use Rattle.codespan_core.specs.Streams.{Stream}
 use Rattle.codespan_picture.specs.OutputStreams.{header_text_of, label_of, labels_of, locus_starts, notes_of, rendered}
 use Rattle.codespan_picture.specs.Picture.{picture, stated_locus}
 use Rattle.codespan_picture.specs.Snippets.{InFile, labeled_file_models}

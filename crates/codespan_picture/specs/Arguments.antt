@@ -3,8 +3,8 @@ use Rattle.std.specs.Prelude.{ℕ, Bool, List, map, string_bytes, ◌+◌, true,
 use Rattle.std.specs.Borrow.{Bor}
 use Rattle.std.specs.declared.ops.Range.{Range}
 use Rattle.codespan_picture.specs.Types.{LabelStyle}
-use Rattle.codespan_config.specs.Labels.{LabelModel, LaneMark, MultiLabel, Top, Left, Bottom}
-use Rattle.codespan_config.specs.Streams.{bytes}
+use Rattle.codespan_core.specs.Labels.{LabelModel, LaneMark, MultiLabel, Top, Left, Bottom}
+use Rattle.codespan_core.specs.Streams.{bytes}
 use Rattle.codespan_picture.specs.declared.arguments.Locus as rust_locus
 use Rattle.codespan_picture.specs.declared.arguments.MultiLabel as rust_multi_label
 use Rattle.codespan_picture.specs.declared.arguments.MultiLabel.TheVariants as rust_variant

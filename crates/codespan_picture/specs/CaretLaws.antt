@@ -3,8 +3,8 @@
 use Rattle.std.specs.Prelude.{◌≡◌, ℕ, ◌<◌, Bool, ◌&&◌, ◌==◌, List, ◌++◌, map, if◌then◌else◌, Contains, IsTrue, encode_utf8_all}
 use Rattle.std.specs.List.{list_any, range_with_len}
 use Rattle.codespan_picture.specs.Types.{Chars}
-use Rattle.codespan_config.specs.Labels.{LabelModel}
-use Rattle.codespan_config.specs.Streams.{text_of}
+use Rattle.codespan_core.specs.Labels.{LabelModel}
+use Rattle.codespan_core.specs.Streams.{text_of}
 use Rattle.codespan_picture.specs.declared.char_metrics.Metrics.{Metrics}
 use Rattle.codespan_picture.specs.CharMetrics.{width_of}
 use Rattle.codespan_picture.specs.Carets.{caret_cells}

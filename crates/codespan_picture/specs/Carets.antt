@@ -3,7 +3,7 @@ use Rattle.std.specs.Prelude.{ℕ, ◌+◌, max, min, Bool, ◌&&◌, nat_lt, na
 use Rattle.std.specs.List.{list_any, range_with_len}
 use Rattle.std.specs.Str.{chars}
 use Rattle.codespan_picture.specs.Types.{LabelStyle, Primary, Secondary, Chars}
-use Rattle.codespan_config.specs.Labels.{LabelModel, is_primary}
+use Rattle.codespan_core.specs.Labels.{LabelModel, is_primary}
 use Rattle.codespan_picture.specs.declared.char_metrics.Metrics.{Metrics}
 use Rattle.codespan_picture.specs.CharMetrics.{width_of}
 

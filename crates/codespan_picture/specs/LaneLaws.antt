@@ -4,9 +4,9 @@ use Rattle.std.specs.Prelude.{◌≡◌, ℕ, ◌<◌, ◌≤◌, ◌⊎◌, ◌
 use Rattle.std.specs.List.{range_with_len}
 use Rattle.std.specs.Option.{option_map, option_map_or}
 use Rattle.codespan_picture.specs.Types.{Config, Layout}
-use Rattle.codespan_config.specs.FileModel.{FileModel}
-use Rattle.codespan_config.specs.Labels.{LabelModel, first_line, last_line, multi_line_labels}
-use Rattle.codespan_config.specs.Streams.{Stream}
+use Rattle.codespan_core.specs.FileModel.{FileModel}
+use Rattle.codespan_core.specs.Labels.{LabelModel, first_line, last_line, multi_line_labels}
+use Rattle.codespan_core.specs.Streams.{Stream}
 use Rattle.codespan_picture.specs.declared.lanes.Shape.{Shape}
 use Rattle.codespan_picture.specs.declared.lanes.Shape.TheVariants.{Space, Bar, TopCorner, BottomCorner}
 use Rattle.codespan_picture.specs.Lanes.{LaneRow, Source, Empty, SingleLabels, Underline, row_shape, row_crossing, lane_mark_in, shape_of, style_of_lane_mark, is_unbroken, lane_cells}

@@ -3,9 +3,9 @@ use Rattle.std.specs.Prelude.{◌≡◌, ℕ, Bool, false, ◌==◌, List, ◌�
 use Rattle.std.specs.List.{enumerate_from}
 use Rattle.std.specs.Option.{option_map_or}
 use Rattle.codespan_picture.specs.Types.{Config, Diagnostic, Rich}
-use Rattle.codespan_config.specs.FileModel.{FileDatabase}
-use Rattle.codespan_config.specs.Labels.{has_message, is_empty_stream}
-use Rattle.codespan_config.specs.Streams.{Stream, Item, Slot, text_of, with_messages}
+use Rattle.codespan_core.specs.FileModel.{FileDatabase}
+use Rattle.codespan_core.specs.Labels.{has_message, is_empty_stream}
+use Rattle.codespan_core.specs.Streams.{Stream, Item, Slot, text_of, with_messages}
 use Rattle.codespan_picture.specs.Rows.{Locus}
 use Rattle.codespan_picture.specs.Snippets.{InFile, labeled_file_models}
 use Rattle.codespan_picture.specs.OutputStreams.{header_text_of, labels_of, notes_of, output, rendered}

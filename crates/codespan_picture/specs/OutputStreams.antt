@@ -4,8 +4,8 @@ use Rattle.std.specs.List.{AllByRecursion, AllZip}
 use Rattle.std.specs.Option.{option_map}
 use Rattle.std.specs.Str.{IsUtf8}
 use Rattle.codespan_picture.specs.Types.{Config, DisplayStyle, Rich, Medium, Short, Diagnostic, Label, Severity}
-use Rattle.codespan_config.specs.FileModel.{FileDatabase, FileModel}
-use Rattle.codespan_config.specs.Streams.{Stream, bytes}
+use Rattle.codespan_core.specs.FileModel.{FileDatabase, FileModel}
+use Rattle.codespan_core.specs.Streams.{Stream, bytes}
 use Rattle.codespan_picture.specs.Padding.{padding_of}
 use Rattle.codespan_picture.specs.Rows.{HeaderText, Locus, RowContext}
 use Rattle.codespan_picture.specs.RowStreams.{stream_of_rows}

@@ -1,8 +1,8 @@
 -- The picture: the output with the names that the files state; and headers alone.
 use Rattle.std.specs.Prelude.{ℕ, List, map, Some}
 use Rattle.codespan_picture.specs.Types.{Config, DisplayStyle, Diagnostic}
-use Rattle.codespan_config.specs.FileModel.{FileDatabase, FileModel, name_text}
-use Rattle.codespan_config.specs.Streams.{Stream}
+use Rattle.codespan_core.specs.FileModel.{FileDatabase, FileModel, name_text}
+use Rattle.codespan_core.specs.Streams.{Stream}
 use Rattle.codespan_picture.specs.Rows.{HeaderText, HeaderRow, Locus, Row}
 use Rattle.codespan_picture.specs.RowStreams.{stream_of_rows}
 use Rattle.codespan_picture.specs.OutputStreams.{header_text_of, labels_of, context_of, output, locus_starts}

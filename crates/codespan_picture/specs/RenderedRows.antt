@@ -4,7 +4,7 @@ use Rattle.std.specs.Option.{option_map}
 use Rattle.std.specs.Borrow.{Bor}
 use Rattle.std.specs.Str.Lines.{lines}
 use Rattle.codespan_picture.specs.Types.{Severity, Config, Chars}
-use Rattle.codespan_config.specs.Streams.{Stream, newline}
+use Rattle.codespan_core.specs.Streams.{Stream, newline}
 use Rattle.codespan_picture.specs.declared.arguments.Locus as rust_locus
 use Rattle.codespan_picture.specs.CharMetrics.{text_without_line_end}
 use Rattle.codespan_picture.specs.Arguments.{SingleLabelTuple, LaneMarkTuple, lanes_of, locus_view, single_label_views, text_now}

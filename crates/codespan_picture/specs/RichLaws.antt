@@ -1,8 +1,8 @@
 -- What a rich output means.
 use Rattle.std.specs.Prelude.{ℕ, ◌≤◌, List, Contains}
 use Rattle.codespan_picture.specs.Types.{Config, Diagnostic, Rich}
-use Rattle.codespan_config.specs.FileModel.{FileDatabase}
-use Rattle.codespan_config.specs.Labels.{LabelModel}
+use Rattle.codespan_core.specs.FileModel.{FileDatabase}
+use Rattle.codespan_core.specs.Labels.{LabelModel}
 use Rattle.codespan_picture.specs.Rows.{Locus, RowContext}
 use Rattle.codespan_picture.specs.RowParts.{line_metrics}
 use Rattle.codespan_picture.specs.Snippets.{LabeledFileModel, line_at}

@@ -1,8 +1,8 @@
 -- The laws of every row.
 use Rattle.std.specs.Prelude.{◌≡◌, Bool, true, false, [], ◌∷◌, IsTrue, ℕ, not, List, count_by}
 use Rattle.codespan_picture.specs.Types.{Chars}
-use Rattle.codespan_config.specs.Streams.{Stream, StyleMark, Byte, Mark, Slot, Reset, text_of}
-use Rattle.codespan_config.specs.SnippetStarts.{start_text}
+use Rattle.codespan_core.specs.Streams.{Stream, StyleMark, Byte, Mark, Slot, Reset, text_of}
+use Rattle.codespan_core.specs.SnippetStarts.{start_text}
 use Rattle.codespan_picture.specs.Rows.{RowContext, Row}
 use Rattle.codespan_picture.specs.RowStreams.{stream_of}
 use Rattle.std.specs.Int.{is_in_range}

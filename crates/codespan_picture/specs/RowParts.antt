@@ -3,9 +3,9 @@
 use Rattle.std.specs.Prelude.{ℕ, ◌+◌, ◌-◌, Bool, true, ◌||◌, ◌&&◌, ◌==◌, nat_lt, nat_le, max, List, [], ◌∷◌, ◌++◌, filter, length, fold, flat_map, Option, Some, None, if◌then◌else◌, codes, decimal}
 use Rattle.std.specs.List.{list_any, range_with_len}
 use Rattle.codespan_picture.specs.Types.{Severity, LabelStyle, Primary, Secondary, Chars}
-use Rattle.codespan_config.specs.declared.diagnostic.Severity.TheVariants.{Bug, Error, Warning, Note, Help}
-use Rattle.codespan_config.specs.Streams.{Stream, LineNumber, SourceBorder, LabelStyleMark, Reset, style_mark, glyph, bytes, spaces, space, repeated}
-use Rattle.codespan_config.specs.Labels.{LabelModel, is_primary, is_primary_style, LaneMark, MultiLabel, Top, Left, Bottom}
+use Rattle.codespan_core.specs.declared.diagnostic.Severity.TheVariants.{Bug, Error, Warning, Note, Help}
+use Rattle.codespan_core.specs.Streams.{Stream, LineNumber, SourceBorder, LabelStyleMark, Reset, style_mark, glyph, bytes, spaces, space, repeated}
+use Rattle.codespan_core.specs.Labels.{LabelModel, is_primary, is_primary_style, LaneMark, MultiLabel, Top, Left, Bottom}
 use Rattle.codespan_picture.specs.declared.char_metrics.Metrics.{Metrics}
 use Rattle.codespan_picture.specs.CharMetrics.{char_metrics, char_metrics_to_end, width_of, leading_whitespace}
 use Rattle.codespan_picture.specs.Carets.{covers, style_under, caret_for, max_label_end}

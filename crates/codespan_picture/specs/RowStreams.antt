@@ -2,9 +2,9 @@
 -- opens them: a chain of calls then matches their parts from left to right.
 use Rattle.std.specs.Prelude.{ℕ, List, [], ◌∷◌, ◌++◌, flat_map, Option, Some, None, codes}
 use Rattle.codespan_picture.specs.Types.{Severity, Chars}
-use Rattle.codespan_config.specs.Streams.{Stream, Header, HeaderMessage, NoteBullet, SourceBorder, LabelStyleMark, Reset, style_mark, glyph, bytes, space, newline}
-use Rattle.codespan_config.specs.Labels.{LabelModel, LaneMark}
-use Rattle.codespan_config.specs.SnippetStarts.{start_text}
+use Rattle.codespan_core.specs.Streams.{Stream, Header, HeaderMessage, NoteBullet, SourceBorder, LabelStyleMark, Reset, style_mark, glyph, bytes, space, newline}
+use Rattle.codespan_core.specs.Labels.{LabelModel, LaneMark}
+use Rattle.codespan_core.specs.SnippetStarts.{start_text}
 use Rattle.codespan_picture.specs.Lanes.{Source, Empty, SingleLabels, Underline}
 use Rattle.codespan_picture.specs.Rows.{Locus, HeaderText, RowContext, Lanes, Line, Row, HeaderRow, SnippetStartRow, EmptyRow, BreakRow, SourceRow, CaretRow, PointerRow, HangingRow, UnderlineRow, FirstNoteRow, LaterNoteRow, FinalRow, trailing_label}
 use Rattle.codespan_picture.specs.RowParts.{severity_name, locus, outer_gutter, outer_gutter_number, border_left, border_left_break, label_message, inner_gutter, leading_of, line_metrics, line_metrics_to_end, colored_text, carets, trailing_message, pointers, metrics_before, underline}

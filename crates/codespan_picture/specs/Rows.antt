@@ -3,7 +3,7 @@ use Rattle.std.specs.Prelude.{ℕ, Bool, true, false, not, ◌&&◌, ◌==◌, L
 use Rattle.std.specs.List.{list_any, enumerate_from, last_or, remove}
 use Rattle.std.specs.Option.{option_and_then, option_map, option_map_or}
 use Rattle.codespan_picture.specs.Types.{Severity, Chars, Layout, Location}
-use Rattle.codespan_config.specs.Labels.{LabelModel, has_message, LaneMark, MultiLabel, Top, Left, Bottom}
+use Rattle.codespan_core.specs.Labels.{LabelModel, has_message, LaneMark, MultiLabel, Top, Left, Bottom}
 use Rattle.codespan_picture.specs.CharMetrics.{leading_whitespace}
 use Rattle.codespan_picture.specs.Carets.{is_overlapping, max_label_end}
 use Rattle.codespan_picture.specs.Lanes.{begins_in_source_row}

@@ -2,8 +2,8 @@
 use Rattle.std.specs.Prelude.{ℕ, Bool, true, false, ◌||◌, min, List, [], ◌∷◌, ◌++◌, map, filter, fold, flat_map, Option, Some, None, if◌then◌else◌, length}
 use Rattle.std.specs.Str.Lines.{lines}
 use Rattle.codespan_picture.specs.Types.{Config}
-use Rattle.codespan_config.specs.FileModel.{FileModel, line_text}
-use Rattle.codespan_config.specs.Labels.{LabelModel, is_primary, first_seen, multi_line_labels, single_labels, lane_marks_on}
+use Rattle.codespan_core.specs.FileModel.{FileModel, line_text}
+use Rattle.codespan_core.specs.Labels.{LabelModel, is_primary, first_seen, multi_line_labels, single_labels, lane_marks_on}
 use Rattle.codespan_picture.specs.CharMetrics.{text_without_line_end}
 use Rattle.codespan_picture.specs.Lines.{drawn_lines}
 use Rattle.codespan_picture.specs.Rows.{Locus, HeaderText, Lanes, Line, Row, HeaderRow, SnippetStartRow, EmptyRow, BreakRow, FirstNoteRow, LaterNoteRow, FinalRow, rows_of}

@@ -1,7 +1,7 @@
 -- The law of the order of the single-line labels of a line.
 use Rattle.std.specs.Prelude.{◌≡◌, List}
 use Rattle.std.specs.List.Sorted.{IsPermutation, IsSortedBy, IsStableBy}
-use Rattle.codespan_config.specs.Labels.{LabelModel, sorted, range_precedes}
+use Rattle.codespan_core.specs.Labels.{LabelModel, sorted, range_precedes}
 
 -- `ys` are the labels `xs` in the order of their ranges, and those of equal ranges in the order of
 -- `xs`

@@ -1,14 +1,14 @@
 -- The laws of stated names: where the files state their names, an output is the picture.
 use Rattle.std.specs.Prelude.{◌≡◌, List, ◌∷◌, ◌++◌, flat_map, Contains, IsSome, Some, length, take, Bool, ◌&&◌, map, is_none, take_while}
 use Rattle.codespan_picture.specs.Types.{Diagnostic, Error, Config, DisplayStyle, Short}
-use Rattle.codespan_config.specs.FileModel.{FileDatabase}
+use Rattle.codespan_core.specs.FileModel.{FileDatabase}
 use Rattle.codespan_picture.specs.Lookups.{AllSucceed, first_error, header_lookups_of, Failures}
 use Rattle.codespan_picture.specs.OutputStreams.{AreLoci, labels_of, output, label_locus_start}
 use Rattle.codespan_picture.specs.Picture.{headers_at, picture, stated_locus}
 use Rattle.codespan_picture.specs.Rows.{Locus}
 use Rattle.codespan_picture.specs.Snippets.{InFile, primary_of}
-use Rattle.codespan_config.specs.FileModel.Lookup.{Name, LocationAt}
-use Rattle.codespan_config.specs.Streams.{Stream}
+use Rattle.codespan_core.specs.FileModel.Lookup.{Name, LocationAt}
+use Rattle.codespan_core.specs.Streams.{Stream}
 
 -- the primary labels before the first one for which a lookup fails
 abbrev pub labels_before_failure : {Id : Type 0} → Failures Id → List (InFile Id) → List (InFile Id)

@@ -3,10 +3,10 @@ use Rattle.std.specs.Prelude.{ℕ, List, [], ◌∷◌, ◌++◌, IfSome}
 use Rattle.std.specs.Char.{IsScalar}
 use Rattle.std.specs.Str.{IsUtf8}
 use Rattle.codespan_picture.specs.Types.{Diagnostic, Config, DisplayStyle, Chars}
-use Rattle.codespan_config.specs.SnippetStarts.{start_text}
-use Rattle.codespan_config.specs.FileModel.{FileDatabase}
-use Rattle.codespan_config.specs.LawfulFiles.{IsLawful}
-use Rattle.codespan_config.specs.Streams.{Stream, Byte, Mark, Slot, text_of}
+use Rattle.codespan_core.specs.SnippetStarts.{start_text}
+use Rattle.codespan_core.specs.FileModel.{FileDatabase}
+use Rattle.codespan_core.specs.LawfulFiles.{IsLawful}
+use Rattle.codespan_core.specs.Streams.{Stream, Byte, Mark, Slot, text_of}
 use Rattle.codespan_picture.specs.OutputStreams.{NamesAreTexts, output}
 use Rattle.codespan_picture.specs.Picture.{picture}
 use Rattle.codespan_picture.specs.Rows.{Locus}

@@ -1,6 +1,6 @@
 -- The law of trailing and hanging labels: which messages a line shows.
 use Rattle.std.specs.Prelude.{◌≡◌, List, ◌∷◌, ◌++◌, filter, Option, Some, None}
-use Rattle.codespan_config.specs.Labels.{LabelModel, has_message}
+use Rattle.codespan_core.specs.Labels.{LabelModel, has_message}
 use Rattle.codespan_picture.specs.Rows.{trailing_label, hanging_labels}
 
 -- the list with a label before it, if there is one

@@ -1,9 +1,9 @@
 -- The picture of a diagnostic, by its view, whose texts are lists of bytes.
 use Rattle.std.specs.Prelude.{Bool, List, map}
 use Rattle.codespan_picture.specs.Types.{Config}
-use Rattle.codespan_config.specs.Diagnostics.{DiagnosticView, LabelView}
-use Rattle.codespan_config.specs.FileModel.{FileModel}
-use Rattle.codespan_config.specs.Streams.{Stream, bytes}
+use Rattle.codespan_core.specs.Diagnostics.{DiagnosticView, LabelView}
+use Rattle.codespan_core.specs.FileModel.{FileModel}
+use Rattle.codespan_core.specs.Streams.{Stream, bytes}
 use Rattle.codespan_picture.specs.Rows.{HeaderText}
 use Rattle.codespan_picture.specs.Snippets.{InFile, labeled_file_models}
 use Rattle.codespan_picture.specs.OutputStreams.{locus_starts, rendered}

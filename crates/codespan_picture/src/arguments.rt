@@ -1,7 +1,7 @@
 //! Loci, labels and multi-line label marks, as the calls of a `Renderer` take them.
 
-use codespan_config::diagnostic::LabelStyle;
-use codespan_config::files::Location;
+use codespan_core::diagnostic::LabelStyle;
+use codespan_core::files::Location;
 use std::ops::Range;
 
 /// A file's name and a location in it, as the start of a snippet and a header show them.

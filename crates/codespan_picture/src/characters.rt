@@ -5,10 +5,10 @@
 
 ghost use Rattle.std.specs.Char.{IsScalar};
 ghost use Rattle.std.specs.Str.{IsUtf8};
-ghost use Rattle.codespan_config.specs.SnippetStarts.{start_text};
+ghost use Rattle.codespan_core.specs.SnippetStarts.{start_text};
 ghost use Rattle.codespan_picture.specs.TextLaws.{AreCharacters};
 
-use codespan_config::term::{Chars, SnippetStart};
+use codespan_core::term::{Chars, SnippetStart};
 
 /// Shows that each character is a Unicode scalar value, and that the text before a locus is UTF-8.
 pub fn are_characters(chars: &Chars<'_>)

@@ -1,7 +1,7 @@
 -- For `find_pointers`: a cursor that finds the pointers of a line.
 use Rattle.std.proofs.Common.{◌≡◌, ℕ, ◌+◌, ◌<◌, ◌≤◌, Bool, true, false, arith, List, [], ◌∷◌, ◌++◌, Option, Some, None, refl, ◌∙◌, append_assoc, filter}
-use Rattle.codespan_config.specs.declared.diagnostic.LabelStyle.{LabelStyle}
-use Rattle.codespan_config.specs.Labels.{LabelModel, has_message}
+use Rattle.codespan_core.specs.declared.diagnostic.LabelStyle.{LabelStyle}
+use Rattle.codespan_core.specs.Labels.{LabelModel, has_message}
 use Rattle.codespan_picture.specs.declared.char_metrics.Metrics.{Metrics}
 use Rattle.codespan_renderer.specs.declared.term.renderer.cached.label_cursor.StartCursor.{StartCursor}
 use Rattle.codespan_renderer.specs.declared.term.renderer.cached.pointers.Pointer.{Pointer}

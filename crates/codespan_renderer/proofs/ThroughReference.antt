@@ -3,8 +3,8 @@
 use Rattle.std.proofs.Common.{◌≡◌, ℕ, Bool, true, false, cond, List, ◌∷◌, length, refl, ap, ◌∙◌, Result, Ok, Err}
 use Rattle.std.specs.Prelude.{◌==◌, ◌&&◌, nat_lt}
 use Rattle.std.specs.Borrow.{GName}
-use Rattle.codespan_config.specs.Streams.{Stream}
-use Rattle.codespan_config.specs.WriterLaw.{Sink, Frame, is_known, failed_frame, with_written, PrefixWritten, Writes, Puts}
+use Rattle.codespan_core.specs.Streams.{Stream}
+use Rattle.codespan_core.specs.WriterLaw.{Sink, Frame, is_known, failed_frame, with_written, PrefixWritten, Writes, Puts}
 use Rattle.codespan_renderer.specs.Renderers.{sink_through}
 
 prefix_through : (name : GName) (s : Sink) (items : Stream) (t : Sink) → PrefixWritten s items t

@@ -1,15 +1,14 @@
 -- what is below: files, labels, streams, writers, and the characters
-pub use Rattle.codespan_config.specs.FileModel
-pub use Rattle.codespan_config.specs.SimpleModel
-pub use Rattle.codespan_config.specs.MappedModel
+pub use Rattle.codespan_core.specs.FileModel
+pub use Rattle.codespan_core.specs.SimpleModel
 pub use Rattle.codespan_picture.specs.Types
-pub use Rattle.codespan_config.specs.Labels
-pub use Rattle.codespan_config.specs.Streams
-pub use Rattle.codespan_config.specs.WriterLaw
-pub use Rattle.codespan_config.specs.Errors
-pub use Rattle.codespan_config.specs.SnippetStarts
-pub use Rattle.codespan_config.specs.Characters
-pub use Rattle.codespan_config.specs.Defaults
+pub use Rattle.codespan_core.specs.Labels
+pub use Rattle.codespan_core.specs.Streams
+pub use Rattle.codespan_core.specs.WriterLaw
+pub use Rattle.codespan_core.specs.Errors
+pub use Rattle.codespan_core.specs.SnippetStarts
+pub use Rattle.codespan_core.specs.Characters
+pub use Rattle.codespan_core.specs.Defaults
 -- the definition of an output
 pub use Rattle.codespan_picture.specs.CharMetrics
 pub use Rattle.codespan_picture.specs.Carets

@@ -3,9 +3,9 @@
 use Rattle.std.specs.Prelude.{◌≡◌, ◌∷◌, Result, IfErr}
 use Rattle.std.specs.Borrow.{GName}
 use Rattle.codespan_picture.specs.Types.{Error, Config}
-use Rattle.codespan_config.specs.Errors.{IsIo}
-use Rattle.codespan_config.specs.Streams.{Stream}
-use Rattle.codespan_config.specs.WriterLaw.{Writes, Sink}
+use Rattle.codespan_core.specs.Errors.{IsIo}
+use Rattle.codespan_core.specs.Streams.{Stream}
+use Rattle.codespan_core.specs.WriterLaw.{Writes, Sink}
 use Rattle.codespan_renderer.specs.declared.term.renderer.Renderer.{Renderer}
 
 -- the writer that it renders to

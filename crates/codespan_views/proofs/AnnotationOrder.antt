@@ -10,7 +10,7 @@ use Rattle.std.proofs.lemmas.Cmp.{nat_cmp_total, on_total, then_total, back_tota
 use Rattle.std.proofs.lemmas.List.{get_or_default}
 use Rattle.std.proofs.lemmas.List.Sorted.{ranks_by}
 use Rattle.std.specs.List.Sorted.{IsSortedWithin}
-use Rattle.codespan_config.specs.Labels.{LaneMark, LabelModel, range_precedes}
+use Rattle.codespan_core.specs.Labels.{LaneMark, LabelModel, range_precedes}
 use Rattle.codespan_views.specs.Private.Annotations.{Annotation, Single, Multi, rank_of, first_of, second_of, index_in_list, IsLaneMarkOn, is_before}
 
 -- the order of annotations is a strict weak order

@@ -1,8 +1,8 @@
 -- What was collected, put in order, for the clause `collected` of `collect`.
 use Rattle.std.proofs.Common.{List, map, Vec, Global}
 use Rattle.std.specs.List.Sorted.{IsPermutation, IsSortedBy}
-use Rattle.codespan_config.specs.declared.term.config.Config.{Config}
-use Rattle.codespan_config.specs.FileModel.{FileDatabase}
+use Rattle.codespan_core.specs.declared.term.config.Config.{Config}
+use Rattle.codespan_core.specs.FileModel.{FileDatabase}
 use Rattle.codespan_picture.specs.Snippets.{InFile}
 use Rattle.codespan_views.specs.declared.annotation.Annotation.{Annotation as RustAnnotation}
 use Rattle.codespan_views.specs.declared.collected.Collected.{Collected}

@@ -3,7 +3,7 @@
 use Rattle.std.proofs.Common.{◌≡◌, ℕ, Bool, true, false, max, List, [], None, ap, ◌∙◌, arith}
 use Rattle.std.specs.Prelude.{◌&&◌, ◌||◌, ◌==◌, decimal, fold, length, nat_le, if◌then◌else◌}
 use Rattle.std.proofs.lemmas.Bool.{and_from, le-leb, or_left, or_right}
-use Rattle.codespan_config.specs.Labels.{first_line, last_line}
+use Rattle.codespan_core.specs.Labels.{first_line, last_line}
 use Rattle.codespan_picture.specs.Lookups.{is_around, is_looked_up, line_lookups}
 use Rattle.codespan_picture.specs.Padding.{spans}
 use Rattle.codespan_picture.specs.Types.{Config}

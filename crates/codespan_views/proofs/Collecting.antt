@@ -8,8 +8,8 @@ use Rattle.std.specs.List.Sorted.{IsPermutation}
 use Rattle.std.proofs.lemmas.List.{append-nil, append_assoc, map-append}
 use Rattle.std.proofs.lemmas.List.Elements.{All-from_recursion, recursion_from_All}
 use Rattle.std.proofs.lemmas.List.Sorted.{All-permutation, IsPermutation-map}
-use Rattle.codespan_config.specs.FileModel.{line_start}
-use Rattle.codespan_config.specs.Labels.{LabelModel, drawn_label, first_line, from_line_start, last_line}
+use Rattle.codespan_core.specs.FileModel.{line_start}
+use Rattle.codespan_core.specs.Labels.{LabelModel, drawn_label, first_line, from_line_start, last_line}
 use Rattle.codespan_views.specs.declared.annotation.Annotation.{Annotation as RustAnnotation}
 use Rattle.codespan_views.specs.declared.annotation.LineInfo.{LineInfo}
 use Rattle.codespan_views.specs.Private.CollectedLabels.{CollectedLabel}

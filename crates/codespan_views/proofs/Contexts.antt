@@ -5,13 +5,13 @@ use Rattle.std.specs.List.{range_with_len}
 use Rattle.std.proofs.lemmas.Bool.{le-leb, lt-leb, lt-ltb, cases_Bool, cases_lt}
 use borrow.Author.Tests.{le-ltb}
 use Rattle.std.proofs.lemmas.List.{append-nil, map-append}
-use Rattle.codespan_config.specs.declared.files.Error.{Error}
-use Rattle.codespan_config.specs.declared.files.Error.TheVariants.{FileMissing, IndexTooLarge, LineTooLarge, ColumnTooLarge, InvalidCharBoundary, Io, FormatError, OutOfMemory}
-use Rattle.codespan_config.specs.FileModel.{Lookup, line_count, or_failure}
-use Rattle.codespan_config.specs.LawfulFiles.{IsLawful, FailsPastEnd, IsPastEndError}
-use Rattle.codespan_config.specs.FileModel.Lookup.{LineRange, LineNumber}
-use Rattle.codespan_config.specs.Labels.{first_line, last_line}
-use Rattle.codespan_config.specs.Lemmas.Lines.{lines_have_indices, lines_within_text}
+use Rattle.codespan_core.specs.declared.files.Error.{Error}
+use Rattle.codespan_core.specs.declared.files.Error.TheVariants.{FileMissing, IndexTooLarge, LineTooLarge, ColumnTooLarge, InvalidCharBoundary, Io, FormatError, OutOfMemory}
+use Rattle.codespan_core.specs.FileModel.{Lookup, line_count, or_failure}
+use Rattle.codespan_core.specs.LawfulFiles.{IsLawful, FailsPastEnd, IsPastEndError}
+use Rattle.codespan_core.specs.FileModel.Lookup.{LineRange, LineNumber}
+use Rattle.codespan_core.specs.Labels.{first_line, last_line}
+use Rattle.codespan_core.specs.Lemmas.Lines.{lines_have_indices, lines_within_text}
 use Rattle.codespan_views.specs.Private.CollectedLabels.{CollectedLabel, IsLookedUp, FindsLine, FindsLines, HasLineLookedUp, ExtendsPadding, ExtendsPaddingForLine, lines_failure, failure_on}
 use Rattle.codespan_views.specs.Private.SourceFiles.{line_failure}
 use Rattle.codespan_views.specs.Private.Annotations.{Annotation}

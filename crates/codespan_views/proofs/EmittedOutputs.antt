@@ -2,19 +2,19 @@
 use Rattle.std.proofs.Common.{◌≡◌, ℕ, Bool, true, false, if◌then◌else◌, List, [], ◌∷◌, Option, Some, Ok, Err, Result, ⊎_elim, inl, inr, refl, sym, subst, ap, ◌∙◌}
 use Rattle.std.proofs.lemmas.Bool.{true≢false}
 use Rattle.std.specs.Borrow.{GName}
-use Rattle.codespan_config.specs.declared.term.config.DisplayStyle.{DisplayStyle}
-use Rattle.codespan_config.specs.declared.term.config.DisplayStyle.TheVariants.{Rich, Medium, Short}
-use Rattle.codespan_config.specs.declared.term.config.Config.{Config}
-use Rattle.codespan_config.specs.declared.diagnostic.Diagnostic.{Diagnostic}
-use Rattle.codespan_config.specs.declared.files.Error.{Error}
-use Rattle.codespan_config.specs.declared.files.Error.TheVariants.{OutOfMemory}
+use Rattle.codespan_core.specs.declared.term.config.DisplayStyle.{DisplayStyle}
+use Rattle.codespan_core.specs.declared.term.config.DisplayStyle.TheVariants.{Rich, Medium, Short}
+use Rattle.codespan_core.specs.declared.term.config.Config.{Config}
+use Rattle.codespan_core.specs.declared.diagnostic.Diagnostic.{Diagnostic}
+use Rattle.codespan_core.specs.declared.files.Error.{Error}
+use Rattle.codespan_core.specs.declared.files.Error.TheVariants.{OutOfMemory}
 use Rattle.std.specs.Str.{IsUtf8}
-use Rattle.codespan_config.specs.FileModel.{FileDatabase}
-use Rattle.codespan_config.specs.LawfulFiles.{IsLawful}
-use Rattle.codespan_config.specs.Streams.{Stream, Spelling, spelled, text_of, plain_spelling}
-use Rattle.codespan_config.specs.WriterLaw.{Frame, Sink, with_written, is_known, are_known, extended, PrefixWritten, PrefixAppended}
-use Rattle.codespan_config.specs.declared.term.config.plain_ref.PlainWriterRef.{PlainWriterRef}
-use Rattle.codespan_config.specs.Writers.{fresh_plain_ref, fresh_sink, borrow_name, plain_ref_sink, borrowed_writer}
+use Rattle.codespan_core.specs.FileModel.{FileDatabase}
+use Rattle.codespan_core.specs.LawfulFiles.{IsLawful}
+use Rattle.codespan_core.specs.Streams.{Stream, Spelling, spelled, text_of, plain_spelling}
+use Rattle.codespan_core.specs.WriterLaw.{Frame, Sink, with_written, is_known, are_known, extended, PrefixWritten, PrefixAppended}
+use Rattle.codespan_core.specs.declared.term.config.plain_ref.PlainWriterRef.{PlainWriterRef}
+use Rattle.codespan_core.specs.Writers.{fresh_plain_ref, fresh_sink, borrow_name, plain_ref_sink, borrowed_writer}
 use Rattle.codespan_picture.specs.Rows.{Locus}
 use Rattle.codespan_picture.specs.TextLaws.{AreCharacters}
 use Rattle.codespan_picture.proofs.PictureTexts.{text-output}

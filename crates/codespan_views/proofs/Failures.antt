@@ -1,7 +1,7 @@
 -- Where one of the lookups fails, the first one that does is known: for the clause `renders` of
 -- `RichDiagnostic::render_labels`.
 use Rattle.std.proofs.Common.{◌≡◌, List, None}
-use Rattle.codespan_config.specs.FileModel.{FileDatabase, Lookup}
+use Rattle.codespan_core.specs.FileModel.{FileDatabase, Lookup}
 use Rattle.codespan_picture.specs.Lookups.{first_error}
 use Rattle.codespan_views.proofs.FirstErrors.{all_succeed}
 use Rattle.codespan_views.specs.Failures.{SomeFails}

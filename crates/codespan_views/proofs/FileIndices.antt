@@ -4,7 +4,7 @@ use Rattle.std.specs.Prelude.{if◌then◌else◌}
 use Rattle.std.specs.Cmp.{IsEquivalence, both_ways}
 use Rattle.std.specs.List.{AllByRecursion}
 use Rattle.std.proofs.lemmas.Bool.{cases_Bool, eqb-true, eq-eqb, ne_eqb}
-use Rattle.codespan_config.specs.Labels.{first_seen}
+use Rattle.codespan_core.specs.Labels.{first_seen}
 use Rattle.codespan_picture.specs.Snippets.{InFile, file_ids}
 use Rattle.codespan_views.specs.Private.LabeledFiles.{with_file}
 use Rattle.codespan_views.specs.Private.FileIndices.{AreDistinct, IsIdAt, index_of_file}

@@ -1,8 +1,8 @@
 -- The labels of one range, and a file among those of a diagnostic, for the clause `planned` of
 -- `plan_output`.
 use Rattle.std.proofs.Common.{◌≡◌, ℕ, ◌<◌, Bool, true, false, ◌==◌, List, Option, Some, None}
-use Rattle.codespan_config.specs.FileModel.{FileModel, line_count}
-use Rattle.codespan_config.specs.Labels.{LabelModel}
+use Rattle.codespan_core.specs.FileModel.{FileModel, line_count}
+use Rattle.codespan_core.specs.Labels.{LabelModel}
 use Rattle.codespan_views.specs.Private.Annotations.{Annotation}
 use Rattle.codespan_views.specs.Private.FileIndices.{index_of_file}
 use Rattle.codespan_picture.specs.Snippets.{InFile}

@@ -2,8 +2,8 @@
 -- `failed` of `collect_lines` and `collect_in_turn`.
 use Rattle.std.proofs.Common.{◌≡◌, zero, suc, List, [], ◌∷◌, ◌++◌, Option, None, Some, refl, sym, ap, ◌∙◌, arith}
 use Rattle.std.proofs.lemmas.List.{map-append}
-use Rattle.codespan_config.specs.declared.files.Error.{Error}
-use Rattle.codespan_config.specs.FileModel.{Lookup, or_failure}
+use Rattle.codespan_core.specs.declared.files.Error.{Error}
+use Rattle.codespan_core.specs.FileModel.{Lookup, or_failure}
 use Rattle.codespan_picture.specs.Lookups.{Failures, lookups_of_file, first_error, AllSucceed}
 
 -- ---- errors, one after another

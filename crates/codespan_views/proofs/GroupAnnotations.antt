@@ -5,7 +5,7 @@ use Rattle.std.specs.List.{list_any, cons_option, AllByRecursion}
 use Rattle.std.proofs.lemmas.Bool.{le-ltb, ltb-false}
 use Rattle.std.proofs.lemmas.List.{append-nil}
 use Rattle.std.proofs.lemmas.List.Elements.{filter_map-append, filter_agree}
-use Rattle.codespan_config.specs.Labels.{LaneMark, LabelModel}
+use Rattle.codespan_core.specs.Labels.{LaneMark, LabelModel}
 use Rattle.codespan_views.specs.Private.Annotations.{Annotation, AnnotationKind, Shown, Single, Multi, rank_of, is_before, shows_line}
 use Rattle.codespan_views.specs.Private.SnippetLines.{are_shown, lane_mark_of_kind, lane_marks_in, single_label_of, single_labels_in}
 use Rattle.codespan_views.proofs.AnnotationGroups.{IsRising}

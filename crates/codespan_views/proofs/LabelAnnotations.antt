@@ -8,9 +8,9 @@ use Rattle.std.proofs.Math.Bool.{and-false}
 use Rattle.std.proofs.lemmas.List.{append-nil}
 use Rattle.std.proofs.lemmas.List.Elements.{filter-append}
 use Rattle.std.proofs.lemmas.List.Folds.{list_any-append}
-use Rattle.codespan_config.specs.declared.term.config.Config.{Config}
-use Rattle.codespan_config.specs.FileModel.{FileModel, line_count, line_start}
-use Rattle.codespan_config.specs.Labels.{LaneMark, LabelModel, first_line, last_line, is_single, drawn_label, lane_mark_of, multi_label_on}
+use Rattle.codespan_core.specs.declared.term.config.Config.{Config}
+use Rattle.codespan_core.specs.FileModel.{FileModel, line_count, line_start}
+use Rattle.codespan_core.specs.Labels.{LaneMark, LabelModel, first_line, last_line, is_single, drawn_label, lane_mark_of, multi_label_on}
 use Rattle.codespan_views.specs.declared.label_annotations.LabelIndices.{LabelIndices}
 use Rattle.codespan_views.specs.Private.Annotations.{Annotation, AnnotationKind, Shown, Single, Multi, is_on_line, annotation_if_any, shows_line}
 use Rattle.codespan_views.specs.Private.LabelAnnotations.{line_annotations, annotations_of}

@@ -3,17 +3,17 @@
 use Rattle.std.proofs.Common.{◌≡◌, ◌≢◌, ℕ, ◌+◌, ◌≤◌, Bool, true, false, List, [], ◌∷◌, ◌++◌, length, map, flat_map, take, drop, None, Some, Ok, Err, inl, inr, refl, sym, subst, ap, ◌∙◌, append_assoc, append-nil}
 use Rattle.std.proofs.lemmas.Grind.{flat_map-append}
 use Rattle.std.proofs.lemmas.List.{take_all}
-use Rattle.codespan_config.specs.declared.diagnostic.Diagnostic.{Diagnostic}
-use Rattle.codespan_config.specs.declared.diagnostic.Label.{Label}
-use Rattle.codespan_config.specs.declared.files.Error.{Error}
-use Rattle.codespan_config.specs.declared.files.Error.TheVariants.{FormatError, OutOfMemory}
-use Rattle.codespan_config.specs.declared.term.config.Config.{Config}
-use Rattle.codespan_config.specs.Errors.{IsIo}
-use Rattle.codespan_config.specs.FileModel.{FileModel}
-use Rattle.codespan_config.specs.Labels.{is_primary}
-use Rattle.codespan_config.specs.Streams.{Stream}
-use Rattle.codespan_config.specs.WriterLaw.{Sink, with_written, is_known, PrefixWritten, Writes}
-use Rattle.codespan_config.proofs.Writes.{is_known-with_written, with_written-append, with_written-nil}
+use Rattle.codespan_core.specs.declared.diagnostic.Diagnostic.{Diagnostic}
+use Rattle.codespan_core.specs.declared.diagnostic.Label.{Label}
+use Rattle.codespan_core.specs.declared.files.Error.{Error}
+use Rattle.codespan_core.specs.declared.files.Error.TheVariants.{FormatError, OutOfMemory}
+use Rattle.codespan_core.specs.declared.term.config.Config.{Config}
+use Rattle.codespan_core.specs.Errors.{IsIo}
+use Rattle.codespan_core.specs.FileModel.{FileModel}
+use Rattle.codespan_core.specs.Labels.{is_primary}
+use Rattle.codespan_core.specs.Streams.{Stream}
+use Rattle.codespan_core.specs.WriterLaw.{Sink, with_written, is_known, PrefixWritten, Writes}
+use Rattle.codespan_core.proofs.Writes.{is_known-with_written, with_written-append, with_written-nil}
 use Rattle.codespan_picture.specs.Lookups.{Failures, first_error, header_lookups_of}
 use Rattle.codespan_picture.specs.OutputStreams.{label_of}
 use Rattle.codespan_views.specs.Private.TextLoci.{IsLocusOfLabel}

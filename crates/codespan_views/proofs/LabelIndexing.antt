@@ -8,10 +8,10 @@ use Rattle.std.proofs.lemmas.Bool.{cases_Bool}
 use Rattle.std.proofs.lemmas.List.{append-nil, append_assoc, length-append, length-map, map-append}
 use Rattle.std.proofs.lemmas.List.Elements.{filter-append}
 use Rattle.std.proofs.lemmas.List.Filters.{length-filter_both}
-use Rattle.codespan_config.specs.declared.term.config.Config.{Config}
-use Rattle.codespan_config.specs.FileModel.{FileDatabase, FileModel, line_count}
-use Rattle.codespan_config.specs.LawfulFiles.{IsLawful}
-use Rattle.codespan_config.specs.Labels.{LabelModel, first_line, is_single, last_line, multi_line_labels}
+use Rattle.codespan_core.specs.declared.term.config.Config.{Config}
+use Rattle.codespan_core.specs.FileModel.{FileDatabase, FileModel, line_count}
+use Rattle.codespan_core.specs.LawfulFiles.{IsLawful}
+use Rattle.codespan_core.specs.Labels.{LabelModel, first_line, is_single, last_line, multi_line_labels}
 use Rattle.codespan_views.specs.declared.label_span.LabelSpan.{LabelSpan}
 use Rattle.codespan_views.specs.Private.Annotations.{Annotation}
 use Rattle.codespan_views.specs.Private.LabelAnnotations.{annotations_of}

@@ -2,7 +2,7 @@
 use Rattle.std.proofs.Common.{◌≡◌, ℕ, ◌≤◌, false, true, nat_le, List, [], ◌∷◌, refl, arith}
 use Rattle.std.specs.List.{AllByRecursion}
 use Rattle.std.proofs.lemmas.Bool.Decides.{nat_tests}
-use Rattle.codespan_config.specs.Labels.{LabelModel, range_precedes}
+use Rattle.codespan_core.specs.Labels.{LabelModel, range_precedes}
 use Rattle.codespan_picture.proofs.OrderSorts.{Ascends}
 use Rattle.codespan_picture.proofs.ListElements.{all-weaker}
 use Rattle.codespan_picture.specs.Arguments.{starts_from, starts_in_order}

@@ -3,7 +3,7 @@
 use Rattle.std.proofs.Common.{◌≡◌, ℕ, ◌+◌, ◌<◌, Bool, true, List, [], ◌∷◌, ◌++◌, length, take, get_or, map, sym, ap, ◌∙◌, arith}
 use Rattle.std.specs.Cmp.{IsEquivalence}
 use Rattle.std.proofs.lemmas.List.{get_or-map, get_or-take, length-map, length-take-le, map-append}
-use Rattle.codespan_config.specs.declared.diagnostic.Label.{Label}
+use Rattle.codespan_core.specs.declared.diagnostic.Label.{Label}
 use Rattle.codespan_picture.specs.OutputStreams.{label_of}
 use Rattle.codespan_picture.specs.Snippets.{InFile, file_ids}
 use Rattle.codespan_views.specs.Private.FileIndices.{index_of_file}

@@ -3,8 +3,8 @@ use Rattle.std.proofs.Common.{◌≡◌, ℕ, ◌+◌, ◌≤◌, Bool, true, fa
 use Rattle.std.specs.List.{AllByRecursion, enumerate_from, filter_map, cons_option}
 use Rattle.std.proofs.lemmas.Bool.{leb-true}
 use Rattle.std.proofs.lemmas.Bool.Decides.{nat_tests}
-use Rattle.codespan_config.specs.FileModel.{FileModel}
-use Rattle.codespan_config.specs.Labels.{LabelModel, LaneMark, MultiLabel, lane_mark_of, lane_marks_on, multi_line_labels, multi_label_on}
+use Rattle.codespan_core.specs.FileModel.{FileModel}
+use Rattle.codespan_core.specs.Labels.{LabelModel, LaneMark, MultiLabel, lane_mark_of, lane_marks_on, multi_line_labels, multi_label_on}
 use Rattle.codespan_picture.specs.Arguments.{LaneMarkTuple, lane_mark_view, lanes_in_order, ascend_from}
 use Rattle.codespan_picture.specs.Snippets.{LabeledFileModel, num_multi_labels}
 use Rattle.codespan_views.specs.Private.Annotations.{Annotation, is_before}

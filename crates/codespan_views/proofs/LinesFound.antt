@@ -3,11 +3,11 @@
 use Rattle.std.proofs.Common.{◌≡◌, ℕ, List, [], ◌∷◌, ◌++◌, Option, None, Some, refl, sym, ap, subst, ◌∙◌, append-nil, append_assoc}
 use Rattle.std.proofs.lemmas.List.{map-append}
 use Rattle.std.proofs.lemmas.Grind.{flat_map-append}
-use Rattle.codespan_config.specs.declared.files.Error.{Error}
-use Rattle.codespan_config.specs.declared.term.config.Layout.{Layout}
-use Rattle.codespan_config.specs.declared.term.config.Layout.TheVariants.{Classic, Unbroken}
-use Rattle.codespan_config.specs.FileModel.{FileModel, Lookup, or_failure}
-use Rattle.codespan_config.specs.FileModel.Lookup.{LineNumber}
+use Rattle.codespan_core.specs.declared.files.Error.{Error}
+use Rattle.codespan_core.specs.declared.term.config.Layout.{Layout}
+use Rattle.codespan_core.specs.declared.term.config.Layout.TheVariants.{Classic, Unbroken}
+use Rattle.codespan_core.specs.FileModel.{FileModel, Lookup, or_failure}
+use Rattle.codespan_core.specs.FileModel.Lookup.{LineNumber}
 use Rattle.codespan_picture.specs.Lookups.{Failures, lookups_of_file, first_error}
 use Rattle.codespan_views.specs.declared.plan.snippet_lines.SnippetLine.{SnippetLine as RustLine}
 use Rattle.codespan_views.specs.Private.SnippetLineViews.{AddsLines, IsSnippetLineIn, numbers_looked_up, snippet_line_view}

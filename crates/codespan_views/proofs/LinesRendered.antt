@@ -3,11 +3,11 @@
 use Rattle.std.proofs.Common.{◌≡◌, ℕ, ◌+◌, ◌≤◌, List, [], ◌∷◌, ◌++◌, length, take, drop, map, Option, None, Result, Ok, Err, sym, subst, ap, ◌∙◌, append-nil}
 use Rattle.std.proofs.lemmas.List.{map-append, take-append-drop, take_all}
 use Rattle.std.proofs.lemmas.Grind.{flat_map-append}
-use Rattle.codespan_config.specs.declared.files.Error.{Error}
-use Rattle.codespan_config.specs.declared.term.config.Config.{Config}
-use Rattle.codespan_config.specs.FileModel.{FileDatabase, FileModel, Lookup, or_failure}
-use Rattle.codespan_config.specs.Streams.{Stream, newline}
-use Rattle.codespan_config.specs.WriterLaw.{Sink}
+use Rattle.codespan_core.specs.declared.files.Error.{Error}
+use Rattle.codespan_core.specs.declared.term.config.Config.{Config}
+use Rattle.codespan_core.specs.FileModel.{FileDatabase, FileModel, Lookup, or_failure}
+use Rattle.codespan_core.specs.Streams.{Stream, newline}
+use Rattle.codespan_core.specs.WriterLaw.{Sink}
 use Rattle.codespan_picture.specs.OutputStreams.{context_of}
 use Rattle.codespan_picture.specs.Rows.{Line, RowContext, Row, rows_of}
 use Rattle.codespan_picture.specs.RowStreams.{stream_of, stream_of_rows}

@@ -3,16 +3,16 @@
 use Rattle.std.proofs.Common.{◌≡◌, ◌≢◌, [], ◌++◌, Option, None, Some, Result, Ok, Err, inl, inr, ⊎_elim, refl, sym, subst, ◌∙◌}
 use Rattle.std.specs.Prelude.{IfErr}
 use Rattle.std.specs.Result.{IsErrOf}
-use Rattle.codespan_config.specs.declared.files.Error.{Error}
-use Rattle.codespan_config.specs.declared.files.Error.TheVariants.{OutOfMemory}
-use Rattle.codespan_config.specs.Errors.{IsIo}
-use Rattle.codespan_config.specs.FileModel.{or_failure}
-use Rattle.codespan_config.specs.Streams.{Stream}
-use Rattle.codespan_config.specs.WriterLaw.{Sink, Writes, PrefixWritten}
-use Rattle.codespan_config.proofs.Writes.{with_written-nil, PrefixWritten-first, PrefixWritten-last}
+use Rattle.codespan_core.specs.declared.files.Error.{Error}
+use Rattle.codespan_core.specs.declared.files.Error.TheVariants.{OutOfMemory}
+use Rattle.codespan_core.specs.Errors.{IsIo}
+use Rattle.codespan_core.specs.FileModel.{or_failure}
+use Rattle.codespan_core.specs.Streams.{Stream}
+use Rattle.codespan_core.specs.WriterLaw.{Sink, Writes, PrefixWritten}
+use Rattle.codespan_core.proofs.Writes.{with_written-nil, PrefixWritten-first, PrefixWritten-last}
 use Rattle.codespan_views.specs.Private.LookupsWhileRendering.{WrotePrefix, FailedWithLookups, WritesWithLookups}
 use Rattle.codespan_views.proofs.FirstErrors.{or_failure-some, or_failure-succeeded}
-use Rattle.codespan_config.proofs.Chains.{written-then, failed-before, failed-then, known-after}
+use Rattle.codespan_core.proofs.Chains.{written-then, failed-before, failed-then, known-after}
 use Rattle.codespan_views.proofs.Renderings.{PrefixWritten-none}
 
 -- ---- one part

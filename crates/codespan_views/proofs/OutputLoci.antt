@@ -2,14 +2,14 @@
 -- `RichDiagnostic::render_labels` and `render_headers`.
 use Rattle.std.proofs.Common.{List}
 use Rattle.std.specs.List.{AllZip}
-use Rattle.codespan_config.specs.declared.term.config.DisplayStyle.TheVariants.{Rich, Short}
-use Rattle.codespan_config.specs.declared.diagnostic.Diagnostic.{Diagnostic}
+use Rattle.codespan_core.specs.declared.term.config.DisplayStyle.TheVariants.{Rich, Short}
+use Rattle.codespan_core.specs.declared.diagnostic.Diagnostic.{Diagnostic}
 use Rattle.codespan_picture.specs.OutputStreams.{AreLoci, IsLocus, NamesAreTexts, files_of, label_locus_start, labels_of, snippet_locus_start}
 use Rattle.codespan_picture.specs.Rows.{Locus}
 use Rattle.codespan_picture.specs.Snippets.{InFile, LabeledFileModel, primary_of}
 use Rattle.codespan_picture.proofs.Loci.{zip_map, zip_texts, zip_weaker}
 use Rattle.codespan_views.specs.Private.TextLoci.{IsLocusOfFile, IsLocusOfLabel}
-use Rattle.codespan_config.specs.FileModel.{FileDatabase}
+use Rattle.codespan_core.specs.FileModel.{FileDatabase}
 
 module _ {Id : Type 0} (files : FileDatabase Id) (d : Diagnostic Id) (loci : List Locus) where
   -- the files

@@ -2,19 +2,19 @@
 use Rattle.std.proofs.Common.{◌≡◌, ℕ, ◌+◌, ◌≤◌, Bool, ◌||◌, List, [], ◌∷◌, ◌++◌, length, drop, map, Option, None, Result, Ok, Err, refl, sym, subst, subst₂, ap, ◌∙◌, arith}
 use Rattle.std.specs.Prelude.{IfErr, flat_map, nat_lt}
 use Rattle.std.proofs.lemmas.List.{append-nil, append_assoc}
-use Rattle.codespan_config.specs.declared.term.config.Config.{Config}
-use Rattle.codespan_config.specs.declared.files.Error.{Error}
-use Rattle.codespan_config.specs.FileModel.{FileDatabase, Lookup, or_failure}
-use Rattle.codespan_config.specs.Streams.{Stream}
-use Rattle.codespan_config.specs.WriterLaw.{Writes, Sink}
-use Rattle.codespan_config.specs.Errors.{IsIo}
+use Rattle.codespan_core.specs.declared.term.config.Config.{Config}
+use Rattle.codespan_core.specs.declared.files.Error.{Error}
+use Rattle.codespan_core.specs.FileModel.{FileDatabase, Lookup, or_failure}
+use Rattle.codespan_core.specs.Streams.{Stream}
+use Rattle.codespan_core.specs.WriterLaw.{Writes, Sink}
+use Rattle.codespan_core.specs.Errors.{IsIo}
 use Rattle.codespan_views.specs.Private.LookupsWhileRendering.{WroteStream, WritesWithLookups}
 use Rattle.codespan_picture.specs.Snippets.{row_after, snippet, snippets, LabeledFileModel, has_any, labeled_file_model, labeled_file_models}
 use Rattle.codespan_picture.specs.Lookups.{lookups_of_file, first_error, late_lookups, snippet_lookups}
 use Rattle.codespan_picture.specs.OutputStreams.{labels_of, context_of, notes_of}
 use Rattle.codespan_picture.specs.Rows.{RowContext, Locus, Row}
 use Rattle.codespan_picture.specs.RowStreams.{stream_of_rows}
-use Rattle.codespan_config.specs.FileModel.Lookup.{Source}
+use Rattle.codespan_core.specs.FileModel.Lookup.{Source}
 use Rattle.codespan_picture.specs.Arguments.{locus_view}
 use Rattle.codespan_views.specs.Private.OutputPlans.{IsOutputPlan, IsSnippetPlan, ids_of, loci_of}
 use Rattle.codespan_views.specs.Private.SnippetRows.{trailing_border_rows, lookups_with, rows_in}

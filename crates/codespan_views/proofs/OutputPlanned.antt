@@ -1,9 +1,9 @@
 -- What fails the lookups before the header: those of the labels, and then those of the plan. For
 -- the clause `renders` of `RichDiagnostic::render_labels` in `codespan_views`.
 use Rattle.std.proofs.Common.{◌≡◌, List, Option, Some, None, ◌∙◌, ap, append_assoc}
-use Rattle.codespan_config.specs.declared.files.Error.{Error}
-use Rattle.codespan_config.specs.declared.term.config.Config.{Config}
-use Rattle.codespan_config.specs.FileModel.{FileDatabase, Lookup, or_failure}
+use Rattle.codespan_core.specs.declared.files.Error.{Error}
+use Rattle.codespan_core.specs.declared.term.config.Config.{Config}
+use Rattle.codespan_core.specs.FileModel.{FileDatabase, Lookup, or_failure}
 use Rattle.codespan_picture.specs.Lookups.{early_lookups, first_error, label_lookups}
 use Rattle.codespan_picture.specs.Snippets.{InFile}
 use Rattle.codespan_views.specs.Private.CollectedLabels.{labels_failure}

@@ -1,13 +1,13 @@
 -- Calls that render by a renderer, one after another, some with lookups on the way: for the clauses
 -- of `render_snippets`, `render_snippet`, `render_lines`, `render_notes` and what these call.
 use Rattle.std.proofs.Common.{◌≡◌, ◌≢◌, [], ◌++◌, Option, None, Some, Result, Ok, Err, refl, sym, subst, ◌∙◌}
-use Rattle.codespan_config.specs.declared.files.Error.{Error}
-use Rattle.codespan_config.specs.declared.files.Error.TheVariants.{OutOfMemory}
-use Rattle.codespan_config.specs.declared.term.config.Config.{Config}
-use Rattle.codespan_config.specs.Streams.{Stream}
-use Rattle.codespan_config.specs.WriterLaw.{Sink}
-use Rattle.codespan_config.proofs.Chains.{failed-before, writes-last}
-use Rattle.codespan_config.proofs.Writes.{with_written-nil}
+use Rattle.codespan_core.specs.declared.files.Error.{Error}
+use Rattle.codespan_core.specs.declared.files.Error.TheVariants.{OutOfMemory}
+use Rattle.codespan_core.specs.declared.term.config.Config.{Config}
+use Rattle.codespan_core.specs.Streams.{Stream}
+use Rattle.codespan_core.specs.WriterLaw.{Sink}
+use Rattle.codespan_core.proofs.Chains.{failed-before, writes-last}
+use Rattle.codespan_core.proofs.Writes.{with_written-nil}
 use Rattle.codespan_renderer.specs.declared.term.renderer.Renderer.{Renderer}
 use Rattle.codespan_renderer.specs.Renderers.{Renders, SameRenderer, config_of, writer_of}
 use Rattle.codespan_views.specs.Private.Rendering.{RendersWithLookups}

@@ -3,16 +3,16 @@
 use Rattle.std.proofs.Common.{◌≡◌, ◌≢◌, true, ◌<◌, List, [], ◌++◌, length, Option, None, Some, Ok, Err, Result, inl, inr, refl, sym, subst, ap, ◌∙◌, arith}
 use Rattle.std.proofs.lemmas.List.{length-append}
 use Rattle.std.specs.Prelude.{IfErr}
-use Rattle.codespan_config.specs.declared.term.config.Config.{Config}
-use Rattle.codespan_config.specs.declared.diagnostic.Diagnostic.{Diagnostic}
-use Rattle.codespan_config.specs.declared.files.Error.{Error}
-use Rattle.codespan_config.specs.declared.files.Error.TheVariants.{FormatError, OutOfMemory}
-use Rattle.codespan_config.specs.Errors.{IsIo}
-use Rattle.codespan_config.specs.FileModel.{FileDatabase, Lookup}
-use Rattle.codespan_config.specs.Streams.{Stream}
-use Rattle.codespan_config.specs.WriterLaw.{Sink, with_written, is_known, PrefixWritten, Writes, failed_frame}
-use Rattle.codespan_config.proofs.KnownBytes.{extended-nil}
-use Rattle.codespan_config.specs.declared.term.config.DisplayStyle.TheVariants.{Rich}
+use Rattle.codespan_core.specs.declared.term.config.Config.{Config}
+use Rattle.codespan_core.specs.declared.diagnostic.Diagnostic.{Diagnostic}
+use Rattle.codespan_core.specs.declared.files.Error.{Error}
+use Rattle.codespan_core.specs.declared.files.Error.TheVariants.{FormatError, OutOfMemory}
+use Rattle.codespan_core.specs.Errors.{IsIo}
+use Rattle.codespan_core.specs.FileModel.{FileDatabase, Lookup}
+use Rattle.codespan_core.specs.Streams.{Stream}
+use Rattle.codespan_core.specs.WriterLaw.{Sink, with_written, is_known, PrefixWritten, Writes, failed_frame}
+use Rattle.codespan_core.proofs.KnownBytes.{extended-nil}
+use Rattle.codespan_core.specs.declared.term.config.DisplayStyle.TheVariants.{Rich}
 use Rattle.codespan_picture.specs.OutputStreams.{files_of, labels_of, output}
 use Rattle.codespan_picture.specs.Picture.{stated_loci}
 use Rattle.codespan_picture.specs.Rows.{Locus}
@@ -23,7 +23,7 @@ use Rattle.codespan_views.specs.WriteCalls.{WritesOutput}
 use Rattle.codespan_views.proofs.OutputLoci.{file_loci, file_texts}
 use Rattle.codespan_picture.proofs.Loci.{stated_are_loci}
 use Rattle.codespan_views.specs.Private.LookupsWhileRendering.{WroteStream}
-use Rattle.codespan_config.proofs.Chains.{written-then, failed-then}
+use Rattle.codespan_core.proofs.Chains.{written-then, failed-then}
 use Rattle.codespan_views.proofs.Failures.{some_fails}
 use Rattle.codespan_views.proofs.FirstErrors.{first_error-some, first_error-none, all_succeed}
 

@@ -5,17 +5,17 @@ use Rattle.std.specs.Prelude.{IfErr}
 use Rattle.std.specs.List.{AllZip}
 use Rattle.std.proofs.lemmas.Grind.{flat_map-append}
 use Rattle.std.proofs.lemmas.List.{append_assoc, length-map, nil_from_length}
-use Rattle.codespan_config.specs.declared.term.config.Config.{Config}
-use Rattle.codespan_config.specs.declared.term.config.DisplayStyle.TheVariants.{Rich}
-use Rattle.codespan_config.specs.declared.diagnostic.Diagnostic.{Diagnostic}
-use Rattle.codespan_config.specs.declared.diagnostic.Label.{Label}
-use Rattle.codespan_config.specs.declared.files.Error.{Error}
-use Rattle.codespan_config.specs.declared.files.Error.TheVariants.{FormatError, OutOfMemory}
-use Rattle.codespan_config.specs.Errors.{IsIo}
-use Rattle.codespan_config.specs.FileModel.{FileDatabase}
-use Rattle.codespan_config.specs.Streams.{Stream, newline}
-use Rattle.codespan_config.specs.WriterLaw.{Sink, Writes, PrefixWritten, is_known, with_written}
-use Rattle.codespan_config.proofs.Writes.{PrefixWritten-first, PrefixWritten-last, with_written-nil}
+use Rattle.codespan_core.specs.declared.term.config.Config.{Config}
+use Rattle.codespan_core.specs.declared.term.config.DisplayStyle.TheVariants.{Rich}
+use Rattle.codespan_core.specs.declared.diagnostic.Diagnostic.{Diagnostic}
+use Rattle.codespan_core.specs.declared.diagnostic.Label.{Label}
+use Rattle.codespan_core.specs.declared.files.Error.{Error}
+use Rattle.codespan_core.specs.declared.files.Error.TheVariants.{FormatError, OutOfMemory}
+use Rattle.codespan_core.specs.Errors.{IsIo}
+use Rattle.codespan_core.specs.FileModel.{FileDatabase}
+use Rattle.codespan_core.specs.Streams.{Stream, newline}
+use Rattle.codespan_core.specs.WriterLaw.{Sink, Writes, PrefixWritten, is_known, with_written}
+use Rattle.codespan_core.proofs.Writes.{PrefixWritten-first, PrefixWritten-last, with_written-nil}
 use Rattle.codespan_views.specs.declared.plan.OutputPlan.{OutputPlan}
 use Rattle.codespan_views.specs.declared.plan.snippet_plans.SnippetPlan.{SnippetPlan}
 use Rattle.codespan_views.specs.declared.plan.snippet_lines.SnippetLine.{SnippetLine as RustLine}
@@ -30,7 +30,7 @@ use Rattle.codespan_picture.specs.Snippets.{snippets, InFile, has_any, labeled_f
 use Rattle.codespan_views.specs.Private.TextLoci.{IsLocusOfFile}
 use Rattle.codespan_picture.specs.Rows.{FinalRow, HeaderRow, Row}
 use Rattle.codespan_picture.specs.RowStreams.{header_row, stream_of, stream_of_rows}
-use Rattle.codespan_config.proofs.Chains.{written-then, failed-before, failed-then, known-after}
+use Rattle.codespan_core.proofs.Chains.{written-then, failed-before, failed-then, known-after}
 use Rattle.codespan_views.proofs.Renderings.{after_header, before_header, early_failure, finished, late_failure, ByLoci, failed_by_writer, failed_early, failed_late}
 use Rattle.codespan_views.proofs.NoteRows.{whole_of_notes}
 use Rattle.codespan_views.proofs.OutputPlanned.{labels-succeeded, labels-failed}

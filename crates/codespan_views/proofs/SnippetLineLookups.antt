@@ -5,9 +5,9 @@ use Rattle.std.specs.Prelude.{IfSome, flat_map}
 use Rattle.std.specs.List.{AllByRecursion}
 use Rattle.std.proofs.lemmas.Grind.{flat_map-append}
 use Rattle.std.proofs.lemmas.List.{map-append}
-use Rattle.codespan_config.specs.declared.term.config.Layout.{Layout}
-use Rattle.codespan_config.specs.declared.term.config.Layout.TheVariants.{Classic, Unbroken}
-use Rattle.codespan_config.specs.FileModel.{FileModel}
+use Rattle.codespan_core.specs.declared.term.config.Layout.{Layout}
+use Rattle.codespan_core.specs.declared.term.config.Layout.TheVariants.{Classic, Unbroken}
+use Rattle.codespan_core.specs.FileModel.{FileModel}
 use Rattle.codespan_picture.specs.Lookups.{filled_line_lookups}
 use Rattle.codespan_picture.specs.Padding.{count_digits}
 use Rattle.codespan_views.specs.declared.plan.snippet_lines.SnippetLine.{SnippetLine as RustLine}

@@ -3,7 +3,7 @@
 use Rattle.std.proofs.Common.{◌≡◌, ℕ, ◌≤◌, Bool, true, false, not, cond, ◌&&◌, if◌then◌else◌, List, [], ◌∷◌, ◌++◌, filter, flat_map, Option, None, refl, sym, ap, ◌∙◌}
 use Rattle.std.specs.List.{range_with_len, AllByRecursion}
 use Rattle.std.proofs.lemmas.List.{append-nil}
-use Rattle.codespan_config.specs.FileModel.{FileModel}
+use Rattle.codespan_core.specs.FileModel.{FileModel}
 use Rattle.codespan_picture.specs.Rows.{Line}
 use Rattle.codespan_picture.specs.Sequences.{break_between, gap_between, in_sequence}
 use Rattle.codespan_picture.specs.Snippets.{break_rows, line_rows}

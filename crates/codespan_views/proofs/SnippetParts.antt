@@ -2,13 +2,13 @@
 -- clause of `render_snippet`.
 use Rattle.std.proofs.Common.{◌≡◌, List, ◌++◌, map, Option, None, Result, Ok, Err, refl, sym, subst}
 use Rattle.std.proofs.lemmas.Grind.{flat_map-append}
-use Rattle.codespan_config.specs.declared.files.Error.{Error}
-use Rattle.codespan_config.specs.declared.term.config.Config.{Config}
-use Rattle.codespan_config.specs.Errors.{IsIo}
-use Rattle.codespan_config.specs.FileModel.{FileDatabase, or_failure}
-use Rattle.codespan_config.specs.FileModel.Lookup.{Source}
-use Rattle.codespan_config.specs.Streams.{Stream, newline}
-use Rattle.codespan_config.specs.WriterLaw.{Sink, Writes}
+use Rattle.codespan_core.specs.declared.files.Error.{Error}
+use Rattle.codespan_core.specs.declared.term.config.Config.{Config}
+use Rattle.codespan_core.specs.Errors.{IsIo}
+use Rattle.codespan_core.specs.FileModel.{FileDatabase, or_failure}
+use Rattle.codespan_core.specs.FileModel.Lookup.{Source}
+use Rattle.codespan_core.specs.Streams.{Stream, newline}
+use Rattle.codespan_core.specs.WriterLaw.{Sink, Writes}
 use Rattle.codespan_views.specs.declared.snippet.lines.SnippetContext.{SnippetContext}
 use Rattle.codespan_views.specs.declared.plan.snippet_plans.SnippetPlan.{SnippetPlan}
 use Rattle.codespan_views.specs.declared.plan.snippet_lines.SnippetLine.{SnippetLine}

@@ -2,13 +2,13 @@
 -- `emit_to_write_style`.
 use mathlib.Core.Path.{transport}
 use Rattle.std.proofs.Common.{◌≡◌, Result}
-use Rattle.codespan_config.specs.declared.diagnostic.Diagnostic.{Diagnostic}
-use Rattle.codespan_config.specs.declared.files.Error.{Error}
-use Rattle.codespan_config.specs.declared.term.config.Config.{Config}
-use Rattle.codespan_config.specs.declared.term.config.DisplayStyle.{DisplayStyle}
-use Rattle.codespan_config.specs.WriterLaw.{Sink}
+use Rattle.codespan_core.specs.declared.diagnostic.Diagnostic.{Diagnostic}
+use Rattle.codespan_core.specs.declared.files.Error.{Error}
+use Rattle.codespan_core.specs.declared.term.config.Config.{Config}
+use Rattle.codespan_core.specs.declared.term.config.DisplayStyle.{DisplayStyle}
+use Rattle.codespan_core.specs.WriterLaw.{Sink}
 use Rattle.codespan_views.specs.WriteCalls.{WritesStyled}
-use Rattle.codespan_config.specs.FileModel.{FileDatabase}
+use Rattle.codespan_core.specs.FileModel.{FileDatabase}
 
 module _ {Id : Type 0} {config k : Config} {d e : Diagnostic Id} (configs : k ≡ config)
     (diagnostics : e ≡ d) {files : FileDatabase Id} {style : DisplayStyle}

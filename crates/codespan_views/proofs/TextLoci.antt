@@ -2,7 +2,7 @@
 use Rattle.std.proofs.Common.{◌≡◌, ℕ}
 use Rattle.std.specs.Prelude.{IfSome, string_bytes}
 use Rattle.std.proofs.lemmas.Str.{IsUtf8-string_bytes}
-use Rattle.codespan_config.specs.FileModel.{FileModel}
+use Rattle.codespan_core.specs.FileModel.{FileModel}
 use Rattle.codespan_picture.specs.declared.arguments.Locus as rust_locus
 use Rattle.codespan_picture.specs.Arguments.{locus_view}
 use Rattle.codespan_views.specs.Private.TextLoci.{IsTextLocus}

@@ -1,8 +1,8 @@
 -- What the calls that return the text of a diagnostic or append it to a string do.
 use Rattle.std.specs.Prelude.{◌≡◌, ℕ, ◌⊎◌, List, ◌++◌, Result, MatchResult}
 use Rattle.codespan_picture.specs.Types.{Diagnostic, Error, OutOfMemory, Config, DisplayStyle, Rich}
-use Rattle.codespan_config.specs.FileModel.{FileDatabase}
-use Rattle.codespan_config.specs.Streams.{text_of}
+use Rattle.codespan_core.specs.FileModel.{FileDatabase}
+use Rattle.codespan_core.specs.Streams.{text_of}
 use Rattle.codespan_picture.specs.RichLaws.{MeansLabels}
 use Rattle.codespan_picture.specs.OutputStreams.{AreLoci, NamesAreTexts, output}
 use Rattle.codespan_picture.specs.Rows.{Locus}

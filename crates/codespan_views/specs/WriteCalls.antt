@@ -2,9 +2,9 @@
 -- writer of styles. `Failures` says what an error means.
 use Rattle.std.specs.Prelude.{◌≡◌, true, ℕ, List, Option, Result, MatchResult}
 use Rattle.codespan_picture.specs.Types.{Diagnostic, Error, Config, DisplayStyle, Rich}
-use Rattle.codespan_config.specs.FileModel.{FileDatabase}
-use Rattle.codespan_config.specs.Streams.{text_of}
-use Rattle.codespan_config.specs.WriterLaw.{AppendsBytes, WritesOrPrefix, Sink, extended, is_known, failed_frame, with_written, are_known}
+use Rattle.codespan_core.specs.FileModel.{FileDatabase}
+use Rattle.codespan_core.specs.Streams.{text_of}
+use Rattle.codespan_core.specs.WriterLaw.{AppendsBytes, WritesOrPrefix, Sink, extended, is_known, failed_frame, with_written, are_known}
 use Rattle.codespan_picture.specs.RichLaws.{MeansLabels}
 use Rattle.codespan_picture.specs.OutputStreams.{AreLoci, output}
 use Rattle.codespan_picture.specs.Picture.{headers_at}

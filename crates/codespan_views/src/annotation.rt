@@ -2,14 +2,14 @@
 
 ghost use Rattle.std.specs.Prelude.{◌≡◌, ⊤, OnOk, OnErr, IsErrOf};
 ghost use Rattle.std.specs.Option.{option_map};
-ghost use Rattle.codespan_config.specs.Labels.{from_line_start};
+ghost use Rattle.codespan_core.specs.Labels.{from_line_start};
 ghost use Rattle.codespan_picture.specs.Arguments.{multi_label_view};
 ghost use Rattle.codespan_picture.specs.OutputStreams.{label_of};
 ghost use Rattle.codespan_views.specs.Private.AnnotationViews.{Adds, kind_view, multi_label_from};
 ghost use Rattle.codespan_views.specs.Private.Annotations.{annotation_if_any};
 
-use codespan_config::diagnostic::Label;
-use codespan_config::files::Error;
+use codespan_core::diagnostic::Label;
+use codespan_core::files::Error;
 use codespan_picture::arguments::MultiLabel;
 use std::alloc::AllocError;
 use std::ops::Range;

@@ -1,7 +1,7 @@
 //! The annotations of all labels, in one vector, and the files of the labels.
 
 ghost use Rattle.std.specs.Prelude.{◌≡◌, map, IfOk};
-ghost use Rattle.codespan_config.specs.LawfulFiles.{FailsBy};
+ghost use Rattle.codespan_core.specs.LawfulFiles.{FailsBy};
 ghost use Rattle.codespan_picture.specs.OutputStreams.{label_of};
 ghost use Rattle.codespan_views.specs.Private.CollectedLabels.{labels_failure};
 ghost use Rattle.codespan_views.specs.Private.Collections.{IsCollected, IsCollectedInTurn};
@@ -12,9 +12,9 @@ use crate::label_annotations::{FoundAnnotations, LabelIndices, collect_label};
 use crate::label_span::LabelSpan;
 use crate::labeled_files::{LabeledFile, add_label, get_or_insert_file};
 use crate::spanned_padding::PaddingWidth;
-use codespan_config::diagnostic::Label;
-use codespan_config::files::{Error, Files};
-use codespan_config::term::Config;
+use codespan_core::diagnostic::Label;
+use codespan_core::files::{Error, Files};
+use codespan_core::term::Config;
 use std::alloc::Global;
 
 /// What was collected of the labels of a diagnostic.

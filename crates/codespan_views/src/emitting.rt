@@ -1,16 +1,16 @@
 //! The five calls that emit a diagnostic.
 
 ghost use Rattle.std.specs.Prelude.{◌≡◌, if◌then◌else◌, string_bytes};
-ghost use Rattle.codespan_config.specs.declared.files.Error.TheVariants.{OutOfMemory};
+ghost use Rattle.codespan_core.specs.declared.files.Error.TheVariants.{OutOfMemory};
 ghost use Rattle.codespan_views.specs.Output.{Appends, Emits};
 ghost use Rattle.codespan_views.specs.WriteCalls.{WritesStyled, WritesText};
 
 use crate::rich::RichDiagnostic;
 use crate::short::ShortDiagnostic;
-use codespan_config::diagnostic::Diagnostic;
-use codespan_config::files::{Error, Files};
-use codespan_config::term::config::plain_ref::PlainWriterRef;
-use codespan_config::term::{Config, DisplayStyle, PlainWriter, WriteStyle};
+use codespan_core::diagnostic::Diagnostic;
+use codespan_core::files::{Error, Files};
+use codespan_core::term::config::plain_ref::PlainWriterRef;
+use codespan_core::term::{Config, DisplayStyle, PlainWriter, WriteStyle};
 use codespan_picture::characters::are_characters;
 use codespan_renderer::term::renderer::Renderer;
 use std::io::Write;

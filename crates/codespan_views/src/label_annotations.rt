@@ -2,7 +2,7 @@
 
 ghost use Rattle.std.specs.Prelude.{◌≡◌, ◌≢◌, true, None, IfErr, IfOk, OnOk, OnErr, IsErrOf};
 ghost use Rattle.std.specs.Option.{option_map};
-ghost use Rattle.codespan_config.specs.LawfulFiles.{FailsBy};
+ghost use Rattle.codespan_core.specs.LawfulFiles.{FailsBy};
 ghost use Rattle.codespan_views.specs.Private.CollectedLabels.{AddsLine, FindsLine, FindsLines, HasLineLookedUp, IfEnded, IfContinues, ExtendsPadding, ExtendsPaddingForLine, FailsLine, HasLabelLines, label_of_collector, collected_label, label_failure, lines_failure, failure_on, lane_mark_by, kind_by};
 ghost use Rattle.codespan_views.specs.Private.SourceFiles.{EndsBefore, model_of};
 ghost use Rattle.codespan_views.specs.Private.AnnotationViews.{IsLineOf, kind_view};
@@ -12,9 +12,9 @@ use crate::annotation::{Annotation, AnnotationKind, LineInfo, MultiLabelKind, pu
 use crate::label_span::{LabelSpan, label_span};
 use crate::source_file::SourceFile;
 use crate::spanned_padding::PaddingWidth;
-use codespan_config::diagnostic::Label;
-use codespan_config::files::{Error, Files};
-use codespan_config::term::Config;
+use codespan_core::diagnostic::Label;
+use codespan_core::files::{Error, Files};
+use codespan_core::term::Config;
 
 /// The indices of a label, 0-based.
 #[derive(Clone, Copy)]

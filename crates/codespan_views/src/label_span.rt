@@ -1,16 +1,16 @@
 //! The lines of a label: which it spans, and which it makes shown.
 
 ghost use Rattle.std.specs.Prelude.{◌≡◌, ◌<◌, ◌≤◌, ℕ, ◌==◌, ◌&&◌, nat_lt, IfOk};
-ghost use Rattle.codespan_config.specs.LawfulFiles.{FailsBy};
+ghost use Rattle.codespan_core.specs.LawfulFiles.{FailsBy};
 ghost use Rattle.codespan_picture.specs.Lines.{shows};
 ghost use Rattle.codespan_picture.specs.Lookups.{is_around};
 ghost use Rattle.codespan_views.specs.Private.AnnotationViews.{multi_label_kind};
 ghost use Rattle.codespan_views.specs.Private.LabelSpans.{IsFarInside, ends_failure, is_near_end, line_of_end, line_of_start, spans_line};
 
 use crate::annotation::MultiLabelKind;
-use codespan_config::diagnostic::Label;
-use codespan_config::files::{Error, Files};
-use codespan_config::term::Config;
+use codespan_core::diagnostic::Label;
+use codespan_core::files::{Error, Files};
+use codespan_core::term::Config;
 use std::ops::Range;
 
 /// The indices of the lines on which a label starts and ends, 0-based. It may start after the line

@@ -9,8 +9,8 @@ ghost use Rattle.codespan_views.specs.Private.FileIndices.{AreDistinct, index_of
 
 use crate::label_span::LabelSpan;
 use crate::locus_start::LocusStart;
-use codespan_config::diagnostic::Label;
-use codespan_config::files::Error;
+use codespan_core::diagnostic::Label;
+use codespan_core::files::Error;
 
 /// A file with labels.
 #[derive(Drop)]

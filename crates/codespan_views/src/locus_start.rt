@@ -1,11 +1,11 @@
 //! The byte of each file's locus.
 
 ghost use Rattle.std.specs.Prelude.{◌≡◌};
-ghost use Rattle.codespan_config.specs.Labels.{is_primary};
+ghost use Rattle.codespan_core.specs.Labels.{is_primary};
 ghost use Rattle.codespan_picture.specs.OutputStreams.{label_of};
 ghost use Rattle.codespan_views.specs.Private.LocusStarts.{least_with, no_start, locus_byte, start_with};
 
-use codespan_config::diagnostic::{Label, LabelStyle};
+use codespan_core::diagnostic::{Label, LabelStyle};
 
 /// Returns whether a label is primary.
 pub fn is_primary<FileId>(label: &Label<FileId>) -> bool

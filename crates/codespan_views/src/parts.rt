@@ -8,9 +8,9 @@ ghost use Rattle.codespan_renderer.specs.Renderers.{Renders};
 ghost use Rattle.codespan_views.specs.Private.Rendering.{RendersRows};
 ghost use Rattle.codespan_views.specs.Private.ViewRendering.{header_line};
 
-use codespan_config::diagnostic::Diagnostic;
-use codespan_config::files::Error;
-use codespan_config::term::WriteStyle;
+use codespan_core::diagnostic::Diagnostic;
+use codespan_core::files::Error;
+use codespan_core::term::WriteStyle;
 use codespan_renderer::term::renderer::{Locus, Renderer};
 
 /// Renders the header, with this locus, if any.

@@ -10,8 +10,8 @@ use crate::collected::Collected;
 use crate::plan::padding::padding_width;
 use crate::plan::snippet_lines::SnippetLine;
 use crate::plan::snippet_plans::{SnippetPlan, plan_snippets};
-use codespan_config::files::{Error, Files};
-use codespan_config::term::Config;
+use codespan_core::files::{Error, Files};
+use codespan_core::term::Config;
 use std::alloc::Global;
 
 pub mod padding;

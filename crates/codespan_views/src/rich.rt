@@ -1,7 +1,7 @@
 //! Rich style: a diagnostic over the lines that its labels show.
 
 ghost use Rattle.std.specs.Prelude.{◌≡◌, ◌+◌, ◌<◌, ◌≤◌, drop, length, take};
-ghost use Rattle.codespan_config.specs.declared.term.config.DisplayStyle.TheVariants.{Rich};
+ghost use Rattle.codespan_core.specs.declared.term.config.DisplayStyle.TheVariants.{Rich};
 ghost use Rattle.codespan_picture.specs.OutputStreams.{labels_of, notes_of};
 ghost use Rattle.codespan_picture.specs.Snippets.{has_any};
 ghost use Rattle.codespan_renderer.specs.Renderers.{writer_of, config_of, Renders, SameRenderer};
@@ -18,9 +18,9 @@ use crate::plan::{OutputPlan, plan_output};
 use crate::snippet::line_buffers::LineBuffers;
 use crate::snippet::lines::SnippetContext;
 use crate::snippet::{render_snippet, render_trailing_border};
-use codespan_config::diagnostic::Diagnostic;
-use codespan_config::files::{Error, Files};
-use codespan_config::term::{Config, WriteStyle};
+use codespan_core::diagnostic::Diagnostic;
+use codespan_core::files::{Error, Files};
+use codespan_core::term::{Config, WriteStyle};
 use codespan_renderer::term::renderer::Renderer;
 
 /// Renders a diagnostic in rich style: a header, a snippet for each file with a label, and the

@@ -3,7 +3,7 @@
 ghost use Rattle.std.specs.Prelude.{◌≡◌, ◌∷◌, [], IfOk};
 ghost use Rattle.codespan_views.specs.Private.FileLookups.{FailsByOrFormatError};
 ghost use Rattle.codespan_views.specs.Private.TextLoci.{IsLocusOfLabel};
-ghost use Rattle.codespan_config.specs.declared.term.config.DisplayStyle.TheVariants.{Short, Medium};
+ghost use Rattle.codespan_core.specs.declared.term.config.DisplayStyle.TheVariants.{Short, Medium};
 ghost use Rattle.codespan_picture.specs.Arguments.{locus_view};
 ghost use Rattle.codespan_picture.specs.Lookups.{first_error, header_lookups_of};
 ghost use Rattle.codespan_picture.specs.OutputStreams.{label_of, labels_of};
@@ -14,9 +14,9 @@ ghost use Rattle.codespan_views.specs.Private.ViewRendering.{RendersHeadersOf, R
 use crate::locus_start::is_primary;
 use crate::parts::{render_diagnostic_header, render_notes};
 use crate::source_file::SourceFile;
-use codespan_config::diagnostic::{Diagnostic, Label};
-use codespan_config::files::{Error, Files};
-use codespan_config::term::WriteStyle;
+use codespan_core::diagnostic::{Diagnostic, Label};
+use codespan_core::files::{Error, Files};
+use codespan_core::term::WriteStyle;
 use codespan_renderer::term::renderer::{Locus, Renderer};
 
 /// Renders a header for each primary label of a diagnostic, with the locus of the label's start, or

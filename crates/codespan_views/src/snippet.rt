@@ -9,8 +9,8 @@ use crate::plan::snippet_plans::SnippetPlan;
 use crate::snippet::line_buffers::LineBuffers;
 use crate::snippet::lines::{Snippet, SnippetContext};
 use crate::source_file::SourceFile;
-use codespan_config::files::{Error, Files};
-use codespan_config::term::WriteStyle;
+use codespan_core::files::{Error, Files};
+use codespan_core::term::WriteStyle;
 use codespan_renderer::term::renderer::Renderer;
 use std::convert::AsStr;
 

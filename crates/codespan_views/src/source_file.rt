@@ -1,8 +1,8 @@
 //! A file of an output, and what is looked up in it.
 
 ghost use Rattle.std.specs.Prelude.{◌≡◌, ◌∷◌, [], None, IfOk, IfSome};
-ghost use Rattle.codespan_config.specs.FileModel.Lookup.{LineNumber, LocationAt, Name as NameLookup};
-ghost use Rattle.codespan_config.specs.LawfulFiles.{FailsBy};
+ghost use Rattle.codespan_core.specs.FileModel.Lookup.{LineNumber, LocationAt, Name as NameLookup};
+ghost use Rattle.codespan_core.specs.LawfulFiles.{FailsBy};
 ghost use Rattle.codespan_picture.specs.Arguments.{locus_view};
 ghost use Rattle.codespan_picture.specs.Lookups.{line_lookups};
 ghost use Rattle.codespan_views.specs.Private.AnnotationViews.{IsLineAt};
@@ -11,8 +11,8 @@ ghost use Rattle.codespan_views.specs.Private.SourceFiles.{lookups_of_filled, En
 ghost use Rattle.codespan_views.specs.Private.TextLoci.{IsTextLocus};
 
 use crate::annotation::LineInfo;
-use codespan_config::diagnostic::text::display_text;
-use codespan_config::files::{Error, Files};
+use codespan_core::diagnostic::text::display_text;
+use codespan_core::files::{Error, Files};
 use codespan_picture::arguments::Locus;
 use std::alloc::Global;
 

@@ -2,7 +2,7 @@
 
 ghost use Rattle.std.specs.Prelude.{◌≡◌, ◌∷◌, [], map, IfOk};
 ghost use Rattle.codespan_base.specs.Diagnostics.{diagnostic_view, label_view};
-ghost use Rattle.codespan_base.specs.DatabaseViews.{mapped_name_of, mapped_source_of, set_numbers_of};
+ghost use Rattle.codespan_base.specs.MappedFileViews.{mapped_name_of, mapped_source_of, set_numbers_of};
 ghost use Rattle.codespan_base.specs.SimpleFilesViews.{entries};
 ghost use Rattle.gallery_script.specs.Cases.{file_view};
 ghost use Rattle.gallery_script.specs.Database.{IsDatabaseOf, by_unit_id, label_by_unit_id, borrowed_view, with_numbers};

@@ -1,11 +1,11 @@
 -- The names of display styles and severities.
 use Rattle.std.specs.Prelude.{ℕ, List, Option, Some, None, codes, if◌then◌else◌}
 use Rattle.std.specs.Str.{bytes_eq}
-use Rattle.codespan_config.specs.declared.diagnostic.Severity.{Severity}
-use Rattle.codespan_config.specs.declared.diagnostic.Severity.TheVariants.{Bug, Error, Warning}
-use Rattle.codespan_config.specs.declared.diagnostic.Severity.TheVariants.{Note, Help}
-use Rattle.codespan_config.specs.declared.term.config.DisplayStyle.{DisplayStyle}
-use Rattle.codespan_config.specs.declared.term.config.DisplayStyle.TheVariants.{Rich, Medium, Short}
+use Rattle.codespan_core.specs.declared.diagnostic.Severity.{Severity}
+use Rattle.codespan_core.specs.declared.diagnostic.Severity.TheVariants.{Bug, Error, Warning}
+use Rattle.codespan_core.specs.declared.diagnostic.Severity.TheVariants.{Note, Help}
+use Rattle.codespan_core.specs.declared.term.config.DisplayStyle.{DisplayStyle}
+use Rattle.codespan_core.specs.declared.term.config.DisplayStyle.TheVariants.{Rich, Medium, Short}
 
 -- the display style with this name
 unfoldable pub display_style_named : List ℕ → Option DisplayStyle

@@ -3,8 +3,8 @@
 ghost use Rattle.std.specs.Prelude.{◌≡◌};
 ghost use Rattle.program_io.specs.Names.{display_style_named, severity_named};
 
-use codespan_config::diagnostic::Severity;
-use codespan_config::term::DisplayStyle;
+use codespan_core::diagnostic::Severity;
+use codespan_core::term::DisplayStyle;
 
 /// Returns the display style with this name, or `None` if there is none.
 #[tactic(auto, unfolding(crate::specs::Names::display_style_named))]

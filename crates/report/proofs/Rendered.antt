@@ -1,15 +1,15 @@
 -- For the clauses of `rendering::render_over` and `rendering::config_in`: the output of a
 -- diagnostic.
 use Rattle.std.proofs.Common.{◌≡◌, ℕ, true, List, Result, Ok, Err, IfOk, refl, sym, subst, ap, ◌∙◌}
-use Rattle.codespan_config.specs.declared.diagnostic.Diagnostic.{Diagnostic}
-use Rattle.codespan_config.specs.declared.files.Error.{Error}
-use Rattle.codespan_config.specs.declared.term.config.Config.{Config}
-use Rattle.codespan_config.specs.declared.term.config.DisplayStyle.{DisplayStyle}
-use Rattle.codespan_config.specs.Defaults.{default_config}
-use Rattle.codespan_config.specs.Diagnostics.{diagnostic_view}
-use Rattle.codespan_config.specs.FileModel.{FileDatabase}
-use Rattle.codespan_config.specs.ConfigEquality.{IsEqualConfig}
-use Rattle.codespan_config.specs.Streams.{text_of}
+use Rattle.codespan_core.specs.declared.diagnostic.Diagnostic.{Diagnostic}
+use Rattle.codespan_core.specs.declared.files.Error.{Error}
+use Rattle.codespan_core.specs.declared.term.config.Config.{Config}
+use Rattle.codespan_core.specs.declared.term.config.DisplayStyle.{DisplayStyle}
+use Rattle.codespan_core.specs.Defaults.{default_config}
+use Rattle.codespan_core.specs.Diagnostics.{diagnostic_view}
+use Rattle.codespan_core.specs.FileModel.{FileDatabase}
+use Rattle.codespan_core.specs.ConfigEquality.{IsEqualConfig}
+use Rattle.codespan_core.specs.Streams.{text_of}
 use Rattle.codespan_views.specs.Output.{Emits, IsRendered}
 use Rattle.codespan_picture.proofs.StatedNames.{output_stated}
 use Rattle.codespan_picture.specs.Lookups.{Failures}

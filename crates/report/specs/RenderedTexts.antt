@@ -1,12 +1,12 @@
 -- The output of a diagnostic over one file, and what a run renders.
 use Rattle.std.specs.Prelude.{◌≡◌, ℕ, true, List, Some, Result, Ok, Err, codes, string_bytes}
-use Rattle.codespan_config.specs.declared.term.config.Config.{Config}
-use Rattle.codespan_config.specs.declared.term.config.DisplayStyle.{DisplayStyle}
-use Rattle.codespan_config.specs.Defaults.{default_config}
-use Rattle.codespan_config.specs.Diagnostics.{DiagnosticView}
-use Rattle.codespan_config.specs.FileModel.{FileModel}
-use Rattle.codespan_config.specs.SimpleModel.{simple_file}
-use Rattle.codespan_config.specs.Streams.{text_of}
+use Rattle.codespan_core.specs.declared.term.config.Config.{Config}
+use Rattle.codespan_core.specs.declared.term.config.DisplayStyle.{DisplayStyle}
+use Rattle.codespan_core.specs.Defaults.{default_config}
+use Rattle.codespan_core.specs.Diagnostics.{DiagnosticView}
+use Rattle.codespan_core.specs.FileModel.{FileModel}
+use Rattle.codespan_core.specs.SimpleModel.{simple_file}
+use Rattle.codespan_core.specs.Streams.{text_of}
 use Rattle.codespan_picture.specs.ViewPictures.{picture_of_view}
 use Rattle.report.specs.declared.report_error.ReportError.{ReportError}
 use Rattle.report.specs.declared.report_error.ReportError.TheVariants as report_errors

@@ -4,7 +4,7 @@ use Rattle.std.specs.Global.{Global}
 use Rattle.std.specs.Option.{option_map}
 use Rattle.std.specs.declared.string.String.{String}
 use Rattle.std.specs.Str.{IsUtf8}
-use Rattle.codespan_config.specs.ErrorText.{error_text}
+use Rattle.codespan_core.specs.ErrorText.{error_text}
 use Rattle.program_io.specs.Output.{AppendsPrefix}
 use Rattle.program_io.specs.RunErrors.{IsStatusOf, failed_output_line}
 use Rattle.program_io.specs.declared.run_error.RunError.{RunError}

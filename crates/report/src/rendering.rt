@@ -1,16 +1,16 @@
 //! The output of the diagnostic that the arguments request.
 
 ghost use Rattle.std.specs.Prelude.{◌≡◌, IfOk, IfErr, Ok, string_bytes};
-ghost use Rattle.codespan_config.specs.ConfigEquality.{IsEqualConfig};
-ghost use Rattle.codespan_config.specs.Diagnostics.{diagnostic_view};
+ghost use Rattle.codespan_core.specs.ConfigEquality.{IsEqualConfig};
+ghost use Rattle.codespan_core.specs.Diagnostics.{diagnostic_view};
 ghost use Rattle.report.specs.RenderedTexts.{report_config, rendering_of, rendering_of_script, output_text, IsRenderFailure};
 ghost use Rattle.report_script.specs.Requests.{request_view};
 ghost use Rattle.report_script.specs.Scripts.{read_script};
 
 use crate::report_error::ReportError;
-use codespan_config::diagnostic::Diagnostic;
-use codespan_config::files::{Error, SimpleFile};
-use codespan_config::term::{Config, DisplayStyle};
+use codespan_core::diagnostic::Diagnostic;
+use codespan_core::files::{Error, SimpleFile};
+use codespan_core::term::{Config, DisplayStyle};
 use codespan_views::emitting::emit_into_string;
 use report_script::diagnostics::{
     diagnostic_of_fault, diagnostic_of_request, diagnostic_of_script,

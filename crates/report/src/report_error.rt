@@ -4,7 +4,7 @@ ghost use Rattle.std.specs.Prelude.{◌≡◌, codes};
 ghost use Rattle.program_io.specs.declared.run_error.RunError.TheVariants.{Failed};
 ghost use Rattle.report.specs.declared.report_error.ReportError.TheVariants.{CannotRender};
 
-use codespan_config::files::Error;
+use codespan_core::files::Error;
 use program_io::run_error::{ProgramError, RunError};
 use std::fmt;
 

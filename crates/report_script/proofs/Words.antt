@@ -1,7 +1,7 @@
 -- For the clauses of `LabelRequest::from_arguments` and `Request::from_arguments`: what the
 -- arguments request, word by word.
 use Rattle.std.proofs.Common.{◌≡◌, ℕ, ◌<◌, ◌≤◌, ◌⊎◌, inl, inr, List, [], ◌∷◌, length, get_or, map, Option, None, refl, ap, sym, ◌∙◌, arith}
-use Rattle.codespan_config.specs.declared.term.config.DisplayStyle.{DisplayStyle}
+use Rattle.codespan_core.specs.declared.term.config.DisplayStyle.{DisplayStyle}
 use Rattle.std.specs.Option.{option_map}
 use Rattle.program_io.specs.Names.{display_style_named}
 use Rattle.report_script.specs.Requests.{request_of, number_of, label_request_of, with_parts}

@@ -1,9 +1,9 @@
 -- The diagnostics of requests and of scripts' errors.
 use Rattle.std.specs.Prelude.{ℕ, List, [], ◌∷◌, Option, Some, None, codes}
 use Rattle.std.specs.declared.ops.Range.{Range}
-use Rattle.codespan_config.specs.declared.diagnostic.LabelStyle.TheVariants.{Primary, Secondary}
-use Rattle.codespan_config.specs.declared.diagnostic.Severity.TheVariants as severities
-use Rattle.codespan_config.specs.Diagnostics.{DiagnosticView, LabelView}
+use Rattle.codespan_core.specs.declared.diagnostic.LabelStyle.TheVariants.{Primary, Secondary}
+use Rattle.codespan_core.specs.declared.diagnostic.Severity.TheVariants as severities
+use Rattle.codespan_core.specs.Diagnostics.{DiagnosticView, LabelView}
 use Rattle.report_script.specs.declared.script.Fault.{Fault}
 use Rattle.report_script.specs.declared.script.FaultNumber.{FaultNumber}
 use Rattle.report_script.specs.declared.script.FaultNumber.TheVariants.{UnknownWord, UnknownSeverity, BadNumber, RepeatedWord, MissingEnd}

@@ -2,7 +2,7 @@
 use Rattle.std.specs.Prelude.{ℕ, ◌^◌, ◌&&◌, nat_lt, List, [], ◌∷◌, Option, Some, None, IfSome, codes, if◌then◌else◌}
 use Rattle.std.specs.Str.{all_ascii_digits, bytes_eq}
 use Rattle.std.specs.Str.Parse.{digits_value}
-use Rattle.codespan_config.specs.declared.term.config.DisplayStyle.{DisplayStyle}
+use Rattle.codespan_core.specs.declared.term.config.DisplayStyle.{DisplayStyle}
 use Rattle.std.specs.Option.{option_map}
 use Rattle.program_io.specs.Names.{display_style_named}
 use Rattle.report_script.specs.declared.request.Request.{Request}

@@ -5,11 +5,11 @@ use Rattle.std.specs.List.{filter_map}
 use Rattle.std.specs.Option.{option_map, option_and_then}
 use Rattle.std.specs.Str.{bytes_eq}
 use Rattle.std.specs.declared.ops.Range.{Range}
-use Rattle.codespan_config.specs.Diagnostics.{DiagnosticView, LabelView}
-use Rattle.codespan_config.specs.declared.diagnostic.LabelStyle.{LabelStyle}
-use Rattle.codespan_config.specs.declared.diagnostic.LabelStyle.TheVariants as styles
-use Rattle.codespan_config.specs.declared.diagnostic.Severity.{Severity}
-use Rattle.codespan_config.specs.declared.diagnostic.Severity.TheVariants as severities
+use Rattle.codespan_core.specs.Diagnostics.{DiagnosticView, LabelView}
+use Rattle.codespan_core.specs.declared.diagnostic.LabelStyle.{LabelStyle}
+use Rattle.codespan_core.specs.declared.diagnostic.LabelStyle.TheVariants as styles
+use Rattle.codespan_core.specs.declared.diagnostic.Severity.{Severity}
+use Rattle.codespan_core.specs.declared.diagnostic.Severity.TheVariants as severities
 use Rattle.program_io.specs.Fields.{field_of, past_space}
 use Rattle.program_io.specs.Names.{severity_named}
 use Rattle.report_script.specs.declared.script.Fault.{Fault}

@@ -1,7 +1,7 @@
 //! The diagnostics of requests, of scripts, and of errors in scripts.
 
 ghost use Rattle.std.specs.Prelude.{◌≡◌, IfOk, map, string_bytes};
-ghost use Rattle.codespan_config.specs.Diagnostics.{diagnostic_view, label_view};
+ghost use Rattle.codespan_core.specs.Diagnostics.{diagnostic_view, label_view};
 ghost use Rattle.report_script.specs.ReportDiagnostics.{request_diagnostic, fault_diagnostic};
 ghost use Rattle.report_script.specs.Requests.{label_request_view};
 ghost use Rattle.report_script.specs.Scripts.{script_label_view, script_view};
@@ -9,8 +9,8 @@ ghost use Rattle.report_script.specs.Scripts.{script_label_view, script_view};
 use crate::request::LabelRequest;
 use crate::script;
 use crate::script::{Script, ScriptLabel};
-use codespan_config::diagnostic::{Diagnostic, Label};
-use codespan_config::files::Error;
+use codespan_core::diagnostic::{Diagnostic, Label};
+use codespan_core::files::Error;
 use std::alloc::Global;
 
 /// Returns the diagnostic of a request: an error with its message, and with one primary label that

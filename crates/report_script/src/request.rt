@@ -4,7 +4,7 @@ ghost use Rattle.std.specs.Prelude.{◌≡◌, map, string_bytes};
 ghost use Rattle.std.specs.Option.{option_map};
 ghost use Rattle.report_script.specs.Requests.{number_of};
 
-use codespan_config::term::DisplayStyle;
+use codespan_core::term::DisplayStyle;
 use program_io::names::parse_display_style;
 
 /// A request for an error with one label, whose source is the input.

@@ -16,7 +16,7 @@ mod lines;
 mod parsed;
 mod words;
 
-use codespan_config::diagnostic::{LabelStyle, Severity};
+use codespan_core::diagnostic::{LabelStyle, Severity};
 use faults::{first_fault, missing_end};
 use lines::split_script;
 use parsed::{parsed_labels, parsed_notes, parsed_severity, rest_of_word};

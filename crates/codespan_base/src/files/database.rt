@@ -1,9 +1,9 @@
 //! A file database of many files, each a name and a source.
 
 ghost use Rattle.std.specs.Prelude.{◌≡◌, ◌+◌, ◌<◌, ◌++◌, ◌∷◌, ◌↔◌, [], IfOk, IfErr, IfSome, IsOk, OnOk, OnErr, IsErrOf, length, refl, slice_get, Some, None};
-ghost use Rattle.codespan_inputs.specs.declared.files.Error.TheVariants.{OutOfMemory, FileMissing};
+ghost use Rattle.codespan_core.specs.declared.files.Error.TheVariants.{OutOfMemory, FileMissing};
 
-use codespan_inputs::files::{Error, Files, Location, SimpleFile, default_line_number};
+use codespan_core::files::{Error, Files, Location, SimpleFile, default_line_number};
 use std::alloc::Global;
 use std::convert::AsStr;
 use std::fmt::Display;
@@ -57,7 +57,7 @@ impl<Name: Drop, Source: AsStr + Drop> SimpleFiles<Name, Source> {
 
 impl<Name, Source: AsStr> SimpleFiles<Name, Source> {
     ghost use Rattle.codespan_base.specs.SimpleFilesViews.{entries};
-    ghost use Rattle.codespan_inputs.specs.DatabaseViews.{name_of, source_of};
+    ghost use Rattle.codespan_core.specs.DatabaseViews.{name_of, source_of};
 
     /// Borrows the file of an id.
     ///
@@ -78,13 +78,13 @@ impl<Name, Source: AsStr> SimpleFiles<Name, Source> {
 /// No call allocates. Each call but `line_number` looks the file up.
 impl<'a, Name: Display + 'a, Source: AsStr + 'a> Files<'a> for SimpleFiles<Name, Source> {
     ghost use Rattle.codespan_base.specs.SimpleFilesViews.{entries, database_failure_of, database_file_of};
-    ghost use Rattle.codespan_inputs.specs.DatabaseViews.{name_of, source_of, file_text_of};
-    ghost use Rattle.codespan_inputs.specs.SimpleModel.{simple_failure};
-    ghost use Rattle.codespan_inputs.specs.FileModel.{line_of};
-    ghost use Rattle.codespan_inputs.specs.LawfulFiles.{IsLineRange, NeedsNoMemory, FailsBy, line_number_failure};
-    ghost use Rattle.codespan_inputs.specs.FileModel.Lookup.{Name as NameLookup, Source as SourceLookup, LineIndex, LineNumber, ColumnNumber, LocationAt, LineRange};
-    ghost use Rattle.codespan_inputs.specs.Lemmas.Simple.{simple_lawful, simple_past_end, text_fits, text_is_utf8};
-    ghost use Rattle.codespan_inputs.specs.Lemmas.Missing.{database_lawful, past_end_or, same_at};
+    ghost use Rattle.codespan_core.specs.DatabaseViews.{name_of, source_of, file_text_of};
+    ghost use Rattle.codespan_core.specs.SimpleModel.{simple_failure};
+    ghost use Rattle.codespan_core.specs.FileModel.{line_of};
+    ghost use Rattle.codespan_core.specs.LawfulFiles.{IsLineRange, NeedsNoMemory, FailsBy, line_number_failure};
+    ghost use Rattle.codespan_core.specs.FileModel.Lookup.{Name as NameLookup, Source as SourceLookup, LineIndex, LineNumber, ColumnNumber, LocationAt, LineRange};
+    ghost use Rattle.codespan_core.specs.Lemmas.Simple.{simple_lawful, simple_past_end, text_fits, text_is_utf8};
+    ghost use Rattle.codespan_core.specs.Lemmas.Missing.{database_lawful, past_end_or, same_at};
 
     /// The index of a file, from 0.
     type FileId = usize;

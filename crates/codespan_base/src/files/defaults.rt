@@ -2,7 +2,7 @@
 //! are those of the Rust crate's default bodies.
 
 ghost use Rattle.std.specs.Prelude.{◌≡◌, ◌+◌, IfOk};
-ghost use Rattle.codespan_inputs.specs.LawfulFiles.{FailsBy, column_of, location_of, column_failure, location_failure};
+ghost use Rattle.codespan_core.specs.LawfulFiles.{FailsBy, column_of, location_of, column_failure, location_failure};
 
 use crate::files::{Error, Files, Location};
 use std::convert::AsStr;

@@ -7,6 +7,6 @@ pub mod no_color;
 pub mod styles;
 pub mod styles_writer;
 
-pub use codespan_config::term::config::{
+pub use codespan_core::term::config::{
     Config, DisplayStyle, Layout, chars, plain, plain_ref, put_style, write_style, writing,
 };

@@ -1,7 +1,7 @@
 -- The characters of a line as a cursor goes over them, and the labels over them.
 use Rattle.std.specs.Prelude.{◌≡◌, ℕ, ◌+◌, ◌≤◌, Bool, ◌&&◌, List, [], ◌∷◌}
 use Rattle.std.specs.List.{list_any}
-use Rattle.codespan_config.specs.Labels.{LabelModel}
+use Rattle.codespan_core.specs.Labels.{LabelModel}
 use Rattle.codespan_picture.specs.declared.char_metrics.Metrics.{Metrics}
 use Rattle.codespan_picture.specs.Carets.{covers}
 

@@ -1,7 +1,7 @@
 -- What the rows of a line are rendered from, by the structs of `rows::line` and `rows::lanes`.
 use Rattle.std.specs.Prelude.{ℕ, Option}
 use Rattle.std.specs.Option.{option_map}
-use Rattle.codespan_config.specs.Streams.{Stream}
+use Rattle.codespan_core.specs.Streams.{Stream}
 use Rattle.codespan_picture.specs.declared.rows.lanes.LaneRow.{LaneRow as RustLaneRow}
 use Rattle.codespan_picture.specs.declared.rows.lanes.LaneRow.TheVariants as rust_variant
 use Rattle.codespan_picture.specs.declared.rows.line.RowContext as context

@@ -1,7 +1,7 @@
 -- The primary multi-line labels, as far as they color one line's text.
 use Rattle.std.specs.Prelude.{◌≡◌, ℕ, ◌+◌, ◌≤◌, Bool, false, ◌||◌, ◌&&◌, nat_le, List, Option, Some, None}
 use Rattle.std.specs.List.{list_any}
-use Rattle.codespan_config.specs.Labels.{LaneMark, is_primary_style}
+use Rattle.codespan_core.specs.Labels.{LaneMark, is_primary_style}
 use Rattle.codespan_picture.specs.RowParts.{multi_label_covers}
 use Rattle.codespan_picture.specs.declared.char_metrics.Metrics.{Metrics}
 use Rattle.codespan_picture.specs.declared.rows.primary_cover.PrimaryCover.{PrimaryCover}

@@ -3,8 +3,8 @@ use Rattle.std.specs.Prelude.{ℕ, List, ◌++◌, filter, Option}
 use Rattle.std.specs.Option.{option_map}
 use Rattle.std.specs.Borrow.{Bor}
 use Rattle.codespan_picture.specs.Types.{LabelStyle, Severity}
-use Rattle.codespan_config.specs.Labels.{has_message}
-use Rattle.codespan_config.specs.Streams.{Stream, Header, bytes, newline, style_mark, space}
+use Rattle.codespan_core.specs.Labels.{has_message}
+use Rattle.codespan_core.specs.Streams.{Stream, Header, bytes, newline, style_mark, space}
 use Rattle.codespan_picture.specs.declared.char_metrics.Metrics.{Metrics}
 use Rattle.codespan_picture.specs.CharMetrics.{char_metrics, char_metrics_to_end}
 use Rattle.codespan_picture.specs.Arguments.{SingleLabelTuple, LaneMarkTuple, single_label_view, single_label_views, lane_mark_view, locus_view, text_now}

@@ -4,8 +4,8 @@ use Rattle.std.specs.Prelude.{◌≡◌, ℕ, List, ◌++◌, map, filter, fold,
 use Rattle.std.specs.Option.{option_map}
 use Rattle.std.specs.Borrow.{Bor}
 use Rattle.codespan_picture.specs.Types.{LabelStyle, Chars}
-use Rattle.codespan_config.specs.Labels.{LabelModel, has_message}
-use Rattle.codespan_config.specs.Streams.{Stream, spaces, repeated}
+use Rattle.codespan_core.specs.Labels.{LabelModel, has_message}
+use Rattle.codespan_core.specs.Streams.{Stream, spaces, repeated}
 use Rattle.codespan_picture.specs.Carets.{caret_for}
 use Rattle.codespan_picture.specs.Arguments.{SingleLabelTuple, single_label_view, single_label_views}
 use Rattle.codespan_picture.specs.Rows.{RowContext, Line, HangingRow, hanging_labels}

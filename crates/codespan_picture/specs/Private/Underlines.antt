@@ -1,8 +1,8 @@
 -- An underline by its width, the number of cells that its line runs through.
 use Rattle.std.specs.Prelude.{ℕ, List, [], ◌++◌}
 use Rattle.codespan_picture.specs.Types.{LabelStyle, Chars}
-use Rattle.codespan_config.specs.Labels.{MultiLabel, Top, Left, Bottom}
-use Rattle.codespan_config.specs.Streams.{Stream, glyph, repeated}
+use Rattle.codespan_core.specs.Labels.{MultiLabel, Top, Left, Bottom}
+use Rattle.codespan_core.specs.Streams.{Stream, glyph, repeated}
 use Rattle.codespan_picture.specs.declared.char_metrics.Metrics.{Metrics}
 use Rattle.codespan_picture.specs.CharMetrics.{width_of}
 use Rattle.codespan_picture.specs.RowParts.{metrics_before, metrics_up_to, end_caret, start_caret, underline_message}

@@ -1,8 +1,8 @@
 //! The carets under a line.
 
 ghost use Rattle.std.specs.Prelude.{◌≡◌, ◌++◌};
-ghost use Rattle.codespan_config.specs.Streams.{newline};
-ghost use Rattle.codespan_config.specs.WriterLaw.{Writes};
+ghost use Rattle.codespan_core.specs.Streams.{newline};
+ghost use Rattle.codespan_core.specs.WriterLaw.{Writes};
 ghost use Rattle.codespan_picture.specs.Carets.{is_overlapping, max_label_end};
 ghost use Rattle.codespan_picture.specs.Arguments.{single_label_view, single_label_views};
 ghost use Rattle.codespan_picture.specs.Private.Runs.{caret_run, optional_label_view};
@@ -20,10 +20,10 @@ use crate::rows::line_characters::LineCharacters;
 use crate::rows::messages::Messages;
 use crate::rows::parts::{change_style, write_newline, write_row_start, write_space};
 use crate::rows::runs::{write_repeated, write_spaces};
-use codespan_config::diagnostic::{LabelStyle, Severity};
-use codespan_config::term::Chars;
-use codespan_config::term::config::put_style::PutStyle;
-use codespan_config::term::config::writing::put_all;
+use codespan_core::diagnostic::{LabelStyle, Severity};
+use codespan_core::term::Chars;
+use codespan_core::term::config::put_style::PutStyle;
+use codespan_core::term::config::writing::put_all;
 
 /// Returns whether the label has a byte from the index `start` to before the index `end`.
 pub fn is_overlapping(label: &SingleLabel<'_>, start: usize, end: usize) -> bool
@@ -132,7 +132,7 @@ pub fn write_message<W: PutStyle>(
 }
 
 /// Writes a space and the trailing message, where a message trails.
-#[tactic(auto, using(codespan_config::proofs::Writes::write_chains), unfolding(crate::specs::RowParts::trailing_message))]
+#[tactic(auto, using(codespan_core::proofs::Writes::write_chains), unfolding(crate::specs::RowParts::trailing_message))]
 #[inline(always)]
 fn write_trailing<W: PutStyle>(
     w: &mut W,

@@ -2,14 +2,14 @@
 
 ghost use Rattle.std.specs.Prelude.{◌≡◌, List, IfSome};
 ghost use Rattle.std.specs.Iterator.{YieldsFirst};
-ghost use Rattle.codespan_config.specs.Labels.{is_primary};
+ghost use Rattle.codespan_core.specs.Labels.{is_primary};
 ghost use Rattle.codespan_picture.specs.declared.char_metrics.Metrics as metrics;
 ghost use Rattle.codespan_picture.specs.Carets.{style_under};
 ghost use Rattle.codespan_picture.specs.Arguments.{SingleLabelTuple, single_label_views};
 ghost use Rattle.codespan_picture.specs.Private.CharCursors.{is_covered};
 
 use crate::char_metrics::Metrics;
-use codespan_config::diagnostic::LabelStyle;
+use codespan_core::diagnostic::LabelStyle;
 
 /// A cursor over the characters of a line, from left to right.
 ///

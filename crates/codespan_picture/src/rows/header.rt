@@ -2,9 +2,9 @@
 
 ghost use Rattle.std.specs.Prelude.{◌≡◌, ◌++◌};
 ghost use Rattle.std.specs.Option.{option_map};
-ghost use Rattle.codespan_config.specs.Streams.{newline};
-ghost use Rattle.codespan_config.specs.WriterLaw.{Writes};
-ghost use Rattle.codespan_config.specs.SnippetStarts.{start_text};
+ghost use Rattle.codespan_core.specs.Streams.{newline};
+ghost use Rattle.codespan_core.specs.WriterLaw.{Writes};
+ghost use Rattle.codespan_core.specs.SnippetStarts.{start_text};
 ghost use Rattle.codespan_picture.specs.Arguments.{locus_view, text_now};
 ghost use Rattle.codespan_picture.specs.RowParts.{severity_name};
 ghost use Rattle.codespan_picture.specs.RowStreams.{bracketed, leading_locus, snippet_start_row};
@@ -13,10 +13,10 @@ ghost use Rattle.codespan_picture.specs.RenderedRows.{rendered_header};
 
 use crate::arguments::Locus;
 use crate::rows::parts::{outer_gutter, snippet_locus, write_newline, write_space};
-use codespan_config::diagnostic::Severity;
-use codespan_config::term::config::put_style::PutStyle;
-use codespan_config::term::config::writing::put_all;
-use codespan_config::term::{Chars, SnippetStart};
+use codespan_core::diagnostic::Severity;
+use codespan_core::term::config::put_style::PutStyle;
+use codespan_core::term::config::writing::put_all;
+use codespan_core::term::{Chars, SnippetStart};
 
 /// Returns the name of a severity.
 fn severity_name(severity: Severity) -> &'static str
@@ -32,7 +32,7 @@ fn severity_name(severity: Severity) -> &'static str
 }
 
 /// Writes the locus of a header, a colon and a space, or nothing where there is no locus.
-#[tactic(auto, using(codespan_config::proofs::Writes::write_chains), unfolding(crate::specs::RowStreams::leading_locus))]
+#[tactic(auto, using(codespan_core::proofs::Writes::write_chains), unfolding(crate::specs::RowStreams::leading_locus))]
 fn write_leading_locus<W: PutStyle>(w: &mut W, locus: Option<&Locus>) -> Result<(), W::Error>
     ensures { Writes (W.sink w.old)
         (leading_locus (option_map (λ at. locus_view at.now) locus.entry)) result (W.sink w.new) }
@@ -45,7 +45,7 @@ fn write_leading_locus<W: PutStyle>(w: &mut W, locus: Option<&Locus>) -> Result<
 }
 
 /// Writes the code in brackets, or nothing where it is `None` or empty.
-#[tactic(auto, using(codespan_config::proofs::Writes::write_chains), unfolding(crate::specs::RowStreams::bracketed))]
+#[tactic(auto, using(codespan_core::proofs::Writes::write_chains), unfolding(crate::specs::RowStreams::bracketed))]
 fn write_code<W: PutStyle>(w: &mut W, code: Option<&str>) -> Result<(), W::Error>
     ensures { Writes (W.sink w.old) (bracketed (option_map text_now code.entry))
         result (W.sink w.new) }

@@ -2,7 +2,7 @@
 
 ghost use Rattle.std.specs.Prelude.{◌≡◌, ◌+◌, ◌<◌, ◌≤◌, ℕ, None, drop, max};
 ghost use Rattle.std.specs.Option.{option_map};
-ghost use Rattle.codespan_config.specs.WriterLaw.{Writes};
+ghost use Rattle.codespan_core.specs.WriterLaw.{Writes};
 ghost use Rattle.codespan_picture.specs.Arguments.{lane_mark_view, multi_label_view};
 ghost use Rattle.codespan_picture.specs.Private.LineViews.{context_view, lanes_view, lane_row_view, row_lane_view, row_lanes_view};
 ghost use Rattle.codespan_picture.specs.Private.RowViews.{lane_glyph_view};
@@ -14,10 +14,10 @@ pub use crate::lanes::Shape;
 use crate::rows::lanes::shapes::shape_in;
 use crate::rows::line::{Lanes, RowContext};
 use crate::rows::parts::write_label_glyph;
-use codespan_config::diagnostic::LabelStyle;
-use codespan_config::term::Chars;
-use codespan_config::term::config::put_style::PutStyle;
-use codespan_config::term::config::writing::{put_repeated, put_spaces};
+use codespan_core::diagnostic::LabelStyle;
+use codespan_core::term::Chars;
+use codespan_core::term::config::put_style::PutStyle;
+use codespan_core::term::config::writing::{put_repeated, put_spaces};
 
 mod shapes;
 

@@ -6,8 +6,8 @@ ghost use Rattle.codespan_picture.specs.CharMetrics.{leading_whitespace, text_wi
 ghost use Rattle.codespan_picture.specs.Arguments.{lanes_in_order};
 
 use crate::arguments::{MultiLabel, SingleLabel};
-use codespan_config::diagnostic::{LabelStyle, Severity};
-use codespan_config::term::{Chars, Layout};
+use codespan_core::diagnostic::{LabelStyle, Severity};
+use codespan_core::term::{Chars, Layout};
 
 /// What all rows of an output are rendered by.
 #[derive(Clone, Copy)]

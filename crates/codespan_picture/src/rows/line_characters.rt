@@ -1,7 +1,7 @@
 //! The characters of a line, as its rows need them.
 
 ghost use Rattle.std.specs.Prelude.{◌≡◌, ◌≤◌};
-ghost use Rattle.codespan_config.specs.WriterLaw.{Writes};
+ghost use Rattle.codespan_core.specs.WriterLaw.{Writes};
 ghost use Rattle.codespan_picture.specs.CharMetrics.{width_of};
 ghost use Rattle.codespan_picture.specs.Arguments.{single_label_views};
 ghost use Rattle.codespan_picture.specs.RowParts.{metrics_before, metrics_up_to, max_label_start};
@@ -12,7 +12,7 @@ ghost use Rattle.codespan_picture.specs.Private.LineCharacters.{LeavesOut, CharI
 use crate::rows::char_cursor::CharCursor;
 use crate::rows::line::{Line, RowContext};
 use crate::rows::messages::Messages;
-use codespan_config::term::config::put_style::PutStyle;
+use codespan_core::term::config::put_style::PutStyle;
 
 /// The characters of a line whose rows are rendered, their widths, and its pointers.
 ///

@@ -1,7 +1,7 @@
 //! All rows of a line, from its source to its underlines.
 
 ghost use Rattle.std.specs.Prelude.{◌≡◌};
-ghost use Rattle.codespan_config.specs.WriterLaw.{Writes};
+ghost use Rattle.codespan_core.specs.WriterLaw.{Writes};
 ghost use Rattle.codespan_picture.specs.Arguments.{single_label_views};
 ghost use Rattle.codespan_picture.specs.Rows.{rows_of, trailing_label};
 ghost use Rattle.codespan_picture.specs.RowStreams.{stream_of_rows};
@@ -17,7 +17,7 @@ use crate::rows::messages::Messages;
 use crate::rows::pointers::write_hanging;
 use crate::rows::source::write_source_row;
 use crate::rows::underlines::write_underlines;
-use codespan_config::term::config::put_style::PutStyle;
+use codespan_core::term::config::put_style::PutStyle;
 
 /// Writes the caret row of a line, where it has labels.
 fn write_caret_rows<W: PutStyle, S: LineCharacters>(

@@ -2,8 +2,8 @@
 
 ghost use Rattle.std.specs.Prelude.{◌++◌};
 ghost use Rattle.std.specs.Str.Lines.{lines};
-ghost use Rattle.codespan_config.specs.Streams.{newline};
-ghost use Rattle.codespan_config.specs.WriterLaw.{Writes};
+ghost use Rattle.codespan_core.specs.Streams.{newline};
+ghost use Rattle.codespan_core.specs.WriterLaw.{Writes};
 ghost use Rattle.codespan_picture.specs.Private.LineViews.{context_view, lanes_view};
 ghost use Rattle.codespan_picture.specs.RowStreams.{empty_row, break_row, first_note_row, later_note_row};
 ghost use Rattle.codespan_picture.specs.RenderedRows.{note_stream};
@@ -13,9 +13,9 @@ use crate::rows::line::{Lanes, RowContext};
 use crate::rows::parts::{
     border_left, border_left_break, outer_gutter, write_newline, write_space,
 };
-use codespan_config::term::Chars;
-use codespan_config::term::config::put_style::PutStyle;
-use codespan_config::term::config::writing::{put_all, put_char};
+use codespan_core::term::Chars;
+use codespan_core::term::config::put_style::PutStyle;
+use codespan_core::term::config::writing::{put_all, put_char};
 
 /// Writes an empty row of a snippet: outer gutter, left border and inner gutter.
 ///

@@ -1,7 +1,7 @@
 //! Parts that several kinds of rows have.
 
-ghost use Rattle.codespan_config.specs.Streams.{space, newline};
-ghost use Rattle.codespan_config.specs.WriterLaw.{Writes};
+ghost use Rattle.codespan_core.specs.Streams.{space, newline};
+ghost use Rattle.codespan_core.specs.WriterLaw.{Writes};
 ghost use Rattle.codespan_picture.specs.Arguments.{locus_view};
 ghost use Rattle.codespan_picture.specs.Private.LineViews.{context_view, line_view};
 ghost use Rattle.codespan_picture.specs.Lanes.{label_glyph};
@@ -13,10 +13,10 @@ use crate::padding::count_digits;
 use crate::rows::lanes::{LaneRow, inner_gutter};
 use crate::rows::line::{Line, RowContext};
 use crate::rows::runs::write_spaces;
-use codespan_config::diagnostic::{LabelStyle, Severity};
-use codespan_config::term::Chars;
-use codespan_config::term::config::put_style::PutStyle;
-use codespan_config::term::config::writing::{put_all, put_char, put_number, put_spaces};
+use codespan_core::diagnostic::{LabelStyle, Severity};
+use codespan_core::term::Chars;
+use codespan_core::term::config::put_style::PutStyle;
+use codespan_core::term::config::writing::{put_all, put_char, put_number, put_spaces};
 
 /// Writes a newline, the end of a row.
 ///
@@ -124,7 +124,7 @@ pub fn write_label_glyph<W: PutStyle>(
 /// # Errors
 ///
 /// The writer's error; a prefix has then been written.
-#[tactic(auto, using(codespan_config::proofs::Writes::write_chains), unfolding(crate::specs::RowParts::style_change))]
+#[tactic(auto, using(codespan_core::proofs::Writes::write_chains), unfolding(crate::specs::RowParts::style_change))]
 pub fn change_style<W: PutStyle>(
     w: &mut W,
     severity: Severity,

@@ -1,8 +1,8 @@
 //! The pointers under the carets of a line, and the messages that hang from them.
 
 ghost use Rattle.std.specs.Prelude.{◌≡◌, ◌≤◌, ◌++◌};
-ghost use Rattle.codespan_config.specs.Streams.{newline, spaces};
-ghost use Rattle.codespan_config.specs.WriterLaw.{Writes};
+ghost use Rattle.codespan_core.specs.Streams.{newline, spaces};
+ghost use Rattle.codespan_core.specs.WriterLaw.{Writes};
 ghost use Rattle.codespan_picture.specs.Arguments.{single_label_view, single_label_views};
 ghost use Rattle.codespan_picture.specs.Private.LineViews.{context_view, line_view};
 ghost use Rattle.codespan_picture.specs.Private.RowViews.{hanging_stream_view, hanging_rows_view, pointer_and_hanging_view};
@@ -19,8 +19,8 @@ use crate::rows::line_characters::LineCharacters;
 use crate::rows::messages::{Messages, has_any_message};
 use crate::rows::parts::{write_label_glyph, write_newline, write_row_start};
 use crate::rows::runs::write_spaces;
-use codespan_config::diagnostic::LabelStyle;
-use codespan_config::term::config::put_style::PutStyle;
+use codespan_core::diagnostic::LabelStyle;
+use codespan_core::term::config::put_style::PutStyle;
 
 /// Returns the greatest start of the labels, in bytes from the line's start, or 0 where there is
 /// none.

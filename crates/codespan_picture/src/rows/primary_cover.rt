@@ -8,7 +8,7 @@ ghost use Rattle.codespan_picture.specs.Private.PrimaryCover.{CoversAsLaneMarks,
 
 use crate::arguments::MultiLabel;
 use crate::char_metrics::Metrics;
-use codespan_config::diagnostic::LabelStyle;
+use codespan_core::diagnostic::LabelStyle;
 
 /// What the primary multi-line labels cover of a line: all from one byte index on, and all before
 /// another. Byte indices are from the line's start.

@@ -1,10 +1,10 @@
 //! Runs of one character, which may be longer than `usize::MAX`.
 
-ghost use Rattle.codespan_config.specs.Streams.{spaces, repeated};
-ghost use Rattle.codespan_config.specs.WriterLaw.{Writes};
+ghost use Rattle.codespan_core.specs.Streams.{spaces, repeated};
+ghost use Rattle.codespan_core.specs.WriterLaw.{Writes};
 
-use codespan_config::term::config::put_style::PutStyle;
-use codespan_config::term::config::writing::{put_repeated, put_spaces};
+use codespan_core::term::config::put_style::PutStyle;
+use codespan_core::term::config::writing::{put_repeated, put_spaces};
 
 /// The longest run that is written by one call.
 const MAX_COUNT: u128 = usize::MAX as u128;

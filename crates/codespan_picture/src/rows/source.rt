@@ -1,8 +1,8 @@
 //! The source row of a line.
 
 ghost use Rattle.std.specs.Prelude.{◌≡◌, ◌++◌};
-ghost use Rattle.codespan_config.specs.Streams.{bytes, newline};
-ghost use Rattle.codespan_config.specs.WriterLaw.{Writes};
+ghost use Rattle.codespan_core.specs.Streams.{bytes, newline};
+ghost use Rattle.codespan_core.specs.WriterLaw.{Writes};
 ghost use Rattle.codespan_picture.specs.CharMetrics.{char_metrics};
 ghost use Rattle.codespan_picture.specs.Private.LineViews.{context_view, line_view};
 ghost use Rattle.codespan_picture.specs.Private.RowViews.{source_lanes_view};
@@ -19,9 +19,9 @@ use crate::rows::parts::{
 };
 use crate::rows::primary_cover::PrimaryCover;
 use crate::rows::text_styles::{is_plain, plain_from, text_style};
-use codespan_config::diagnostic::LabelStyle;
-use codespan_config::term::config::put_style::PutStyle;
-use codespan_config::term::config::writing::{put_all, put_spaces};
+use codespan_core::diagnostic::LabelStyle;
+use codespan_core::term::config::put_style::PutStyle;
+use codespan_core::term::config::writing::{put_all, put_spaces};
 
 /// Writes the text of a line, which has these characters, with spaces instead of tabs and with
 /// style marks where the style changes.

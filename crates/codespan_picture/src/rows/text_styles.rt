@@ -3,8 +3,8 @@
 
 ghost use Rattle.std.specs.Prelude.{◌≡◌, ◌<◌, ◌≤◌, ◌==◌, None, drop, false, length, map, true};
 ghost use Rattle.std.specs.List.{list_any};
-ghost use Rattle.codespan_config.specs.Labels.{LaneMark, is_primary, is_primary_style};
-ghost use Rattle.codespan_config.specs.Streams.{bytes};
+ghost use Rattle.codespan_core.specs.Labels.{LaneMark, is_primary, is_primary_style};
+ghost use Rattle.codespan_core.specs.Streams.{bytes};
 ghost use Rattle.codespan_picture.specs.declared.char_metrics.Metrics as metrics;
 ghost use Rattle.codespan_picture.specs.Arguments.{single_label_views, lane_mark_view};
 ghost use Rattle.codespan_picture.specs.Private.LineViews.{line_view};
@@ -18,7 +18,7 @@ use crate::rows::carets::max_label_end;
 use crate::rows::char_cursor::CharCursor;
 use crate::rows::line::Line;
 use crate::rows::primary_cover::PrimaryCover;
-use codespan_config::diagnostic::LabelStyle;
+use codespan_core::diagnostic::LabelStyle;
 
 /// Returns the style of a character of the source: primary where a primary label covers it, a
 /// single-line or a multi-line one, else `None`.

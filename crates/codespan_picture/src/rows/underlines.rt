@@ -1,8 +1,8 @@
 //! The underlines of multi-line labels.
 
 ghost use Rattle.std.specs.Prelude.{◌≡◌, ◌++◌};
-ghost use Rattle.codespan_config.specs.Streams.{newline, bytes};
-ghost use Rattle.codespan_config.specs.WriterLaw.{Writes};
+ghost use Rattle.codespan_core.specs.Streams.{newline, bytes};
+ghost use Rattle.codespan_core.specs.WriterLaw.{Writes};
 ghost use Rattle.codespan_picture.specs.CharMetrics.{char_metrics};
 ghost use Rattle.codespan_picture.specs.Arguments.{lane_mark_view, multi_label_view};
 ghost use Rattle.codespan_picture.specs.Private.LineViews.{context_view, line_view};
@@ -19,10 +19,10 @@ use crate::rows::line::{Line, RowContext};
 use crate::rows::line_characters::LineCharacters;
 use crate::rows::parts::{border_left, outer_gutter, write_newline, write_space};
 use crate::rows::runs::write_repeated;
-use codespan_config::diagnostic::LabelStyle;
-use codespan_config::term::Chars;
-use codespan_config::term::config::put_style::PutStyle;
-use codespan_config::term::config::writing::{put_all, put_char};
+use codespan_core::diagnostic::LabelStyle;
+use codespan_core::term::Chars;
+use codespan_core::term::config::put_style::PutStyle;
+use codespan_core::term::config::writing::{put_all, put_char};
 
 /// Returns the caret under the start of a label.
 fn start_caret(chars: &Chars<'_>, style: LabelStyle) -> char
@@ -45,7 +45,7 @@ fn end_caret(chars: &Chars<'_>, style: LabelStyle) -> char
 }
 
 /// Writes a space and the message, or nothing where the message is empty.
-#[tactic(auto, using(codespan_config::proofs::Writes::write_chains, crate::proofs::UnderlineRows::underline_messages))]
+#[tactic(auto, using(codespan_core::proofs::Writes::write_chains, crate::proofs::UnderlineRows::underline_messages))]
 fn write_underline_message<W: PutStyle>(w: &mut W, message: &str) -> Result<(), W::Error>
     ensures { Writes (W.sink w.old) (underline_message (bytes message.now)) result (W.sink w.new) }
 {
@@ -70,7 +70,7 @@ fn underline_width<S: LineCharacters>(characters: &S, multi_label: MultiLabel<'_
 }
 
 /// Writes an underline right of the lanes: a line of `width` cells, the caret, and the message.
-#[tactic(auto, using(codespan_config::proofs::Writes::write_chains), unfolding(crate::specs::Private::Underlines::underline_by_width))]
+#[tactic(auto, using(codespan_core::proofs::Writes::write_chains), unfolding(crate::specs::Private::Underlines::underline_by_width))]
 fn label_multi_caret<W: PutStyle>(
     w: &mut W,
     chars: &Chars<'_>,

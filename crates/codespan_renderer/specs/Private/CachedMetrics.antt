@@ -1,7 +1,7 @@
 -- The cached characters of a line, and how far they reach.
 use Rattle.std.specs.Prelude.{◌≡◌, ℕ, max, List, [], ◌++◌, fold, Option, Some, None}
 use Rattle.std.specs.Str.{chars}
-use Rattle.codespan_config.specs.Labels.{LabelModel, LaneMark, MultiLabel, Top, Left, Bottom}
+use Rattle.codespan_core.specs.Labels.{LabelModel, LaneMark, MultiLabel, Top, Left, Bottom}
 use Rattle.codespan_picture.specs.declared.char_metrics.Metrics.{Metrics}
 use Rattle.codespan_picture.specs.CharMetrics.{metrics_then}
 use Rattle.codespan_picture.specs.RowParts.{metrics_up_to}

@@ -1,6 +1,6 @@
 -- A cursor over the labels of a line, which passes them as they start.
 use Rattle.std.specs.Prelude.{◌≡◌, ℕ, ◌+◌, ◌≤◌, Bool, true, ◌||◌, ◌&&◌, nat_lt, max, if◌then◌else◌, List, drop}
-use Rattle.codespan_config.specs.Labels.{LabelModel, is_primary}
+use Rattle.codespan_core.specs.Labels.{LabelModel, is_primary}
 use Rattle.codespan_picture.specs.declared.char_metrics.Metrics.{Metrics}
 use Rattle.codespan_renderer.specs.declared.term.renderer.cached.label_cursor.LabelCursor.{LabelCursor}
 use Rattle.codespan_picture.specs.Arguments.{single_label_views, starts_in_order}

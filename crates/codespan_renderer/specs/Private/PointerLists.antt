@@ -3,8 +3,8 @@ use Rattle.std.specs.Prelude.{◌≡◌, ℕ, ◌+◌, ◌-◌, ◌≤◌, true,
 use Rattle.std.specs.Option.{option_map}
 use Rattle.std.specs.List.{filter_map}
 use Rattle.codespan_picture.specs.Types.{LabelStyle}
-use Rattle.codespan_config.specs.Labels.{LabelModel, has_message}
-use Rattle.codespan_config.specs.Streams.{Stream, spaces}
+use Rattle.codespan_core.specs.Labels.{LabelModel, has_message}
+use Rattle.codespan_core.specs.Streams.{Stream, spaces}
 use Rattle.codespan_picture.specs.declared.char_metrics.Metrics.{Metrics}
 use Rattle.codespan_renderer.specs.declared.term.renderer.cached.pointers.Pointer.{Pointer}
 use Rattle.codespan_renderer.specs.declared.term.renderer.cached.label_cursor.StartCursor.{StartCursor}

@@ -2,7 +2,7 @@
 use Rattle.std.specs.Prelude.{Bool, List, filter, fold, Option, Some, None, if◌then◌else◌}
 use Rattle.std.specs.List.{list_any}
 use Rattle.codespan_picture.specs.Types.{LabelStyle, Primary}
-use Rattle.codespan_config.specs.Labels.{LabelModel}
+use Rattle.codespan_core.specs.Labels.{LabelModel}
 use Rattle.codespan_picture.specs.declared.char_metrics.Metrics.{Metrics}
 use Rattle.codespan_picture.specs.Rows.{hanging_labels}
 use Rattle.codespan_picture.specs.RowParts.{starts_in, pointer_style}

@@ -1,7 +1,7 @@
 -- The writer that rows are written through, as its contracts see it.
 use Rattle.std.specs.Prelude.{◌≡◌, Result, Ok, IsErr, MatchResult}
 use Rattle.std.specs.Borrow.{GName}
-use Rattle.codespan_config.specs.WriterLaw.{Sink}
+use Rattle.codespan_core.specs.WriterLaw.{Sink}
 use Rattle.codespan_renderer.specs.declared.term.renderer.row_writer.RowWriter.{RowWriter}
 use Rattle.codespan_renderer.specs.Renderers.{sink_through}
 

@@ -10,9 +10,9 @@ mod row_writer;
 mod scanned_line;
 mod write_style;
 
-use codespan_config::diagnostic::{LabelStyle, Severity};
-use codespan_config::files::Error;
-use codespan_config::term::{Config, WriteStyle};
+use codespan_core::diagnostic::{LabelStyle, Severity};
+use codespan_core::files::Error;
+use codespan_core::term::{Config, WriteStyle};
 pub use codespan_picture::arguments::{Locus, MultiLabel, SingleLabel};
 use codespan_picture::rows::header::{write_header, write_snippet_start};
 use codespan_picture::rows::line::RowContext;
@@ -62,7 +62,7 @@ pub struct Renderer<'writer, 'config, W> {
 
 impl<'writer, 'config, W: WriteStyle> Renderer<'writer, 'config, W> {
     ghost use Rattle.std.specs.Prelude.{◌≡◌, IsTrue};
-    ghost use Rattle.codespan_config.specs.Streams.{newline};
+    ghost use Rattle.codespan_core.specs.Streams.{newline};
     ghost use Rattle.codespan_picture.specs.Private.LineViews.{context_view};
     ghost use Rattle.codespan_picture.specs.OutputStreams.{context_of};
     ghost use Rattle.codespan_renderer.specs.Renderers.{writer_of, reference_of, config_of, Renders};

@@ -1,9 +1,9 @@
 -- The Rust types of annotations, as the definitions have them.
 use Rattle.std.specs.Prelude.{◌≡◌, ℕ, ◌-◌, ◌==◌, ◌&&◌, nat_lt, List, ◌++◌, map, Option, Some, None, if◌then◌else◌}
 use Rattle.std.specs.List.{AllByRecursion}
-use Rattle.codespan_config.specs.FileModel.{FileModel}
-use Rattle.codespan_config.specs.LawfulFiles.{IsLineRange}
-use Rattle.codespan_config.specs.Labels.{LabelModel, MultiLabel, Top, Left, Bottom, from_line_start}
+use Rattle.codespan_core.specs.FileModel.{FileModel}
+use Rattle.codespan_core.specs.LawfulFiles.{IsLineRange}
+use Rattle.codespan_core.specs.Labels.{LabelModel, MultiLabel, Top, Left, Bottom, from_line_start}
 use Rattle.codespan_picture.specs.OutputStreams.{label_of}
 use Rattle.codespan_views.specs.declared.annotation.Annotation.{Annotation as RustAnnotation}
 use Rattle.codespan_views.specs.declared.annotation.MultiLabelKind.{MultiLabelKind}

@@ -2,7 +2,7 @@
 use Rattle.std.specs.Prelude.{◌≡◌, ℕ, Bool, nat_lt, ◌==◌, List, [], ◌∷◌, Option, Some, None}
 use Rattle.std.specs.Ordering.{is_lt, nat_cmp, ordering_then}
 use Rattle.std.specs.declared.cmp.Ordering.{Ordering}
-use Rattle.codespan_config.specs.Labels.{LabelModel, LaneMark}
+use Rattle.codespan_core.specs.Labels.{LabelModel, LaneMark}
 
 -- a label makes the line shown, or is a single-line label on it, or is a multi-line label that has
 -- a lane mark on it

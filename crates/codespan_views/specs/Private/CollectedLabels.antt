@@ -1,8 +1,8 @@
 -- Labels whose lines are looked up, one after another.
 use Rattle.std.specs.Prelude.{◌≡◌, ℕ, ◌<◌, Bool, true, false, List, ◌++◌, flat_map, fold, max, Option, Some, IfOk, Result}
 use Rattle.codespan_picture.specs.Types.{Label, Error, Config}
-use Rattle.codespan_config.specs.FileModel.{FileDatabase, FileModel, line_count, Lookup}
-use Rattle.codespan_config.specs.Labels.{LabelModel, first_line, last_line}
+use Rattle.codespan_core.specs.FileModel.{FileDatabase, FileModel, line_count, Lookup}
+use Rattle.codespan_core.specs.Labels.{LabelModel, first_line, last_line}
 use Rattle.codespan_picture.specs.Lookups.{Failures, looked_up_lines, lookups_of_file, first_error, is_looked_up, label_lookups, label_line_lookups, line_lookups, lookup_past_end}
 use Rattle.codespan_picture.specs.OutputStreams.{label_of}
 use Rattle.codespan_picture.specs.Snippets.{InFile}

@@ -3,7 +3,7 @@ use Rattle.std.specs.Prelude.{◌≡◌, List, [], fold, map, max}
 use Rattle.std.specs.List.{AllByRecursion}
 use Rattle.std.specs.List.Sorted.{IsPermutation, IsSortedBy}
 use Rattle.codespan_picture.specs.Types.{Config}
-use Rattle.codespan_config.specs.FileModel.{FileDatabase}
+use Rattle.codespan_core.specs.FileModel.{FileDatabase}
 use Rattle.codespan_picture.specs.Snippets.{InFile, file_ids}
 use Rattle.codespan_views.specs.declared.collected.Collected.{Collected}
 use Rattle.codespan_views.specs.Private.Annotations.{is_before}

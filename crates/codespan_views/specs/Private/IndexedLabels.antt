@@ -1,7 +1,7 @@
 -- The labels of a diagnostic among each other: their indices and their lanes.
 use Rattle.std.specs.Prelude.{Bool, List, [], ◌∷◌, ◌++◌, length}
 use Rattle.codespan_picture.specs.Types.{Config}
-use Rattle.codespan_config.specs.FileModel.{FileModel}
+use Rattle.codespan_core.specs.FileModel.{FileModel}
 use Rattle.codespan_views.specs.declared.label_annotations.LabelIndices.{LabelIndices}
 use Rattle.codespan_views.specs.Private.Annotations.{Annotation}
 use Rattle.codespan_views.specs.Private.LabelAnnotations.{annotations_of}

@@ -1,9 +1,9 @@
 -- The lines on which a label starts and ends.
 use Rattle.std.specs.Prelude.{ℕ, ◌+◌, ◌<◌, Bool, ◌&&◌, ◌||◌, ◌==◌, nat_lt, nat_le, [], ◌∷◌, Option}
 use Rattle.codespan_picture.specs.Types.{Label, Error, Config}
-use Rattle.codespan_config.specs.FileModel.{FileModel}
-use Rattle.codespan_config.specs.FileModel.Lookup.{LineIndex}
-use Rattle.codespan_config.specs.Labels.{first_line, last_line}
+use Rattle.codespan_core.specs.FileModel.{FileModel}
+use Rattle.codespan_core.specs.FileModel.Lookup.{LineIndex}
+use Rattle.codespan_core.specs.Labels.{first_line, last_line}
 use Rattle.codespan_picture.specs.Lookups.{Failures}
 use Rattle.codespan_picture.specs.OutputStreams.{label_of}
 use Rattle.codespan_views.specs.Private.FileLookups.{failure_in}

@@ -1,7 +1,7 @@
 -- Planners of the snippet lines of one file.
 use Rattle.std.specs.Prelude.{ℕ, List, Option}
 use Rattle.codespan_picture.specs.Types.{Error}
-use Rattle.codespan_config.specs.FileModel.{FileDatabase}
+use Rattle.codespan_core.specs.FileModel.{FileDatabase}
 use Rattle.codespan_views.specs.declared.plan.snippet_lines.SnippetLine.{SnippetLine as RustLine}
 use Rattle.codespan_views.specs.declared.plan.snippet_lines.LinePlanner.{LinePlanner}
 use Rattle.codespan_views.specs.Private.SnippetLineViews.{AddsLines, numbers_looked_up}

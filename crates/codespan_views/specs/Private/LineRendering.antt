@@ -2,8 +2,8 @@
 use Rattle.std.specs.Prelude.{◌≡◌, IsTrue, ℕ, List, map, Result}
 use Rattle.std.specs.List.{AllByRecursion}
 use Rattle.codespan_picture.specs.Types.{Error}
-use Rattle.codespan_config.specs.FileModel.{FileDatabase, FileModel, Lookup}
-use Rattle.codespan_config.specs.WriterLaw.{Sink}
+use Rattle.codespan_core.specs.FileModel.{FileDatabase, FileModel, Lookup}
+use Rattle.codespan_core.specs.WriterLaw.{Sink}
 use Rattle.codespan_picture.specs.Rows.{Row}
 use Rattle.codespan_renderer.specs.declared.term.renderer.Renderer.{Renderer}
 use Rattle.codespan_views.specs.declared.snippet.lines.Snippet.{Snippet}

@@ -1,7 +1,7 @@
 -- The loci of snippets, and their lookups.
 use Rattle.std.specs.Prelude.{ℕ, List, [], ◌∷◌, flat_map, Option}
-use Rattle.codespan_config.specs.FileModel.{FileModel, Lookup}
-use Rattle.codespan_config.specs.FileModel.Lookup.{LocationAt, Name}
+use Rattle.codespan_core.specs.FileModel.{FileModel, Lookup}
+use Rattle.codespan_core.specs.FileModel.Lookup.{LocationAt, Name}
 use Rattle.codespan_picture.specs.Types.{Error}
 use Rattle.codespan_picture.specs.Lookups.{Failures, lookups_of_file, first_error}
 use Rattle.codespan_views.specs.declared.labeled_files.LabeledFile.{LabeledFile as RustFile}

@@ -1,6 +1,6 @@
 -- The byte of each file's locus.
 use Rattle.std.specs.Prelude.{ℕ, Bool, true, false, not, ◌&&◌, ◌||◌, min, List, [], ◌∷◌, map, filter, fold, if◌then◌else◌, Option, Some, None, unwrap_or}
-use Rattle.codespan_config.specs.Labels.{LabelModel, is_primary}
+use Rattle.codespan_core.specs.Labels.{LabelModel, is_primary}
 use Rattle.codespan_picture.specs.Snippets.{InFile}
 use Rattle.codespan_views.specs.declared.locus_start.LocusStart.{LocusStart}
 

@@ -1,9 +1,9 @@
 -- Rendering with lookups on the way.
 use Rattle.std.specs.Prelude.{◌≡◌, ◌≢◌, ◌⊎◌, true, Option, Some, None, MatchResult, Result}
 use Rattle.codespan_picture.specs.Types.{Error, OutOfMemory}
-use Rattle.codespan_config.specs.Errors.{IsIo}
-use Rattle.codespan_config.specs.Streams.{Stream}
-use Rattle.codespan_config.specs.WriterLaw.{Sink, with_written, is_known, PrefixWritten, failed_frame}
+use Rattle.codespan_core.specs.Errors.{IsIo}
+use Rattle.codespan_core.specs.Streams.{Stream}
+use Rattle.codespan_core.specs.WriterLaw.{Sink, with_written, is_known, PrefixWritten, failed_frame}
 
 -- the stream has been written, where the writer's bytes are known, and nothing failed
 abbrev pub WroteStream : Sink → Stream → Sink → Type 0

@@ -2,7 +2,7 @@
 use Rattle.std.specs.Prelude.{◌≡◌, List, [], ◌∷◌, ◌++◌, length, take, drop, flat_map, map, Option, None}
 use Rattle.std.specs.List.{AllByRecursion}
 use Rattle.codespan_picture.specs.Types.{Error, Config}
-use Rattle.codespan_config.specs.FileModel.{Lookup, FileDatabase}
+use Rattle.codespan_core.specs.FileModel.{Lookup, FileDatabase}
 use Rattle.codespan_picture.specs.Arguments.{locus_view}
 use Rattle.codespan_picture.specs.Lines.{drawn_lines}
 use Rattle.codespan_picture.specs.Lookups.{lookups_of_file, filled_lines, first_error, locus_lookups, numbers_for_padding, filled_line_lookups}

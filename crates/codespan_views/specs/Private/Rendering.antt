@@ -1,8 +1,8 @@
 -- Calls that render by a renderer: with its configuration, to its writer.
 use Rattle.std.specs.Prelude.{ℕ, List, Option, Result}
 use Rattle.codespan_picture.specs.Types.{Severity, Error}
-use Rattle.codespan_config.specs.Streams.{Stream}
-use Rattle.codespan_config.specs.WriterLaw.{Sink}
+use Rattle.codespan_core.specs.Streams.{Stream}
+use Rattle.codespan_core.specs.WriterLaw.{Sink}
 use Rattle.codespan_picture.specs.OutputStreams.{context_of}
 use Rattle.codespan_picture.specs.Rows.{Row}
 use Rattle.codespan_picture.specs.RowStreams.{stream_of_rows}

@@ -2,8 +2,8 @@
 use Rattle.std.specs.Prelude.{◌≡◌, ℕ, List, [], ◌∷◌, ◌++◌, map, flat_map, Option, Some, None, IfSome}
 use Rattle.std.specs.List.{AllByRecursion}
 use Rattle.codespan_picture.specs.Types.{Layout, Classic, Unbroken}
-use Rattle.codespan_config.specs.FileModel.{FileModel, Lookup}
-use Rattle.codespan_config.specs.FileModel.Lookup.{LineNumber}
+use Rattle.codespan_core.specs.FileModel.{FileModel, Lookup}
+use Rattle.codespan_core.specs.FileModel.Lookup.{LineNumber}
 use Rattle.codespan_views.specs.declared.plan.snippet_lines.Gap.{Gap}
 use Rattle.codespan_views.specs.declared.plan.snippet_lines.Gap.TheVariants.{Nothing, Line, Lines}
 use Rattle.codespan_views.specs.declared.plan.snippet_lines.SnippetLine.{SnippetLine as RustLine}

@@ -1,8 +1,8 @@
 -- The lines of a snippet that annotations in order make: shown lines, filled lines, and breaks.
 use Rattle.std.specs.Prelude.{◌≡◌, ℕ, Bool, false, true, ◌==◌, ◌&&◌, List, [], ◌∷◌, ◌++◌, flat_map, Option, Some, None, if◌then◌else◌}
 use Rattle.std.specs.List.{AllByRecursion, filter_map}
-use Rattle.codespan_config.specs.FileModel.{FileModel, line_text}
-use Rattle.codespan_config.specs.Labels.{LabelModel, LaneMark}
+use Rattle.codespan_core.specs.FileModel.{FileModel, line_text}
+use Rattle.codespan_core.specs.Labels.{LabelModel, LaneMark}
 use Rattle.codespan_picture.specs.CharMetrics.{text_without_line_end}
 use Rattle.codespan_picture.specs.Arguments.{ascend_from, starts_in_order}
 use Rattle.codespan_picture.specs.Rows.{Lanes, Line, Row, BreakRow, rows_of}

@@ -2,7 +2,7 @@
 use Rattle.std.specs.Prelude.{◌≡◌, ℕ, ◌+◌, List, [], ◌∷◌, ◌++◌, length, take, drop, filter, map, flat_map, fold, max, Option, Some, None}
 use Rattle.std.specs.List.{AllByRecursion}
 use Rattle.codespan_picture.specs.Types.{Error, Layout, Classic, Unbroken}
-use Rattle.codespan_config.specs.FileModel.{FileModel, Lookup}
+use Rattle.codespan_core.specs.FileModel.{FileModel, Lookup}
 use Rattle.codespan_picture.specs.Arguments.{locus_view}
 use Rattle.codespan_picture.specs.Lookups.{Failures, lookups_of_file, first_error}
 use Rattle.codespan_picture.specs.Padding.{count_digits}

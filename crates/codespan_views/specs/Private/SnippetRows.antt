@@ -1,9 +1,9 @@
 -- The rows of a snippet.
 use Rattle.std.specs.Prelude.{Bool, List, [], ◌∷◌, ◌++◌, map, if◌then◌else◌, Result}
 use Rattle.codespan_picture.specs.Types.{Error}
-use Rattle.codespan_config.specs.FileModel.{FileDatabase, FileModel, Lookup}
-use Rattle.codespan_config.specs.FileModel.Lookup.{Source}
-use Rattle.codespan_config.specs.WriterLaw.{Sink}
+use Rattle.codespan_core.specs.FileModel.{FileDatabase, FileModel, Lookup}
+use Rattle.codespan_core.specs.FileModel.Lookup.{Source}
+use Rattle.codespan_core.specs.WriterLaw.{Sink}
 use Rattle.codespan_picture.specs.Arguments.{locus_view}
 use Rattle.codespan_picture.specs.Rows.{Row, SnippetStartRow, EmptyRow}
 use Rattle.codespan_renderer.specs.declared.term.renderer.Renderer.{Renderer}

@@ -2,8 +2,8 @@
 -- layout.
 use Rattle.std.specs.Prelude.{ℕ, List, [], ◌∷◌, flat_map, if◌then◌else◌}
 use Rattle.std.specs.List.{range_with_len}
-use Rattle.codespan_config.specs.FileModel.{FileModel, line_count}
-use Rattle.codespan_config.specs.Labels.{LabelModel}
+use Rattle.codespan_core.specs.FileModel.{FileModel, line_count}
+use Rattle.codespan_core.specs.Labels.{LabelModel}
 use Rattle.codespan_picture.specs.Padding.{count_digits, spans}
 use Rattle.codespan_picture.specs.Snippets.{InFile}
 

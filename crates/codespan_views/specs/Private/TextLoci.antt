@@ -1,7 +1,7 @@
 -- Loci whose names are UTF-8, as the calls that look them up return them.
 use Rattle.std.specs.Prelude.{ℕ}
 use Rattle.std.specs.Str.{IsUtf8}
-use Rattle.codespan_config.specs.FileModel.{FileModel}
+use Rattle.codespan_core.specs.FileModel.{FileModel}
 use Rattle.codespan_picture.specs.OutputStreams.{IsLocus, label_locus_start, snippet_locus_start}
 use Rattle.codespan_picture.specs.Rows.{Locus}
 use Rattle.codespan_picture.specs.Snippets.{InFile, LabeledFileModel}

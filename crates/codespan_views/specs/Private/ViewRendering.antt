@@ -1,8 +1,8 @@
 -- What the views render by a renderer.
 use Rattle.std.specs.Prelude.{Bool, List, [], ◌∷◌, ◌++◌, Option, None, Result}
 use Rattle.codespan_picture.specs.Types.{Diagnostic, Error, Config, DisplayStyle, Rich}
-use Rattle.codespan_config.specs.Streams.{Stream, newline}
-use Rattle.codespan_config.specs.WriterLaw.{Sink}
+use Rattle.codespan_core.specs.Streams.{Stream, newline}
+use Rattle.codespan_core.specs.WriterLaw.{Sink}
 use Rattle.codespan_picture.specs.Lookups.{first_error, late_lookups}
 use Rattle.codespan_picture.specs.OutputStreams.{header_text_of, labels_of, context_of, notes_of}
 use Rattle.codespan_picture.specs.Snippets.{snippets, InFile, has_any, labeled_file_models, note_rows, primary_of}
@@ -17,7 +17,7 @@ use Rattle.codespan_views.specs.Views.{diagnostic_of, view_config_of}
 use Rattle.codespan_views.specs.Private.OutputPlans.{loci_of}
 use Rattle.codespan_views.specs.Private.Headers.{RendersHeaders}
 use Rattle.codespan_views.specs.Private.Rendering.{RendersRowsWithLookups}
-use Rattle.codespan_config.specs.FileModel.{FileDatabase}
+use Rattle.codespan_core.specs.FileModel.{FileDatabase}
 
 -- ---- parts
 

@@ -9,7 +9,7 @@ ghost use Rattle.std.specs.List.Sorted.{IsPermutation};
 
 use crate::annotation::Annotation;
 use crate::annotation::order::{RANK_COUNT, rank};
-use codespan_config::files::Error;
+use codespan_core::files::Error;
 use std::alloc::Global;
 use std::ops::Range;
 

@@ -7,7 +7,7 @@ ghost use Rattle.codespan_views.specs.Private.AnnotationViews.{annotation_view};
 
 use crate::annotation::by_line::group_by_line;
 use crate::annotation::{Annotation, AnnotationKind, range_in_line};
-use codespan_config::files::Error;
+use codespan_core::files::Error;
 use std::cmp::Ordering;
 use std::ops::Range;
 

@@ -4,7 +4,7 @@ ghost use Rattle.std.specs.Prelude.{◌≡◌, flat_map, fold, max};
 ghost use Rattle.codespan_views.specs.Private.SnippetPlans.{line_digits, padding_width};
 
 use crate::plan::snippet_lines::SnippetLine;
-use codespan_config::term::Layout;
+use codespan_core::term::Layout;
 use codespan_picture::padding::count_digits;
 
 /// Returns the padding width, in characters: in the classic layout `spanned`, that of the lines

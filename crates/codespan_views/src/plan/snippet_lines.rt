@@ -1,7 +1,7 @@
 //! The lines of a snippet: shown lines, the filled lines between them, and breaks.
 
 ghost use Rattle.std.specs.Prelude.{◌≡◌, ◌∷◌, [], All, IfOk, OnOk, map};
-ghost use Rattle.codespan_config.specs.LawfulFiles.{FailsBy};
+ghost use Rattle.codespan_core.specs.LawfulFiles.{FailsBy};
 ghost use Rattle.codespan_views.specs.Private.AnnotationViews.{IsLineOf, annotation_view};
 ghost use Rattle.codespan_views.specs.Private.SnippetLineViews.{IsGapBefore, gap_lines, known_number};
 ghost use Rattle.codespan_views.specs.Private.SnippetLines.{filled_lines_of, lines_of, lines_to};
@@ -11,8 +11,8 @@ ghost use Rattle.codespan_views.specs.Private.SourceFiles.{model_of};
 use crate::annotation::groups::{count_on_line, shows_line};
 use crate::annotation::{Annotation, LineInfo};
 use crate::source_file::SourceFile;
-use codespan_config::files::{Error, Files};
-use codespan_config::term::Layout;
+use codespan_core::files::{Error, Files};
+use codespan_core::term::Layout;
 
 /// A line of a snippet.
 #[derive(Drop)]

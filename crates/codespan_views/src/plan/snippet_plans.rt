@@ -4,7 +4,7 @@ ghost use Rattle.std.specs.Prelude.{◌≡◌, ◌-◌, [], All, Err, IfOk, OnOk
 ghost use Rattle.std.specs.List.{AllByRecursion};
 ghost use Rattle.std.specs.List.Sorted.{IsSortedBy};
 ghost use Rattle.std.specs.Result.{result_and};
-ghost use Rattle.codespan_config.specs.LawfulFiles.{FailsBy};
+ghost use Rattle.codespan_core.specs.LawfulFiles.{FailsBy};
 ghost use Rattle.codespan_picture.specs.Arguments.{locus_view};
 ghost use Rattle.codespan_views.specs.Private.FileLookups.{FailsByOrFormatError, failure_in};
 ghost use Rattle.codespan_views.specs.Private.Annotations.{is_before};
@@ -22,8 +22,8 @@ use crate::collected::Collected;
 use crate::labeled_files::LabeledFile;
 use crate::plan::snippet_lines::{LinePlanner, SnippetLine};
 use crate::source_file::SourceFile;
-use codespan_config::files::{Error, Files};
-use codespan_config::term::Layout;
+use codespan_core::files::{Error, Files};
+use codespan_core::term::Layout;
 use codespan_picture::arguments::Locus;
 use std::alloc::Global;
 

@@ -1,15 +1,15 @@
 //! The memory in which a line is prepared for a renderer.
 
 ghost use Rattle.std.specs.Prelude.{◌≡◌, [], IfOk, OnErr, IsErrOf, map};
-ghost use Rattle.codespan_config.specs.Labels.{from_line_start};
+ghost use Rattle.codespan_core.specs.Labels.{from_line_start};
 ghost use Rattle.codespan_picture.specs.Arguments.{single_label_views, single_label_view, lane_mark_view};
 ghost use Rattle.codespan_picture.specs.OutputStreams.{label_of};
 ghost use Rattle.codespan_views.specs.Private.AnnotationViews.{annotation_view};
 ghost use Rattle.codespan_views.specs.Private.SnippetLines.{lane_marks_in, single_labels_in};
 
 use crate::annotation::{Annotation, AnnotationKind, multi_label, range_in_line};
-use codespan_config::diagnostic::{Label, LabelStyle};
-use codespan_config::files::Error;
+use codespan_core::diagnostic::{Label, LabelStyle};
+use codespan_core::files::Error;
 use codespan_renderer::term::renderer::cached::LineMetrics;
 use codespan_renderer::term::renderer::{MultiLabel, SingleLabel};
 use std::alloc::Global;

@@ -11,9 +11,9 @@ use crate::annotation::{Annotation, LineInfo};
 use crate::plan::snippet_lines::SnippetLine;
 use crate::snippet::line_buffers::{LineBuffers, fill_multi_labels};
 use crate::source_file::SourceFile;
-use codespan_config::diagnostic::Severity;
-use codespan_config::files::{Error, Files};
-use codespan_config::term::WriteStyle;
+use codespan_core::diagnostic::Severity;
+use codespan_core::files::{Error, Files};
+use codespan_core::term::WriteStyle;
 use codespan_renderer::term::renderer::{Lanes, Line, Renderer};
 
 /// What all snippets of an output share.

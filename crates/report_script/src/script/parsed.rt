@@ -10,7 +10,7 @@ use super::ScriptLabel;
 use super::line::Line;
 use super::words::{Word, parse_word};
 use crate::request::parse_number;
-use codespan_config::diagnostic::{LabelStyle, Severity};
+use codespan_core::diagnostic::{LabelStyle, Severity};
 use program_io::fields::split_field;
 use program_io::names::parse_severity;
 use std::alloc::{AllocError, Global};

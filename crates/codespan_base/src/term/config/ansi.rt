@@ -2,10 +2,10 @@
 
 ghost use Rattle.std.specs.Prelude.{◌≡◌, [], ◌∷◌};
 ghost use Rattle.codespan_base.specs.Ansi.{color_number, ansi_bold, ansi_color, ansi_style, ansi_reset};
-ghost use Rattle.codespan_config.specs.WriterLaw.{AppendsBytes};
+ghost use Rattle.codespan_core.specs.WriterLaw.{AppendsBytes};
 
 use crate::term::config::color::{Color, ColorSpec, WriteColor};
-use codespan_config::term::config::writing::write_all;
+use codespan_core::term::config::writing::write_all;
 use std::io;
 use std::io::Write;
 
@@ -81,7 +81,7 @@ fn write_reset<W: Write>(w: &mut W) -> io::Result<()>
 }
 
 /// Writes the sequence that turns bold on, where `bold` is set.
-#[tactic(auto, using(codespan_config::proofs::AppendsBytes::append_chains), unfolding(crate::specs::Ansi::ansi_bold, crate::specs::Ansi::escape))]
+#[tactic(auto, using(codespan_core::proofs::AppendsBytes::append_chains), unfolding(crate::specs::Ansi::ansi_bold, crate::specs::Ansi::escape))]
 fn write_bold<W: Write>(w: &mut W, bold: bool) -> io::Result<()>
     ensures { AppendsBytes (W.contents w.old) (ansi_bold bold) result (W.contents w.new) }
 {
@@ -94,7 +94,7 @@ fn write_bold<W: Write>(w: &mut W, bold: bool) -> io::Result<()>
 
 /// Writes the sequence that sets a color, where there is one; the plane is `3` for the text and `4`
 /// for the background. The number of an intense color, plus 8, has one digit or two.
-#[tactic(auto, using(codespan_config::proofs::AppendsBytes::append_chains, crate::proofs::AnsiLemmas::sequences))]
+#[tactic(auto, using(codespan_core::proofs::AppendsBytes::append_chains, crate::proofs::AnsiLemmas::sequences))]
 fn write_color<W: Write>(
     w: &mut W,
     plane: u8,

@@ -1,7 +1,7 @@
 //! Colors and styles of text, and the trait of writers that write them.
 
 ghost use Rattle.std.specs.Prelude.{◌≡◌};
-ghost use Rattle.codespan_config.specs.WriterLaw.{AppendsBytes};
+ghost use Rattle.codespan_core.specs.WriterLaw.{AppendsBytes};
 
 use std::io;
 use std::io::Write;

@@ -1,8 +1,8 @@
 //! Text without styles.
 
 ghost use Rattle.std.specs.Prelude.{◌≡◌, []};
-ghost use Rattle.codespan_config.specs.WriterLaw.{AppendsBytes};
-ghost use Rattle.codespan_config.specs.Writers.{WritesNothing};
+ghost use Rattle.codespan_core.specs.WriterLaw.{AppendsBytes};
+ghost use Rattle.codespan_core.specs.Writers.{WritesNothing};
 
 use crate::term::config::color::{ColorSpec, WriteColor};
 use std::io;
@@ -46,7 +46,7 @@ impl<W: Write> Write for NoColor<W> {
     }
 }
 
-#[tactic(auto, using(codespan_config::proofs::AppendsBytes::append_chains))]
+#[tactic(auto, using(codespan_core::proofs::AppendsBytes::append_chains))]
 impl<W: Write> WriteColor for NoColor<W> {
     ghost use Rattle.codespan_base.specs.StyleWriters.{no_color_inner};
 

@@ -4,7 +4,7 @@ ghost use Rattle.std.specs.Prelude.{◌≡◌};
 ghost use Rattle.codespan_base.specs.PartStyles.{colored, bright};
 
 use crate::term::config::color::{Color, ColorSpec};
-use codespan_inputs::diagnostic::{LabelStyle, Severity};
+use codespan_core::diagnostic::{LabelStyle, Severity};
 
 /// The styles of the parts of the output.
 ///

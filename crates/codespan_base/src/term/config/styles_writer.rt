@@ -1,14 +1,14 @@
 //! Text with styles.
 
 ghost use Rattle.std.specs.Prelude.{◌≡◌, refl};
-ghost use Rattle.codespan_config.specs.Streams.{bytes};
-ghost use Rattle.codespan_config.specs.WriterLaw.{Writes};
+ghost use Rattle.codespan_core.specs.Streams.{bytes};
+ghost use Rattle.codespan_core.specs.WriterLaw.{Writes};
 
 use crate::term::config::color::{ColorSpec, WriteColor};
 use crate::term::config::styles::Styles;
-use codespan_config::term::config::write_style::WriteStyle;
-use codespan_config::term::config::writing::{forward_put, note_failure};
-use codespan_inputs::diagnostic::{LabelStyle, Severity};
+use codespan_core::diagnostic::{LabelStyle, Severity};
+use codespan_core::term::config::write_style::WriteStyle;
+use codespan_core::term::config::writing::{forward_put, note_failure};
 use std::io;
 use std::io::Write;
 
@@ -37,7 +37,7 @@ pub struct StylesWriter<'a, W> {
 
 impl<'a, W: WriteColor> StylesWriter<'a, W> {
     ghost use Rattle.codespan_base.specs.StyleTables.{spelling_by};
-    ghost use Rattle.codespan_config.specs.Writers.{fresh_sink};
+    ghost use Rattle.codespan_core.specs.Writers.{fresh_sink};
     ghost use Rattle.codespan_base.specs.StyleWriters.{styles_sink, styles_inner};
 
     /// Returns a writer over `writer` that writes these styles. Its flag is not set.
@@ -94,7 +94,7 @@ impl<W: WriteColor> Write for StylesWriter<'_, W> {
     }
 }
 
-#[tactic(auto, using(codespan_config::proofs::StyleMarks::marking))]
+#[tactic(auto, using(codespan_core::proofs::StyleMarks::marking))]
 impl<W: WriteColor> WriteStyle for StylesWriter<'_, W> {
     ghost use Rattle.codespan_base.specs.StyleWriters.{styles_sink};
 

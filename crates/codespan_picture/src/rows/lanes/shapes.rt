@@ -7,7 +7,7 @@ ghost use Rattle.codespan_picture.specs.Private.LineViews.{lane_row_view};
 
 use crate::arguments::MultiLabel;
 use crate::rows::lanes::{LaneRow, Shape};
-use codespan_config::term::Layout;
+use codespan_core::term::Layout;
 
 /// Returns what a multi-line label mark shows in a row of this kind. `leading` is the length in
 /// bytes of the white space that the line's text begins with, `lane` the lane of the multi-line

@@ -1,7 +1,7 @@
 //! The styles that the labels of a line have at one of its characters. Each label is tested.
 
 ghost use Rattle.std.specs.Prelude.{◌≡◌, filter};
-ghost use Rattle.codespan_config.specs.Labels.{has_message, is_primary};
+ghost use Rattle.codespan_core.specs.Labels.{has_message, is_primary};
 ghost use Rattle.codespan_picture.specs.Arguments.{single_label_view, single_label_views};
 ghost use Rattle.codespan_picture.specs.Carets.{covers, style_under};
 ghost use Rattle.codespan_picture.specs.RowParts.{starts_in};
@@ -12,7 +12,7 @@ ghost use Rattle.codespan_renderer.specs.Private.PreferredStyles.{preferred_styl
 
 use crate::term::renderer::SingleLabel;
 use crate::term::renderer::char_metrics::Metrics;
-use codespan_config::diagnostic::LabelStyle;
+use codespan_core::diagnostic::LabelStyle;
 use codespan_picture::rows::messages::Messages;
 
 /// Returns whether the label covers a byte of the character.

@@ -1,13 +1,13 @@
 //! The writer that rows are written through, which saves its error.
 
 ghost use Rattle.std.specs.Prelude.{◌≡◌, IfErr};
-ghost use Rattle.codespan_config.specs.Errors.{IsIo};
+ghost use Rattle.codespan_core.specs.Errors.{IsIo};
 ghost use Rattle.codespan_renderer.specs.Private.RowWriters.{SameOutcome};
 
-use codespan_config::diagnostic::{LabelStyle, Severity};
-use codespan_config::files::Error;
-use codespan_config::term::WriteStyle;
-use codespan_config::term::config::put_style::PutStyle;
+use codespan_core::diagnostic::{LabelStyle, Severity};
+use codespan_core::files::Error;
+use codespan_core::term::WriteStyle;
+use codespan_core::term::config::put_style::PutStyle;
 use std::cell::Cell;
 use std::io;
 use std::io::ErrorKind;

@@ -2,15 +2,15 @@
 //! character.
 
 ghost use Rattle.std.specs.Prelude.{⊤};
-ghost use Rattle.codespan_config.specs.WriterLaw.{Writes};
+ghost use Rattle.codespan_core.specs.WriterLaw.{Writes};
 ghost use Rattle.codespan_picture.specs.Private.RowViews.{pointers_before_view};
 ghost use Rattle.codespan_picture.specs.Private.Runs.{AreHanging};
 
 use crate::term::renderer::SingleLabel;
 use crate::term::renderer::char_metrics::{CharMetrics, Metrics};
 use crate::term::renderer::label_styles::{has_primary_label, pointer_style_if_any, style_under};
-use codespan_config::diagnostic::LabelStyle;
-use codespan_config::term::config::put_style::PutStyle;
+use codespan_core::diagnostic::LabelStyle;
+use codespan_core::term::config::put_style::PutStyle;
 use codespan_picture::rows::char_cursor::CharCursor;
 use codespan_picture::rows::line::{Line, RowContext};
 use codespan_picture::rows::line_characters::LineCharacters;

@@ -1,8 +1,8 @@
 //! A renderer as a writer: it passes each call on to its writer.
 
 use crate::term::renderer::Renderer;
-use codespan_config::diagnostic::{LabelStyle, Severity};
-use codespan_config::term::WriteStyle;
+use codespan_core::diagnostic::{LabelStyle, Severity};
+use codespan_core::term::WriteStyle;
 use std::io;
 use std::io::Write;
 

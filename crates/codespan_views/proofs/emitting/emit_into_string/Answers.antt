@@ -1,8 +1,8 @@
 use Rattle.std.proofs.Common.{rules, ◌≡◌, ℕ, List, [], Some, ap, ◌∙◌}
-use Rattle.codespan_config.specs.LawfulFiles.{IsLawful}
-use Rattle.codespan_config.specs.Streams.{plain_spelling}
-use Rattle.codespan_config.specs.WriterLaw.{Sink}
-use Rattle.codespan_config.specs.Writers.{fresh_sink}
+use Rattle.codespan_core.specs.LawfulFiles.{IsLawful}
+use Rattle.codespan_core.specs.Streams.{plain_spelling}
+use Rattle.codespan_core.specs.WriterLaw.{Sink}
+use Rattle.codespan_core.specs.Writers.{fresh_sink}
 use Rattle.codespan_views.proofs.EmittedOutputs.{string_rendered, text_is_utf8, string_failed}
 use Rattle.codespan_views.proofs.emitting.emit_into_string.Goals as goal
 

@@ -1,6 +1,6 @@
 use Rattle.std.proofs.Common.{ap, ◌∙◌}
-use Rattle.codespan_config.specs.FileModel.{or_failure}
-use Rattle.codespan_config.specs.FileModel.Lookup.{LineIndex}
+use Rattle.codespan_core.specs.FileModel.{or_failure}
+use Rattle.codespan_core.specs.FileModel.Lookup.{LineIndex}
 use Rattle.codespan_views.proofs.label_annotations.collect_label.Goals as goal
 
 -- neither the lookups of the ends nor those of the lines failed

@@ -1,6 +1,6 @@
 use Rattle.std.proofs.Common.{Err, ap, ◌∙◌}
 use Rattle.std.proofs.lemmas.Result.{err_from_is_err_and}
-use Rattle.codespan_config.specs.declared.term.config.Config.{Config}
+use Rattle.codespan_core.specs.declared.term.config.Config.{Config}
 use Rattle.codespan_picture.specs.OutputStreams.{context_of, notes_of}
 use Rattle.codespan_views.proofs.NoteRows.{whole_of_notes}
 use Rattle.codespan_views.proofs.RendererRuns.{renders_cut, renders_then}

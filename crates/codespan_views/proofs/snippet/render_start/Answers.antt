@@ -1,6 +1,6 @@
 use Rattle.std.proofs.Common.{Err, [], ◌++◌, append-nil, sym, ap, ◌∙◌}
 use Rattle.std.proofs.lemmas.Result.{err_from_is_err_and}
-use Rattle.codespan_config.specs.declared.term.config.Config.{Config}
+use Rattle.codespan_core.specs.declared.term.config.Config.{Config}
 use Rattle.codespan_renderer.specs.Renderers.{config_of}
 use Rattle.codespan_picture.specs.RenderedRows.{rendered_snippet_empty, rendered_start}
 use Rattle.codespan_views.proofs.RendererRuns.{renders_as, renders_cut, renders_then}

@@ -1,5 +1,5 @@
 use Rattle.std.proofs.Common.{◌≡◌, [], drop}
-use Rattle.codespan_base.specs.DatabaseViews.{mapped_name_of, mapped_source_of, set_numbers_of}
+use Rattle.codespan_base.specs.MappedFileViews.{mapped_name_of, mapped_source_of, set_numbers_of}
 use Rattle.gallery_script.specs.Cases.{file_view}
 use Rattle.gallery_script.specs.Database.{with_numbers}
 use Rattle.gallery_script.proofs.database.mapped_file.Given as goal

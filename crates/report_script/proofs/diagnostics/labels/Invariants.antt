@@ -1,5 +1,5 @@
 use Rattle.std.proofs.Common.{◌≡◌, map, take}
-use Rattle.codespan_config.specs.Diagnostics.{label_view}
+use Rattle.codespan_core.specs.Diagnostics.{label_view}
 use Rattle.report_script.specs.Scripts.{script_label_view}
 use Rattle.report_script.proofs.diagnostics.labels.Given as goal
 

@@ -1,5 +1,5 @@
 use Rattle.std.proofs.Common.{◌∙◌}
-use Rattle.codespan_inputs.proofs.ColumnLemmas.{column_in_line}
+use Rattle.codespan_core.proofs.ColumnLemmas.{column_in_line}
 use Rattle.codespan_base.proofs.files.defaults.default_column_number.Goals as goal
 
 -- the column is counted in the file's text, between the ends of the line

@@ -1,10 +1,10 @@
 use Rattle.std.proofs.Common.{◌≡◌, ◌≢◌, ℕ, Option, Some, None, refl}
 use Rattle.std.proofs.lemmas.Result.{err_from_is_err_and}
-use Rattle.codespan_inputs.specs.declared.files.error.Error.{Error}
-use Rattle.codespan_inputs.specs.declared.files.error.Error.TheVariants.{OutOfMemory}
-use Rattle.codespan_inputs.specs.FileModel.{Lookup, or_failure}
-use Rattle.codespan_inputs.specs.FileModel.Lookup.{LineIndex, LineNumber, ColumnNumber}
-use Rattle.codespan_inputs.proofs.ColumnLemmas.{location_in_file}
+use Rattle.codespan_core.specs.declared.files.error.Error.{Error}
+use Rattle.codespan_core.specs.declared.files.error.Error.TheVariants.{OutOfMemory}
+use Rattle.codespan_core.specs.FileModel.{Lookup, or_failure}
+use Rattle.codespan_core.specs.FileModel.Lookup.{LineIndex, LineNumber, ColumnNumber}
+use Rattle.codespan_core.proofs.ColumnLemmas.{location_in_file}
 use Rattle.codespan_base.proofs.files.defaults.default_location.Goals as goal
 
 -- the line number is that of the byte's line, and the column number that of the byte on it

@@ -4,7 +4,7 @@ use Rattle.codespan_picture.specs.Carets.{max_label_end, style_under}
 use Rattle.codespan_picture.specs.RowParts.{style_change}
 use Rattle.std.proofs.lemmas.Result.{err_from_is_err_and}
 use Rattle.std.proofs.lemmas.Str.{IsUtf8-had}
-use Rattle.codespan_config.proofs.Loops.{StillToWrite-start, StillToWrite-more, StillToWrite-failed, StillToWrite-last}
+use Rattle.codespan_core.proofs.Loops.{StillToWrite-start, StillToWrite-more, StillToWrite-failed, StillToWrite-last}
 use Rattle.codespan_picture.specs.Arguments.{SingleLabelTuple, single_label_views}
 use Rattle.codespan_picture.specs.Private.LineViews.{context_view}
 use Rattle.codespan_picture.specs.Private.Runs.{caret_run}

@@ -1,4 +1,4 @@
-use Rattle.codespan_config.proofs.Chains.{failed-before, failed, writes-last}
+use Rattle.codespan_core.proofs.Chains.{failed-before, failed, writes-last}
 use Rattle.codespan_picture.specs.RowParts.{trailing_message}
 use Rattle.codespan_picture.proofs.rows.carets.write_trailing.Goals as goal
 

@@ -1,4 +1,4 @@
-use Rattle.codespan_config.proofs.Chains.{written-then, failed-then, failed-before, failed, writes-last}
+use Rattle.codespan_core.proofs.Chains.{written-then, failed-then, failed-before, failed, writes-last}
 use Rattle.codespan_picture.proofs.rows.header.write_header_start.Goals as goal
 
 pub returns-in_err-write_leading_locus : goal.returns-in_err-write_leading_locus

@@ -1,4 +1,4 @@
-use Rattle.codespan_config.proofs.Chains.{failed-before, failed-then, failed}
+use Rattle.codespan_core.proofs.Chains.{failed-before, failed-then, failed}
 use Rattle.codespan_picture.specs.RowStreams.{leading_locus}
 use Rattle.codespan_picture.proofs.rows.header.write_leading_locus.Goals as goal
 

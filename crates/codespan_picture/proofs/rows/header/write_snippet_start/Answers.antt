@@ -1,4 +1,4 @@
-use Rattle.codespan_config.proofs.Chains.{written-then, failed-then, failed-before, failed, writes-last}
+use Rattle.codespan_core.proofs.Chains.{written-then, failed-then, failed-before, failed, writes-last}
 use Rattle.codespan_picture.specs.RowStreams.{snippet_start_row}
 use Rattle.codespan_picture.proofs.rows.header.write_snippet_start.Goals as goal
 

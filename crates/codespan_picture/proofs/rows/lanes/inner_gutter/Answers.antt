@@ -1,6 +1,6 @@
 use Rattle.std.proofs.Common.{refl, sym, ap, ◌∙◌, arith}
-use Rattle.codespan_config.specs.WriterLaw.{with_written}
-use Rattle.codespan_config.proofs.Writes.{with_written-nil}
+use Rattle.codespan_core.specs.WriterLaw.{with_written}
+use Rattle.codespan_core.proofs.Writes.{with_written-nil}
 use Rattle.codespan_picture.proofs.LaneCursor.{cursor-end, cursor-lanes}
 use Rattle.codespan_picture.proofs.rows.lanes.inner_gutter.Goals as goal
 

@@ -1,6 +1,6 @@
 use Rattle.std.proofs.Common.{arith, drop}
 use Rattle.std.proofs.lemmas.Result.{err_from_is_err_and}
-use Rattle.codespan_config.proofs.Loops.{StillToWrite-start, StillToWrite-more, StillToWrite-failed, StillToWrite-end}
+use Rattle.codespan_core.proofs.Loops.{StillToWrite-start, StillToWrite-more, StillToWrite-failed, StillToWrite-end}
 use Rattle.codespan_picture.proofs.LaneCursor.{cursor-empty, cursor-next, cursor-end, cursor-lanes}
 use Rattle.codespan_picture.proofs.rows.lanes.inner_gutter_columns.Goals as goal
 

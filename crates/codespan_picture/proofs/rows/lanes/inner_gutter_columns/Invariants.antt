@@ -1,5 +1,5 @@
 use Rattle.std.proofs.Common.{◌-◌, drop}
-use Rattle.codespan_config.proofs.Loops.{StillToWrite}
+use Rattle.codespan_core.proofs.Loops.{StillToWrite}
 use Rattle.codespan_picture.specs.Private.LineViews.{context_view, lanes_view, row_lanes_view}
 use Rattle.codespan_picture.proofs.LaneCursor.{cursor}
 use Rattle.codespan_picture.proofs.rows.lanes.inner_gutter_columns.Given as goal

@@ -1,4 +1,4 @@
-use Rattle.codespan_config.proofs.Chains.{written-then, failed-then, failed-before, failed, writes-last}
+use Rattle.codespan_core.proofs.Chains.{written-then, failed-then, failed-before, failed, writes-last}
 use Rattle.codespan_picture.specs.Lanes.{crossing_cells}
 use Rattle.codespan_picture.proofs.rows.lanes.write_crossing_cells.Goals as goal
 

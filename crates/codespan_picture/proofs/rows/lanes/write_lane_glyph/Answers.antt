@@ -1,4 +1,4 @@
-use Rattle.codespan_config.proofs.Chains.{failed-before, failed, writes-last}
+use Rattle.codespan_core.proofs.Chains.{failed-before, failed, writes-last}
 use Rattle.codespan_picture.proofs.rows.lanes.write_lane_glyph.Goals as goal
 
 pub returns-in_err-write_crossing_cells : goal.returns-in_err-write_crossing_cells

@@ -1,6 +1,6 @@
 use Rattle.std.proofs.Common.{arith, refl, sym}
 use Rattle.std.proofs.lemmas.Bool.Decides.{nat_tests}
-use Rattle.codespan_config.proofs.Writes.{with_written-nil}
+use Rattle.codespan_core.proofs.Writes.{with_written-nil}
 use Rattle.codespan_picture.specs.Private.LineViews.{context_view, line_view}
 use Rattle.codespan_picture.proofs.RowEquations.{caret_rows_none, caret_rows_some}
 use Rattle.codespan_picture.proofs.rows.line_rows.write_caret_rows.Goals as goal

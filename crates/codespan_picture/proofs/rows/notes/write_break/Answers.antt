@@ -1,5 +1,5 @@
 use Rattle.codespan_picture.proofs.RowEquations.{plain_lanes_are}
-use Rattle.codespan_config.proofs.Chains.{written-then, failed-then, failed-before, failed, writes-last}
+use Rattle.codespan_core.proofs.Chains.{written-then, failed-then, failed-before, failed, writes-last}
 use Rattle.codespan_picture.specs.RowStreams.{break_row}
 use Rattle.codespan_picture.proofs.rows.notes.write_break.Goals as goal
 

@@ -1,7 +1,7 @@
 use Rattle.std.proofs.Common.{ap, refl}
 use Rattle.std.proofs.lemmas.Iterator.Splits.{YieldsList-from_lines}
 use Rattle.std.proofs.lemmas.Result.{err_from_is_err_and}
-use Rattle.codespan_config.proofs.Loops.{StillToWrite-start, StillToWrite-more, StillToWrite-failed, StillToWrite-end}
+use Rattle.codespan_core.proofs.Loops.{StillToWrite-start, StillToWrite-more, StillToWrite-failed, StillToWrite-end}
 use Rattle.codespan_picture.specs.RenderedRows.{later_note_rows, note_stream}
 use Rattle.codespan_picture.proofs.UnderlineRows.{lines-next, lines-none}
 use Rattle.codespan_picture.proofs.rows.notes.write_note.Goals as goal

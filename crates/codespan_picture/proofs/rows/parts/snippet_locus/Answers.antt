@@ -1,4 +1,4 @@
-use Rattle.codespan_config.proofs.Chains.{written-then, failed-then, failed-before, failed}
+use Rattle.codespan_core.proofs.Chains.{written-then, failed-then, failed-before, failed}
 use Rattle.codespan_picture.specs.RowParts.{locus}
 use Rattle.codespan_picture.proofs.rows.parts.snippet_locus.Goals as goal
 

@@ -1,5 +1,5 @@
 use Rattle.codespan_picture.proofs.RowEquations.{below_lanes_are}
-use Rattle.codespan_config.proofs.Chains.{written-then, failed-then, failed-before, failed, writes-last}
+use Rattle.codespan_core.proofs.Chains.{written-then, failed-then, failed-before, failed, writes-last}
 use Rattle.codespan_picture.specs.RowStreams.{row_start}
 use Rattle.codespan_picture.proofs.rows.parts.write_row_start.Goals as goal
 

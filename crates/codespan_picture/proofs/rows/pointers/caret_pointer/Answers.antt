@@ -1,4 +1,4 @@
-use Rattle.codespan_config.proofs.Chains.{failed-before, failed, writes-last}
+use Rattle.codespan_core.proofs.Chains.{failed-before, failed, writes-last}
 use Rattle.codespan_picture.proofs.rows.pointers.caret_pointer.Goals as goal
 
 pub returns-in_err-write_spaces : goal.returns-in_err-write_spaces

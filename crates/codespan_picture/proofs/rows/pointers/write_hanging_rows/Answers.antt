@@ -1,6 +1,6 @@
 use Rattle.std.proofs.Common.{◌≡◌, refl}
 use Rattle.std.proofs.lemmas.Result.{err_from_is_err_and}
-use Rattle.codespan_config.proofs.Loops.{StillToWrite-start, StillToWrite-more, StillToWrite-same, StillToWrite-failed, StillToWrite-end}
+use Rattle.codespan_core.proofs.Loops.{StillToWrite-start, StillToWrite-more, StillToWrite-same, StillToWrite-failed, StillToWrite-end}
 use Rattle.codespan_picture.proofs.Hanging.{hanging_first, hanging_skip, hanging_end}
 use Rattle.codespan_picture.proofs.Pieces.{near-last}
 use Rattle.codespan_picture.proofs.rows.pointers.write_hanging_rows.Goals as goal

@@ -1,6 +1,6 @@
 use Rattle.std.specs.Prelude.{filter, ◌≤◌}
-use Rattle.codespan_config.specs.Labels.{has_message}
-use Rattle.codespan_config.proofs.Loops.{StillToWrite}
+use Rattle.codespan_core.specs.Labels.{has_message}
+use Rattle.codespan_core.proofs.Loops.{StillToWrite}
 use Rattle.codespan_picture.specs.Arguments.{single_label_views}
 use Rattle.codespan_picture.specs.Private.LineViews.{context_view, line_view}
 use Rattle.codespan_picture.specs.RowParts.{max_label_start}

@@ -1,4 +1,4 @@
-use Rattle.codespan_config.proofs.Chains.{written-then, failed-then, failed-before, failed, writes-last}
+use Rattle.codespan_core.proofs.Chains.{written-then, failed-then, failed-before, failed, writes-last}
 use Rattle.codespan_picture.specs.RowStreams.{pointer_row}
 use Rattle.codespan_picture.proofs.rows.pointers.write_pointer_row.Goals as goal
 

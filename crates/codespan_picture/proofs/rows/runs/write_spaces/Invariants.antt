@@ -1,5 +1,5 @@
-use Rattle.codespan_config.specs.Streams.{spaces}
-use Rattle.codespan_config.proofs.Loops.{StillToWrite}
+use Rattle.codespan_core.specs.Streams.{spaces}
+use Rattle.codespan_core.proofs.Loops.{StillToWrite}
 use Rattle.codespan_picture.proofs.rows.runs.write_spaces.Given as goal
 
 abbrev pub invariant-loop-left : goal.invariant-loop-left

@@ -1,4 +1,4 @@
-use Rattle.codespan_config.proofs.Chains.{failed-before, failed, writes-last}
+use Rattle.codespan_core.proofs.Chains.{failed-before, failed, writes-last}
 use Rattle.codespan_picture.proofs.rows.source.end_text_run.Goals as goal
 
 pub returns-in_err-put_all : goal.returns-in_err-put_all

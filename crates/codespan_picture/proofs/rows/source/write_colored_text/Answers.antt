@@ -2,9 +2,9 @@ use Rattle.std.proofs.Common.{rules, None, drop, ◌≡◌, ◌+◌, ◌-◌, �
 use Rattle.std.specs.Char.{encode_utf8}
 use Rattle.std.proofs.lemmas.Result.{err_from_is_err_and}
 use Rattle.std.proofs.lemmas.Str.{IsUtf8-had, length-encode, len_utf8_bounds}
-use Rattle.codespan_config.specs.Streams.{bytes}
-use Rattle.codespan_config.proofs.Chains.{failed-before, failed-then, written-then}
-use Rattle.codespan_config.proofs.Loops.{StillToWrite-start, StillToWrite-more, StillToWrite-failed, StillToWrite-last}
+use Rattle.codespan_core.specs.Streams.{bytes}
+use Rattle.codespan_core.proofs.Chains.{failed-before, failed-then, written-then}
+use Rattle.codespan_core.proofs.Loops.{StillToWrite-start, StillToWrite-more, StillToWrite-failed, StillToWrite-last}
 use Rattle.codespan_picture.specs.Private.LineViews.{context_view, line_view}
 use Rattle.codespan_picture.specs.RowParts.{style_change}
 use Rattle.codespan_picture.proofs.TextRuns.{over-start, over-next, piece, piece-grows, text-start, text-turn, text-same, text-tab, text_rest}

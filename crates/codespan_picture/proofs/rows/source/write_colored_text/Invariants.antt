@@ -1,5 +1,5 @@
 use Rattle.std.proofs.Common.{◌≡◌, ◌≤◌, length}
-use Rattle.codespan_config.proofs.Loops.{StillToWrite}
+use Rattle.codespan_core.proofs.Loops.{StillToWrite}
 use Rattle.codespan_picture.specs.Private.LineViews.{context_view, line_view}
 use Rattle.codespan_picture.specs.RowParts.{colored_text}
 use Rattle.codespan_picture.proofs.TextRuns.{IsOver, piece, text_rest}

@@ -1,5 +1,5 @@
 use Rattle.codespan_picture.proofs.RowEquations.{source_lanes_are}
-use Rattle.codespan_config.proofs.Chains.{written-then, failed-then, failed-before, failed, writes-last}
+use Rattle.codespan_core.proofs.Chains.{written-then, failed-then, failed-before, failed, writes-last}
 use Rattle.codespan_picture.proofs.rows.source.write_source_lanes.Goals as goal
 
 pub returns-in_err-outer_gutter_number : goal.returns-in_err-outer_gutter_number

@@ -1,6 +1,6 @@
 use Rattle.std.proofs.Common.{◌≡◌, drop}
 use Rattle.std.specs.List.{list_any}
-use Rattle.codespan_config.specs.Labels.{is_primary}
+use Rattle.codespan_core.specs.Labels.{is_primary}
 use Rattle.codespan_picture.specs.Arguments.{single_label_views}
 use Rattle.codespan_picture.proofs.rows.text_styles.has_primary.Given as goal
 

@@ -1,6 +1,6 @@
 use Rattle.std.proofs.Common.{◌≡◌, drop, map}
 use Rattle.std.specs.List.{list_any}
-use Rattle.codespan_config.specs.Labels.{LaneMark, is_primary_style}
+use Rattle.codespan_core.specs.Labels.{LaneMark, is_primary_style}
 use Rattle.codespan_picture.specs.Arguments.{lane_mark_view}
 use Rattle.codespan_picture.proofs.rows.text_styles.has_primary_lane_mark.Given as goal
 

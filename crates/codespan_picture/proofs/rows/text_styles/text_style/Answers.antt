@@ -2,7 +2,7 @@ use Rattle.std.proofs.Common.{◌≡◌, Bool, true, false, None, Some, refl, sy
 use Rattle.std.specs.Prelude.{◌||◌, ◌&&◌, if◌then◌else◌}
 use Rattle.std.specs.List.{list_any}
 use Rattle.std.proofs.lemmas.Bool.{false≢true}
-use Rattle.codespan_config.specs.Labels.{LaneMark, is_primary, is_primary_style}
+use Rattle.codespan_core.specs.Labels.{LaneMark, is_primary, is_primary_style}
 use Rattle.codespan_picture.specs.declared.char_metrics.Metrics.{Metrics}
 use Rattle.codespan_picture.specs.Carets.{covers}
 use Rattle.codespan_picture.specs.RowParts.{multi_label_covers, source_style}

@@ -1,4 +1,4 @@
-use Rattle.codespan_config.proofs.Chains.{written-then, failed-then, failed-before, failed, writes-last}
+use Rattle.codespan_core.proofs.Chains.{written-then, failed-then, failed-before, failed, writes-last}
 use Rattle.codespan_picture.specs.Private.Underlines.{underline_by_width}
 use Rattle.codespan_picture.proofs.rows.underlines.label_multi_caret.Goals as goal
 

@@ -1,7 +1,7 @@
 use Rattle.std.proofs.Common.{◌≡◌, ◌∙◌, [], arith, refl, sym, drop}
 use Rattle.std.proofs.lemmas.Grind.{common_steps}
 use Rattle.std.proofs.lemmas.Result.{err_from_is_err_and}
-use Rattle.codespan_config.proofs.Loops.{StillToWrite-start, StillToWrite-more, StillToWrite-same, StillToWrite-failed, StillToWrite-end}
+use Rattle.codespan_core.proofs.Loops.{StillToWrite-start, StillToWrite-more, StillToWrite-same, StillToWrite-failed, StillToWrite-end}
 use Rattle.codespan_picture.proofs.UnderlineRows.{underlines-in, underlines-out}
 use Rattle.codespan_picture.proofs.rows.underlines.write_underlines.Goals as goal
 use Rattle.codespan_picture.proofs.rows.underlines.write_underlines.Goals.{then-has_underline+in_ok-write_underline_row, else-has_underline}

@@ -1,7 +1,7 @@
 //! Cursors over the labels of a line, in the order of their starts.
 
 ghost use Rattle.std.specs.Prelude.{◌≡◌, ◌+◌, ◌<◌, ◌≤◌, ◌&&◌, IsTrue, nat_lt, true, max, filter};
-ghost use Rattle.codespan_config.specs.Labels.{has_message, is_primary};
+ghost use Rattle.codespan_core.specs.Labels.{has_message, is_primary};
 ghost use Rattle.codespan_picture.specs.Carets.{style_under};
 ghost use Rattle.codespan_picture.specs.Arguments.{single_label_view, single_label_views, starts_in_order};
 ghost use Rattle.codespan_renderer.specs.Private.PointerLists.{HasPassedStarts};
@@ -13,7 +13,7 @@ ghost use Rattle.codespan_renderer.specs.Private.LabelCursors.{end_with, HasPass
 use crate::term::renderer::SingleLabel;
 use crate::term::renderer::char_metrics::Metrics;
 use crate::term::renderer::label_styles::prefer_primary;
-use codespan_config::diagnostic::LabelStyle;
+use codespan_core::diagnostic::LabelStyle;
 
 /// A cursor over the labels of a line, which passes a label at the character in which it starts, or
 /// at the first one after.

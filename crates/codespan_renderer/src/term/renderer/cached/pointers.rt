@@ -1,7 +1,7 @@
 //! The pointers under the carets of a line, cached for its pointer row and its hanging messages.
 
 ghost use Rattle.std.specs.Prelude.{◌≡◌, ◌+◌, ◌^◌, ◌<◌, IfOk, IsErrOf, IsTrue, OnErr};
-ghost use Rattle.codespan_config.specs.WriterLaw.{Writes};
+ghost use Rattle.codespan_core.specs.WriterLaw.{Writes};
 ghost use Rattle.codespan_picture.specs.CharMetrics.{char_metrics};
 ghost use Rattle.codespan_picture.specs.Arguments.{single_label_views, starts_in_order};
 ghost use Rattle.codespan_picture.specs.Private.LineViews.{context_view};
@@ -13,9 +13,9 @@ ghost use Rattle.codespan_picture.specs.Private.Runs.{AreHanging};
 use crate::term::renderer::cached::cached_metrics::CachedMetrics;
 use crate::term::renderer::cached::label_cursor::StartCursor;
 use crate::term::renderer::char_metrics::Metrics;
-use codespan_config::diagnostic::LabelStyle;
-use codespan_config::files::Error;
-use codespan_config::term::config::put_style::PutStyle;
+use codespan_core::diagnostic::LabelStyle;
+use codespan_core::files::Error;
+use codespan_core::term::config::put_style::PutStyle;
 use codespan_picture::rows::line::{Line, RowContext};
 use codespan_picture::rows::messages::{Messages, has_any_message};
 use codespan_picture::rows::pointers::{caret_pointer, max_label_start};

@@ -1,6 +1,6 @@
 use Rattle.std.proofs.Common.{◌≡◌, ℕ, Ordering, Less, Equal, Greater, nat_cmp, refl, sym, ap, ap₂, ◌∙◌}
 use Rattle.std.specs.Ordering.{ordering_then}
-use Rattle.codespan_config.specs.Labels.{LabelModel, from_line_start}
+use Rattle.codespan_core.specs.Labels.{LabelModel, from_line_start}
 use Rattle.codespan_picture.specs.OutputStreams.{label_of}
 use Rattle.codespan_views.specs.Private.Annotations.{Single, kind_cmp}
 use Rattle.codespan_views.proofs.annotation.order.compare_kinds.Goals as goal

@@ -1,6 +1,6 @@
 use Rattle.std.proofs.Common.{◌≡◌, ◌<◌, ◌∙◌, false, true, rules, ap, subst, sym, [], Bool, ℕ}
 use Rattle.std.specs.Prelude.{if◌then◌else◌}
-use Rattle.codespan_config.specs.FileModel.{line_count}
+use Rattle.codespan_core.specs.FileModel.{line_count}
 use Rattle.codespan_views.specs.Private.LabelAnnotations.{line_annotations}
 use Rattle.codespan_views.specs.Private.AnnotationViews.{IsLineAt}
 use Rattle.codespan_views.specs.Private.CollectedLabels.{AddsLine, label_of_collector}

@@ -2,7 +2,7 @@ use contract.Lifetimes.{Lfts}
 use Rattle.std.proofs.Common.{rules, ◌≡◌, ℕ, Bool, true, ◌&&◌, ◌+◌, ◌<◌, ◌≤◌, Some, Err, refl, ap, ◌∙◌, arith}
 use Rattle.std.proofs.lemmas.Bool.Decides.{nat_tests}
 use Rattle.std.proofs.lemmas.Result.{err_from_is_err_and}
-use Rattle.codespan_config.specs.Lemmas.Lines.{line_of_below}
+use Rattle.codespan_core.specs.Lemmas.Lines.{line_of_below}
 use Rattle.codespan_views.specs.declared.label_annotations.LabelCollector.{LabelCollector}
 use Rattle.codespan_views.specs.Private.CollectedLabels.{label_of_collector}
 use Rattle.std.specs.Ordering.{nat_cmp, partial_le, partial_lt}

@@ -1,12 +1,12 @@
 use Rattle.std.proofs.Common.{◌≡◌, Bool, Result, rules, subst, sym}
 use Rattle.std.specs.Cmp.{IsEquivalence}
-use Rattle.codespan_config.specs.declared.diagnostic.Diagnostic.{Diagnostic}
-use Rattle.codespan_config.specs.declared.files.Error.{Error}
-use Rattle.codespan_config.specs.declared.term.config.Config.{Config}
-use Rattle.codespan_config.specs.declared.term.config.DisplayStyle.TheVariants.{Rich}
-use Rattle.codespan_config.specs.FileModel.{FileDatabase}
-use Rattle.codespan_config.specs.LawfulFiles.{IsLawful}
-use Rattle.codespan_config.specs.WriterLaw.{Sink}
+use Rattle.codespan_core.specs.declared.diagnostic.Diagnostic.{Diagnostic}
+use Rattle.codespan_core.specs.declared.files.Error.{Error}
+use Rattle.codespan_core.specs.declared.term.config.Config.{Config}
+use Rattle.codespan_core.specs.declared.term.config.DisplayStyle.TheVariants.{Rich}
+use Rattle.codespan_core.specs.FileModel.{FileDatabase}
+use Rattle.codespan_core.specs.LawfulFiles.{IsLawful}
+use Rattle.codespan_core.specs.WriterLaw.{Sink}
 use Rattle.codespan_picture.proofs.RichLemmas.{output_means_labels}
 use Rattle.codespan_views.specs.WriteCalls.{WritesOutput, WritesStyled}
 use Rattle.codespan_views.proofs.RichParts.{bare-whole}

@@ -1,8 +1,8 @@
 use Rattle.std.proofs.Common.{None, refl, ap, rules, ◌∙◌}
 use Rattle.std.specs.Option.{is_some}
 use Rattle.std.proofs.lemmas.Bool.{true≢false}
-use Rattle.codespan_config.specs.FileModel.{or_failure}
-use Rattle.codespan_config.specs.FileModel.Lookup.{LineNumber}
+use Rattle.codespan_core.specs.FileModel.{or_failure}
+use Rattle.codespan_core.specs.FileModel.Lookup.{LineNumber}
 use Rattle.codespan_views.proofs.source_file.SourceFile.line_unless_past_end.Goals as goal
 
 -- another error is returned, so that nothing is said of where the file ends

@@ -1,9 +1,9 @@
 use Rattle.std.proofs.Common.{◌≡◌, Option, None, Err, sym, ap, ◌∙◌}
 use Rattle.std.specs.Prelude.{IfSome, string_bytes}
 use Rattle.std.proofs.lemmas.Result.{err_from_is_err_and}
-use Rattle.codespan_config.specs.declared.files.Error.{Error}
-use Rattle.codespan_config.specs.FileModel.{or_failure}
-use Rattle.codespan_config.specs.FileModel.Lookup.{LocationAt, Name}
+use Rattle.codespan_core.specs.declared.files.Error.{Error}
+use Rattle.codespan_core.specs.FileModel.{or_failure}
+use Rattle.codespan_core.specs.FileModel.Lookup.{LocationAt, Name}
 use Rattle.codespan_views.specs.Private.SourceFiles.{model_of}
 use Rattle.codespan_views.proofs.TextLoci.{locus_located}
 use Rattle.codespan_views.proofs.source_file.SourceFile.locus.Given.{Over}

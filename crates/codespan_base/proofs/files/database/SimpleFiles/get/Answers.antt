@@ -3,8 +3,8 @@ use Rattle.std.specs.Slice.{IsItemAt}
 use Rattle.std.proofs.lemmas.Bool.{false≢true}
 use Rattle.std.proofs.lemmas.List.{length-map}
 use Rattle.std.proofs.lemmas.Option.{slice_get-map, slice_get_past, slice_get_read}
-use Rattle.codespan_inputs.specs.declared.files.Error.{Error}
-use Rattle.codespan_inputs.specs.declared.files.Error.TheVariants.{FileMissing}
+use Rattle.codespan_core.specs.declared.files.Error.{Error}
+use Rattle.codespan_core.specs.declared.files.Error.TheVariants.{FileMissing}
 use Rattle.codespan_base.proofs.files.database.SimpleFiles.get.Goals as goal
 
 -- a lookup in a list, with the error of an index that is not below its length

@@ -1,6 +1,6 @@
 use Rattle.std.proofs.Common.{◌≡◌, Option, Some, refl, ap, ◌∙◌}
-use Rattle.codespan_config.specs.declared.diagnostic.LabelStyle.{LabelStyle}
-use Rattle.codespan_config.specs.declared.diagnostic.LabelStyle.TheVariants.{Primary}
+use Rattle.codespan_core.specs.declared.diagnostic.LabelStyle.{LabelStyle}
+use Rattle.codespan_core.specs.declared.diagnostic.LabelStyle.TheVariants.{Primary}
 use Rattle.codespan_renderer.specs.Private.PreferredStyles.{prefer_primary}
 use Rattle.codespan_renderer.proofs.term.renderer.label_styles.prefer_primary.Goals as goal
 

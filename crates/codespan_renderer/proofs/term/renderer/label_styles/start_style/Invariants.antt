@@ -1,5 +1,5 @@
 use Rattle.std.proofs.Common.{◌≡◌, filter, drop}
-use Rattle.codespan_config.specs.Labels.{has_message}
+use Rattle.codespan_core.specs.Labels.{has_message}
 use Rattle.codespan_picture.specs.Arguments.{single_label_views}
 use Rattle.codespan_picture.specs.RowParts.{starts_in}
 use Rattle.codespan_renderer.specs.Private.PreferredStyles.{preferred_style}

@@ -1,5 +1,5 @@
 use Rattle.std.proofs.Common.{◌≡◌, drop, None}
-use Rattle.codespan_config.specs.Labels.{LabelModel}
+use Rattle.codespan_core.specs.Labels.{LabelModel}
 use Rattle.codespan_picture.specs.Carets.{covers}
 use Rattle.codespan_picture.specs.Arguments.{single_label_views}
 use Rattle.codespan_renderer.specs.Private.PreferredStyles.{preferred_style}

@@ -1,6 +1,6 @@
 use Rattle.std.proofs.Common.{◌++◌, length}
-use Rattle.codespan_config.specs.Streams.{spaces}
-use Rattle.codespan_config.proofs.Loops.{StillToWrite}
+use Rattle.codespan_core.specs.Streams.{spaces}
+use Rattle.codespan_core.proofs.Loops.{StillToWrite}
 use Rattle.codespan_picture.specs.CharMetrics.{char_metrics}
 use Rattle.codespan_renderer.specs.Private.MetricsLeft.{metrics_left}
 use Rattle.codespan_picture.specs.Arguments.{single_label_views}

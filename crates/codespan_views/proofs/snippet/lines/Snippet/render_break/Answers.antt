@@ -1,7 +1,7 @@
 use Rattle.std.proofs.Common.{List, ◌++◌, append-nil, map, ap, sym, ◌∙◌}
 use Rattle.std.proofs.lemmas.Result.{err_from_is_err_and}
-use Rattle.codespan_config.specs.Labels.{LaneMark}
-use Rattle.codespan_config.specs.Streams.{newline}
+use Rattle.codespan_core.specs.Labels.{LaneMark}
+use Rattle.codespan_core.specs.Streams.{newline}
 use Rattle.codespan_picture.specs.Arguments.{lane_mark_view}
 use Rattle.codespan_picture.specs.OutputStreams.{context_of}
 use Rattle.codespan_picture.specs.RowStreams.{break_row}

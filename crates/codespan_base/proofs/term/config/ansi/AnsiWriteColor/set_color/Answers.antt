@@ -1,4 +1,4 @@
-use Rattle.codespan_config.proofs.AppendsBytes.{appended-then, prefix-then, prefix-before, appends-last, appends-failed}
+use Rattle.codespan_core.proofs.AppendsBytes.{appended-then, prefix-then, prefix-before, appends-last, appends-failed}
 use Rattle.codespan_base.specs.Ansi.{ansi_style}
 use Rattle.codespan_base.proofs.term.config.ansi.AnsiWriteColor.set_color.Goals as goal
 

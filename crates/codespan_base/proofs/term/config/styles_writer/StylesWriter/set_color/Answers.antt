@@ -1,5 +1,5 @@
 use Rattle.std.proofs.Common.{false, []}
-use Rattle.codespan_config.proofs.StyleMarks.{Writes-noted}
+use Rattle.codespan_core.proofs.StyleMarks.{Writes-noted}
 use Rattle.codespan_base.proofs.term.config.styles_writer.StylesWriter.set_color.Goals as goal
 
 pub returns : goal.returns

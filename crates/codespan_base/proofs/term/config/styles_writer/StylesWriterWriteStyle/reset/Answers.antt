@@ -1,5 +1,5 @@
-use Rattle.codespan_config.specs.Streams.{Reset}
-use Rattle.codespan_config.proofs.StyleMarks.{Writes-style_mark}
+use Rattle.codespan_core.specs.Streams.{Reset}
+use Rattle.codespan_core.proofs.StyleMarks.{Writes-style_mark}
 use Rattle.codespan_base.proofs.term.config.styles_writer.StylesWriterWriteStyle.reset.Goals as goal
 
 -- the bytes that were written spell the style mark

@@ -1,5 +1,5 @@
-use Rattle.codespan_config.specs.Streams.{Header}
-use Rattle.codespan_config.proofs.StyleMarks.{Writes-style_mark}
+use Rattle.codespan_core.specs.Streams.{Header}
+use Rattle.codespan_core.proofs.StyleMarks.{Writes-style_mark}
 use Rattle.codespan_base.proofs.term.config.styles_writer.StylesWriterWriteStyle.set_header.Goals as goal
 
 pub returns : goal.returns

@@ -1,6 +1,6 @@
 use Rattle.std.proofs.Common.{arith, refl, ◌<◌, length}
 use Rattle.std.proofs.lemmas.Result.{err_from_is_err_and}
-use Rattle.codespan_config.proofs.Loops.{StillToWrite-start, StillToWrite-more, StillToWrite-same, StillToWrite-failed, StillToWrite-last}
+use Rattle.codespan_core.proofs.Loops.{StillToWrite-start, StillToWrite-more, StillToWrite-same, StillToWrite-failed, StillToWrite-last}
 use Rattle.codespan_picture.specs.Private.LineViews.{context_view}
 use Rattle.codespan_renderer.proofs.SpacedPointers.{spaced-next, spaced-skip, spaced-end}
 use Rattle.codespan_renderer.proofs.term.renderer.cached.pointers.write_pointers.Goals.{then-pointer-before+in_ok-caret_pointer, else-pointer-before}

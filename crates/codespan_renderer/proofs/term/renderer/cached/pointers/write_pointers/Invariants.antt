@@ -1,5 +1,5 @@
 use Rattle.std.proofs.Common.{drop}
-use Rattle.codespan_config.proofs.Loops.{StillToWrite}
+use Rattle.codespan_core.proofs.Loops.{StillToWrite}
 use Rattle.codespan_picture.specs.Private.LineViews.{context_view}
 use Rattle.codespan_renderer.specs.Private.PointerLists.{pointers_before, spaced}
 use Rattle.codespan_renderer.proofs.term.renderer.cached.pointers.write_pointers.Given as goal

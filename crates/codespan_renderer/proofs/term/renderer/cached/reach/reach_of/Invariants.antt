@@ -1,5 +1,5 @@
 use Rattle.std.proofs.Common.{◌≡◌, [], drop, map, fold}
-use Rattle.codespan_config.specs.Labels.{LabelModel, LaneMark}
+use Rattle.codespan_core.specs.Labels.{LabelModel, LaneMark}
 use Rattle.codespan_picture.specs.Arguments.{lane_mark_view, single_label_views}
 use Rattle.codespan_renderer.specs.Private.CachedMetrics.{farther, farther_lane_mark, reach_of}
 use Rattle.codespan_renderer.proofs.term.renderer.cached.reach.reach_of.Given as goal

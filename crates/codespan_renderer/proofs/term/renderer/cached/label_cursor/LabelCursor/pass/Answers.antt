@@ -1,8 +1,8 @@
 use denote.Enum.Bare.{same_true}
 use Rattle.std.proofs.Common.{rules, ◌≡◌, sym, ◌∙◌}
 use Rattle.std.proofs.lemmas.Bool.{lt-ltb}
-use Rattle.codespan_config.specs.contracts.diagnostic.LabelStyle.{the_type}
-use Rattle.codespan_config.specs.declared.diagnostic.LabelStyle.TheVariants.{Primary}
+use Rattle.codespan_core.specs.contracts.diagnostic.LabelStyle.{the_type}
+use Rattle.codespan_core.specs.declared.diagnostic.LabelStyle.TheVariants.{Primary}
 use Rattle.codespan_renderer.proofs.term.renderer.cached.label_cursor.LabelCursor.pass.Goals as goal
 
 -- the label is primary and covers a byte, so that its end counts

@@ -1,0 +1,70 @@
+-- For the laws `lines_join_to_source` and `columns_rise`: the lines of a text join to it, and
+-- columns never decrease along a line.
+use Rattle.std.proofs.Common.{◌≡◌, ℕ, zero, suc, ◌+◌, ◌-◌, ◌≤◌, min, Bool, cond, List, ◌++◌, drop, flat_map, length, get_or, Option, refl, sym, ap, ◌∙◌, arith}
+use Rattle.std.specs.Prelude.{count_by, slice_range}
+use Rattle.std.specs.List.{range_with_len}
+use Rattle.std.specs.Str.{IsUtf8}
+use Rattle.std.proofs.lemmas.List.{take-append-drop, drop-drop, take_all, append-nil, length-drop}
+use Rattle.std.proofs.lemmas.List.Sums.{sum_by-cons}
+use Rattle.codespan_core.specs.Lines.{line_starts_of, starts_after, is_char_boundary}
+use Rattle.codespan_core.specs.FileModel.{line_text}
+use Rattle.codespan_core.specs.SimpleModel.{simple_file, line_ends}
+use Rattle.codespan_core.specs.Lemmas.Simple.{ascending, end_before_last, end_of_last}
+use Rattle.codespan_base.specs.FileLaws.{LinesJoin, ColumnsRise}
+
+-- a range and the rest of the list after it
+touching : {X : Type 0} (a b : ℕ) (xs : List X) → a ≤ b
+    → slice_range xs a b ++ drop b xs ≡ drop a xs
+touching a b xs h =
+    let e : a + (b - a) ≡ b = omega arith in
+    ap (λ ys. slice_range xs a b ++ ys) (sym (drop-drop (b - a) a xs ∙ ap (λ n. drop n xs) e))
+    ∙ take-append-drop (b - a) (drop a xs)
+
+-- the lines from one on are the rest of the text
+joined-from : (name : Option (List ℕ)) (text : List ℕ) → IsUtf8 text → (n i : ℕ)
+    → i + suc n ≡ length (line_starts_of text)
+    → flat_map (line_text (simple_file name text)) (range_with_len i (suc n)) ≡ drop
+    (get_or (line_starts_of text) i 0) text
+joined-from name text u zero i h =
+    let at : ℕ = get_or (line_starts_of text) i 0 in
+    let e : get_or (line_ends text) i 0 ≡ length text = end_of_last text i (omega arith) in
+    append-nil (line_text (simple_file name text) i)
+    ∙ ap (λ b. slice_range text at b) e
+    ∙ take_all (length text - at) (drop at text) (omega (arith, length-drop at text))
+joined-from name text u (suc n) i h =
+    let at : ℕ = get_or (line_starts_of text) i 0 in
+    let next : ℕ = get_or (line_starts_of text) (i + 1) 0 in
+    let e : get_or (line_ends text) i 0 ≡ next = end_before_last text i (omega arith) in
+    let rest = joined-from name text u n (i + 1) (omega arith) in
+    ap (λ ys. line_text (simple_file name text) i ++ ys) rest
+    ∙ ap (λ b. slice_range text at b ++ drop next text) e
+    ∙ touching at next text (omega (arith, ascending text i (omega arith)))
+
+-- the lines of the file of a text join to it
+pub lines_join : (name : Option (List ℕ)) (text : List ℕ) → IsUtf8 text
+    → LinesJoin (simple_file name text)
+lines_join name text u = record {
+  from_start = refl;
+  follow = λ i h. end_before_last text i h;
+  to_end = λ i h. end_of_last text i h;
+  joined = joined-from name text u (length (starts_after 0 text)) 0 (omega arith);
+}
+
+-- a longer range counts no fewer numbers
+counts-rise : (p : ℕ → Bool) (a m n : ℕ) → m ≤ n
+    → count_by p (range_with_len a m) ≤ count_by p (range_with_len a n)
+counts-rise p a zero n h = omega arith
+counts-rise p a (suc m) zero h = absurd (omega arith)
+counts-rise p a (suc m) (suc n) h =
+    omega (
+      arith,
+      sum_by-cons (λ x. cond (p x) 1 0) a (range_with_len (a + 1) m),
+      sum_by-cons (λ x. cond (p x) 1 0) a (range_with_len (a + 1) n),
+      counts-rise p (a + 1) m n (omega arith),
+    )
+
+-- columns never decrease along a line
+pub columns_rise : ColumnsRise
+columns_rise text start end byte later h =
+    counts-rise (is_char_boundary text) (start + 1) (min byte (min end (length text)) - start)
+    (min later (min end (length text)) - start) (omega arith)

@@ -1,5 +1,0 @@
-use Rattle.codespan_config.proofs.term.config.chars.CharsDefault.default.Goals as goal
-
--- the characters that were returned are those of box drawing
-pub returns-clause-equal : goal.returns-clause-equal
-returns-clause-equal c = search

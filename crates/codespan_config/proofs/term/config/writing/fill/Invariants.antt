@@ -1,7 +1,0 @@
-use Rattle.std.proofs.Common.{◌≡◌, ◌*◌, length, take}
-use Rattle.std.specs.List.{repeat}
-use Rattle.codespan_config.proofs.term.config.writing.fill.Given as goal
-
-abbrev pub invariant-loop-i : goal.invariant-loop-i
-invariant-loop-i l =
-    record { end : l.end ≡ l._i * length l.bytes; front : take l.end l.run ≡ repeat l._i l.bytes }

@@ -1,0 +1,125 @@
+-- For the clauses of `write_all`, and of `set_color` of `Ansi` of `codespan_base`: bytes that a
+-- writer takes, call after call.
+use Rattle.std.proofs.Common.{◌≡◌, ℕ, true, List, [], ◌∷◌, ◌++◌, Option, Result, Ok, Err, sym, ap, subst, ◌∙◌}
+use Rattle.std.specs.Borrow.{GName}
+use Rattle.std.specs.Result.{IsErrAnd}
+use Rattle.std.proofs.lemmas.Result.{err_from_is_err_and}
+use Rattle.codespan_core.specs.declared.term.config.plain_ref.PlainWriterRef.{PlainWriterRef}
+use Rattle.codespan_core.specs.Streams.{bytes, plain_spelling}
+use Rattle.codespan_core.specs.WriterLaw.{Frame, Sink, KeepsFrame, Writes, is_known, with_written, are_known, extended, PrefixAppended, AppendsBytes}
+use Rattle.codespan_core.specs.Writers.{fresh_plain_ref, borrow_name, plain_ref_sink, borrowed_writer}
+use Rattle.codespan_core.proofs.KnownBytes.{extended-append, extended-nil, are_known-extended, PrefixAppended-first, PrefixAppended-last, PrefixAppended_first_2, PrefixAppended_first_3}
+use Rattle.codespan_core.proofs.Writes.{spelled-bytes}
+
+-- calls that write bytes, one after another
+pub ruleset append_chains = (
+  extended-append,
+  extended-nil,
+  are_known-extended,
+  PrefixAppended-first,
+  PrefixAppended-last,
+  PrefixAppended_first_2,
+  PrefixAppended_first_3,
+)
+
+-- ---- calls that write bytes, each where the one before it succeeded
+
+-- the bytes were written
+abbrev pub BytesAppended : Option (List ℕ) → List ℕ → Option (List ℕ) → Type 0
+BytesAppended o bs m = are_known o ≡ true → m ≡ extended o bs
+
+-- a prefix of the bytes was written
+abbrev pub BytesPrefixAppended : Option (List ℕ) → List ℕ → Option (List ℕ) → Type 0
+BytesPrefixAppended o bs m = are_known o ≡ true → PrefixAppended o bs m
+
+are_known-after : (o m : Option (List ℕ)) (a : List ℕ) → are_known o ≡ true → m ≡ extended o a
+    → are_known m ≡ true
+are_known-after o m a known e = ap are_known e ∙ are_known-extended o a ∙ known
+
+-- other bytes were written after them
+pub appended-then : (o : Option (List ℕ)) (a b : List ℕ) (m k : Option (List ℕ))
+    → BytesAppended o a m → BytesAppended m b k → BytesAppended o (a ++ b) k
+appended-then o a b m k p q = λ known.
+    let e = p known in
+    q (are_known-after o m a known e) ∙ ap (λ (x : Option (List ℕ)). extended x b) e
+    ∙ sym (extended-append o a b)
+
+-- a prefix of the bytes after them was written
+pub prefix-then : (o : Option (List ℕ)) (a b : List ℕ) (m k : Option (List ℕ)) → BytesAppended o a m
+    → BytesPrefixAppended m b k → BytesPrefixAppended o (a ++ b) k
+prefix-then o a b m k p q = λ known.
+    let e = p known in
+    PrefixAppended-last o a b k
+    (subst (λ (x : Option (List ℕ)). PrefixAppended x b k) e
+    (q (are_known-after o m a known e)))
+
+-- a prefix of the first bytes was written, and none of the bytes after them
+pub prefix-before : (o : Option (List ℕ)) (a b : List ℕ) (k : Option (List ℕ))
+    → BytesPrefixAppended o a k → BytesPrefixAppended o (a ++ b) k
+prefix-before o a b k p = λ known. PrefixAppended-first o a k b (p known)
+
+-- the clause of all calls follows from that of the last one
+pub appends-last : {E : Type 0} (o : Option (List ℕ)) (a b : List ℕ) (m k : Option (List ℕ))
+    (r : Result (Unit {0}) E)
+    → BytesAppended o a m → AppendsBytes m b r k → AppendsBytes o (a ++ b) r k
+appends-last o a b m k (Ok x) p q = appended-then o a b m k p q
+appends-last o a b m k (Err x) p q = prefix-then o a b m k p q
+
+-- the clause of all calls follows from the call that failed
+pub appends-failed : {E : Type 0} (Q : E → Type 0) (o : Option (List ℕ)) (a : List ℕ)
+    (k : Option (List ℕ)) (r : Result (Unit {0}) E)
+    → IsErrAnd r Q → BytesPrefixAppended o a k → AppendsBytes o a r k
+appends-failed Q o a k r h p = let e = (err_from_is_err_and r h).1 in rw e p
+
+-- ---- a borrowed writer
+
+-- a call that writes keeps the reference by which the writer is borrowed
+keeps_reference : {W E : Type 0} (contents_of : W → Option (List ℕ))
+    (before after : PlainWriterRef W) (name : GName) (contents : Option (List ℕ)) (x : W)
+    (r : Result (Unit {0}) E)
+    → plain_ref_sink contents_of before ≡ fresh_plain_ref name contents
+    → KeepsFrame (plain_ref_sink contents_of before).frame r
+    (plain_ref_sink contents_of after).frame
+    → (name ≡ borrow_name after → x ≡ borrowed_writer after) → x ≡ borrowed_writer after
+keeps_reference contents_of before after name contents x (Ok done) begins keeps back =
+    let kept : (borrow_name after ∷ []) ≡ (name ∷ []) =
+    ap (λ (f : Frame). f.through) keeps ∙ ap (λ (s : Sink). s.frame.through) begins in
+    back cc
+keeps_reference contents_of before after name contents x (Err e) begins keeps back =
+    let kept : (borrow_name after ∷ []) ≡ (name ∷ []) =
+    ap (λ (f : Frame). f.through) keeps ∙ ap (λ (s : Sink). s.frame.through) begins in
+    back cc
+
+-- bytes that were written through the reference are in the borrowed writer
+pub written_to_plain_ref : {W E : Type 0} (contents_of : W → Option (List ℕ))
+    (before after : PlainWriterRef W) (name : GName) (contents : Option (List ℕ)) (x : W)
+    (bs : List ℕ) (r : Result (Unit {0}) E)
+    → plain_ref_sink contents_of before ≡ fresh_plain_ref name contents
+    → Writes (plain_ref_sink contents_of before) (bytes bs) r (plain_ref_sink contents_of after)
+    → (name ≡ borrow_name after → x ≡ borrowed_writer after)
+    → AppendsBytes contents bs r (contents_of x)
+unfolding with_written is_known
+written_to_plain_ref {W} {E} contents_of before after name contents x bs (Ok done) begins p back =
+    λ known.
+    let previous : contents_of (borrowed_writer before) ≡ contents =
+    ap (λ (s : Sink). s.contents) begins in
+    ap contents_of
+    (keeps_reference {E = E} contents_of before after name contents x (Ok done) begins p.0 back)
+    ∙ ap (λ (s : Sink). s.contents) (p.1 (ap are_known previous ∙ known))
+    ∙ ap (extended (contents_of (borrowed_writer before))) (spelled-bytes plain_spelling bs)
+    ∙ ap (λ (o : Option (List ℕ)). extended o bs) previous
+written_to_plain_ref {W} {E} contents_of before after name contents x bs (Err e) begins p back =
+    λ known.
+    let previous : contents_of (borrowed_writer before) ≡ contents =
+    ap (λ (s : Sink). s.contents) begins in
+    let written_prefix = p.1 (ap are_known previous ∙ known) in
+    record {
+      prefix = written_prefix.prefix;
+      rest = written_prefix.rest;
+      whole = written_prefix.whole ∙ spelled-bytes plain_spelling bs;
+      contents =
+          ap contents_of
+          (keeps_reference {E = E} contents_of before after name contents x (Err e) begins p.0 back)
+          ∙ written_prefix.contents
+          ∙ ap (λ (o : Option (List ℕ)). extended o written_prefix.prefix) previous;
+    }

@@ -1,0 +1,14 @@
+-- texts and lists of diagnostics
+pub mod TextLemmas
+-- columns, and lines past the end
+pub mod ColumnLemmas
+pub mod PastEndFailures
+-- what writers write
+pub mod KnownBytes
+pub mod Writes
+pub mod Put
+pub mod Loops
+pub mod Chains
+pub mod Repeats
+pub mod StyleMarks
+pub mod AppendsBytes

@@ -1,0 +1,29 @@
+use Rattle.std.proofs.Common.{◌++◌, refl, ap, ◌∙◌}
+use Rattle.std.proofs.lemmas.Result.{err_from_is_err_and, IfOk-weaker}
+use Rattle.codespan_core.proofs.diagnostic.Diagnostic.with_labels_iter.Goals as goal
+
+-- the run of `collect` is the run of the iterator
+pub returns-clause-labels : goal.returns-clause-labels
+returns-clause-labels g c =
+    let run = c.in_ok-labels.ensures.runs tt in
+    IfOk-weaker c.with_labels.result _ _ (λ d items. (
+      c.into_iter.result,
+      c.into_iter.ensures.into_iter_gives,
+      (run.0, run.1, run.2, items ∙ ap (◌++◌ c.args.self.labels.items) run.3.0),
+    )) c.with_labels.ensures.labels
+
+-- the iterator is one that `into_iter` returned
+pub collect-requires-clause-can : goal.collect-requires-clause-can
+collect-requires-clause-can g c = (c.requires _ c.into_iter.ensures.into_iter_gives).0
+
+pub collect-requires-clause-finite : goal.collect-requires-clause-finite
+collect-requires-clause-finite g c = (c.requires _ c.into_iter.ensures.into_iter_gives).1
+
+pub collect-requires-clause-can_collect : goal.collect-requires-clause-can_collect
+collect-requires-clause-can_collect g c = λ _ _ _. tt
+
+-- the error is that of a failed allocation
+pub returns-in_err-labels-clause-failed : goal.returns-in_err-labels-clause-failed
+returns-in_err-labels-clause-failed g c =
+    let p = err_from_is_err_and c.from_residual.result c.from_residual.ensures.1 in
+    rw (p.1, p.2) refl

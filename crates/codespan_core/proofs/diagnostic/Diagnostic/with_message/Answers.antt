@@ -1,0 +1,6 @@
+use Rattle.std.proofs.Common.{rules}
+use Rattle.codespan_core.proofs.diagnostic.Diagnostic.with_message.Goals as goal
+
+-- the message is the text
+pub returns-clause-message : goal.returns-clause-message
+returns-clause-message g c = search rules depth 2 fits 100

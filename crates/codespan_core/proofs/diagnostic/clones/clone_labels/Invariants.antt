@@ -1,0 +1,7 @@
+use Rattle.std.proofs.Common.{◌≡◌, map, take}
+use Rattle.codespan_core.specs.Diagnostics.{label_view}
+use Rattle.codespan_core.proofs.diagnostic.clones.clone_labels.Given as goal
+
+abbrev pub invariant-loop-label : goal.invariant-loop-label
+invariant-loop-label g l =
+    map label_view l.copies.items ≡ map label_view (take l.label-index l.labels.items)

@@ -1,0 +1,6 @@
+use Rattle.std.proofs.Common.{refl}
+use Rattle.codespan_core.proofs.files.error.ErrorFromAllocFailed.from.Goals as goal
+
+-- the error is `OutOfMemory`
+pub returns : goal.returns
+returns g c = refl

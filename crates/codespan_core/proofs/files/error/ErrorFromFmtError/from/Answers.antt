@@ -1,0 +1,6 @@
+use Rattle.std.proofs.Common.{refl}
+use Rattle.codespan_core.proofs.files.error.ErrorFromFmtError.from.Goals as goal
+
+-- the error is `FormatError`
+pub returns : goal.returns
+returns c = refl

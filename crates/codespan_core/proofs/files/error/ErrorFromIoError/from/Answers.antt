@@ -1,0 +1,6 @@
+use Rattle.std.proofs.Common.{refl}
+use Rattle.codespan_core.proofs.files.error.ErrorFromIoError.from.Goals as goal
+
+-- the variant is `Io`, with this error
+pub returns : goal.returns
+returns c = refl

@@ -1,0 +1,34 @@
+use Rattle.std.proofs.Common.{arith, sym, ◌∙◌}
+use Rattle.std.proofs.lemmas.Bool.{false≢true}
+use Rattle.codespan_core.specs.Lines.{is_char_boundary}
+use Rattle.codespan_core.proofs.ColumnLemmas.{count_range_step, is_char_boundary_yes, is_char_boundary_no}
+use Rattle.codespan_core.proofs.files.lines.column_index.Goals.{then-is_char_boundary, else-is_char_boundary}
+use Rattle.codespan_core.proofs.files.lines.column_index.Goals as goal
+
+-- the next boundary is counted, and no other index
+pub loop-i-preserved : goal.loop-i-preserved
+loop-i-preserved c =
+    let step =
+    count_range_step (is_char_boundary c.args.source.now) c.args.line_range.start c.loop-i.i
+    (omega arith) in
+    let test = c.is_char_boundary.ensures.test in
+    record {
+      counted = elim c.if-is_char_boundary.branch [
+        | then-is_char_boundary w ↦ omega (
+          arith,
+          w.count-is,
+          rw (is_char_boundary_yes _ _ (test.0 w.if-is_char_boundary.true)) at step,
+        )
+        | else-is_char_boundary w ↦ omega (
+          arith,
+          w.count-is,
+          rw
+              (is_char_boundary_no _ _ (λ b. false≢true (sym w.if-is_char_boundary.false ∙ test.1 b)))
+              at step,
+        )
+      ];
+      few =
+          elim c.if-is_char_boundary.branch
+          [ then-is_char_boundary w ↦ omega arith | else-is_char_boundary w ↦ omega arith ];
+      empty = λ h. omega arith;
+    }

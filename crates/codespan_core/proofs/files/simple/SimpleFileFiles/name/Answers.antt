@@ -1,0 +1,9 @@
+use Rattle.std.proofs.Common.{refl}
+use Rattle.codespan_core.proofs.files.simple.SimpleFileFiles.name.Goals as goal
+
+-- the call does not fail
+pub returns-clause-succeeds : goal.returns-clause-succeeds
+returns-clause-succeeds g c = refl
+
+pub returns-clause-failed : goal.returns-clause-failed
+returns-clause-failed g c = refl

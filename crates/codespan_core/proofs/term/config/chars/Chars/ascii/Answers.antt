@@ -1,0 +1,6 @@
+use Rattle.std.proofs.Common.{refl}
+use Rattle.codespan_core.proofs.term.config.chars.Chars.ascii.Goals as goal
+
+-- each field is that of the definition
+pub returns-clause-equal : goal.returns-clause-equal
+returns-clause-equal c = record { start = refl; others = refl }

@@ -1,0 +1,6 @@
+use Rattle.std.proofs.Common.{refl}
+use Rattle.codespan_core.proofs.term.config.plain.PlainWriter.new.Goals as goal
+
+-- the flag is not set, and the bytes are those of the inner writer
+pub returns-clause-begins : goal.returns-clause-begins
+returns-clause-begins g c = refl

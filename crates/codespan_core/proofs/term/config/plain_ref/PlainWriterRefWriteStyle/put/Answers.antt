@@ -1,0 +1,14 @@
+use Rattle.std.proofs.Common.{false, [], ◌∷◌}
+use Rattle.codespan_core.specs.Streams.{plain_spelling}
+use Rattle.codespan_core.specs.Writers.{borrow_name}
+use Rattle.codespan_core.proofs.term.config.plain_ref.PlainWriterRefWriteStyle.put.Goals as goal
+
+pub returns-clause-took : goal.returns-clause-took
+returns-clause-took g c =
+    c.forward_put.ensures.took
+    (record {
+      spelling =
+          plain_spelling;
+      failed = false;
+      through = borrow_name c.args.self.now ∷ [];
+    })

@@ -1,0 +1,25 @@
+use Rattle.std.proofs.Common.{arith, refl}
+use Rattle.std.proofs.lemmas.Result.{err_from_is_err_and}
+use Rattle.codespan_core.proofs.Loops.{StillToWrite-start, StillToWrite-more, StillToWrite-failed, StillToWrite-last}
+use Rattle.codespan_core.proofs.Repeats.{spaces-next, spaces-front}
+use Rattle.codespan_core.proofs.term.config.writing.put_spaces.Goals as goal
+
+pub loop-left-init : goal.loop-left-init
+loop-left-init g c = StillToWrite-start _ _ _ refl
+
+pub returns-in_err-put_all : goal.returns-in_err-put_all
+returns-in_err-put_all g c =
+    let p = err_from_is_err_and c.from_residual.result c.from_residual.ensures.1 in
+    rw p.1
+    (StillToWrite-failed _ _ _ _ _ _ _ c.loop-left.invariant c.in_err-put_all.ensures
+    (spaces-next 64 c.loop-left.left (omega arith)))
+
+pub loop-left-preserved : goal.loop-left-preserved
+loop-left-preserved g c =
+    StillToWrite-more _ _ _ _ _ _ _ c.loop-left.invariant c.in_ok-put_all.ensures
+    (spaces-next 64 c.loop-left.left (omega arith))
+
+pub returns : goal.returns
+returns g c =
+    StillToWrite-last _ _ _ _ _ _ c.loop-left.invariant
+    (rw (spaces-front 64 c.loop-left.left (omega arith)) at c.put_all-2.ensures)

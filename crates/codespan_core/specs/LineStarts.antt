@@ -1,0 +1,10 @@
+-- The line starts that the iterator over them has not returned yet.
+use Rattle.std.specs.Prelude.{ℕ, List, ◌∷◌, drop, if◌then◌else◌}
+use Rattle.codespan_core.specs.Lines.{starts_after}
+use Rattle.codespan_core.specs.declared.files.starts.LineStarts.{LineStarts}
+
+-- the line starts that are left
+abbrev pub starts_left : LineStarts → List ℕ
+starts_left s =
+    if s.started then starts_after s.at (drop s.at s.source.now)
+    else 0 ∷ starts_after s.at (drop s.at s.source.now)

@@ -1,5 +1,0 @@
-use Rattle.codespan_inputs.proofs.diagnostic.Diagnostic.note.Goals as goal
-
--- the severity is the one that was given to `new`
-pub returns-clause-severity : goal.returns-clause-severity
-returns-clause-severity g c = c.new.ensures.severity

@@ -1,6 +1,0 @@
-use Rattle.std.proofs.Common.{refl}
-use Rattle.codespan_inputs.proofs.diagnostic.Label.new.Goals as goal
-
--- the range is the one that was given
-pub returns-clause-range : goal.returns-clause-range
-returns-clause-range g c = refl

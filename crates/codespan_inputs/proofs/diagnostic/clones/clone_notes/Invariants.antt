@@ -1,7 +1,0 @@
-use Rattle.std.proofs.Common.{◌≡◌, map, take}
-use Rattle.std.specs.Prelude.{string_bytes}
-use Rattle.codespan_inputs.proofs.diagnostic.clones.clone_notes.Given as goal
-
-abbrev pub invariant-loop-note : goal.invariant-loop-note
-invariant-loop-note l =
-    map string_bytes l.copies.items ≡ map string_bytes (take l.note-index l.notes.items)

@@ -1,6 +1,0 @@
-use Rattle.std.proofs.Common.{refl}
-use Rattle.codespan_inputs.proofs.files.error.ErrorFromAllocError.from.Goals as goal
-
--- the error is `OutOfMemory`
-pub returns : goal.returns
-returns c = refl

@@ -1,5 +1,0 @@
-use Rattle.codespan_inputs.proofs.files.simple.SimpleFileFiles.source.Goals as goal
-
--- the text is that of the source
-pub returns-clause-borrowed : goal.returns-clause-borrowed
-returns-clause-borrowed g c = c.as_str.ensures

@@ -1,5 +1,0 @@
-use Rattle.codespan_inputs.proofs.LineCounts as counts
-use Rattle.codespan_inputs.proofs.laws.line_counts_newlines.Goals as goal
-
-pub returns : goal.returns
-returns c = λ name text. counts.line_counts name text

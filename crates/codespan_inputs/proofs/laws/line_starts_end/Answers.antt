@@ -1,5 +1,0 @@
-use Rattle.codespan_inputs.proofs.LineStartsEnd as starts_end
-use Rattle.codespan_inputs.proofs.laws.line_starts_end.Goals as goal
-
-pub returns-clause-drained : goal.returns-clause-drained
-returns-clause-drained c = λ starts items run. starts_end.drained starts items run

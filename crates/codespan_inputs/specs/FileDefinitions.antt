@@ -1,8 +1,0 @@
--- The definitions that have to be unfolded for the clauses of `worked` to compute.
-use Rattle.std.specs.Char.{encode_utf8}
-use Rattle.codespan_inputs.specs.FileModel.{line_of}
-
--- unfolds all definitions of a file
-unfoldable pub file_definitions : Unit {0}
-unfolding encode_utf8 line_of
-file_definitions = tt
