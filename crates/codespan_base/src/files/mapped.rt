@@ -90,8 +90,7 @@ impl<Name, Source: AsStr> MappedFile<Name, Source> {
         ensures err { OnErr result (set_numbers_of self.new ≡ set_numbers_of self.old) }
         ensures failed { FailsBy (past_end_failure (mapped_text_of self.old) line_index) result }
     {
-        // Fails where the text has no such line.
-        self.file.line_range((), line_index)?;
+        self.file.check_line(line_index)?;
         let set_number = SetNumber { line_index, number };
         match self.search(line_index) {
             Ok(at) => self.numbers[at] = set_number,

@@ -83,7 +83,7 @@ impl<Name, Source: AsStr> SimpleFile<Name, Source> {
         &self.source
     }
 
-    /// Returns the number of lines of the text, which is at least one.
+    /// Returns the number of lines of the text, which is at least one. It is this project's own.
     pub fn line_count(&self) -> usize
         ensures value { result ≡ length (line_starts_of (file_text_of self.now)) }
         ensures some { 1 ≤ result }
@@ -91,13 +91,13 @@ impl<Name, Source: AsStr> SimpleFile<Name, Source> {
         self.line_starts.len()
     }
 
-    /// Checks that the text has a line of this index, from 0.
+    /// Checks that the text has a line of this index, from 0. It is this project's own.
     ///
     /// # Errors
     ///
     /// [`Error::LineTooLarge`] with `given` the index and `max` that of the last line, where the
     /// text has no such line.
-    fn check_line(&self, line_index: usize) -> Result<(), Error>
+    pub fn check_line(&self, line_index: usize) -> Result<(), Error>
         ensures exists { OnOk result
             (line_index < length (line_starts_of (file_text_of self.now))) }
         ensures failed { FailsBy (past_end_failure (file_text_of self.now) line_index) result }
