@@ -1,16 +1,4 @@
--- the definitions of the crates below: files, labels, streams, writers, errors, the characters, and
--- the default configuration
-pub use Rattle.codespan_core.specs.FileModel
-pub use Rattle.codespan_core.specs.LawfulFiles
-pub use Rattle.codespan_core.specs.SimpleModel
-pub use Rattle.codespan_core.specs.Labels
-pub use Rattle.codespan_core.specs.Streams
-pub use Rattle.codespan_core.specs.WriterLaw
-pub use Rattle.codespan_core.specs.Errors
-pub use Rattle.codespan_core.specs.SnippetStarts
-pub use Rattle.codespan_core.specs.Characters
-pub use Rattle.codespan_core.specs.Defaults
--- the Rust types of all of these
+-- the Rust types that definitions name
 pub mod Types
 -- a line: its characters, carets and lanes
 pub mod CharMetrics
