@@ -18,7 +18,7 @@ use Rattle.codespan_picture.specs.Lines.{drawn_lines}
 use Rattle.codespan_picture.specs.Padding.{padding_of}
 use Rattle.codespan_picture.specs.OutputStreams.{NamesAreTexts, files_of, header_text_of, label_of, labels_of, context_of, notes_of, output, locus_starts}
 use Rattle.codespan_picture.specs.Picture.{stated_loci, headers}
-use Rattle.codespan_picture.specs.Rows.{Line, Locus, Row, HeaderRow, EmptyRow, SourceRow, HangingRow, UnderlineRow, FinalRow, caret_rows, hanging_labels, hanging_rows, has_underline, rows_of, underline_rows}
+use Rattle.codespan_picture.specs.Rows.{Line, Locus, Row, HeaderRow, EmptyRow, SourceRow, HangingRow, UnderlineRow, FinalRow, caret_rows, hanging_labels, pointer_and_hanging_rows, has_underline, rows_of, underline_rows}
 use Rattle.codespan_picture.specs.CharMetrics.{leading_whitespace}
 use Rattle.codespan_picture.specs.Carets.{max_label_end}
 use Rattle.codespan_picture.specs.Sequences.{break_between}
@@ -129,7 +129,7 @@ text_message-hanging_labels (x ∷ xs) h =
         (λ _. all-filter HasTextMessage has_message (x ∷ xs) h)
 
 rows-hanging_labels : (line : Line) (labels : List LabelModel)
-    → AllByRecursion HasTextMessage labels → AllByRecursion IsTextRow (hanging_rows line labels)
+    → AllByRecursion HasTextMessage labels → AllByRecursion IsTextRow (pointer_and_hanging_rows line labels)
 rows-hanging_labels line [] h = tt
 rows-hanging_labels line (x ∷ xs) h = (
   tt,
@@ -146,10 +146,10 @@ rows-line line t =
     let test : LaneMark → Bool = λ m. has_underline (leading_whitespace line.text) m.multi_label in
     all-append IsTextRow
     ((SourceRow line ∷ caret_rows line line.labels)
-    ++ hanging_rows line (hanging_labels line.labels))
+    ++ pointer_and_hanging_rows line (hanging_labels line.labels))
     (underline_rows line)
     (all-append IsTextRow (SourceRow line ∷ caret_rows line line.labels)
-    (hanging_rows line (hanging_labels line.labels))
+    (pointer_and_hanging_rows line (hanging_labels line.labels))
     (t.text, rows-caret line line.labels t.labels)
     (rows-hanging_labels line (hanging_labels line.labels) (text_message-hanging_labels line.labels t.labels)))
     (each_map IsTextRow (UnderlineRow line) (filter test line.lanes.lane_marks)

@@ -12,7 +12,7 @@ use Rattle.codespan_core.specs.Streams.{Stream}
 use Rattle.codespan_core.specs.Labels.{LabelModel, is_empty_stream, LaneMark, MultiLabel, Top, Left, Bottom, first_line, last_line, is_single, drawn_label, first_seen, multi_line_labels, range_precedes, insert_sorted, sorted, single_labels, multi_label_on, lane_mark_of, lane_marks_on}
 use Rattle.codespan_picture.specs.CharMetrics.{leading_whitespace}
 use Rattle.codespan_picture.specs.Lines.{shows, is_shown, drawn_lines, has_break_between}
-use Rattle.codespan_picture.specs.Rows.{Locus, HeaderText, Lanes, Line, HeaderRow, SnippetStartRow, EmptyRow, BreakRow, SourceRow, PointerRow, HangingRow, UnderlineRow, FirstNoteRow, LaterNoteRow, FinalRow, hanging_labels, has_underline, caret_rows, hanging_rows, underline_rows, rows_of}
+use Rattle.codespan_picture.specs.Rows.{Locus, HeaderText, Lanes, Line, HeaderRow, SnippetStartRow, EmptyRow, BreakRow, SourceRow, PointerRow, HangingRow, UnderlineRow, FirstNoteRow, LaterNoteRow, FinalRow, hanging_labels, has_underline, caret_rows, pointer_and_hanging_rows, underline_rows, rows_of}
 use Rattle.codespan_picture.specs.Snippets.{LabeledFileModel, InFile, labeled_file_model, labeled_file_models, num_multi_labels, empty_lanes, line_at, rows_after, snippet, has_any, row_after, snippets, note_line_rows, note_rows, rich_rows}
 use Rattle.codespan_picture.proofs.FillLemmas.{breaks_before}
 use Rattle.codespan_picture.specs.Padding.{spans, spanned_lines, numbered_lines, digits_of, padding_of}
@@ -55,7 +55,7 @@ module _ (φ : Stream → Stream) (keeps : (s : Stream) → is_empty_stream (φ 
   caret-rows line (x ∷ xs) = refl
 
   hanging_labels-rows : (line : Line) (labels : List LabelModel)
-      → map (refilled_row φ) (hanging_rows line labels) ≡ hanging_rows (refilled_line φ line)
+      → map (refilled_row φ) (pointer_and_hanging_rows line labels) ≡ pointer_and_hanging_rows (refilled_line φ line)
       (map (refilled φ) labels)
   hanging_labels-rows line [] = refl
   hanging_labels-rows line (x ∷ xs) =
@@ -79,11 +79,11 @@ module _ (φ : Stream → Stream) (keeps : (s : Stream) → is_empty_stream (φ 
 
   line-rows : (line : Line) → map (refilled_row φ) (rows_of line) ≡ rows_of (refilled_line φ line)
   line-rows line =
-      map-append' (refilled_row φ) ((SourceRow line ∷ caret_rows line line.labels) ++ hanging_rows line (hanging_labels line.labels)) (underline_rows line)
+      map-append' (refilled_row φ) ((SourceRow line ∷ caret_rows line line.labels) ++ pointer_and_hanging_rows line (hanging_labels line.labels)) (underline_rows line)
       ∙ ap₂ (λ a b. a ++ b)
-      (map-append' (refilled_row φ) (SourceRow line ∷ caret_rows line line.labels) (hanging_rows line (hanging_labels line.labels))
+      (map-append' (refilled_row φ) (SourceRow line ∷ caret_rows line line.labels) (pointer_and_hanging_rows line (hanging_labels line.labels))
       ∙ ap₂ (λ a b. (SourceRow (refilled_line φ line) ∷ a) ++ b) (caret-rows line line.labels)
-      (hanging_labels-rows line (hanging_labels line.labels) ∙ ap (hanging_rows (refilled_line φ line)) (sym (hanging_labels-refilled φ keeps line.labels))))
+      (hanging_labels-rows line (hanging_labels line.labels) ∙ ap (pointer_and_hanging_rows (refilled_line φ line)) (sym (hanging_labels-refilled φ keeps line.labels))))
       (underline-rows line)
 
   -- ---- the labels of a line
