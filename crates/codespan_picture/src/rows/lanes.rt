@@ -11,7 +11,7 @@ ghost use Rattle.codespan_picture.specs.Lanes.{crossing_cells, lane_cells, under
 
 use crate::arguments::MultiLabel;
 pub use crate::lanes::Shape;
-use crate::rows::lanes::shapes::shape_in;
+use crate::rows::lanes::shapes::row_shape;
 use crate::rows::line::{Lanes, RowContext};
 use crate::rows::parts::write_label_glyph;
 use codespan_core::diagnostic::LabelStyle;
@@ -163,7 +163,7 @@ fn inner_gutter_column<W: PutStyle>(
     match lane.lane_mark {
         None => write_lane_cells(w, context, crossing, LabelStyle::Primary, Shape::Space),
         Some((_, style, multi_label)) => {
-            let shape = shape_in(context.layout, leading, row, lane.index, multi_label);
+            let shape = row_shape(context.layout, leading, row, lane.index, multi_label);
             write_lane_cells(w, context, crossing, style, shape)
         }
     }

@@ -12,7 +12,7 @@ use codespan_core::term::Layout;
 /// Returns what a multi-line label mark shows in a row of this kind. `leading` is the length in
 /// bytes of the white space that the line's text begins with, `lane` the lane of the multi-line
 /// label mark, counted from 0.
-pub fn shape_in(
+pub fn row_shape(
     layout: Layout,
     leading: usize,
     row: LaneRow<'_>,
