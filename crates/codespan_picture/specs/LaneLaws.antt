@@ -72,7 +72,7 @@ pub record MayLeaveOut (layout : Layout) (s : LabeledFileModel) (rows : List Row
     (x : LabelModel) (top k : ℕ) : Type 0 where
   pub is_classic : is_unbroken layout ≡ false
   pub begins_in_source_row : slice_get rows top ≡ Some (SourceRow (line_at s (first_line s.file x)))
-  pub is_gap : shape_at layout rows k lane ≡ Some Space
+  pub shows_space : shape_at layout rows k lane ≡ Some Space
   pub is_of_line : (row : Row) → slice_get rows k ≡ Some row
       → line_of_row row ≡ Some (line_at s (first_line s.file x))
 
