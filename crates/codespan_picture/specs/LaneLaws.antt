@@ -13,7 +13,7 @@ use Rattle.codespan_picture.specs.Lanes.{LaneRow, Source, Empty, SingleLabels, U
 use Rattle.codespan_picture.specs.Rows.{Locus, RowContext, Lanes, Line, Row, EmptyRow, BreakRow, SourceRow, CaretRow, PointerRow, HangingRow, UnderlineRow}
 use Rattle.codespan_picture.specs.RowParts.{outer_gutter, outer_gutter_number, border_left, border_left_break, leading_of}
 use Rattle.codespan_picture.specs.RowStreams.{stream_of}
-use Rattle.codespan_picture.specs.Snippets.{LabeledFileModel, line_at, row_after, snippet}
+use Rattle.codespan_picture.specs.Snippets.{LabeledFileModel, line_at, empty_row_after, snippet}
 
 -- the line of a row that has one
 abbrev pub line_of_row : Row → Option Line
@@ -95,7 +95,7 @@ pub record IsCornerToCorner (layout : Layout) (s : LabeledFileModel) (rows : Lis
 abbrev pub LanesJoinCorners : Config → Layout → LabeledFileModel → Type 0
 LanesJoinCorners config layout s =
     (locus : Locus) (is_followed : Bool) (lane : ℕ) (x : LabelModel) → HasLane s lane x
-    → IsCornerToCorner layout s (snippet config locus s ++ row_after is_followed s) lane x
+    → IsCornerToCorner layout s (snippet config locus s ++ empty_row_after is_followed s) lane x
 
 -- ---- what each lane shows is what the stream of its row has there
 
