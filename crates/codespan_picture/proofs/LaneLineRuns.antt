@@ -8,7 +8,7 @@ use Rattle.codespan_core.specs.declared.term.config.Layout.{Layout}
 use Rattle.codespan_core.specs.FileModel.{line_start, line_of, line_count}
 use Rattle.codespan_core.specs.Labels.{LabelModel, is_single, first_line, last_line, multi_label_on, lane_mark_of, lane_marks_on, multi_line_labels, MultiLabel, Top, Left, Bottom}
 use Rattle.codespan_picture.specs.declared.lanes.Shape.TheVariants.{Space, Bar}
-use Rattle.codespan_picture.specs.Lanes.{empty_shape, lane_mark_in, shape_of}
+use Rattle.codespan_picture.specs.Lanes.{empty_or_break_shape, lane_mark_in, shape_of}
 use Rattle.codespan_picture.specs.Lines.{is_shown, is_drawn, drawn_lines, has_break_between}
 use Rattle.codespan_picture.specs.Rows.{Row, BreakRow, SnippetStartRow, EmptyRow, rows_of}
 use Rattle.codespan_picture.specs.Snippets.{LabeledFileModel, line_at, rows_of_drawn, empty_row_after, snippet, empty_lanes}
@@ -101,21 +101,21 @@ module _ (layout : Layout) (s : LabeledFileModel) (lane : ℕ) (x : LabelModel) 
       (breaks_before s previous l ++ rows_of (line_at s l))
   gaps_with previous l none =
       all-append (Shows layout lane Space) (breaks_before s previous l) (rows_of (line_at s l))
-      (each_break (Shows layout lane Space) s previous l (ap (shape_of empty_shape) none))
+      (each_break (Shows layout lane Space) s previous l (ap (shape_of empty_or_break_shape) none))
       (no_lane_mark layout lane (line_at s l) none)
 
   gap_break : (previous : Option ℕ) (l : ℕ) → first_line s.file x ≡ l
       → AllByRecursion (Shows layout lane Space) (breaks_before s previous l)
   gap_break previous l h =
       each_break (Shows layout lane Space) s previous l
-      (ap (shape_of empty_shape) (lane_mark_at l (Some (top_of l)) (top_at l h)))
+      (ap (shape_of empty_or_break_shape) (lane_mark_at l (Some (top_of l)) (top_at l h)))
 
   bar_break : (previous : Option ℕ) (l : ℕ) (multi_label : MultiLabel)
-      → empty_shape multi_label ≡ Bar → multi_label_on s.file l x ≡ Some multi_label
+      → empty_or_break_shape multi_label ≡ Bar → multi_label_on s.file l x ≡ Some multi_label
       → AllByRecursion (Shows layout lane Bar) (breaks_before s previous l)
   bar_break previous l multi_label bar is =
       each_break (Shows layout lane Bar) s previous l
-      (ap (shape_of empty_shape) (lane_mark_at l (Some multi_label) is) ∙ bar)
+      (ap (shape_of empty_or_break_shape) (lane_mark_at l (Some multi_label) is) ∙ bar)
 
   abbrev lines_from : ℕ → ℕ → List ℕ
   lines_from a n = filter drawn (range_with_len a n)

@@ -12,7 +12,7 @@ use Rattle.codespan_picture.specs.declared.char_metrics.Metrics.{Metrics}
 use Rattle.codespan_picture.specs.Carets.{style_under, covers, max_label_end, is_overlapping}
 use Rattle.codespan_picture.specs.declared.lanes.Shape.{Shape}
 use Rattle.codespan_picture.specs.declared.lanes.Shape.TheVariants.{Space, Bar, TopCorner, BottomCorner}
-use Rattle.codespan_picture.specs.Lanes.{source_shape, empty_shape, single_labels_shape, underline_shape, lane_mark_in, underline_char, crossing_cells, lane_cells, Source, Empty, SingleLabels, Underline}
+use Rattle.codespan_picture.specs.Lanes.{source_shape, empty_or_break_shape, single_labels_shape, underline_shape, lane_mark_in, underline_char, crossing_cells, lane_cells, Source, EmptyOrBreak, SingleLabels, Underline}
 use Rattle.codespan_picture.specs.Rows.{RowContext, Lanes, Line, trailing_label, hanging_labels}
 use Rattle.codespan_picture.proofs.Rightmost.{Around, others, behind, around_with_end, around_trails, around_rightmost, trailing_of, hanging_of, trailing_is, hanging_is}
 use Rattle.codespan_picture.specs.RowParts.{styled, inner_gutter_column, lanes_in, inner_gutter, line_metrics, multi_label_covers, source_style, source_glyph, colored_text, caret_glyphs, carets, pointer_style, pointer_at, pointers, starts_in, max_label_start}
@@ -190,10 +190,10 @@ module _ (φ : Stream → Stream) (keeps : (s : Stream) → is_empty_stream (φ 
   source_shape-refilled leading Left = refl
   source_shape-refilled leading (Bottom end message) = refl
 
-  empty_shape-refilled : (multi_label : MultiLabel) → empty_shape (refilled_multi_label φ multi_label) ≡ empty_shape multi_label
-  empty_shape-refilled (Top start) = refl
-  empty_shape-refilled Left = refl
-  empty_shape-refilled (Bottom end message) = refl
+  empty_or_break_shape-refilled : (multi_label : MultiLabel) → empty_or_break_shape (refilled_multi_label φ multi_label) ≡ empty_or_break_shape multi_label
+  empty_or_break_shape-refilled (Top start) = refl
+  empty_or_break_shape-refilled Left = refl
+  empty_or_break_shape-refilled (Bottom end message) = refl
 
   single_labels_shape-refilled : (layout : _) (leading : ℕ) (multi_label : MultiLabel)
       → single_labels_shape layout leading (refilled_multi_label φ multi_label) ≡ single_labels_shape
@@ -214,9 +214,9 @@ module _ (φ : Stream → Stream) (keeps : (s : Stream) → is_empty_stream (φ 
   unfolding inner_gutter
   source_lanes-refilled context leading lanes = lanes-refilled context (λ _. None) (λ _. None) (λ _. source_shape leading) lanes (λ _. refl) (λ _. source_shape-refilled leading)
 
-  pub plain_lanes-refilled : (context : RowContext) (lanes : Lanes) → inner_gutter context 0 Empty (refilled_lanes φ lanes) ≡ inner_gutter context 0 Empty lanes
+  pub plain_lanes-refilled : (context : RowContext) (lanes : Lanes) → inner_gutter context 0 EmptyOrBreak (refilled_lanes φ lanes) ≡ inner_gutter context 0 EmptyOrBreak lanes
   unfolding inner_gutter
-  plain_lanes-refilled context lanes = lanes-refilled context (λ _. None) (λ _. None) (λ _. empty_shape) lanes (λ _. refl) (λ _. empty_shape-refilled)
+  plain_lanes-refilled context lanes = lanes-refilled context (λ _. None) (λ _. None) (λ _. empty_or_break_shape) lanes (λ _. refl) (λ _. empty_or_break_shape-refilled)
 
   pub below_lanes-refilled : (context : RowContext) (leading : ℕ) (lanes : Lanes)
       → inner_gutter context leading SingleLabels (refilled_lanes φ lanes) ≡ inner_gutter context leading

@@ -9,7 +9,7 @@ use Rattle.codespan_core.specs.Labels.{LabelModel, first_line, last_line, multi_
 use Rattle.codespan_core.specs.Streams.{Stream}
 use Rattle.codespan_picture.specs.declared.lanes.Shape.{Shape}
 use Rattle.codespan_picture.specs.declared.lanes.Shape.TheVariants.{Space, Bar, TopCorner, BottomCorner}
-use Rattle.codespan_picture.specs.Lanes.{LaneRow, Source, Empty, SingleLabels, Underline, row_shape, row_crossing, lane_mark_in, shape_of, style_of_lane_mark, is_unbroken, lane_cells}
+use Rattle.codespan_picture.specs.Lanes.{LaneRow, Source, EmptyOrBreak, SingleLabels, Underline, row_shape, row_crossing, lane_mark_in, shape_of, style_of_lane_mark, is_unbroken, lane_cells}
 use Rattle.codespan_picture.specs.Rows.{Locus, RowContext, Lanes, Line, Row, EmptyRow, BreakRow, SourceRow, CaretRow, PointerRow, HangingRow, UnderlineRow}
 use Rattle.codespan_picture.specs.RowParts.{outer_gutter, outer_gutter_number, border_left, border_left_break, leading_of}
 use Rattle.codespan_picture.specs.RowStreams.{stream_of}
@@ -37,7 +37,7 @@ kind_of (CaretRow line) = SingleLabels
 kind_of (PointerRow line) = SingleLabels
 kind_of (HangingRow line x) = SingleLabels
 kind_of (UnderlineRow line m) = Underline m
-kind_of _ = Empty
+kind_of _ = EmptyOrBreak
 
 -- what a row shows in a lane
 abbrev pub shape_in : Layout → Row → ℕ → Shape

@@ -17,9 +17,9 @@ source_shape leading (Top start) = if begins_in_source_row leading start then To
 source_shape leading _ = Bar
 
 -- what it shows in an empty row, and in a break row, which has the lane marks of the line after it
-abbrev pub empty_shape : MultiLabel → Shape
-empty_shape (Top start) = Space
-empty_shape _ = Bar
+abbrev pub empty_or_break_shape : MultiLabel → Shape
+empty_or_break_shape (Top start) = Space
+empty_or_break_shape _ = Bar
 
 -- the layout in which a lane continues in every row below its corner in a source row
 abbrev pub is_unbroken : Layout → Bool
@@ -45,14 +45,14 @@ underline_shape layout leading corner_lane lane (Bottom end message) =
 -- hanging row; the underline row of a lane mark
 pub data LaneRow : Type 0 where
   Source : LaneRow
-  Empty : LaneRow
+  EmptyOrBreak : LaneRow
   SingleLabels : LaneRow
   Underline : LaneMark → LaneRow
 
 -- the table of lanes: what a multi-line label mark shows in a kind of row
 abbrev pub row_shape : Layout → ℕ → LaneRow → ℕ → MultiLabel → Shape
 row_shape layout leading Source lane = source_shape leading
-row_shape layout leading Empty lane = empty_shape
+row_shape layout leading EmptyOrBreak lane = empty_or_break_shape
 row_shape layout leading SingleLabels lane = single_labels_shape layout leading
 row_shape layout leading (Underline m) lane = underline_shape layout leading m.lane lane
 

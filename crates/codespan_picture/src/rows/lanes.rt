@@ -27,7 +27,7 @@ pub enum LaneRow<'d> {
     /// A source row.
     Source,
     /// An empty row or a break row.
-    Empty,
+    EmptyOrBreak,
     /// A row of single-line labels: a caret, pointer or hanging row.
     SingleLabels,
     /// The underline row of a lane mark: its lane, counted from 0, its style, and what its label
@@ -55,7 +55,7 @@ fn crossing<'d>(row: LaneRow<'d>, lane: usize) -> Option<(usize, LabelStyle, Mul
             style,
             multi_label,
         )),
-        LaneRow::Source | LaneRow::Empty | LaneRow::SingleLabels | LaneRow::Underline(_, _, _) =>
+        LaneRow::Source | LaneRow::EmptyOrBreak | LaneRow::SingleLabels | LaneRow::Underline(_, _, _) =>
             None,
     }
 }
@@ -217,7 +217,7 @@ fn num_empty_lanes(row: LaneRow<'_>, lane: usize, until: usize) -> usize
 {
     let end = match row {
         LaneRow::Underline(corner_lane, _, _) => until.min(corner_lane.saturating_add(1)),
-        LaneRow::Source | LaneRow::Empty | LaneRow::SingleLabels => until,
+        LaneRow::Source | LaneRow::EmptyOrBreak | LaneRow::SingleLabels => until,
     };
     end.saturating_sub(lane).min(MAX_EMPTY_LANES)
 }
@@ -263,10 +263,10 @@ fn inner_gutter_columns<W: PutStyle>(
     let mut next = 0;
     let mut lane = 0;
     while lane < lanes.count {
-        let empty = num_empty_lanes(row, lane, next_lane(lanes, next));
-        if empty > 0 {
-            put_spaces(w, empty + empty)?;
-            lane += empty;
+        let num_empty = num_empty_lanes(row, lane, next_lane(lanes, next));
+        if num_empty > 0 {
+            put_spaces(w, num_empty + num_empty)?;
+            lane += num_empty;
         } else {
             let (lane_mark, after) = take_lane_mark(lanes.lane_marks, next, lane);
             let own = Lane {

@@ -25,7 +25,7 @@ pub fn row_shape(
 {
     match (row, multi_label) {
         (LaneRow::Source, MultiLabel::Top(start)) if start <= leading => Shape::TopCorner,
-        (LaneRow::Source | LaneRow::Empty, MultiLabel::Top(_)) => Shape::Space,
+        (LaneRow::Source | LaneRow::EmptyOrBreak, MultiLabel::Top(_)) => Shape::Space,
         (LaneRow::SingleLabels, MultiLabel::Top(start)) if goes_on(layout, leading, start) =>
             Shape::Bar,
         (LaneRow::SingleLabels, MultiLabel::Top(_)) => Shape::Space,
@@ -33,7 +33,7 @@ pub fn row_shape(
             underline_shape(layout, leading, corner_lane, lane, multi_label)
         }
         (
-            LaneRow::Source | LaneRow::Empty | LaneRow::SingleLabels,
+            LaneRow::Source | LaneRow::EmptyOrBreak | LaneRow::SingleLabels,
             MultiLabel::Left | MultiLabel::Bottom(_, _),
         ) => Shape::Bar,
     }
