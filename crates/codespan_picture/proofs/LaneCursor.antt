@@ -12,7 +12,7 @@ use Rattle.codespan_picture.specs.declared.rows.lanes.LaneRow.{LaneRow as RustLa
 use Rattle.codespan_picture.specs.Arguments.{LaneMarkTuple, lane_mark_view, lanes_of, lanes_in_order, ascend_from}
 use Rattle.codespan_picture.specs.Private.LineViews.{row_lane_view, row_lanes_view, lane_row_view}
 use Rattle.codespan_picture.specs.Private.LaneMarksLeft.{lane_mark_here, lane_marks_after}
-use Rattle.codespan_picture.specs.Lanes.{crossing_cells, lane_cells, lane_mark_in, row_shape, row_crossing}
+use Rattle.codespan_picture.specs.Lanes.{crossing_characters, lane_characters, lane_mark_in, row_shape, row_crossing}
 use Rattle.codespan_picture.specs.Rows.{RowContext, Lanes}
 use Rattle.codespan_picture.specs.RowParts.{inner_gutter_column, inner_gutter}
 use Rattle.codespan_picture.proofs.RowEquations.{spaces-add}
@@ -178,7 +178,7 @@ cursor-end context leading row i n lane_marks h = let e : n - i ≡ 0 = omega ar
 empty-lane : (context : RowContext) (leading : ℕ) (row : RustLaneRow) (lane : ℕ)
     → row_crossing (lane_row_view row) lane ≡ None
     → row_lane_view context leading row lane None ≡ spaces 2
-unfolding row_lane_view inner_gutter_column lane_cells crossing_cells
+unfolding row_lane_view inner_gutter_column lane_characters crossing_characters
 empty-lane context leading row lane clear = rw clear refl
 
 -- where no lane mark is taken all remain

@@ -24,7 +24,7 @@ use Rattle.codespan_picture.proofs.LaneLineLemmas.{each_all}
 use Rattle.codespan_picture.proofs.Rightmost.{Around, around_trails, around_rightmost, trailing_of, around_is, trailing_is}
 use Rattle.codespan_picture.proofs.ListElements.{all-weaker}
 use Rattle.codespan_picture.proofs.StreamTexts.{text-none, text-both, followed, text-bytes, text-style_mark, text-glyph, text-space, text-newline, text-colon_space, text-open, text-close, text-spaces, text-repeated, text-each, text-severity, text-locus, text-outer_gutter, text-outer_gutter_number, text-border_left, text-border_left_break, text-styled, text-label_message}
-use Rattle.codespan_picture.proofs.LaneTexts.{text-label_glyph, text-lane_cells, scalar-caret_for, scalar-start_caret, scalar-end_caret, scalar-char_metrics, text-source_glyph, IsTextMultiLabel, IsTextRow}
+use Rattle.codespan_picture.proofs.LaneTexts.{text-label_glyph, text-lane_characters, scalar-caret_for, scalar-start_caret, scalar-end_caret, scalar-char_metrics, text-source_glyph, IsTextMultiLabel, IsTextRow}
 
 -- ---- rows
 
@@ -82,7 +82,7 @@ module _ (context : RowContext) (ok : AreCharacters context.chars) where
       → IsText (inner_gutter_column context crossing shape lane_mark)
   unfolding inner_gutter_column
   text-inner_gutter_column crossing shape lane_mark =
-      text-lane_cells context.chars ok context.severity crossing (style_of_lane_mark lane_mark)
+      text-lane_characters context.chars ok context.severity crossing (style_of_lane_mark lane_mark)
       (shape_of shape lane_mark)
 
   text-inner_gutter : (leading : ℕ) (row : LaneRow) (lanes : Lanes)

@@ -9,7 +9,7 @@ use Rattle.codespan_core.specs.Labels.{LabelModel, first_line, last_line, multi_
 use Rattle.codespan_core.specs.Streams.{Stream}
 use Rattle.codespan_picture.specs.declared.lanes.Shape.{Shape}
 use Rattle.codespan_picture.specs.declared.lanes.Shape.TheVariants.{Space, Bar, TopCorner, BottomCorner}
-use Rattle.codespan_picture.specs.Lanes.{LaneRow, Source, EmptyOrBreak, SingleLabels, Underline, row_shape, row_crossing, lane_mark_in, shape_of, style_of_lane_mark, is_unbroken, lane_cells}
+use Rattle.codespan_picture.specs.Lanes.{LaneRow, Source, EmptyOrBreak, SingleLabels, Underline, row_shape, row_crossing, lane_mark_in, shape_of, style_of_lane_mark, is_unbroken, lane_characters}
 use Rattle.codespan_picture.specs.Rows.{Locus, RowContext, Lanes, Line, Row, EmptyRow, BreakRow, SourceRow, CaretRow, PointerRow, HangingRow, UnderlineRow}
 use Rattle.codespan_picture.specs.RowParts.{outer_gutter, outer_gutter_number, border_left, border_left_break, leading_of}
 use Rattle.codespan_picture.specs.RowStreams.{stream_of}
@@ -102,7 +102,7 @@ LanesJoinCorners config layout s =
 -- the two characters of what a row shows in each lane, from left to right
 abbrev pub lanes_shown : RowContext → Row → Lanes → Stream
 lanes_shown context row lanes =
-    flat_map (λ lane. lane_cells context.severity context.chars (row_crossing (kind_of row) lane)
+    flat_map (λ lane. lane_characters context.severity context.chars (row_crossing (kind_of row) lane)
     (style_of_lane_mark (lane_mark_in lanes.lane_marks lane)) (shape_in context.layout row lane))
     (range_with_len 0 lanes.count)
 

@@ -90,19 +90,19 @@ label_glyph severity style c =
     style_mark (LabelStyleMark severity style) ++ glyph c ++ style_mark Reset
 
 -- `n` characters of a lane: of the underline that crosses it, or spaces
-unfoldable pub crossing_cells : Severity → Chars → Option LaneMark → ℕ → Stream
-crossing_cells severity chars None n = spaces n
-crossing_cells severity chars (Some m) n =
+unfoldable pub crossing_characters : Severity → Chars → Option LaneMark → ℕ → Stream
+crossing_characters severity chars None n = spaces n
+crossing_characters severity chars (Some m) n =
     style_mark (LabelStyleMark severity m.style) ++ repeated n (underline_char chars m.multi_label)
     ++ style_mark Reset
 
 -- the two characters of a lane: a space, or one character of the line that crosses it, and then its
 -- own; if it shows nothing, two such
-unfoldable pub lane_cells : Severity → Chars → Option LaneMark → LabelStyle → Shape → Stream
-lane_cells severity chars crossing style Space = crossing_cells severity chars crossing 2
-lane_cells severity chars crossing style Bar =
-    crossing_cells severity chars crossing 1 ++ label_glyph severity style chars.multi_left
-lane_cells severity chars crossing style TopCorner =
-    crossing_cells severity chars crossing 1 ++ label_glyph severity style chars.multi_top_left
-lane_cells severity chars crossing style BottomCorner =
-    crossing_cells severity chars crossing 1 ++ label_glyph severity style chars.multi_bottom_left
+unfoldable pub lane_characters : Severity → Chars → Option LaneMark → LabelStyle → Shape → Stream
+lane_characters severity chars crossing style Space = crossing_characters severity chars crossing 2
+lane_characters severity chars crossing style Bar =
+    crossing_characters severity chars crossing 1 ++ label_glyph severity style chars.multi_left
+lane_characters severity chars crossing style TopCorner =
+    crossing_characters severity chars crossing 1 ++ label_glyph severity style chars.multi_top_left
+lane_characters severity chars crossing style BottomCorner =
+    crossing_characters severity chars crossing 1 ++ label_glyph severity style chars.multi_bottom_left

@@ -8,7 +8,7 @@ use Rattle.codespan_core.specs.Streams.{Stream, Header, bytes, newline, style_ma
 use Rattle.codespan_picture.specs.declared.char_metrics.Metrics.{Metrics}
 use Rattle.codespan_picture.specs.CharMetrics.{char_metrics, char_metrics_to_end}
 use Rattle.codespan_picture.specs.Arguments.{SingleLabelTuple, LaneMarkTuple, single_label_view, single_label_views, lane_mark_view, locus_view, text_now}
-use Rattle.codespan_picture.specs.Lanes.{Source, Underline, crossing_cells, label_glyph}
+use Rattle.codespan_picture.specs.Lanes.{Source, Underline, crossing_characters, label_glyph}
 use Rattle.codespan_picture.specs.Rows.{caret_rows, hanging_labels, pointer_and_hanging_rows}
 use Rattle.codespan_picture.specs.RowParts.{border_left, carets, metrics_before, outer_gutter, label_message, leading_of, outer_gutter_number, pointers, inner_gutter, severity_name}
 use Rattle.codespan_picture.specs.RowStreams.{bracketed, leading_locus, pointer_row, stream_of_rows}
@@ -50,7 +50,7 @@ underline_lanes_view x line lane_mark =
 -- space, and its own character
 abbrev pub lane_glyph_view : context.RowContext → Option LaneMarkTuple → LabelStyle → ℕ → Stream
 lane_glyph_view x crossing style own =
-    crossing_cells x.severity x.chars.now (option_map lane_mark_view crossing) 1
+    crossing_characters x.severity x.chars.now (option_map lane_mark_view crossing) 1
     ++ label_glyph x.severity style own
 
 -- ---- the rows under a line

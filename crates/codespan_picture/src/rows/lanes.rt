@@ -7,7 +7,7 @@ ghost use Rattle.codespan_picture.specs.Arguments.{lane_mark_view, multi_label_v
 ghost use Rattle.codespan_picture.specs.Private.LineViews.{context_view, lanes_view, lane_row_view, row_lane_view, row_lanes_view};
 ghost use Rattle.codespan_picture.specs.Private.RowViews.{lane_glyph_view};
 ghost use Rattle.codespan_picture.specs.Private.LaneMarksLeft.{lane_mark_here, lane_marks_after};
-ghost use Rattle.codespan_picture.specs.Lanes.{crossing_cells, lane_cells, underline_char, row_crossing};
+ghost use Rattle.codespan_picture.specs.Lanes.{crossing_characters, lane_characters, underline_char, row_crossing};
 
 use crate::arguments::MultiLabel;
 pub use crate::lanes::Shape;
@@ -72,14 +72,14 @@ fn underline_char(chars: &Chars<'_>, multi_label: MultiLabel<'_>) -> char
 
 /// Writes `count` characters of a lane: of the underline that crosses it, or spaces.
 #[inline(always)]
-fn write_crossing_cells<W: PutStyle>(
+fn write_crossing_characters<W: PutStyle>(
     w: &mut W,
     context: RowContext<'_>,
     crossing: Option<(usize, LabelStyle, MultiLabel<'_>)>,
     count: usize,
 ) -> Result<(), W::Error>
     ensures { Writes (W.sink w.old)
-        (crossing_cells context.entry.severity context.entry.chars.now
+        (crossing_characters context.entry.severity context.entry.chars.now
         (option_map lane_mark_view crossing.entry)
         count) result (W.sink w.new) }
 {
@@ -106,14 +106,14 @@ fn write_lane_glyph<W: PutStyle>(
     ensures { Writes (W.sink w.old) (lane_glyph_view context.entry crossing.entry style own)
         result (W.sink w.new) }
 {
-    write_crossing_cells(w, context, crossing, 1)?;
+    write_crossing_characters(w, context, crossing, 1)?;
     write_label_glyph(w, context.severity, style, own)
 }
 
 /// Writes the two characters of a lane.
-#[tactic(auto, unfolding(crate::specs::Lanes::lane_cells))]
+#[tactic(auto, unfolding(crate::specs::Lanes::lane_characters))]
 #[inline(always)]
-fn write_lane_cells<W: PutStyle>(
+fn write_lane_characters<W: PutStyle>(
     w: &mut W,
     context: RowContext<'_>,
     crossing: Option<(usize, LabelStyle, MultiLabel<'_>)>,
@@ -121,12 +121,12 @@ fn write_lane_cells<W: PutStyle>(
     shape: Shape,
 ) -> Result<(), W::Error>
     ensures { Writes (W.sink w.old)
-        (lane_cells context.entry.severity context.entry.chars.now
+        (lane_characters context.entry.severity context.entry.chars.now
         (option_map lane_mark_view crossing.entry)
         style shape) result (W.sink w.new) }
 {
     match shape {
-        Shape::Space => write_crossing_cells(w, context, crossing, 2),
+        Shape::Space => write_crossing_characters(w, context, crossing, 2),
         Shape::Bar => write_lane_glyph(w, context, crossing, style, context.chars.multi_left),
         Shape::TopCorner => write_lane_glyph(
             w,
@@ -161,10 +161,10 @@ fn inner_gutter_column<W: PutStyle>(
 {
     let crossing = crossing(row, lane.index);
     match lane.lane_mark {
-        None => write_lane_cells(w, context, crossing, LabelStyle::Primary, Shape::Space),
+        None => write_lane_characters(w, context, crossing, LabelStyle::Primary, Shape::Space),
         Some((_, style, multi_label)) => {
             let shape = row_shape(context.layout, leading, row, lane.index, multi_label);
-            write_lane_cells(w, context, crossing, style, shape)
+            write_lane_characters(w, context, crossing, style, shape)
         }
     }
 }
