@@ -16,9 +16,9 @@ use Rattle.codespan_picture.specs.RowParts.{inner_gutter_column, lanes_in}
 use Rattle.codespan_picture.proofs.Texts.{row_length-append, row_length-glyph, row_length-style_mark, row_length-repeated, row_length-spaces}
 
 -- a stream between two style marks is as long as it is alone
-between_marks : (m : StyleMark) (s : Stream)
+row_length-between_style_marks : (m : StyleMark) (s : Stream)
     → row_length (style_mark m ++ s ++ style_mark Reset) ≡ row_length s
-between_marks m s =
+row_length-between_style_marks m s =
     row_length-append (style_mark m ++ s) (style_mark Reset)
     ∙ omega (
       arith,
@@ -33,7 +33,7 @@ row_length-crossing_characters : (severity : Severity) (chars : Chars) (crossing
 unfolding crossing_characters
 row_length-crossing_characters severity chars None n = row_length-spaces n
 row_length-crossing_characters severity chars (Some m) n =
-    between_marks (LabelStyleMark severity m.style)
+    row_length-between_style_marks (LabelStyleMark severity m.style)
     (repeated n (underline_char chars m.multi_label))
     ∙ row_length-repeated n (underline_char chars m.multi_label)
 
@@ -41,7 +41,7 @@ pub row_length-label_glyph : (severity : Severity) (style : LabelStyle) (c : ℕ
     → row_length (label_glyph severity style c) ≡ 1
 unfolding label_glyph
 row_length-label_glyph severity style c =
-    between_marks (LabelStyleMark severity style) (glyph c) ∙ row_length-glyph c
+    row_length-between_style_marks (LabelStyleMark severity style) (glyph c) ∙ row_length-glyph c
 
 -- a character of the crossing, or a space, and the lane's own character
 filled_and_own : (severity : Severity) (chars : Chars) (crossing : Option LaneMark)
