@@ -8,8 +8,8 @@ use Rattle.codespan_base.specs.Labels.{LaneMark, MultiLabel}
 use Rattle.std.specs.List.{range_with_len}
 use Rattle.codespan_base.specs.Streams.{Stream, StyleMark, LabelStyleMark, Reset, style_mark, glyph, repeated}
 use Rattle.codespan_picture.specs.RowLaws.{row_length}
-use Rattle.codespan_picture.specs.declared.lanes.Shape.{Shape}
-use Rattle.codespan_picture.specs.declared.lanes.Shape.TheVariants.{Space, Bar, TopCorner, BottomCorner}
+use Rattle.codespan_picture.specs.declared.lane_shapes.Shape.{Shape}
+use Rattle.codespan_picture.specs.declared.lane_shapes.Shape.TheVariants.{Space, Bar, TopCorner, BottomCorner}
 use Rattle.codespan_picture.specs.Lanes.{underline_char, crossing_characters, label_glyph, lane_mark_in, lane_characters}
 use Rattle.codespan_picture.specs.Rows.{RowContext, Lanes}
 use Rattle.codespan_picture.specs.RowParts.{inner_gutter_column, lanes_in}

@@ -8,8 +8,8 @@ use Rattle.codespan_base.specs.declared.term.config.chars.Chars.{Chars}
 use Rattle.codespan_base.specs.Labels.{LaneMark, MultiLabel}
 use Rattle.codespan_base.specs.Streams.{Stream, StyleMark, Byte, Mark, Slot, Reset, LabelStyleMark, bytes, style_mark, spaces, repeated, glyph}
 use Rattle.codespan_picture.specs.declared.char_metrics.Metrics.{Metrics}
-use Rattle.codespan_picture.specs.declared.lanes.Shape.{Shape}
-use Rattle.codespan_picture.specs.declared.lanes.Shape.TheVariants.{Space, Bar, TopCorner, BottomCorner}
+use Rattle.codespan_picture.specs.declared.lane_shapes.Shape.{Shape}
+use Rattle.codespan_picture.specs.declared.lane_shapes.Shape.TheVariants.{Space, Bar, TopCorner, BottomCorner}
 use Rattle.codespan_picture.specs.Lanes.{crossing_characters, label_glyph, lane_characters, lane_mark_in}
 use Rattle.codespan_picture.specs.Rows.{RowContext, Lanes}
 use Rattle.codespan_picture.specs.RowParts.{style_change, styled, inner_gutter_column, lanes_in}

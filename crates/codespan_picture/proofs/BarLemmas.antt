@@ -5,8 +5,8 @@ use Rattle.std.proofs.lemmas.Bool.Decides.{nat_tests}
 use Rattle.codespan_core.specs.FileModel.{FileModel, line_start, line_text}
 use Rattle.codespan_core.specs.declared.term.config.Layout.{Layout}
 use Rattle.codespan_core.specs.Labels.{LabelModel, first_line, last_line, multi_label_on, lane_mark_of, lane_marks_on, multi_line_labels, LaneMark, MultiLabel, Top, Left, Bottom}
-use Rattle.codespan_picture.specs.declared.lanes.Shape.{Shape}
-use Rattle.codespan_picture.specs.declared.lanes.Shape.TheVariants.{Space, Bar, TopCorner}
+use Rattle.codespan_picture.specs.declared.lane_shapes.Shape.{Shape}
+use Rattle.codespan_picture.specs.declared.lane_shapes.Shape.TheVariants.{Space, Bar, TopCorner}
 use Rattle.codespan_picture.specs.Lanes.{source_shape, empty_or_break_shape, lane_mark_in, shape_of}
 use Rattle.codespan_picture.specs.LaneLaws.{shape_in, HasLane, IsBarLine}
 use Rattle.codespan_picture.specs.Rows.{SourceRow, BreakRow}

@@ -4,7 +4,7 @@ use Rattle.std.specs.List.{AllByRecursion}
 use Rattle.codespan_core.specs.declared.term.config.Layout.{Layout}
 use Rattle.codespan_core.specs.declared.diagnostic.LabelStyle.{LabelStyle}
 use Rattle.codespan_core.specs.Labels.{LabelModel, LaneMark, MultiLabel, Left}
-use Rattle.codespan_picture.specs.declared.lanes.Shape.TheVariants.{Space, Bar}
+use Rattle.codespan_picture.specs.declared.lane_shapes.Shape.TheVariants.{Space, Bar}
 use Rattle.codespan_picture.specs.Lanes.{source_shape, single_labels_shape, underline_shape, lane_mark_in, shape_of}
 use Rattle.codespan_picture.specs.Rows.{Line, Row, CaretRow, PointerRow, HangingRow, UnderlineRow, caret_rows, pointer_and_hanging_rows, hanging_labels, underline_rows, rows_of, has_underline}
 use Rattle.codespan_picture.specs.RowParts.{leading_of}

@@ -7,7 +7,7 @@ use Rattle.codespan_core.specs.declared.term.config.Config.{Config}
 use Rattle.codespan_core.specs.declared.term.config.Layout.{Layout}
 use Rattle.codespan_core.specs.FileModel.{line_start, line_of, line_count}
 use Rattle.codespan_core.specs.Labels.{LabelModel, is_single, first_line, last_line, multi_label_on, lane_mark_of, lane_marks_on, multi_line_labels, MultiLabel, Top, Left, Bottom}
-use Rattle.codespan_picture.specs.declared.lanes.Shape.TheVariants.{Space, Bar}
+use Rattle.codespan_picture.specs.declared.lane_shapes.Shape.TheVariants.{Space, Bar}
 use Rattle.codespan_picture.specs.Lanes.{empty_or_break_shape, lane_mark_in, shape_of}
 use Rattle.codespan_picture.specs.Lines.{is_shown, is_drawn, drawn_lines, has_break_between}
 use Rattle.codespan_picture.specs.Rows.{Row, BreakRow, SnippetStartRow, EmptyRow, rows_of}

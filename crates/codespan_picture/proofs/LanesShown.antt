@@ -4,7 +4,7 @@ use Rattle.std.proofs.lemmas.Option.{none-some, same_Some}
 use Rattle.std.specs.List.{range_with_len}
 use Rattle.codespan_core.specs.Labels.{LabelModel, LaneMark, MultiLabel}
 use Rattle.codespan_core.specs.Streams.{Stream, LabelStyleMark, Reset, style_mark, space}
-use Rattle.codespan_picture.specs.declared.lanes.Shape.{Shape}
+use Rattle.codespan_picture.specs.declared.lane_shapes.Shape.{Shape}
 use Rattle.codespan_picture.specs.Lanes.{Source, EmptyOrBreak, SingleLabels, Underline, row_shape, row_crossing, source_shape, empty_or_break_shape, single_labels_shape, lane_mark_in, shape_of, style_of_lane_mark, lane_characters}
 use Rattle.codespan_picture.specs.Rows.{RowContext, Lanes, Line, Row, HeaderRow, SnippetStartRow, EmptyRow, BreakRow, SourceRow, CaretRow, PointerRow, HangingRow, UnderlineRow, FirstNoteRow, LaterNoteRow, FinalRow, trailing_label}
 use Rattle.codespan_picture.specs.RowParts.{outer_gutter, outer_gutter_number, border_left, border_left_break, label_message, inner_gutter_column, lanes_in, inner_gutter, line_metrics, line_metrics_to_end, leading_of, colored_text, carets, trailing_message, pointers, metrics_before, underline}

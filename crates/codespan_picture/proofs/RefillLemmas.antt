@@ -10,8 +10,8 @@ use Rattle.codespan_core.specs.Streams.{Stream}
 use Rattle.codespan_core.specs.Labels.{LabelModel, has_message, is_empty_stream, is_primary, is_primary_style, LaneMark, MultiLabel, Top, Left, Bottom}
 use Rattle.codespan_picture.specs.declared.char_metrics.Metrics.{Metrics}
 use Rattle.codespan_picture.specs.Carets.{style_under, covers, max_label_end, is_overlapping}
-use Rattle.codespan_picture.specs.declared.lanes.Shape.{Shape}
-use Rattle.codespan_picture.specs.declared.lanes.Shape.TheVariants.{Space, Bar, TopCorner, BottomCorner}
+use Rattle.codespan_picture.specs.declared.lane_shapes.Shape.{Shape}
+use Rattle.codespan_picture.specs.declared.lane_shapes.Shape.TheVariants.{Space, Bar, TopCorner, BottomCorner}
 use Rattle.codespan_picture.specs.Lanes.{source_shape, empty_or_break_shape, single_labels_shape, underline_shape, lane_mark_in, underline_char, crossing_characters, lane_characters, Source, EmptyOrBreak, SingleLabels, Underline}
 use Rattle.codespan_picture.specs.Rows.{RowContext, Lanes, Line, trailing_label, hanging_labels}
 use Rattle.codespan_picture.proofs.Rightmost.{Around, others, behind, around_with_end, around_trails, around_rightmost, trailing_of, hanging_of, trailing_is, hanging_is}

@@ -12,7 +12,7 @@ use Rattle.codespan_core.specs.SnippetStarts.{start_text}
 use Rattle.codespan_core.specs.Labels.{LabelModel, LaneMark, MultiLabel, Top, Left, Bottom}
 use Rattle.codespan_core.specs.Streams.{Stream, Header, HeaderMessage, NoteBullet, SourceBorder, LabelStyleMark, Reset, bytes, spaces, space, newline}
 use Rattle.codespan_picture.specs.declared.char_metrics.Metrics.{Metrics}
-use Rattle.codespan_picture.specs.declared.lanes.Shape.{Shape}
+use Rattle.codespan_picture.specs.declared.lane_shapes.Shape.{Shape}
 use Rattle.codespan_picture.specs.Carets.{caret_for, max_label_end, style_under}
 use Rattle.codespan_picture.specs.CharMetrics.{width_of}
 use Rattle.codespan_picture.specs.Lanes.{LaneRow, Source, EmptyOrBreak, SingleLabels, Underline, label_glyph, lane_mark_in, row_crossing, row_shape, shape_of, style_of_lane_mark}

@@ -7,8 +7,8 @@ use Rattle.codespan_picture.specs.Types.{Config, Layout}
 use Rattle.codespan_core.specs.FileModel.{FileModel}
 use Rattle.codespan_core.specs.Labels.{LabelModel, first_line, last_line, multi_line_labels}
 use Rattle.codespan_core.specs.Streams.{Stream}
-use Rattle.codespan_picture.specs.declared.lanes.Shape.{Shape}
-use Rattle.codespan_picture.specs.declared.lanes.Shape.TheVariants.{Space, Bar, TopCorner, BottomCorner}
+use Rattle.codespan_picture.specs.declared.lane_shapes.Shape.{Shape}
+use Rattle.codespan_picture.specs.declared.lane_shapes.Shape.TheVariants.{Space, Bar, TopCorner, BottomCorner}
 use Rattle.codespan_picture.specs.Lanes.{LaneRow, Source, EmptyOrBreak, SingleLabels, Underline, row_shape, row_crossing, lane_mark_in, shape_of, style_of_lane_mark, is_unbroken, lane_characters}
 use Rattle.codespan_picture.specs.Rows.{Locus, RowContext, Lanes, Line, Row, EmptyRow, BreakRow, SourceRow, CaretRow, PointerRow, HangingRow, UnderlineRow}
 use Rattle.codespan_picture.specs.RowParts.{outer_gutter, outer_gutter_number, border_left, border_left_break, leading_of}

@@ -2,8 +2,8 @@
 use Rattle.std.specs.Prelude.{ℕ, Bool, true, false, ◌&&◌, ◌==◌, nat_lt, nat_le, List, ◌++◌, find, Option, Some, None, if◌then◌else◌}
 use Rattle.codespan_picture.specs.Types.{Severity, LabelStyle, Primary, Chars, Layout, Classic, Unbroken}
 use Rattle.codespan_core.specs.Streams.{Stream, LabelStyleMark, Reset, style_mark, glyph, spaces, repeated}
-use Rattle.codespan_picture.specs.declared.lanes.Shape.{Shape}
-use Rattle.codespan_picture.specs.declared.lanes.Shape.TheVariants.{Space, Bar, TopCorner, BottomCorner}
+use Rattle.codespan_picture.specs.declared.lane_shapes.Shape.{Shape}
+use Rattle.codespan_picture.specs.declared.lane_shapes.Shape.TheVariants.{Space, Bar, TopCorner, BottomCorner}
 use Rattle.codespan_core.specs.Labels.{LaneMark, MultiLabel, Top, Left, Bottom}
 
 -- a lane whose label starts at this byte index begins in the source row: the text of the line

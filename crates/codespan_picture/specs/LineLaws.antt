@@ -4,7 +4,7 @@ use Rattle.std.specs.List.{range_with_len}
 use Rattle.codespan_picture.specs.Types.{Config, Layout}
 use Rattle.codespan_core.specs.FileModel.{FileModel, line_count}
 use Rattle.codespan_core.specs.Labels.{LabelModel}
-use Rattle.codespan_picture.specs.declared.lanes.Shape.TheVariants.{Bar}
+use Rattle.codespan_picture.specs.declared.lane_shapes.Shape.TheVariants.{Bar}
 use Rattle.codespan_picture.specs.Lanes.{is_unbroken}
 use Rattle.codespan_picture.specs.Lines.{drawn_lines, has_break_between, is_shown}
 use Rattle.codespan_picture.specs.Rows.{Lanes, Locus, Row, BreakRow, SourceRow}

@@ -10,7 +10,7 @@ ghost use Rattle.codespan_picture.specs.Private.LaneMarksLeft.{lane_mark_here, l
 ghost use Rattle.codespan_picture.specs.Lanes.{crossing_characters, lane_characters, underline_char, row_crossing};
 
 use crate::arguments::MultiLabel;
-pub use crate::lanes::Shape;
+pub use crate::lane_shapes::Shape;
 use crate::rows::lanes::shapes::row_shape;
 use crate::rows::line::{Lanes, RowContext};
 use crate::rows::parts::write_label_glyph;
