@@ -102,7 +102,8 @@ LanesJoinCorners config layout s =
 -- the two characters of what a row shows in each lane, from left to right
 abbrev pub lanes_shown : RowContext → Row → Lanes → Stream
 lanes_shown context row lanes =
-    flat_map (λ lane. lane_characters context.severity context.chars (row_crossing (kind_of row) lane)
+    flat_map
+    (λ lane. lane_characters context.severity context.chars (row_crossing (kind_of row) lane)
     (style_of_lane_mark (lane_mark_in lanes.lane_marks lane)) (shape_in context.layout row lane))
     (range_with_len 0 lanes.count)
 

@@ -105,4 +105,5 @@ lane_characters severity chars crossing style Bar =
 lane_characters severity chars crossing style TopCorner =
     crossing_characters severity chars crossing 1 ++ label_glyph severity style chars.multi_top_left
 lane_characters severity chars crossing style BottomCorner =
-    crossing_characters severity chars crossing 1 ++ label_glyph severity style chars.multi_bottom_left
+    crossing_characters severity chars crossing 1
+    ++ label_glyph severity style chars.multi_bottom_left

@@ -39,7 +39,8 @@ snippet_start_row chars padding at =
 -- an empty row of a snippet
 unfoldable pub empty_row : RowContext → Lanes → Stream
 empty_row context lanes =
-    outer_gutter context.padding ++ border_left context.chars ++ inner_gutter context 0 EmptyOrBreak lanes
+    outer_gutter context.padding ++ border_left context.chars
+    ++ inner_gutter context 0 EmptyOrBreak lanes
 
 -- the row of a break
 unfoldable pub break_row : RowContext → Lanes → Stream

@@ -115,7 +115,8 @@ abbrev pub snippets : Config → Bool → List Locus → List LabeledFileModel �
 snippets config has_notes [] ss = []
 snippets config has_notes (p ∷ ps) [] = []
 snippets config has_notes (p ∷ ps) (s ∷ ss) =
-    snippet config p s ++ empty_row_after (has_any ss || has_notes) s ++ snippets config has_notes ps ss
+    snippet config p s ++ empty_row_after (has_any ss || has_notes) s
+    ++ snippets config has_notes ps ss
 
 -- the rows of a note's lines
 abbrev pub note_line_rows : List (List ℕ) → List Row

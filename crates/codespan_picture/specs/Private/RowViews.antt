@@ -105,4 +105,5 @@ pointer_and_messages_view x line found =
 abbrev pub pointer_and_hanging_rows_view : context.RowContext → rust_line.Line → Stream
 pointer_and_hanging_rows_view x line =
     stream_of_rows (context_view x)
-    (pointer_and_hanging_rows (line_view line) (hanging_labels (single_label_views line.labels.now)))
+    (pointer_and_hanging_rows (line_view line)
+    (hanging_labels (single_label_views line.labels.now)))

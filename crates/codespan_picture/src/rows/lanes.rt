@@ -55,8 +55,10 @@ fn crossing<'d>(row: LaneRow<'d>, lane: usize) -> Option<(usize, LabelStyle, Mul
             style,
             multi_label,
         )),
-        LaneRow::Source | LaneRow::EmptyOrBreak | LaneRow::SingleLabels | LaneRow::Underline(_, _, _) =>
-            None,
+        LaneRow::Source
+        | LaneRow::EmptyOrBreak
+        | LaneRow::SingleLabels
+        | LaneRow::Underline(_, _, _) => None,
     }
 }
 
