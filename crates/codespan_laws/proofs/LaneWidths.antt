@@ -8,17 +8,17 @@ use Rattle.codespan_base.specs.Labels.{LaneMark, MultiLabel}
 use Rattle.std.specs.List.{range_with_len}
 use Rattle.codespan_base.specs.Streams.{Stream, StyleMark, LabelStyleMark, Reset, style_mark, glyph, repeated}
 use Rattle.codespan_picture.specs.RowLaws.{row_length}
-use Rattle.codespan_picture.specs.declared.lanes.Shape.{Shape}
-use Rattle.codespan_picture.specs.declared.lanes.Shape.TheVariants.{Space, Bar, TopCorner, BottomCorner}
-use Rattle.codespan_picture.specs.Lanes.{underline_char, crossing_cells, label_glyph, lane_mark_in, lane_cells}
+use Rattle.codespan_picture.specs.declared.lane_shapes.Shape.{Shape}
+use Rattle.codespan_picture.specs.declared.lane_shapes.Shape.TheVariants.{Space, Bar, TopCorner, BottomCorner}
+use Rattle.codespan_picture.specs.Lanes.{underline_char, crossing_characters, label_glyph, lane_mark_in, lane_characters}
 use Rattle.codespan_picture.specs.Rows.{RowContext, Lanes}
 use Rattle.codespan_picture.specs.RowParts.{inner_gutter_column, lanes_in}
 use Rattle.codespan_picture.proofs.Texts.{row_length-append, row_length-glyph, row_length-style_mark, row_length-repeated, row_length-spaces}
 
 -- a stream between two style marks is as long as it is alone
-between_marks : (m : StyleMark) (s : Stream)
+row_length-between_style_marks : (m : StyleMark) (s : Stream)
     → row_length (style_mark m ++ s ++ style_mark Reset) ≡ row_length s
-between_marks m s =
+row_length-between_style_marks m s =
     row_length-append (style_mark m ++ s) (style_mark Reset)
     ∙ omega (
       arith,
@@ -27,13 +27,13 @@ between_marks m s =
       row_length-style_mark Reset,
     )
 
-row_length-crossing_cells : (severity : Severity) (chars : Chars) (crossing : Option LaneMark)
+row_length-crossing_characters : (severity : Severity) (chars : Chars) (crossing : Option LaneMark)
     (n : ℕ)
-    → row_length (crossing_cells severity chars crossing n) ≡ n
-unfolding crossing_cells
-row_length-crossing_cells severity chars None n = row_length-spaces n
-row_length-crossing_cells severity chars (Some m) n =
-    between_marks (LabelStyleMark severity m.style)
+    → row_length (crossing_characters severity chars crossing n) ≡ n
+unfolding crossing_characters
+row_length-crossing_characters severity chars None n = row_length-spaces n
+row_length-crossing_characters severity chars (Some m) n =
+    row_length-between_style_marks (LabelStyleMark severity m.style)
     (repeated n (underline_char chars m.multi_label))
     ∙ row_length-repeated n (underline_char chars m.multi_label)
 
@@ -41,31 +41,31 @@ pub row_length-label_glyph : (severity : Severity) (style : LabelStyle) (c : ℕ
     → row_length (label_glyph severity style c) ≡ 1
 unfolding label_glyph
 row_length-label_glyph severity style c =
-    between_marks (LabelStyleMark severity style) (glyph c) ∙ row_length-glyph c
+    row_length-between_style_marks (LabelStyleMark severity style) (glyph c) ∙ row_length-glyph c
 
 -- a character of the crossing, or a space, and the lane's own character
 filled_and_own : (severity : Severity) (chars : Chars) (crossing : Option LaneMark)
     (style : LabelStyle) (own : ℕ)
-    → row_length (crossing_cells severity chars crossing 1 ++ label_glyph severity style own) ≡ 2
+    → row_length (crossing_characters severity chars crossing 1 ++ label_glyph severity style own) ≡ 2
 filled_and_own severity chars crossing style own =
-    row_length-append (crossing_cells severity chars crossing 1) (label_glyph severity style own)
+    row_length-append (crossing_characters severity chars crossing 1) (label_glyph severity style own)
     ∙ omega (
       arith,
-      row_length-crossing_cells severity chars crossing 1,
+      row_length-crossing_characters severity chars crossing 1,
       row_length-label_glyph severity style own,
     )
 
-pub row_length-lane_cells : (severity : Severity) (chars : Chars) (crossing : Option LaneMark)
+pub row_length-lane_characters : (severity : Severity) (chars : Chars) (crossing : Option LaneMark)
     (style : LabelStyle) (shape : Shape)
-    → row_length (lane_cells severity chars crossing style shape) ≡ 2
-unfolding lane_cells
-row_length-lane_cells severity chars crossing style Space =
-    row_length-crossing_cells severity chars crossing 2
-row_length-lane_cells severity chars crossing style Bar =
+    → row_length (lane_characters severity chars crossing style shape) ≡ 2
+unfolding lane_characters
+row_length-lane_characters severity chars crossing style Space =
+    row_length-crossing_characters severity chars crossing 2
+row_length-lane_characters severity chars crossing style Bar =
     filled_and_own severity chars crossing style chars.multi_left
-row_length-lane_cells severity chars crossing style TopCorner =
+row_length-lane_characters severity chars crossing style TopCorner =
     filled_and_own severity chars crossing style chars.multi_top_left
-row_length-lane_cells severity chars crossing style BottomCorner =
+row_length-lane_characters severity chars crossing style BottomCorner =
     filled_and_own severity chars crossing style chars.multi_bottom_left
 
 pub row_length-inner_gutter_column : (context : RowContext) (crossing : Option LaneMark)
@@ -73,9 +73,9 @@ pub row_length-inner_gutter_column : (context : RowContext) (crossing : Option L
     → row_length (inner_gutter_column context crossing shape lane_mark) ≡ 2
 unfolding inner_gutter_column
 row_length-inner_gutter_column context crossing shape None =
-    row_length-lane_cells context.severity context.chars crossing Primary Space
+    row_length-lane_characters context.severity context.chars crossing Primary Space
 row_length-inner_gutter_column context crossing shape (Some m) =
-    row_length-lane_cells context.severity context.chars crossing m.style (shape m.multi_label)
+    row_length-lane_characters context.severity context.chars crossing m.style (shape m.multi_label)
 
 twice : (f : ℕ → Stream) → ((k : ℕ) → row_length (f k) ≡ 2) → (a n : ℕ)
     → row_length (flat_map f (range_with_len a n)) ≡ 2 * n

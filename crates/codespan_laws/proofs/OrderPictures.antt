@@ -20,7 +20,7 @@ use Rattle.codespan_picture.specs.Padding.{spans, spanned_lines, numbered_lines,
 use Rattle.codespan_picture.specs.OutputStreams.{context_of, rendered, snippet_locus_start}
 use Rattle.codespan_picture.specs.RowStreams.{stream_of_rows}
 use Rattle.codespan_picture.specs.Rows.{Locus, HeaderText, Lanes, Line, HeaderRow, SnippetStartRow, EmptyRow, FinalRow}
-use Rattle.codespan_picture.specs.Snippets.{LabeledFileModel, InFile, labeled_file_model, empty_lanes, line_at, rows_after, rows_of_shown, labeled_file_models, snippet, has_any, row_after, snippets, note_rows}
+use Rattle.codespan_picture.specs.Snippets.{LabeledFileModel, InFile, labeled_file_model, empty_lanes, line_at, rows_of_drawn, rows_of_shown, labeled_file_models, snippet, has_any, empty_row_after, snippets, note_rows}
 use Rattle.codespan_picture.proofs.FillLemmas.{rows_of_shown_lines}
 use Rattle.codespan_laws.proofs.OrderMembers.{AreEqual, SameTests, same-tests, locus-same, singles-same}
 
@@ -93,7 +93,7 @@ module _ (f : FileModel) (xs ys : List LabelModel) (equal : AreEqual f xs ys) wh
 
   -- the rows follow from the shown lines
   after-same : (view_config : Config)
-      → rows_after s None (drawn_lines view_config f xs) ≡ rows_after t None
+      → rows_of_drawn s None (drawn_lines view_config f xs) ≡ rows_of_drawn t None
       (drawn_lines view_config f ys)
   after-same view_config =
       rows_of_shown_lines view_config s
@@ -138,8 +138,8 @@ module _ {Id : Type 0} (view_config : Config) (g h : Id → LabeledFileModel)
     (have_same_rows : (id : Id) → HaveSameRows view_config (g id) (h id)) where
   -- a snippet and the row after it
   followed-same : (followed : Bool) (p : Locus) (id : Id)
-      → snippet view_config p (g id) ++ row_after followed (g id) ≡ snippet view_config p
-      (h id) ++ row_after followed (h id)
+      → snippet view_config p (g id) ++ empty_row_after followed (g id) ≡ snippet view_config p
+      (h id) ++ empty_row_after followed (h id)
   followed-same true p id =
       ap₂ (λ rows lanes. rows ++ (EmptyRow lanes ∷ [])) ((have_same_rows id).rows p)
       (have_same_rows id).bare
@@ -158,7 +158,7 @@ module _ {Id : Type 0} (view_config : Config) (g h : Id → LabeledFileModel)
   snippets-same has_notes (p ∷ ps) (i ∷ ids) =
       ap₂ (λ a b. a ++ b)
       (followed-same (has_any (map g ids) || has_notes) p i
-      ∙ ap (λ b. snippet view_config p (h i) ++ row_after b (h i)) (is_followed-same has_notes ids))
+      ∙ ap (λ b. snippet view_config p (h i) ++ empty_row_after b (h i)) (is_followed-same has_notes ids))
       (snippets-same has_notes ps ids)
 
   digits-same : (ids : List Id)

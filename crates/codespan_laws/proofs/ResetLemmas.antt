@@ -8,9 +8,9 @@ use Rattle.codespan_base.specs.declared.term.config.chars.Chars.{Chars}
 use Rattle.codespan_base.specs.Labels.{LaneMark, MultiLabel}
 use Rattle.codespan_base.specs.Streams.{Stream, StyleMark, Byte, Mark, Slot, Reset, LabelStyleMark, bytes, style_mark, spaces, repeated, glyph}
 use Rattle.codespan_picture.specs.declared.char_metrics.Metrics.{Metrics}
-use Rattle.codespan_picture.specs.declared.lanes.Shape.{Shape}
-use Rattle.codespan_picture.specs.declared.lanes.Shape.TheVariants.{Space, Bar, TopCorner, BottomCorner}
-use Rattle.codespan_picture.specs.Lanes.{crossing_cells, label_glyph, lane_cells, lane_mark_in}
+use Rattle.codespan_picture.specs.declared.lane_shapes.Shape.{Shape}
+use Rattle.codespan_picture.specs.declared.lane_shapes.Shape.TheVariants.{Space, Bar, TopCorner, BottomCorner}
+use Rattle.codespan_picture.specs.Lanes.{crossing_characters, label_glyph, lane_characters, lane_mark_in}
 use Rattle.codespan_picture.specs.Rows.{RowContext, Lanes}
 use Rattle.codespan_picture.specs.RowParts.{style_change, styled, inner_gutter_column, lanes_in}
 use Rattle.codespan_picture.specs.RowLaws.{is_reset, ends_reset}
@@ -60,11 +60,11 @@ closes-in_style m s = closes-reset (style_mark m ++ s)
 
 -- ---- lanes
 
-closes-crossing_cells : (severity : Severity) (chars : Chars) (crossing : Option LaneMark) (n : ℕ)
-    → Closes (crossing_cells severity chars crossing n)
-unfolding crossing_cells
-closes-crossing_cells severity chars None n = record { closed = ends_reset-spaces true n }
-closes-crossing_cells severity chars (Some m) n =
+closes-crossing_characters : (severity : Severity) (chars : Chars) (crossing : Option LaneMark) (n : ℕ)
+    → Closes (crossing_characters severity chars crossing n)
+unfolding crossing_characters
+closes-crossing_characters severity chars None n = record { closed = ends_reset-spaces true n }
+closes-crossing_characters severity chars (Some m) n =
     closes-in_style (LabelStyleMark severity m.style) _
 
 pub closes-label_glyph : (severity : Severity) (style : LabelStyle) (c : ℕ)
@@ -72,20 +72,20 @@ pub closes-label_glyph : (severity : Severity) (style : LabelStyle) (c : ℕ)
 unfolding label_glyph
 closes-label_glyph severity style c = closes-in_style (LabelStyleMark severity style) (glyph c)
 
-closes-lane_cells : (severity : Severity) (chars : Chars) (crossing : Option LaneMark)
+closes-lane_characters : (severity : Severity) (chars : Chars) (crossing : Option LaneMark)
     (style : LabelStyle) (shape : Shape)
-    → Closes (lane_cells severity chars crossing style shape)
-unfolding lane_cells
-closes-lane_cells severity chars crossing style Space =
-    closes-crossing_cells severity chars crossing 2
-closes-lane_cells severity chars crossing style Bar =
-    closes-append _ _ (closes-crossing_cells severity chars crossing 1)
+    → Closes (lane_characters severity chars crossing style shape)
+unfolding lane_characters
+closes-lane_characters severity chars crossing style Space =
+    closes-crossing_characters severity chars crossing 2
+closes-lane_characters severity chars crossing style Bar =
+    closes-append _ _ (closes-crossing_characters severity chars crossing 1)
     (closes-label_glyph severity style chars.multi_left)
-closes-lane_cells severity chars crossing style TopCorner =
-    closes-append _ _ (closes-crossing_cells severity chars crossing 1)
+closes-lane_characters severity chars crossing style TopCorner =
+    closes-append _ _ (closes-crossing_characters severity chars crossing 1)
     (closes-label_glyph severity style chars.multi_top_left)
-closes-lane_cells severity chars crossing style BottomCorner =
-    closes-append _ _ (closes-crossing_cells severity chars crossing 1)
+closes-lane_characters severity chars crossing style BottomCorner =
+    closes-append _ _ (closes-crossing_characters severity chars crossing 1)
     (closes-label_glyph severity style chars.multi_bottom_left)
 
 closes-inner_gutter_column : (context : RowContext) (crossing : Option LaneMark)
@@ -93,9 +93,9 @@ closes-inner_gutter_column : (context : RowContext) (crossing : Option LaneMark)
     → Closes (inner_gutter_column context crossing shape lane_mark)
 unfolding inner_gutter_column
 closes-inner_gutter_column context crossing shape None =
-    closes-lane_cells context.severity context.chars crossing Primary Space
+    closes-lane_characters context.severity context.chars crossing Primary Space
 closes-inner_gutter_column context crossing shape (Some m) =
-    closes-lane_cells context.severity context.chars crossing m.style (shape m.multi_label)
+    closes-lane_characters context.severity context.chars crossing m.style (shape m.multi_label)
 
 -- a stream closes where each part does
 pub closes-flat_map : {X : Type 0} (f : X → Stream) → ((x : X) → Closes (f x)) → (xs : List X)

@@ -5,9 +5,9 @@ use Rattle.std.proofs.lemmas.Bool.Decides.{nat_tests}
 use Rattle.codespan_core.specs.FileModel.{FileModel, line_start, line_text}
 use Rattle.codespan_core.specs.declared.term.config.Layout.{Layout}
 use Rattle.codespan_core.specs.Labels.{LabelModel, first_line, last_line, multi_label_on, lane_mark_of, lane_marks_on, multi_line_labels, LaneMark, MultiLabel, Top, Left, Bottom}
-use Rattle.codespan_picture.specs.declared.lanes.Shape.{Shape}
-use Rattle.codespan_picture.specs.declared.lanes.Shape.TheVariants.{Space, Bar, TopCorner}
-use Rattle.codespan_picture.specs.Lanes.{source_shape, empty_shape, lane_mark_in, shape_of}
+use Rattle.codespan_picture.specs.declared.lane_shapes.Shape.{Shape}
+use Rattle.codespan_picture.specs.declared.lane_shapes.Shape.TheVariants.{Space, Bar, TopCorner}
+use Rattle.codespan_picture.specs.Lanes.{source_shape, empty_or_break_shape, lane_mark_in, shape_of}
 use Rattle.codespan_picture.specs.LaneLaws.{shape_in, HasLane, IsBarLine}
 use Rattle.codespan_picture.specs.Rows.{SourceRow, BreakRow}
 use Rattle.codespan_picture.specs.CharMetrics.{leading_whitespace, text_without_line_end}
@@ -131,7 +131,7 @@ bars_are_labels layout s l lane x has several = (
   rw lane_mark_is
       (bar_of (source_shape (leading_whitespace (text_without_line_end (line_text s.file l))))
       (no_bar_in_top _) refl (λ _ _. refl) s.file l lane x several),
-  rw lane_mark_is (bar_of empty_shape (λ start bar. cc) refl (λ _ _. refl) s.file l lane x several),
+  rw lane_mark_is (bar_of empty_or_break_shape (λ start bar. cc) refl (λ _ _. refl) s.file l lane x several),
 )
   where
     lane_mark_is : lane_mark_in (lane_marks_on s.file s.labels l) lane ≡ lane_mark_of lane x

@@ -5,7 +5,7 @@ use Rattle.std.proofs.lemmas.Bool.Decides.{nat_tests}
 use Rattle.codespan_core.specs.declared.term.config.Config.{Config}
 use Rattle.codespan_core.specs.Labels.{LabelModel, LaneMark}
 use Rattle.codespan_picture.specs.CharMetrics.{leading_whitespace}
-use Rattle.codespan_picture.specs.Rows.{Row, Lanes, Line, SourceRow, HangingRow, UnderlineRow, BreakRow, caret_rows, hanging_rows, underline_rows, rows_of, hanging_labels, has_underline}
+use Rattle.codespan_picture.specs.Rows.{Row, Lanes, Line, SourceRow, HangingRow, UnderlineRow, BreakRow, caret_rows, pointer_and_hanging_rows, underline_rows, rows_of, hanging_labels, has_underline}
 use Rattle.codespan_picture.specs.Sequences.{gap_between}
 use Rattle.codespan_picture.specs.Snippets.{LabeledFileModel, line_at, line_rows, break_rows, rows_of_shown}
 use Rattle.codespan_picture.specs.LineLaws.{break_lanes, broken_before, shown_lines, BreaksAreGaps, RowsOfShown}
@@ -27,7 +27,7 @@ no_break_caret line [] = refl
 no_break_caret line (x ∷ xs) = refl
 
 no_break_hanging : (line : Line) (labels : List LabelModel)
-    → filter_map break_lanes (hanging_rows line labels) ≡ []
+    → filter_map break_lanes (pointer_and_hanging_rows line labels) ≡ []
 no_break_hanging line [] = refl
 no_break_hanging line (x ∷ xs) = breaks-map (HangingRow line) (reverse (x ∷ xs)) (λ y. refl)
 
@@ -35,11 +35,11 @@ no_break_line : (line : Line) → filter_map break_lanes (rows_of line) ≡ []
 no_break_line line =
     breaks-append
     ((SourceRow line ∷ caret_rows line line.labels)
-    ++ hanging_rows line (hanging_labels line.labels))
+    ++ pointer_and_hanging_rows line (hanging_labels line.labels))
     (underline_rows line)
     ∙ ap₂ (λ s t. s ++ t)
     (breaks-append (SourceRow line ∷ caret_rows line line.labels)
-    (hanging_rows line (hanging_labels line.labels))
+    (pointer_and_hanging_rows line (hanging_labels line.labels))
     ∙ ap₂ (λ s t. s ++ t) (no_break_caret line line.labels)
     (no_break_hanging line (hanging_labels line.labels)))
     (breaks-map (UnderlineRow line)

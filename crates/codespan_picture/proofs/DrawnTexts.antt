@@ -14,7 +14,6 @@ use Rattle.std.proofs.lemmas.Str.{IsCharBoundary-before_ascii, IsCharBoundary-en
 use Rattle.codespan_core.specs.FileModel.{FileModel, line_text}
 use Rattle.codespan_core.specs.LawfulFiles.{IsLawful}
 use Rattle.codespan_picture.specs.CharMetrics.{text_without_line_end, is_line_end}
-use Rattle.codespan_picture.specs.OutputStreams.{locus_starts}
 use Rattle.codespan_picture.specs.Rows.{LaterNoteRow}
 use Rattle.codespan_picture.specs.Snippets.{note_rows, note_line_rows}
 use Rattle.codespan_picture.proofs.LaneLineLemmas.{each_map}

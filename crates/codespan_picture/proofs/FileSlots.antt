@@ -10,7 +10,7 @@ use Rattle.codespan_core.specs.FileModel.{FileModel, line_count, line_of}
 use Rattle.codespan_core.specs.Labels.{LabelModel, first_line, last_line}
 use Rattle.codespan_picture.specs.Lines.{shows, is_drawn, drawn_lines, has_break_between}
 use Rattle.codespan_picture.specs.Rows.{HeaderText, Locus, HeaderRow, SnippetStartRow, EmptyRow, BreakRow, FirstNoteRow, LaterNoteRow, FinalRow, rows_of}
-use Rattle.codespan_picture.specs.Snippets.{LabeledFileModel, empty_lanes, line_at, rows_after, snippet, has_any, row_after, snippets, note_line_rows, note_rows, rich_rows}
+use Rattle.codespan_picture.specs.Snippets.{LabeledFileModel, empty_lanes, line_at, rows_of_drawn, snippet, has_any, empty_row_after, snippets, note_line_rows, note_rows, rich_rows}
 use Rattle.codespan_picture.proofs.FillLemmas.{breaks_before}
 use Rattle.codespan_picture.proofs.SlotLemmas.{row_slots}
 use Rattle.codespan_picture.proofs.LineSlots.{sum-zero, sum-map, sum-filter_free, sum-flat_map_zero, sum-swap, label_slots, on_line, labels_on_line}
@@ -120,14 +120,14 @@ break_sum k s (Some c) l = by_test (has_break_between c l)
     by_test false = refl
 
 pub lines_sum : (k : ℕ) (s : LabeledFileModel) (previous : Option ℕ) (ls : List ℕ)
-    → sum_by (row_slots k) (rows_after s previous ls) ≡ sum_by
+    → sum_by (row_slots k) (rows_of_drawn s previous ls) ≡ sum_by
     (λ l. sum_by (on_line k s.file l) s.labels) ls
 lines_sum k s previous [] = refl
 lines_sum k s previous (l ∷ ls) =
     omega (
       arith,
       sum_by-append (row_slots k) (breaks_before s previous l ++ rows_of (line_at s l))
-          (rows_after s (Some l) ls),
+          (rows_of_drawn s (Some l) ls),
       sum_by-append (row_slots k) (breaks_before s previous l) (rows_of (line_at s l)),
       break_sum k s previous l,
       labels_on_line k s l,
@@ -146,7 +146,7 @@ shown_drawn config f labels l low any =
 -- the slots of the rows of a file's lines
 abbrev pub file_slots : ℕ → Config → LabeledFileModel → ℕ
 file_slots k config s =
-    sum_by (row_slots k) (rows_after s None (drawn_lines config s.file s.labels))
+    sum_by (row_slots k) (rows_of_drawn s None (drawn_lines config s.file s.labels))
 
 -- those of its snippet are as many, whatever the locus
 start_sum : (k : ℕ) (config : Config) (locus : Locus) (s : LabeledFileModel)
@@ -155,7 +155,7 @@ start_sum k config locus s =
     omega (
       arith,
       sum_by-append (row_slots k) (SnippetStartRow locus ∷ EmptyRow (empty_lanes s) ∷ [])
-          (rows_after s None (drawn_lines config s.file s.labels)),
+          (rows_of_drawn s None (drawn_lines config s.file s.labels)),
       sum_by-cons (row_slots k) (SnippetStartRow locus) (EmptyRow (empty_lanes s) ∷ []),
       sum_by-cons (row_slots k) (EmptyRow (empty_lanes s)) [],
     )
@@ -173,7 +173,7 @@ snippet_sum k config s some =
     )
 
 after_sum : (k : ℕ) (followed : Bool) (s : LabeledFileModel)
-    → sum_by (row_slots k) (row_after followed s) ≡ 0
+    → sum_by (row_slots k) (empty_row_after followed s) ≡ 0
 after_sum k true s = refl
 after_sum k false s = refl
 
@@ -190,9 +190,9 @@ snippets_sum k config has_notes (p ∷ ps) (s ∷ ss) h =
     let followed = has_any ss || has_notes in
     omega (
       arith,
-      sum_by-append (row_slots k) (snippet config p s ++ row_after followed s)
+      sum_by-append (row_slots k) (snippet config p s ++ empty_row_after followed s)
           (snippets config has_notes ps ss),
-      sum_by-append (row_slots k) (snippet config p s) (row_after followed s),
+      sum_by-append (row_slots k) (snippet config p s) (empty_row_after followed s),
       start_sum k config p s,
       after_sum k followed s,
       snippets_sum k config has_notes ps ss (omega (arith, h)),

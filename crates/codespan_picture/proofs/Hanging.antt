@@ -1,4 +1,4 @@
--- For `Messages::of` and `write_hanging`: which message trails, and which hang.
+-- For `Messages::of` and `write_pointer_and_hanging_rows`: which message trails, and which hang.
 use Rattle.std.proofs.Common.{◌||◌, ◌≡◌, ℕ, ◌+◌, ◌-◌, ◌<◌, Bool, true, false, cond, ◌==◌, List, [], ◌∷◌, ◌++◌, length, get_or, take, drop, map, filter, reverse, Option, Some, None, refl, sym, ap, subst, ◌∙◌, arith, length-drop, append_assoc, append-nil, ◌⊎◌, ⊎_elim}
 use Rattle.std.proofs.Math.Seq.{take-length}
 use Rattle.std.specs.Prelude.{not}
@@ -11,7 +11,7 @@ use Rattle.codespan_core.specs.Labels.{LabelModel, has_message}
 use Rattle.codespan_core.specs.Streams.{Stream, newline}
 use Rattle.codespan_picture.specs.Carets.{max_label_end}
 use Rattle.codespan_picture.specs.Arguments.{SingleLabelTuple, single_label_view, single_label_views}
-use Rattle.codespan_picture.specs.Rows.{RowContext, Line, HangingRow, last_with_end, does_trail, trailing_entry, trailing_label, hanging_labels, hanging_rows}
+use Rattle.codespan_picture.specs.Rows.{RowContext, Line, HangingRow, last_with_end, does_trail, trailing_entry, trailing_label, hanging_labels, pointer_and_hanging_rows}
 use Rattle.codespan_picture.specs.RowStreams.{pointer_row, hanging_row, stream_of, stream_of_rows}
 use Rattle.codespan_picture.specs.Private.Runs.{label_entry_view, AreHanging, hanging_stream}
 use Rattle.codespan_picture.proofs.TrailingLabel.{is_empty_bytes, entry_is, without_at}
@@ -212,14 +212,14 @@ pub nothing_hangs : (context : RowContext) (line : Line)
     → AreHanging labels before after
     → list_any has_message (single_label_views before) ≡ false
     → list_any has_message (single_label_views after) ≡ false
-    → stream_of_rows context (hanging_rows line (hanging_labels (single_label_views labels))) ≡ []
+    → stream_of_rows context (pointer_and_hanging_rows line (hanging_labels (single_label_views labels))) ≡ []
 nothing_hangs context line labels before after h early late =
     rw (none_hangs labels before after h early late) refl
 
 -- the pointers, and the messages that hang, the last one first
 rows_are : (context : RowContext) (line : Line) (xs : List LabelModel) → (xs ≡ [] → ⊥)
     → stream_of_rows context
-    (hanging_rows line xs) ≡ (pointer_row context line ++ newline) ++ hanging_stream context line xs
+    (pointer_and_hanging_rows line xs) ≡ (pointer_row context line ++ newline) ++ hanging_stream context line xs
 rows_are context line [] h = absurd (h refl)
 rows_are context line (x ∷ xs) h = refl
 
@@ -246,14 +246,14 @@ pub all_hanging : (context : RowContext) (line : Line) (labels before after : Li
     → AreHanging labels before after
     → (list_any has_message (single_label_views before) ≡ true)
     ⊎ (list_any has_message (single_label_views after) ≡ true)
-    → stream_of_rows context (hanging_rows line (hanging_labels (single_label_views labels)))
+    → stream_of_rows context (pointer_and_hanging_rows line (hanging_labels (single_label_views labels)))
     ≡ pointer_row context line ++ newline
     ++ hanging_stream context line (filter has_message (single_label_views after))
     ++ hanging_stream context line (filter has_message (single_label_views before))
 all_hanging context line labels before after h some =
     let early = filter has_message (single_label_views before) in
     let late = filter has_message (single_label_views after) in
-    ap (λ (xs : List LabelModel). stream_of_rows context (hanging_rows line xs))
+    ap (λ (xs : List LabelModel). stream_of_rows context (pointer_and_hanging_rows line xs))
     (sym (hanging_parts labels before after h))
     ∙ rows_are context line (early ++ late)
     (λ none. ⊎_elim (λ b. some_message before b (none-left early late none))

@@ -12,7 +12,7 @@ use Rattle.codespan_picture.specs.declared.rows.lanes.LaneRow.{LaneRow as RustLa
 use Rattle.codespan_picture.specs.Arguments.{LaneMarkTuple, lane_mark_view, lanes_of, lanes_in_order, ascend_from}
 use Rattle.codespan_picture.specs.Private.LineViews.{row_lane_view, row_lanes_view, lane_row_view}
 use Rattle.codespan_picture.specs.Private.LaneMarksLeft.{lane_mark_here, lane_marks_after}
-use Rattle.codespan_picture.specs.Lanes.{crossing_cells, lane_cells, lane_mark_in, row_shape, row_crossing}
+use Rattle.codespan_picture.specs.Lanes.{crossing_characters, lane_characters, lane_mark_in, row_shape, row_crossing}
 use Rattle.codespan_picture.specs.Rows.{RowContext, Lanes}
 use Rattle.codespan_picture.specs.RowParts.{inner_gutter_column, inner_gutter}
 use Rattle.codespan_picture.proofs.RowEquations.{spaces-add}
@@ -178,7 +178,7 @@ cursor-end context leading row i n lane_marks h = let e : n - i ≡ 0 = omega ar
 empty-lane : (context : RowContext) (leading : ℕ) (row : RustLaneRow) (lane : ℕ)
     → row_crossing (lane_row_view row) lane ≡ None
     → row_lane_view context leading row lane None ≡ spaces 2
-unfolding row_lane_view inner_gutter_column lane_cells crossing_cells
+unfolding row_lane_view inner_gutter_column lane_characters crossing_characters
 empty-lane context leading row lane clear = rw clear refl
 
 -- where no lane mark is taken all remain
@@ -227,17 +227,17 @@ cursor-past context leading row lane_marks (suc n) lane rest clear bare =
     ++ cursor context leading row (b i) rest lane_marks)
 
 -- the empty lanes up to that of the next lane mark are written at once
-pub cursor-empty : (context : RowContext) (leading : ℕ) (row : RustLaneRow)
-    (lane_marks : List LaneMarkTuple) (count lane until empty : ℕ)
-    → lane < count → until ≤ count → lane + empty ≤ max lane until
-    → ((k : ℕ) → lane ≤ k → k < lane + empty → row_crossing (lane_row_view row) k ≡ None)
+pub cursor-empty_lanes : (context : RowContext) (leading : ℕ) (row : RustLaneRow)
+    (lane_marks : List LaneMarkTuple) (count lane until num_empty : ℕ)
+    → lane < count → until ≤ count → lane + num_empty ≤ max lane until
+    → ((k : ℕ) → lane ≤ k → k < lane + num_empty → row_crossing (lane_row_view row) k ≡ None)
     → ((k : ℕ) → k < until → lane_mark_here lane_marks k ≡ None)
-    → cursor context leading row lane (count - lane) lane_marks ≡ spaces (empty + empty) ++ cursor
-    context leading row (lane + empty) (count - (lane + empty)) lane_marks
-cursor-empty context leading row lane_marks count lane until empty inside high within clear bare =
-    let e : count - lane ≡ empty + (count - (lane + empty)) = omega arith in
+    → cursor context leading row lane (count - lane) lane_marks ≡ spaces (num_empty + num_empty) ++ cursor
+    context leading row (lane + num_empty) (count - (lane + num_empty)) lane_marks
+cursor-empty_lanes context leading row lane_marks count lane until num_empty inside high within clear bare =
+    let e : count - lane ≡ num_empty + (count - (lane + num_empty)) = omega arith in
     ap (λ n. cursor context leading row lane n lane_marks) e
-    ∙ cursor-past context leading row lane_marks empty lane (count - (lane + empty)) clear
+    ∙ cursor-past context leading row lane_marks num_empty lane (count - (lane + num_empty)) clear
     (λ k low below. bare k (omega arith))
 
 cursor_is : (context : RowContext) (leading : ℕ) (row : RustLaneRow) (count : ℕ) (whole : Lanes)

@@ -9,8 +9,8 @@ use Rattle.codespan_core.specs.declared.term.config.Layout.TheVariants.{Classic,
 use Rattle.codespan_core.specs.declared.diagnostic.LabelStyle.{LabelStyle}
 use Rattle.codespan_core.specs.Streams.{Stream}
 use Rattle.codespan_core.specs.Labels.{LaneMark, Top, Bottom}
-use Rattle.codespan_picture.specs.declared.lanes.Shape.{Shape}
-use Rattle.codespan_picture.specs.declared.lanes.Shape.TheVariants.{Space, Bar, TopCorner, BottomCorner}
+use Rattle.codespan_picture.specs.declared.lane_shapes.Shape.{Shape}
+use Rattle.codespan_picture.specs.declared.lane_shapes.Shape.TheVariants.{Space, Bar, TopCorner, BottomCorner}
 use Rattle.codespan_picture.specs.Lanes.{source_shape, single_labels_shape, underline_shape, lane_mark_in, is_unbroken, begins_in_source_row, shape_of}
 use Rattle.codespan_picture.specs.LaneLaws.{shape_in}
 use Rattle.codespan_picture.specs.Rows.{Line, SourceRow, UnderlineRow, underline_rows, rows_of}
@@ -150,9 +150,9 @@ top_early layout lane line style start is r early = record {
         ap (λ t. map (UnderlineRow line) (filter (is_underlined line) t)) r.is
         ∙ split_off (UnderlineRow line) (is_underlined line) r.low m r.high (ap not early)
 
-    gap : shape_of (single_labels_shape Classic (leading_of line))
+    space_shown : shape_of (single_labels_shape Classic (leading_of line))
         (lane_mark_in line.lanes.lane_marks lane) ≡ Space
-    gap = ap (shape_of (single_labels_shape Classic (leading_of line))) is
+    space_shown = ap (shape_of (single_labels_shape Classic (leading_of line))) is
 
     shown : (o : LaneMark)
         → shape_in Classic (UnderlineRow line o) lane ≡ cond (lane == o.lane) TopCorner
@@ -164,7 +164,7 @@ top_early layout lane line style start is r early = record {
     on_low o h =
         inr
         (record {
-          is_gap =
+          shows_space =
               top_low lane o.lane h (shown o);
           is_classic =
               refl;
@@ -182,9 +182,9 @@ top_early layout lane line style start is r early = record {
     by_layout Classic =
         all-append (GoesOn Classic lane line (SourceRow line)) (below_rows line) (underline_rows line)
         (each_below (GoesOn Classic lane line (SourceRow line)) line
-        (inr (record { is_gap = gap; is_classic = refl; begins_in_source_row = refl; is_of_line = refl }))
-        (inr (record { is_gap = gap; is_classic = refl; begins_in_source_row = refl; is_of_line = refl }))
-        (λ y. inr (record { is_gap = gap; is_classic = refl; begins_in_source_row = refl; is_of_line = refl })))
+        (inr (record { shows_space = space_shown; is_classic = refl; begins_in_source_row = refl; is_of_line = refl }))
+        (inr (record { shows_space = space_shown; is_classic = refl; begins_in_source_row = refl; is_of_line = refl }))
+        (λ y. inr (record { shows_space = space_shown; is_classic = refl; begins_in_source_row = refl; is_of_line = refl })))
         (rw without
         (all-append (GoesOn Classic lane line (SourceRow line))
         (map (UnderlineRow line) (filter (is_underlined line) r.low))

@@ -5,8 +5,8 @@ use Rattle.std.specs.Option.{option_map}
 use Rattle.std.proofs.lemmas.List.{length-append}
 use Rattle.codespan_core.specs.declared.term.config.Layout.{Layout}
 use Rattle.codespan_core.specs.Labels.{LabelModel, first_line}
-use Rattle.codespan_picture.specs.declared.lanes.Shape.{Shape}
-use Rattle.codespan_picture.specs.declared.lanes.Shape.TheVariants.{Space, Bar, TopCorner, BottomCorner}
+use Rattle.codespan_picture.specs.declared.lane_shapes.Shape.{Shape}
+use Rattle.codespan_picture.specs.declared.lane_shapes.Shape.TheVariants.{Space, Bar, TopCorner, BottomCorner}
 use Rattle.codespan_picture.specs.Lanes.{is_unbroken}
 use Rattle.codespan_picture.specs.Rows.{Line, Row, SourceRow}
 use Rattle.codespan_picture.specs.Snippets.{LabeledFileModel, line_at}
@@ -82,12 +82,12 @@ Shows layout lane shape row = shape_in layout row lane ≡ shape
 
 -- a row of the line leaves the lane out below a top corner in the source row
 pub record LeftOut (layout : Layout) (lane : ℕ) (line : Line) (top row : Row) : Type 0 where
-  pub is_gap : shape_in layout row lane ≡ Space
+  pub shows_space : shape_in layout row lane ≡ Space
   pub is_classic : is_unbroken layout ≡ false
   pub begins_in_source_row : top ≡ SourceRow line
   pub is_of_line : line_of_row row ≡ Some line
 
--- a bar, or a gap that the classic layout may leave
+-- a bar, or a space that the classic layout may leave
 abbrev pub GoesOn : Layout → ℕ → Line → Row → Row → Type 0
 GoesOn layout lane line top row = Shows layout lane Bar row ⊎ LeftOut layout lane line top row
 
@@ -275,7 +275,7 @@ one_line layout s rows lane x w = record {
     by_kind k row is (inl bar) = inl (ap show is ∙ ap Some bar)
     by_kind k row is (inr out) = inr (record {
       is_classic = out.is_classic;
-      is_gap = ap show is ∙ ap Some out.is_gap;
+      shows_space = ap show is ∙ ap Some out.shows_space;
       begins_in_source_row = top_is ∙ ap Some out.begins_in_source_row;
       is_of_line = λ other other_is. let same : row ≡ other = cc in
           ap line_of_row (sym same) ∙ out.is_of_line;

@@ -4,9 +4,9 @@ use Rattle.std.specs.List.{AllByRecursion}
 use Rattle.codespan_core.specs.declared.term.config.Layout.{Layout}
 use Rattle.codespan_core.specs.declared.diagnostic.LabelStyle.{LabelStyle}
 use Rattle.codespan_core.specs.Labels.{LabelModel, LaneMark, MultiLabel, Left}
-use Rattle.codespan_picture.specs.declared.lanes.Shape.TheVariants.{Space, Bar}
+use Rattle.codespan_picture.specs.declared.lane_shapes.Shape.TheVariants.{Space, Bar}
 use Rattle.codespan_picture.specs.Lanes.{source_shape, single_labels_shape, underline_shape, lane_mark_in, shape_of}
-use Rattle.codespan_picture.specs.Rows.{Line, Row, CaretRow, PointerRow, HangingRow, UnderlineRow, caret_rows, hanging_rows, hanging_labels, underline_rows, rows_of, has_underline}
+use Rattle.codespan_picture.specs.Rows.{Line, Row, CaretRow, PointerRow, HangingRow, UnderlineRow, caret_rows, pointer_and_hanging_rows, hanging_labels, underline_rows, rows_of, has_underline}
 use Rattle.codespan_picture.specs.RowParts.{leading_of}
 use Rattle.codespan_picture.proofs.LaneLineLemmas.{each_all, each_map, Shows}
 use Rattle.codespan_picture.proofs.ListElements.{all-append, all-filter}
@@ -20,7 +20,7 @@ each_caret P line (x ∷ xs) a = (a, tt)
 
 each_hanging : (P : Row → Type 0) (line : Line) (labels : List LabelModel) → P (PointerRow line)
     → ((y : LabelModel) → P (HangingRow line y))
-    → AllByRecursion P (hanging_rows line labels)
+    → AllByRecursion P (pointer_and_hanging_rows line labels)
 each_hanging P line [] a b = tt
 each_hanging P line (x ∷ xs) a b = (
   a,
@@ -29,12 +29,12 @@ each_hanging P line (x ∷ xs) a b = (
 )
 
 abbrev pub below_rows : Line → List Row
-below_rows line = caret_rows line line.labels ++ hanging_rows line (hanging_labels line.labels)
+below_rows line = caret_rows line line.labels ++ pointer_and_hanging_rows line (hanging_labels line.labels)
 
 pub each_below : (P : Row → Type 0) (line : Line) → P (CaretRow line) → P (PointerRow line)
     → ((y : LabelModel) → P (HangingRow line y)) → AllByRecursion P (below_rows line)
 each_below P line a b d =
-    all-append P (caret_rows line line.labels) (hanging_rows line (hanging_labels line.labels))
+    all-append P (caret_rows line line.labels) (pointer_and_hanging_rows line (hanging_labels line.labels))
     (each_caret P line line.labels a)
     (each_hanging P line (hanging_labels line.labels) b d)
 

@@ -7,11 +7,11 @@ use Rattle.codespan_core.specs.declared.term.config.Config.{Config}
 use Rattle.codespan_core.specs.declared.term.config.Layout.{Layout}
 use Rattle.codespan_core.specs.FileModel.{line_start, line_of, line_count}
 use Rattle.codespan_core.specs.Labels.{LabelModel, is_single, first_line, last_line, multi_label_on, lane_mark_of, lane_marks_on, multi_line_labels, MultiLabel, Top, Left, Bottom}
-use Rattle.codespan_picture.specs.declared.lanes.Shape.TheVariants.{Space, Bar}
-use Rattle.codespan_picture.specs.Lanes.{empty_shape, lane_mark_in, shape_of}
+use Rattle.codespan_picture.specs.declared.lane_shapes.Shape.TheVariants.{Space, Bar}
+use Rattle.codespan_picture.specs.Lanes.{empty_or_break_shape, lane_mark_in, shape_of}
 use Rattle.codespan_picture.specs.Lines.{is_shown, is_drawn, drawn_lines, has_break_between}
 use Rattle.codespan_picture.specs.Rows.{Row, BreakRow, SnippetStartRow, EmptyRow, rows_of}
-use Rattle.codespan_picture.specs.Snippets.{LabeledFileModel, line_at, rows_after, row_after, snippet, empty_lanes}
+use Rattle.codespan_picture.specs.Snippets.{LabeledFileModel, line_at, rows_of_drawn, empty_row_after, snippet, empty_lanes}
 use Rattle.codespan_picture.proofs.FillLemmas.{breaks_before}
 use Rattle.codespan_picture.specs.LaneLaws.{HasLane, LanesJoinCorners}
 use Rattle.codespan_picture.specs.RichLaws.{NoneReversed}
@@ -101,36 +101,36 @@ module _ (layout : Layout) (s : LabeledFileModel) (lane : ℕ) (x : LabelModel) 
       (breaks_before s previous l ++ rows_of (line_at s l))
   gaps_with previous l none =
       all-append (Shows layout lane Space) (breaks_before s previous l) (rows_of (line_at s l))
-      (each_break (Shows layout lane Space) s previous l (ap (shape_of empty_shape) none))
+      (each_break (Shows layout lane Space) s previous l (ap (shape_of empty_or_break_shape) none))
       (no_lane_mark layout lane (line_at s l) none)
 
   gap_break : (previous : Option ℕ) (l : ℕ) → first_line s.file x ≡ l
       → AllByRecursion (Shows layout lane Space) (breaks_before s previous l)
   gap_break previous l h =
       each_break (Shows layout lane Space) s previous l
-      (ap (shape_of empty_shape) (lane_mark_at l (Some (top_of l)) (top_at l h)))
+      (ap (shape_of empty_or_break_shape) (lane_mark_at l (Some (top_of l)) (top_at l h)))
 
   bar_break : (previous : Option ℕ) (l : ℕ) (multi_label : MultiLabel)
-      → empty_shape multi_label ≡ Bar → multi_label_on s.file l x ≡ Some multi_label
+      → empty_or_break_shape multi_label ≡ Bar → multi_label_on s.file l x ≡ Some multi_label
       → AllByRecursion (Shows layout lane Bar) (breaks_before s previous l)
   bar_break previous l multi_label bar is =
       each_break (Shows layout lane Bar) s previous l
-      (ap (shape_of empty_shape) (lane_mark_at l (Some multi_label) is) ∙ bar)
+      (ap (shape_of empty_or_break_shape) (lane_mark_at l (Some multi_label) is) ∙ bar)
 
   abbrev lines_from : ℕ → ℕ → List ℕ
   lines_from a n = filter drawn (range_with_len a n)
 
   abbrev rows_from : Option ℕ → ℕ → ℕ → List Row
-  rows_from previous a n = rows_after s previous (lines_from a n)
+  rows_from previous a n = rows_of_drawn s previous (lines_from a n)
 
   skip : (previous : Option ℕ) (a n : ℕ) → drawn a ≡ false
       → rows_from previous a (suc n) ≡ rows_from previous (a + 1) n
-  skip previous a n h = ap (λ b. rows_after s previous (cond b (a ∷ lines_from (a + 1) n) (lines_from (a + 1) n))) h
+  skip previous a n h = ap (λ b. rows_of_drawn s previous (cond b (a ∷ lines_from (a + 1) n) (lines_from (a + 1) n))) h
 
   keep : (previous : Option ℕ) (a n : ℕ) → drawn a ≡ true
       → rows_from previous a (suc n) ≡ breaks_before s previous a ++ rows_of
       (line_at s a) ++ rows_from (Some a) (a + 1) n
-  keep previous a n h = ap (λ b. rows_after s previous (cond b (a ∷ lines_from (a + 1) n) (lines_from (a + 1) n))) h
+  keep previous a n h = ap (λ b. rows_of_drawn s previous (cond b (a ∷ lines_from (a + 1) n) (lines_from (a + 1) n))) h
 
   -- the rows of the lines after the label
   gaps_after : (previous : Option ℕ) (a n : ℕ) → last_line s.file x < a
@@ -141,7 +141,7 @@ module _ (layout : Layout) (s : LabeledFileModel) (lane : ℕ) (x : LabelModel) 
       by_test : ((w : Option ℕ) → AllByRecursion (Shows layout lane Space) (rows_from w (a + 1) n))
           → (b : Bool)
           → AllByRecursion (Shows layout lane Space)
-          (rows_after s previous (cond b (a ∷ lines_from (a + 1) n) (lines_from (a + 1) n)))
+          (rows_of_drawn s previous (cond b (a ∷ lines_from (a + 1) n) (lines_from (a + 1) n)))
       by_test rest true =
           all-append (Shows layout lane Space) (breaks_before s previous a ++ rows_of (line_at s a)) (rows_from (Some a) (a + 1) n)
           (gaps_with previous a (no_lane_mark_after a past)) (rest (Some a))
@@ -251,11 +251,11 @@ lanes_are_lines config layout s ordered = λ locus is_followed lane x has.
     let some : 0 < line_count s.file = has_line s.file.starts x.start x.end several in
     let low = line_of-below s.file.starts x.start some in
     let high = line_of-below s.file.starts x.end some in
-    one_line layout s (snippet config locus s ++ row_after is_followed s) lane x
+    one_line layout s (snippet config locus s ++ empty_row_after is_followed s) lane x
     (whole_before layout lane (line_at s (first_line s.file x)) (snippet config locus s) (trailing_border_rows is_followed)
     (whole_later layout lane (line_at s (first_line s.file x))
     (SnippetStartRow locus ∷ EmptyRow (empty_lanes s) ∷ [])
-    (rows_after s None (drawn_lines config s.file s.labels))
+    (rows_of_drawn s None (drawn_lines config s.file s.labels))
     (refl, (refl, tt))
     (whole_from layout s lane x has several (is_drawn config s.file s.labels) None 0
     (line_count s.file) (omega arith) (omega arith)

@@ -13,11 +13,11 @@ use Rattle.codespan_core.specs.declared.term.config.chars.Chars.{Chars}
 use Rattle.codespan_core.specs.Labels.{LabelModel, LaneMark, MultiLabel, Top, Left, Bottom}
 use Rattle.codespan_core.specs.Streams.{glyph, spaces}
 use Rattle.codespan_picture.specs.declared.char_metrics.Metrics.{Metrics}
-use Rattle.codespan_picture.specs.declared.lanes.Shape.{Shape}
-use Rattle.codespan_picture.specs.declared.lanes.Shape.TheVariants.{Space, Bar, TopCorner, BottomCorner}
+use Rattle.codespan_picture.specs.declared.lane_shapes.Shape.{Shape}
+use Rattle.codespan_picture.specs.declared.lane_shapes.Shape.TheVariants.{Space, Bar, TopCorner, BottomCorner}
 use Rattle.codespan_picture.specs.Carets.{caret_for}
 use Rattle.codespan_picture.specs.CharMetrics.{char_metrics, metrics_then, width_at}
-use Rattle.codespan_picture.specs.Lanes.{underline_char, crossing_cells, label_glyph, lane_cells}
+use Rattle.codespan_picture.specs.Lanes.{underline_char, crossing_characters, label_glyph, lane_characters}
 use Rattle.codespan_picture.specs.Rows.{Line, Row, HeaderRow, SnippetStartRow, SourceRow, CaretRow, HangingRow, UnderlineRow, FirstNoteRow, LaterNoteRow}
 use Rattle.codespan_picture.specs.RowParts.{source_glyph, start_caret, end_caret}
 use Rattle.codespan_picture.specs.TextLaws.{IsText, AreCharacters}
@@ -36,28 +36,28 @@ module _ (chars : Chars) (ok : AreCharacters chars) where
   scalar-underline_char Left = ok.multi_bottom
   scalar-underline_char (Bottom end message) = ok.multi_bottom
 
-  text-crossing_cells : (severity : Severity) (crossing : Option LaneMark) (n : ℕ)
-      → IsText (crossing_cells severity chars crossing n)
-  unfolding crossing_cells
-  text-crossing_cells severity None n = text-spaces n
-  text-crossing_cells severity (Some m) n = search (pieces, scalar-underline_char m.multi_label)
+  text-crossing_characters : (severity : Severity) (crossing : Option LaneMark) (n : ℕ)
+      → IsText (crossing_characters severity chars crossing n)
+  unfolding crossing_characters
+  text-crossing_characters severity None n = text-spaces n
+  text-crossing_characters severity (Some m) n = search (pieces, scalar-underline_char m.multi_label)
 
-  pub text-lane_cells : (severity : Severity) (crossing : Option LaneMark) (style : LabelStyle)
+  pub text-lane_characters : (severity : Severity) (crossing : Option LaneMark) (style : LabelStyle)
       (shape : Shape)
-      → IsText (lane_cells severity chars crossing style shape)
-  unfolding lane_cells
-  text-lane_cells severity crossing style Space = text-crossing_cells severity crossing 2
-  text-lane_cells severity crossing style Bar =
-      text-both (crossing_cells severity chars crossing 1) _
-      (text-crossing_cells severity crossing 1)
+      → IsText (lane_characters severity chars crossing style shape)
+  unfolding lane_characters
+  text-lane_characters severity crossing style Space = text-crossing_characters severity crossing 2
+  text-lane_characters severity crossing style Bar =
+      text-both (crossing_characters severity chars crossing 1) _
+      (text-crossing_characters severity crossing 1)
       (text-label_glyph severity style chars.multi_left ok.multi_left)
-  text-lane_cells severity crossing style TopCorner =
-      text-both (crossing_cells severity chars crossing 1) _
-      (text-crossing_cells severity crossing 1)
+  text-lane_characters severity crossing style TopCorner =
+      text-both (crossing_characters severity chars crossing 1) _
+      (text-crossing_characters severity crossing 1)
       (text-label_glyph severity style chars.multi_top_left ok.multi_top_left)
-  text-lane_cells severity crossing style BottomCorner =
-      text-both (crossing_cells severity chars crossing 1) _
-      (text-crossing_cells severity crossing 1)
+  text-lane_characters severity crossing style BottomCorner =
+      text-both (crossing_characters severity chars crossing 1) _
+      (text-crossing_characters severity crossing 1)
       (text-label_glyph severity style chars.multi_bottom_left ok.multi_bottom_left)
 
   pub scalar-caret_for : (style : Option LabelStyle) → IsScalar (caret_for chars style)

@@ -4,8 +4,8 @@ use Rattle.std.proofs.lemmas.Option.{none-some, same_Some}
 use Rattle.std.specs.List.{range_with_len}
 use Rattle.codespan_core.specs.Labels.{LabelModel, LaneMark, MultiLabel}
 use Rattle.codespan_core.specs.Streams.{Stream, LabelStyleMark, Reset, style_mark, space}
-use Rattle.codespan_picture.specs.declared.lanes.Shape.{Shape}
-use Rattle.codespan_picture.specs.Lanes.{Source, Empty, SingleLabels, Underline, row_shape, row_crossing, source_shape, empty_shape, single_labels_shape, lane_mark_in, shape_of, style_of_lane_mark, lane_cells}
+use Rattle.codespan_picture.specs.declared.lane_shapes.Shape.{Shape}
+use Rattle.codespan_picture.specs.Lanes.{Source, EmptyOrBreak, SingleLabels, Underline, row_shape, row_crossing, source_shape, empty_or_break_shape, single_labels_shape, lane_mark_in, shape_of, style_of_lane_mark, lane_characters}
 use Rattle.codespan_picture.specs.Rows.{RowContext, Lanes, Line, Row, HeaderRow, SnippetStartRow, EmptyRow, BreakRow, SourceRow, CaretRow, PointerRow, HangingRow, UnderlineRow, FirstNoteRow, LaterNoteRow, FinalRow, trailing_label}
 use Rattle.codespan_picture.specs.RowParts.{outer_gutter, outer_gutter_number, border_left, border_left_break, label_message, inner_gutter_column, lanes_in, inner_gutter, line_metrics, line_metrics_to_end, leading_of, colored_text, carets, trailing_message, pointers, metrics_before, underline}
 use Rattle.codespan_picture.specs.RowStreams.{stream_of, empty_row, break_row, source_row, row_start, caret_row, pointer_row, hanging_row, underline_row}
@@ -18,7 +18,7 @@ lanes_are : (context : RowContext) (crossing : ℕ → Option LaneMark) (shape :
     (lanes : Lanes)
     → lanes_in context crossing shape lanes
     ≡ flat_map
-    (λ lane. lane_cells context.severity context.chars (crossing lane)
+    (λ lane. lane_characters context.severity context.chars (crossing lane)
     (style_of_lane_mark (lane_mark_in lanes.lane_marks lane))
     (shape_of (shape lane) (lane_mark_in lanes.lane_marks lane)))
     (range_with_len 0 lanes.count)
@@ -54,9 +54,9 @@ shows : (context : RowContext) (row : Row) (lanes : Lanes)
 shows context row lanes starts = record { after = starts.after; is = starts.is }
 
 plain_are : (context : RowContext) (lanes : Lanes)
-    → inner_gutter context 0 Empty lanes ≡ lanes_shown context (EmptyRow lanes) lanes
+    → inner_gutter context 0 EmptyOrBreak lanes ≡ lanes_shown context (EmptyRow lanes) lanes
 unfolding inner_gutter
-plain_are context lanes = lanes_are context (λ _. None) (λ _. empty_shape) lanes
+plain_are context lanes = lanes_are context (λ _. None) (λ _. empty_or_break_shape) lanes
 
 source_are : (context : RowContext) (line : Line)
     → inner_gutter context (leading_of line) Source line.lanes ≡ lanes_shown context

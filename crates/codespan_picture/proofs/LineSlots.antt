@@ -9,7 +9,7 @@ use Rattle.codespan_core.specs.FileModel.{FileModel, line_start}
 use Rattle.codespan_core.specs.Streams.{Stream}
 use Rattle.codespan_core.specs.Labels.{LabelModel, has_message, is_empty_stream, LaneMark, MultiLabel, Top, Left, Bottom, first_line, last_line, is_single, drawn_label, multi_line_labels, range_precedes, insert_sorted, sorted, single_labels, multi_label_on, lane_mark_of}
 use Rattle.codespan_picture.specs.CharMetrics.{leading_whitespace}
-use Rattle.codespan_picture.specs.Rows.{Line, SourceRow, CaretRow, PointerRow, HangingRow, UnderlineRow, trailing_label, hanging_labels, has_underline, caret_rows, hanging_rows, underline_rows, rows_of}
+use Rattle.codespan_picture.specs.Rows.{Line, SourceRow, CaretRow, PointerRow, HangingRow, UnderlineRow, trailing_label, hanging_labels, has_underline, caret_rows, pointer_and_hanging_rows, underline_rows, rows_of}
 use Rattle.codespan_picture.specs.Snippets.{LabeledFileModel, line_at}
 use Rattle.codespan_picture.proofs.MessageLemmas.{trailing_and_hanging, weight_of}
 use Rattle.codespan_picture.proofs.SlotLemmas.{slots, slots-nil, multi_label_slots, row_slots}
@@ -121,7 +121,7 @@ caret_sum k line (x ∷ xs) h =
     omega (arith, e, sum_by-cons (row_slots k) (CaretRow line) [])
 
 hanging_sum : (k : ℕ) (line : Line) (labels : List LabelModel)
-    → sum_by (row_slots k) (hanging_rows line labels) ≡ sum_by (label_slots k) labels
+    → sum_by (row_slots k) (pointer_and_hanging_rows line labels) ≡ sum_by (label_slots k) labels
 hanging_sum k line [] = refl
 hanging_sum k line (x ∷ xs) =
     omega (
@@ -154,10 +154,10 @@ line_sum k line =
     omega (
       arith,
       sum_by-append (row_slots k) ((SourceRow line ∷ caret_rows line line.labels)
-          ++ hanging_rows line (hanging_labels line.labels))
+          ++ pointer_and_hanging_rows line (hanging_labels line.labels))
           (underline_rows line),
       sum_by-append (row_slots k) (SourceRow line ∷ caret_rows line line.labels)
-          (hanging_rows line (hanging_labels line.labels)),
+          (pointer_and_hanging_rows line (hanging_labels line.labels)),
       sum_by-cons (row_slots k) (SourceRow line) (caret_rows line line.labels),
       caret_sum k line line.labels refl,
       hanging_sum k line (hanging_labels line.labels),

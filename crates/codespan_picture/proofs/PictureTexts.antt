@@ -18,11 +18,11 @@ use Rattle.codespan_picture.specs.Lines.{drawn_lines}
 use Rattle.codespan_picture.specs.Padding.{padding_of}
 use Rattle.codespan_picture.specs.OutputStreams.{NamesAreTexts, files_of, header_text_of, label_of, labels_of, context_of, notes_of, output, locus_starts}
 use Rattle.codespan_picture.specs.Picture.{stated_loci, headers}
-use Rattle.codespan_picture.specs.Rows.{Line, Locus, Row, HeaderRow, EmptyRow, SourceRow, HangingRow, UnderlineRow, FinalRow, caret_rows, hanging_labels, hanging_rows, has_underline, rows_of, underline_rows}
+use Rattle.codespan_picture.specs.Rows.{Line, Locus, Row, HeaderRow, EmptyRow, SourceRow, HangingRow, UnderlineRow, FinalRow, caret_rows, hanging_labels, pointer_and_hanging_rows, has_underline, rows_of, underline_rows}
 use Rattle.codespan_picture.specs.CharMetrics.{leading_whitespace}
 use Rattle.codespan_picture.specs.Carets.{max_label_end}
 use Rattle.codespan_picture.specs.Sequences.{break_between}
-use Rattle.codespan_picture.specs.Snippets.{InFile, LabeledFileModel, empty_lanes, break_rows, has_any, header_rows, labeled_file_model, line_at, line_rows, note_rows, rich_rows, row_after, rows_after, snippet, snippets}
+use Rattle.codespan_picture.specs.Snippets.{InFile, LabeledFileModel, empty_lanes, break_rows, has_any, header_rows, labeled_file_model, line_at, line_rows, note_rows, rich_rows, empty_row_after, rows_of_drawn, snippet, snippets}
 use Rattle.codespan_picture.proofs.Sequences.{all-break, all-sequence}
 use Rattle.codespan_picture.specs.TextLaws.{AreCharacters, IsText, OutputIsText, PictureIsText}
 use Rattle.codespan_picture.proofs.LaneLineLemmas.{each_all, each_map}
@@ -129,7 +129,7 @@ text_message-hanging_labels (x ∷ xs) h =
         (λ _. all-filter HasTextMessage has_message (x ∷ xs) h)
 
 rows-hanging_labels : (line : Line) (labels : List LabelModel)
-    → AllByRecursion HasTextMessage labels → AllByRecursion IsTextRow (hanging_rows line labels)
+    → AllByRecursion HasTextMessage labels → AllByRecursion IsTextRow (pointer_and_hanging_rows line labels)
 rows-hanging_labels line [] h = tt
 rows-hanging_labels line (x ∷ xs) h = (
   tt,
@@ -146,10 +146,10 @@ rows-line line t =
     let test : LaneMark → Bool = λ m. has_underline (leading_whitespace line.text) m.multi_label in
     all-append IsTextRow
     ((SourceRow line ∷ caret_rows line line.labels)
-    ++ hanging_rows line (hanging_labels line.labels))
+    ++ pointer_and_hanging_rows line (hanging_labels line.labels))
     (underline_rows line)
     (all-append IsTextRow (SourceRow line ∷ caret_rows line line.labels)
-    (hanging_rows line (hanging_labels line.labels))
+    (pointer_and_hanging_rows line (hanging_labels line.labels))
     (t.text, rows-caret line line.labels t.labels)
     (rows-hanging_labels line (hanging_labels line.labels) (text_message-hanging_labels line.labels t.labels)))
     (each_map IsTextRow (UnderlineRow line) (filter test line.lanes.lane_marks)
@@ -174,15 +174,15 @@ module _ (s : LabeledFileModel) (ok : IsTextFile s) where
   }
 
   rows-lines : (previous : Option ℕ) (ls : List ℕ)
-      → AllByRecursion IsTextRow (rows_after s previous ls)
+      → AllByRecursion IsTextRow (rows_of_drawn s previous ls)
   rows-lines previous ls =
       all-sequence IsTextRow (λ l. l) (break_between (break_rows (line_at s))) (line_rows (line_at s))
       (all-break IsTextRow (break_rows (line_at s)) (λ d. (tt, tt))) (λ l. rows-line (line_at s l) (line-text l)) previous ls
 
   rows-snippet_and_after : (config : Config) (followed : Bool) (at : Locus) → IsUtf8 at.name
-      → AllByRecursion IsTextRow (snippet config at s ++ row_after followed s)
+      → AllByRecursion IsTextRow (snippet config at s ++ empty_row_after followed s)
   rows-snippet_and_after config followed at u =
-      all-append IsTextRow (snippet config at s) (row_after followed s)
+      all-append IsTextRow (snippet config at s) (empty_row_after followed s)
       (u, (tt, rows-lines None (drawn_lines config s.file s.labels)))
       (cond_both followed (EmptyRow (empty_lanes s) ∷ []) [] (AllByRecursion IsTextRow) (λ _. (tt, tt)) (λ _. tt))
 
@@ -193,7 +193,7 @@ rows-snippets : (config : Config) (has_notes : Bool) (loci : List Locus)
 rows-snippets config has_notes [] ss named ok = tt
 rows-snippets config has_notes (p ∷ ps) [] named ok = tt
 rows-snippets config has_notes (p ∷ ps) (s ∷ ss) named ok =
-    all-append IsTextRow (snippet config p s ++ row_after (has_any ss || has_notes) s) (snippets config has_notes ps ss)
+    all-append IsTextRow (snippet config p s ++ empty_row_after (has_any ss || has_notes) s) (snippets config has_notes ps ss)
     (rows-snippet_and_after s ok.0 config (has_any ss || has_notes) p named.0) (rows-snippets config has_notes ps ss named.1 ok.1)
 
 -- ---- a diagnostic

@@ -10,9 +10,9 @@ use Rattle.codespan_core.specs.Streams.{Stream}
 use Rattle.codespan_core.specs.Labels.{LabelModel, has_message, is_empty_stream, is_primary, is_primary_style, LaneMark, MultiLabel, Top, Left, Bottom}
 use Rattle.codespan_picture.specs.declared.char_metrics.Metrics.{Metrics}
 use Rattle.codespan_picture.specs.Carets.{style_under, covers, max_label_end, is_overlapping}
-use Rattle.codespan_picture.specs.declared.lanes.Shape.{Shape}
-use Rattle.codespan_picture.specs.declared.lanes.Shape.TheVariants.{Space, Bar, TopCorner, BottomCorner}
-use Rattle.codespan_picture.specs.Lanes.{source_shape, empty_shape, single_labels_shape, underline_shape, lane_mark_in, underline_char, crossing_cells, lane_cells, Source, Empty, SingleLabels, Underline}
+use Rattle.codespan_picture.specs.declared.lane_shapes.Shape.{Shape}
+use Rattle.codespan_picture.specs.declared.lane_shapes.Shape.TheVariants.{Space, Bar, TopCorner, BottomCorner}
+use Rattle.codespan_picture.specs.Lanes.{source_shape, empty_or_break_shape, single_labels_shape, underline_shape, lane_mark_in, underline_char, crossing_characters, lane_characters, Source, EmptyOrBreak, SingleLabels, Underline}
 use Rattle.codespan_picture.specs.Rows.{RowContext, Lanes, Line, trailing_label, hanging_labels}
 use Rattle.codespan_picture.proofs.Rightmost.{Around, others, behind, around_with_end, around_trails, around_rightmost, trailing_of, hanging_of, trailing_is, hanging_is}
 use Rattle.codespan_picture.specs.RowParts.{styled, inner_gutter_column, lanes_in, inner_gutter, line_metrics, multi_label_covers, source_style, source_glyph, colored_text, caret_glyphs, carets, pointer_style, pointer_at, pointers, starts_in, max_label_start}
@@ -147,27 +147,27 @@ module _ (φ : Stream → Stream) (keeps : (s : Stream) → is_empty_stream (φ 
   corner chars Left = refl
   corner chars (Bottom end message) = refl
 
-  pub crossing_cells-refilled : (severity : _) (chars : _) (m : Option LaneMark) (n : ℕ)
-      → crossing_cells severity chars (option_map (refilled_lane_mark φ) m) n ≡ crossing_cells severity
+  pub crossing_characters-refilled : (severity : _) (chars : _) (m : Option LaneMark) (n : ℕ)
+      → crossing_characters severity chars (option_map (refilled_lane_mark φ) m) n ≡ crossing_characters severity
       chars m n
-  unfolding crossing_cells
-  crossing_cells-refilled severity chars None n = refl
-  crossing_cells-refilled severity chars (Some m) n = simp (corner chars m.multi_label)
+  unfolding crossing_characters
+  crossing_characters-refilled severity chars None n = refl
+  crossing_characters-refilled severity chars (Some m) n = simp (corner chars m.multi_label)
 
-  char_metrics-refilled : (severity : _) (chars : _) (m : Option LaneMark) (style : LabelStyle) (shape : Shape)
-      → lane_cells severity chars (option_map (refilled_lane_mark φ) m) style shape ≡ lane_cells severity chars m style shape
-  unfolding lane_cells
-  char_metrics-refilled severity chars m style Space = crossing_cells-refilled severity chars m 2
-  char_metrics-refilled severity chars m style Bar = simp (crossing_cells-refilled severity chars m 1)
-  char_metrics-refilled severity chars m style TopCorner = simp (crossing_cells-refilled severity chars m 1)
-  char_metrics-refilled severity chars m style BottomCorner = simp (crossing_cells-refilled severity chars m 1)
+  lane_characters-refilled : (severity : _) (chars : _) (m : Option LaneMark) (style : LabelStyle) (shape : Shape)
+      → lane_characters severity chars (option_map (refilled_lane_mark φ) m) style shape ≡ lane_characters severity chars m style shape
+  unfolding lane_characters
+  lane_characters-refilled severity chars m style Space = crossing_characters-refilled severity chars m 2
+  lane_characters-refilled severity chars m style Bar = simp (crossing_characters-refilled severity chars m 1)
+  lane_characters-refilled severity chars m style TopCorner = simp (crossing_characters-refilled severity chars m 1)
+  lane_characters-refilled severity chars m style BottomCorner = simp (crossing_characters-refilled severity chars m 1)
 
   lane-refilled : (context : RowContext) (c m : Option LaneMark) (shape : MultiLabel → Shape)
       → ((multi_label : MultiLabel) → shape (refilled_multi_label φ multi_label) ≡ shape multi_label)
       → inner_gutter_column context (option_map (refilled_lane_mark φ) c) shape (option_map (refilled_lane_mark φ) m) ≡ inner_gutter_column context c shape m
   unfolding inner_gutter_column
-  lane-refilled context c None shape h = char_metrics-refilled context.severity context.chars c Primary _
-  lane-refilled context c (Some m) shape h = simp (h m.multi_label) (char_metrics-refilled context.severity context.chars c m.style (shape m.multi_label))
+  lane-refilled context c None shape h = lane_characters-refilled context.severity context.chars c Primary _
+  lane-refilled context c (Some m) shape h = simp (h m.multi_label) (lane_characters-refilled context.severity context.chars c m.style (shape m.multi_label))
 
   lanes-refilled : (context : RowContext) (crossing crossing' : ℕ → Option LaneMark) (shape : ℕ → MultiLabel → Shape) (lanes : Lanes)
       → ((lane : ℕ) → crossing' lane ≡ option_map (refilled_lane_mark φ) (crossing lane))
@@ -190,10 +190,10 @@ module _ (φ : Stream → Stream) (keeps : (s : Stream) → is_empty_stream (φ 
   source_shape-refilled leading Left = refl
   source_shape-refilled leading (Bottom end message) = refl
 
-  empty_shape-refilled : (multi_label : MultiLabel) → empty_shape (refilled_multi_label φ multi_label) ≡ empty_shape multi_label
-  empty_shape-refilled (Top start) = refl
-  empty_shape-refilled Left = refl
-  empty_shape-refilled (Bottom end message) = refl
+  empty_or_break_shape-refilled : (multi_label : MultiLabel) → empty_or_break_shape (refilled_multi_label φ multi_label) ≡ empty_or_break_shape multi_label
+  empty_or_break_shape-refilled (Top start) = refl
+  empty_or_break_shape-refilled Left = refl
+  empty_or_break_shape-refilled (Bottom end message) = refl
 
   single_labels_shape-refilled : (layout : _) (leading : ℕ) (multi_label : MultiLabel)
       → single_labels_shape layout leading (refilled_multi_label φ multi_label) ≡ single_labels_shape
@@ -214,9 +214,9 @@ module _ (φ : Stream → Stream) (keeps : (s : Stream) → is_empty_stream (φ 
   unfolding inner_gutter
   source_lanes-refilled context leading lanes = lanes-refilled context (λ _. None) (λ _. None) (λ _. source_shape leading) lanes (λ _. refl) (λ _. source_shape-refilled leading)
 
-  pub plain_lanes-refilled : (context : RowContext) (lanes : Lanes) → inner_gutter context 0 Empty (refilled_lanes φ lanes) ≡ inner_gutter context 0 Empty lanes
+  pub plain_lanes-refilled : (context : RowContext) (lanes : Lanes) → inner_gutter context 0 EmptyOrBreak (refilled_lanes φ lanes) ≡ inner_gutter context 0 EmptyOrBreak lanes
   unfolding inner_gutter
-  plain_lanes-refilled context lanes = lanes-refilled context (λ _. None) (λ _. None) (λ _. empty_shape) lanes (λ _. refl) (λ _. empty_shape-refilled)
+  plain_lanes-refilled context lanes = lanes-refilled context (λ _. None) (λ _. None) (λ _. empty_or_break_shape) lanes (λ _. refl) (λ _. empty_or_break_shape-refilled)
 
   pub below_lanes-refilled : (context : RowContext) (leading : ℕ) (lanes : Lanes)
       → inner_gutter context leading SingleLabels (refilled_lanes φ lanes) ≡ inner_gutter context leading

@@ -12,8 +12,8 @@ use Rattle.codespan_core.specs.Streams.{Stream}
 use Rattle.codespan_core.specs.Labels.{LabelModel, is_empty_stream, LaneMark, MultiLabel, Top, Left, Bottom, first_line, last_line, is_single, drawn_label, first_seen, multi_line_labels, range_precedes, insert_sorted, sorted, single_labels, multi_label_on, lane_mark_of, lane_marks_on}
 use Rattle.codespan_picture.specs.CharMetrics.{leading_whitespace}
 use Rattle.codespan_picture.specs.Lines.{shows, is_shown, drawn_lines, has_break_between}
-use Rattle.codespan_picture.specs.Rows.{Locus, HeaderText, Lanes, Line, HeaderRow, SnippetStartRow, EmptyRow, BreakRow, SourceRow, PointerRow, HangingRow, UnderlineRow, FirstNoteRow, LaterNoteRow, FinalRow, hanging_labels, has_underline, caret_rows, hanging_rows, underline_rows, rows_of}
-use Rattle.codespan_picture.specs.Snippets.{LabeledFileModel, InFile, labeled_file_model, labeled_file_models, num_multi_labels, empty_lanes, line_at, rows_after, snippet, has_any, row_after, snippets, note_line_rows, note_rows, rich_rows}
+use Rattle.codespan_picture.specs.Rows.{Locus, HeaderText, Lanes, Line, HeaderRow, SnippetStartRow, EmptyRow, BreakRow, SourceRow, PointerRow, HangingRow, UnderlineRow, FirstNoteRow, LaterNoteRow, FinalRow, hanging_labels, has_underline, caret_rows, pointer_and_hanging_rows, underline_rows, rows_of}
+use Rattle.codespan_picture.specs.Snippets.{LabeledFileModel, InFile, labeled_file_model, labeled_file_models, num_multi_labels, empty_lanes, line_at, rows_of_drawn, snippet, has_any, empty_row_after, snippets, note_line_rows, note_rows, rich_rows}
 use Rattle.codespan_picture.proofs.FillLemmas.{breaks_before}
 use Rattle.codespan_picture.specs.Padding.{spans, spanned_lines, numbered_lines, digits_of, padding_of}
 use Rattle.codespan_picture.proofs.RefillLemmas.{any-map, filter-map, map-append', refilled, refilled_multi_label, refilled_lane_mark, refilled_lanes, refilled_line, hanging_labels-refilled}
@@ -55,7 +55,7 @@ module _ (φ : Stream → Stream) (keeps : (s : Stream) → is_empty_stream (φ 
   caret-rows line (x ∷ xs) = refl
 
   hanging_labels-rows : (line : Line) (labels : List LabelModel)
-      → map (refilled_row φ) (hanging_rows line labels) ≡ hanging_rows (refilled_line φ line)
+      → map (refilled_row φ) (pointer_and_hanging_rows line labels) ≡ pointer_and_hanging_rows (refilled_line φ line)
       (map (refilled φ) labels)
   hanging_labels-rows line [] = refl
   hanging_labels-rows line (x ∷ xs) =
@@ -79,11 +79,11 @@ module _ (φ : Stream → Stream) (keeps : (s : Stream) → is_empty_stream (φ 
 
   line-rows : (line : Line) → map (refilled_row φ) (rows_of line) ≡ rows_of (refilled_line φ line)
   line-rows line =
-      map-append' (refilled_row φ) ((SourceRow line ∷ caret_rows line line.labels) ++ hanging_rows line (hanging_labels line.labels)) (underline_rows line)
+      map-append' (refilled_row φ) ((SourceRow line ∷ caret_rows line line.labels) ++ pointer_and_hanging_rows line (hanging_labels line.labels)) (underline_rows line)
       ∙ ap₂ (λ a b. a ++ b)
-      (map-append' (refilled_row φ) (SourceRow line ∷ caret_rows line line.labels) (hanging_rows line (hanging_labels line.labels))
+      (map-append' (refilled_row φ) (SourceRow line ∷ caret_rows line line.labels) (pointer_and_hanging_rows line (hanging_labels line.labels))
       ∙ ap₂ (λ a b. (SourceRow (refilled_line φ line) ∷ a) ++ b) (caret-rows line line.labels)
-      (hanging_labels-rows line (hanging_labels line.labels) ∙ ap (hanging_rows (refilled_line φ line)) (sym (hanging_labels-refilled φ keeps line.labels))))
+      (hanging_labels-rows line (hanging_labels line.labels) ∙ ap (pointer_and_hanging_rows (refilled_line φ line)) (sym (hanging_labels-refilled φ keeps line.labels))))
       (underline-rows line)
 
   -- ---- the labels of a line
@@ -176,10 +176,10 @@ module _ (φ : Stream → Stream) (keeps : (s : Stream) → is_empty_stream (φ 
       by_test false = refl
 
   after-refilled : (s : LabeledFileModel) (previous : Option ℕ) (ls : List ℕ)
-      → map (refilled_row φ) (rows_after s previous ls) ≡ rows_after (refilled_file φ s) previous ls
+      → map (refilled_row φ) (rows_of_drawn s previous ls) ≡ rows_of_drawn (refilled_file φ s) previous ls
   after-refilled s previous [] = refl
   after-refilled s previous (l ∷ ls) =
-      map-append' (refilled_row φ) (breaks_before s previous l ++ rows_of (line_at s l)) (rows_after s (Some l) ls)
+      map-append' (refilled_row φ) (breaks_before s previous l ++ rows_of (line_at s l)) (rows_of_drawn s (Some l) ls)
       ∙ ap₂ (λ a b. a ++ b)
       (map-append' (refilled_row φ) (breaks_before s previous l) (rows_of (line_at s l))
       ∙ ap₂ (λ a b. a ++ b) (break-refilled s previous l) (line-rows (line_at s l) ∙ ap rows_of (line-refilled s l)))
@@ -194,20 +194,20 @@ module _ (φ : Stream → Stream) (keeps : (s : Stream) → is_empty_stream (φ 
 
   snippet-refilled : (config : Config) (locus : Locus) (s : LabeledFileModel) → map (refilled_row φ) (snippet config locus s) ≡ snippet config locus (refilled_file φ s)
   snippet-refilled config locus s =
-      map-append' (refilled_row φ) (SnippetStartRow locus ∷ EmptyRow (empty_lanes s) ∷ []) (rows_after s None (drawn_lines config s.file s.labels))
+      map-append' (refilled_row φ) (SnippetStartRow locus ∷ EmptyRow (empty_lanes s) ∷ []) (rows_of_drawn s None (drawn_lines config s.file s.labels))
       ∙ ap₂ (λ a b. a ++ b)
       (ap (λ lanes. SnippetStartRow locus ∷ EmptyRow lanes ∷ []) (bare-refilled s))
-      (after-refilled s None (drawn_lines config s.file s.labels) ∙ ap (rows_after (refilled_file φ s) None) (sym (drawn-refilled config s.file s.labels)))
+      (after-refilled s None (drawn_lines config s.file s.labels) ∙ ap (rows_of_drawn (refilled_file φ s) None) (sym (drawn-refilled config s.file s.labels)))
 
-  row_after-refilled : (followed : Bool) (s : LabeledFileModel) → map (refilled_row φ) (row_after followed s) ≡ row_after followed (refilled_file φ s)
-  row_after-refilled true s = ap (λ lanes. EmptyRow lanes ∷ []) (bare-refilled s)
-  row_after-refilled false s = refl
+  empty_row_after-refilled : (followed : Bool) (s : LabeledFileModel) → map (refilled_row φ) (empty_row_after followed s) ≡ empty_row_after followed (refilled_file φ s)
+  empty_row_after-refilled true s = ap (λ lanes. EmptyRow lanes ∷ []) (bare-refilled s)
+  empty_row_after-refilled false s = refl
 
   -- a snippet and the row after it
   followed-refilled : (config : Config) (followed : Bool) (locus : Locus) (s : LabeledFileModel)
-      → map (refilled_row φ) (snippet config locus s ++ row_after followed s) ≡ snippet config locus (refilled_file φ s) ++ row_after followed (refilled_file φ s)
+      → map (refilled_row φ) (snippet config locus s ++ empty_row_after followed s) ≡ snippet config locus (refilled_file φ s) ++ empty_row_after followed (refilled_file φ s)
   followed-refilled config followed locus s =
-      map-append' (refilled_row φ) (snippet config locus s) (row_after followed s) ∙ ap₂ (λ a b. a ++ b) (snippet-refilled config locus s) (row_after-refilled followed s)
+      map-append' (refilled_row φ) (snippet config locus s) (empty_row_after followed s) ∙ ap₂ (λ a b. a ++ b) (snippet-refilled config locus s) (empty_row_after-refilled followed s)
 
   is_followed-refilled : (b : Bool) (ss : List LabeledFileModel) → (has_any (map (refilled_file φ) ss) || b) ≡ (has_any ss || b)
   is_followed-refilled b [] = refl
@@ -219,10 +219,10 @@ module _ (φ : Stream → Stream) (keeps : (s : Stream) → is_empty_stream (φ 
   snippets-refilled config has_notes (p ∷ ps) [] = refl
   snippets-refilled config has_notes (p ∷ ps) (s ∷ ss) =
       let followed = has_any ss || has_notes in
-      map-append' (refilled_row φ) (snippet config p s ++ row_after followed s) (snippets config has_notes ps ss)
+      map-append' (refilled_row φ) (snippet config p s ++ empty_row_after followed s) (snippets config has_notes ps ss)
       ∙ ap₂ (λ a b. a ++ b)
       (followed-refilled config followed p s
-      ∙ ap (λ b. snippet config p (refilled_file φ s) ++ row_after b (refilled_file φ s)) (sym (is_followed-refilled has_notes ss)))
+      ∙ ap (λ b. snippet config p (refilled_file φ s) ++ empty_row_after b (refilled_file φ s)) (sym (is_followed-refilled has_notes ss)))
       (snippets-refilled config has_notes ps ss)
 
   note_line-refilled : (ps : List (List ℕ)) → map (refilled_row φ) (note_line_rows ps) ≡ note_line_rows ps

@@ -9,8 +9,8 @@ use Rattle.codespan_core.specs.FileModel.{FileModel, line_count}
 use Rattle.codespan_core.specs.Labels.{LabelModel, LaneMark, first_line, last_line}
 use Rattle.codespan_picture.specs.Lines.{shows, is_shown, is_drawn, drawn_lines, has_break_between}
 use Rattle.codespan_picture.specs.CharMetrics.{leading_whitespace}
-use Rattle.codespan_picture.specs.Rows.{Line, SourceRow, BreakRow, HangingRow, UnderlineRow, PointerRow, caret_rows, hanging_rows, underline_rows, rows_of, hanging_labels, has_underline}
-use Rattle.codespan_picture.specs.Snippets.{LabeledFileModel, line_at, rows_after}
+use Rattle.codespan_picture.specs.Rows.{Line, SourceRow, BreakRow, HangingRow, UnderlineRow, PointerRow, caret_rows, pointer_and_hanging_rows, underline_rows, rows_of, hanging_labels, has_underline}
+use Rattle.codespan_picture.specs.Snippets.{LabeledFileModel, line_at, rows_of_drawn}
 use Rattle.codespan_picture.proofs.FillLemmas.{breaks_before}
 use Rattle.codespan_picture.specs.LineLaws.{is_source_row, max_shown_lines, SourceRowsAreFew}
 
@@ -240,7 +240,7 @@ no_source_caret line [] = refl
 no_source_caret line (x ∷ xs) = refl
 
 no_source_hanging : (line : Line) (labels : List LabelModel)
-    → count_by is_source_row (hanging_rows line labels) ≡ 0
+    → count_by is_source_row (pointer_and_hanging_rows line labels) ≡ 0
 no_source_hanging line [] = refl
 no_source_hanging line (x ∷ xs) =
     let more = reverse (x ∷ xs) in
@@ -255,10 +255,10 @@ one_source line =
     omega (
       arith,
       count-append is_source_row ((SourceRow line ∷ caret_rows line line.labels)
-          ++ hanging_rows line (hanging_labels line.labels))
+          ++ pointer_and_hanging_rows line (hanging_labels line.labels))
           (underline_rows line),
       count-append is_source_row (SourceRow line ∷ caret_rows line line.labels)
-          (hanging_rows line (hanging_labels line.labels)),
+          (pointer_and_hanging_rows line (hanging_labels line.labels)),
       count-cons is_source_row (SourceRow line) (caret_rows line line.labels),
       no_source_caret line line.labels,
       no_source_hanging line (hanging_labels line.labels),
@@ -268,24 +268,24 @@ one_source line =
           (λ m. refl),
     )
 
-count-rows_after : (s : LabeledFileModel) (previous : Option ℕ) (ls : List ℕ)
-    → count_by is_source_row (rows_after s previous ls) ≡ length ls
-count-rows_after s previous [] = refl
-count-rows_after s previous (l ∷ ls) =
+count-rows_of_drawn : (s : LabeledFileModel) (previous : Option ℕ) (ls : List ℕ)
+    → count_by is_source_row (rows_of_drawn s previous ls) ≡ length ls
+count-rows_of_drawn s previous [] = refl
+count-rows_of_drawn s previous (l ∷ ls) =
     omega (
       arith,
-      count-append is_source_row (breaks_before s previous l ++ rows_of (line_at s l)) (rows_after s (Some l) ls),
+      count-append is_source_row (breaks_before s previous l ++ rows_of (line_at s l)) (rows_of_drawn s (Some l) ls),
       count-append is_source_row (breaks_before s previous l) (rows_of (line_at s l)),
       no_source_break s previous l,
       one_source (line_at s l),
-      count-rows_after s (Some l) ls,
+      count-rows_of_drawn s (Some l) ls,
     )
 
 pub source_rows_few : (config : Config) (s : LabeledFileModel) → SourceRowsAreFew config s
 source_rows_few config s = λ locus.
     omega (
       arith,
-      count-rows_after s None (drawn_lines config s.file s.labels),
+      count-rows_of_drawn s None (drawn_lines config s.file s.labels),
       length-filter (is_drawn config s.file s.labels) (range_with_len 0 (line_count s.file)),
       count-drawn (is_shown config s.file s.labels) (line_count s.file),
       count-shown config s (line_count s.file),

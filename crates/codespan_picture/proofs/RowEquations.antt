@@ -9,10 +9,10 @@ use Rattle.codespan_core.specs.Streams.{Stream, bytes, spaces, repeated, glyph, 
 use Rattle.codespan_core.proofs.Writes.{bytes-append}
 use Rattle.std.proofs.lemmas.Grind.{flat_map-append}
 use Rattle.codespan_core.proofs.Repeats.{repeat-add}
-use Rattle.codespan_picture.specs.declared.rows.lanes.LaneRow.TheVariants.{Source, Empty, SingleLabels}
+use Rattle.codespan_picture.specs.declared.rows.lanes.LaneRow.TheVariants.{Source, EmptyOrBreak, SingleLabels}
 use Rattle.codespan_picture.specs.Arguments.{SingleLabelTuple, single_label_views}
 use Rattle.codespan_picture.specs.Private.LineViews.{row_lanes_view}
-use Rattle.codespan_picture.specs.Rows.{RowContext, Lanes, Line, Row, SourceRow, caret_rows, hanging_labels, hanging_rows, underline_rows, rows_of}
+use Rattle.codespan_picture.specs.Rows.{RowContext, Lanes, Line, Row, SourceRow, caret_rows, hanging_labels, pointer_and_hanging_rows, underline_rows, rows_of}
 use Rattle.codespan_picture.specs.RowStreams.{bracketed, caret_row, source_row, stream_of, stream_of_rows}
 use Rattle.std.specs.Prelude.{codes}
 use Rattle.std.specs.Str.{IsUtf8}
@@ -34,7 +34,7 @@ unfolding row_lanes_view inner_gutter
 source_lanes_are context leading lanes = refl
 
 pub plain_lanes_are : (context : RowContext) (leading : ℕ) (lanes : Lanes)
-    → row_lanes_view context leading Empty lanes ≡ inner_gutter context 0 kind.Empty lanes
+    → row_lanes_view context leading EmptyOrBreak lanes ≡ inner_gutter context 0 kind.EmptyOrBreak lanes
 unfolding row_lanes_view inner_gutter
 plain_lanes_are context leading lanes = refl
 
@@ -99,16 +99,16 @@ row_and_end context row = stream_of context row ++ newline
 -- the rows of a line are its source row, its caret row, its hanging rows and its underlines
 pub line_rows : (context : RowContext) (line : Line) → stream_of_rows context (rows_of line)
     ≡ source_row context line ++ newline ++ stream_of_rows context (caret_rows line line.labels)
-    ++ stream_of_rows context (hanging_rows line (hanging_labels line.labels))
+    ++ stream_of_rows context (pointer_and_hanging_rows line (hanging_labels line.labels))
     ++ stream_of_rows context (underline_rows line)
 line_rows context line =
     flat_map-append (row_and_end context)
     ((SourceRow line ∷ caret_rows line line.labels)
-    ++ hanging_rows line (hanging_labels line.labels))
+    ++ pointer_and_hanging_rows line (hanging_labels line.labels))
     (underline_rows line)
     ∙ ap (λ (l : Stream). l ++ stream_of_rows context (underline_rows line))
     (flat_map-append (row_and_end context) (SourceRow line ∷ caret_rows line line.labels)
-    (hanging_rows line (hanging_labels line.labels)))
+    (pointer_and_hanging_rows line (hanging_labels line.labels)))
 
 -- a line without labels has no caret row
 pub caret_rows_none : (context : RowContext) (line : Line) (labels : List SingleLabelTuple)

@@ -12,10 +12,10 @@ use Rattle.codespan_core.specs.SnippetStarts.{start_text}
 use Rattle.codespan_core.specs.Labels.{LabelModel, LaneMark, MultiLabel, Top, Left, Bottom}
 use Rattle.codespan_core.specs.Streams.{Stream, Header, HeaderMessage, NoteBullet, SourceBorder, LabelStyleMark, Reset, bytes, spaces, space, newline}
 use Rattle.codespan_picture.specs.declared.char_metrics.Metrics.{Metrics}
-use Rattle.codespan_picture.specs.declared.lanes.Shape.{Shape}
+use Rattle.codespan_picture.specs.declared.lane_shapes.Shape.{Shape}
 use Rattle.codespan_picture.specs.Carets.{caret_for, max_label_end, style_under}
 use Rattle.codespan_picture.specs.CharMetrics.{width_of}
-use Rattle.codespan_picture.specs.Lanes.{LaneRow, Source, Empty, SingleLabels, Underline, label_glyph, lane_mark_in, row_crossing, row_shape, shape_of, style_of_lane_mark}
+use Rattle.codespan_picture.specs.Lanes.{LaneRow, Source, EmptyOrBreak, SingleLabels, Underline, label_glyph, lane_mark_in, row_crossing, row_shape, shape_of, style_of_lane_mark}
 use Rattle.codespan_picture.specs.Rows.{Locus, RowContext, Lanes, Line, Row, HeaderRow, SnippetStartRow, EmptyRow, BreakRow, SourceRow, CaretRow, PointerRow, HangingRow, UnderlineRow, FirstNoteRow, LaterNoteRow, FinalRow, hanging_labels, trailing_label}
 use Rattle.codespan_picture.specs.RowParts.{locus, label_message, inner_gutter_column, inner_gutter, leading_of, line_metrics, line_metrics_to_end, source_style, source_glyph, colored_text, caret_glyphs, carets, trailing_message, starts_in, max_label_start, spaces_up_to, pointer_style, pointer_at, pointers, metrics_before, metrics_up_to, start_caret, end_caret, underline_message, underline}
 use Rattle.codespan_picture.specs.RowStreams.{bracketed, leading_locus, header_row, snippet_start_row, empty_row, break_row, source_row, row_start, caret_row, pointer_row, hanging_row, underline_row, first_note_row, later_note_row, stream_of, stream_of_rows}
@@ -24,7 +24,7 @@ use Rattle.codespan_picture.proofs.LaneLineLemmas.{each_all}
 use Rattle.codespan_picture.proofs.Rightmost.{Around, around_trails, around_rightmost, trailing_of, around_is, trailing_is}
 use Rattle.codespan_picture.proofs.ListElements.{all-weaker}
 use Rattle.codespan_picture.proofs.StreamTexts.{text-none, text-both, followed, text-bytes, text-style_mark, text-glyph, text-space, text-newline, text-colon_space, text-open, text-close, text-spaces, text-repeated, text-each, text-severity, text-locus, text-outer_gutter, text-outer_gutter_number, text-border_left, text-border_left_break, text-styled, text-label_message}
-use Rattle.codespan_picture.proofs.LaneTexts.{text-label_glyph, text-lane_cells, scalar-caret_for, scalar-start_caret, scalar-end_caret, scalar-char_metrics, text-source_glyph, IsTextMultiLabel, IsTextRow}
+use Rattle.codespan_picture.proofs.LaneTexts.{text-label_glyph, text-lane_characters, scalar-caret_for, scalar-start_caret, scalar-end_caret, scalar-char_metrics, text-source_glyph, IsTextMultiLabel, IsTextRow}
 
 -- ---- rows
 
@@ -82,7 +82,7 @@ module _ (context : RowContext) (ok : AreCharacters context.chars) where
       → IsText (inner_gutter_column context crossing shape lane_mark)
   unfolding inner_gutter_column
   text-inner_gutter_column crossing shape lane_mark =
-      text-lane_cells context.chars ok context.severity crossing (style_of_lane_mark lane_mark)
+      text-lane_characters context.chars ok context.severity crossing (style_of_lane_mark lane_mark)
       (shape_of shape lane_mark)
 
   text-inner_gutter : (leading : ℕ) (row : LaneRow) (lanes : Lanes)
@@ -216,11 +216,11 @@ module _ (context : RowContext) (ok : AreCharacters context.chars) where
       (text-locus at h)
   text-row (EmptyRow lanes) h =
       followed (followed (text-outer_gutter context.padding) (text-border_left context.chars ok))
-      (text-inner_gutter 0 Empty lanes)
+      (text-inner_gutter 0 EmptyOrBreak lanes)
   text-row (BreakRow lanes) h =
       followed
       (followed (text-outer_gutter context.padding) (text-border_left_break context.chars ok))
-      (text-inner_gutter 0 Empty lanes)
+      (text-inner_gutter 0 EmptyOrBreak lanes)
   text-row (SourceRow line) h =
       followed
       (followed

@@ -11,9 +11,9 @@ use Rattle.codespan_core.specs.Streams.{Stream, StyleMark, Byte, style_mark, byt
 use Rattle.codespan_core.specs.Labels.{LabelModel, LaneMark, MultiLabel, Top, Left, Bottom}
 use Rattle.codespan_picture.specs.declared.char_metrics.Metrics.{Metrics}
 use Rattle.codespan_picture.specs.Carets.{style_under, max_label_end}
-use Rattle.codespan_picture.specs.declared.lanes.Shape.{Shape}
-use Rattle.codespan_picture.specs.declared.lanes.Shape.TheVariants.{Space, Bar, TopCorner, BottomCorner}
-use Rattle.codespan_picture.specs.Lanes.{lane_mark_in, label_glyph, crossing_cells, lane_cells, LaneRow}
+use Rattle.codespan_picture.specs.declared.lane_shapes.Shape.{Shape}
+use Rattle.codespan_picture.specs.declared.lane_shapes.Shape.TheVariants.{Space, Bar, TopCorner, BottomCorner}
+use Rattle.codespan_picture.specs.Lanes.{lane_mark_in, label_glyph, crossing_characters, lane_characters, LaneRow}
 use Rattle.codespan_picture.specs.Rows.{Locus, RowContext, Lanes, Line, Row, HeaderRow, SnippetStartRow, EmptyRow, BreakRow, SourceRow, CaretRow, PointerRow, HangingRow, UnderlineRow, FirstNoteRow, LaterNoteRow, FinalRow, trailing_label, hanging_labels}
 use Rattle.codespan_picture.specs.RowParts.{locus, outer_gutter, outer_gutter_number, border_left, border_left_break, style_change, styled, label_message, inner_gutter_column, lanes_in, inner_gutter, line_metrics, source_style, source_glyph, colored_text, caret_glyphs, carets, trailing_message, spaces_up_to, pointer_at, pointers, pointer_style, starts_in, max_label_start, underline_message, underline}
 use Rattle.codespan_picture.specs.RowStreams.{bracketed, leading_locus, header_row, snippet_start_row, empty_row, break_row, source_row, row_start, caret_row, pointer_row, hanging_row, underline_row, first_note_row, later_note_row, stream_of, stream_of_rows}
@@ -69,28 +69,28 @@ pub slots-label_glyph : (k : ℕ) (severity : Severity) (style : LabelStyle) (c 
 unfolding label_glyph
 slots-label_glyph k severity style c = simp slots_of_parts
 
-pub slots-crossing_cells : (k : ℕ) (severity : Severity) (chars : Chars) (m : Option LaneMark)
+pub slots-crossing_characters : (k : ℕ) (severity : Severity) (chars : Chars) (m : Option LaneMark)
     (n : ℕ)
-    → slots k (crossing_cells severity chars m n) ≡ 0
-unfolding crossing_cells
-slots-crossing_cells k severity chars None n = slots-spaces k n
-slots-crossing_cells k severity chars (Some m) n = simp slots_of_parts
+    → slots k (crossing_characters severity chars m n) ≡ 0
+unfolding crossing_characters
+slots-crossing_characters k severity chars None n = slots-spaces k n
+slots-crossing_characters k severity chars (Some m) n = simp slots_of_parts
 
-pub slots-lane_cells : (k : ℕ) (severity : Severity) (chars : Chars) (m : Option LaneMark)
+pub slots-lane_characters : (k : ℕ) (severity : Severity) (chars : Chars) (m : Option LaneMark)
     (style : LabelStyle) (shape : Shape)
-    → slots k (lane_cells severity chars m style shape) ≡ 0
-unfolding lane_cells
-slots-lane_cells k severity chars m style Space = slots-crossing_cells k severity chars m 2
-slots-lane_cells k severity chars m style Bar = simp (slots_of_parts, slots-crossing_cells, slots-label_glyph)
-slots-lane_cells k severity chars m style TopCorner = simp (slots_of_parts, slots-crossing_cells, slots-label_glyph)
-slots-lane_cells k severity chars m style BottomCorner = simp (slots_of_parts, slots-crossing_cells, slots-label_glyph)
+    → slots k (lane_characters severity chars m style shape) ≡ 0
+unfolding lane_characters
+slots-lane_characters k severity chars m style Space = slots-crossing_characters k severity chars m 2
+slots-lane_characters k severity chars m style Bar = simp (slots_of_parts, slots-crossing_characters, slots-label_glyph)
+slots-lane_characters k severity chars m style TopCorner = simp (slots_of_parts, slots-crossing_characters, slots-label_glyph)
+slots-lane_characters k severity chars m style BottomCorner = simp (slots_of_parts, slots-crossing_characters, slots-label_glyph)
 
 pub slots-inner_gutter_column : (k : ℕ) (context : RowContext) (crossing : Option LaneMark)
     (shape : MultiLabel → Shape) (m : Option LaneMark)
     → slots k (inner_gutter_column context crossing shape m) ≡ 0
 unfolding inner_gutter_column
-slots-inner_gutter_column k context crossing shape None = slots-lane_cells k context.severity context.chars crossing Primary Space
-slots-inner_gutter_column k context crossing shape (Some m) = slots-lane_cells k context.severity context.chars crossing m.style (shape m.multi_label)
+slots-inner_gutter_column k context crossing shape None = slots-lane_characters k context.severity context.chars crossing Primary Space
+slots-inner_gutter_column k context crossing shape (Some m) = slots-lane_characters k context.severity context.chars crossing m.style (shape m.multi_label)
 
 pub slots-lanes_in : (k : ℕ) (context : RowContext) (crossing : ℕ → Option LaneMark)
     (shape : ℕ → MultiLabel → Shape) (lanes : Lanes)

@@ -50,14 +50,14 @@ after-bytes text (b ∷ bs) u =
 
 -- nothing is a text
 pub text-none : IsText []
-text-none = record { utf8 = IsUtf8-nil; between_marks = IsUtf8-nil }
+text-none = record { utf8 = IsUtf8-nil; between_style_marks = IsUtf8-nil }
 
 -- and so is one text after another
 pub text-both : (s t : Stream) → IsText s → IsText t → IsText (s ++ t)
 text-both s t a b = record {
   utf8 =
       subst IsUtf8 (sym (text_of-append s t)) (IsUtf8-append (text_of s) (text_of t) a.utf8 b.utf8);
-  between_marks = after-both [] s t a.between_marks b.between_marks;
+  between_style_marks = after-both [] s t a.between_style_marks b.between_style_marks;
 }
 
 -- the same, where antt finds the streams
@@ -68,7 +68,7 @@ followed {s} {t} a b = text-both s t a b
 pub text-bytes : (bs : List ℕ) → IsUtf8 bs → IsText (bytes bs)
 unfolding bytes
 text-bytes bs u =
-    record { utf8 = subst IsUtf8 (sym (text_of-bytes bs)) u; between_marks = after-bytes [] bs u }
+    record { utf8 = subst IsUtf8 (sym (text_of-bytes bs)) u; between_style_marks = after-bytes [] bs u }
 
 -- a style mark
 pub text-style_mark : (m : StyleMark) → IsText (style_mark m)
@@ -77,7 +77,7 @@ text-style_mark m =
     record {
       utf8 =
           subst IsUtf8 (sym (text_of-style_mark m)) IsUtf8-nil;
-      between_marks = (IsUtf8-nil, IsUtf8-nil);
+      between_style_marks = (IsUtf8-nil, IsUtf8-nil);
     }
 
 -- a character

@@ -1,15 +1,12 @@
 -- For `write_underlines` and `write_note`: the underlines of multi-line labels, and the rows of a
 -- note.
-use Rattle.std.proofs.Common.{◌≡◌, ℕ, ◌+◌, ◌≤◌, ◌<◌, Bool, true, false, cond, List, [], ◌∷◌, ◌++◌, length, drop, None, Some, refl, sym, ap, ◌∙◌, arith, get_or, add-one, drop-cons}
-use Rattle.std.specs.Prelude.{nat_lt, nat_le, filter, map}
+use Rattle.std.proofs.Common.{◌≡◌, ℕ, ◌+◌, ◌<◌, true, false, List, [], ◌∷◌, ◌++◌, length, drop, None, Some, refl, sym, ap, arith, get_or, add-one, drop-cons}
+use Rattle.std.specs.Prelude.{filter, map}
 use Rattle.std.specs.Borrow.{Bor}
 use Rattle.codespan_core.specs.declared.diagnostic.LabelStyle.{LabelStyle}
 use Rattle.std.specs.declared.str.Lines.{Lines as TextLines}
 use Rattle.std.specs.Str.Iter.{lines_steps}
-use Rattle.std.proofs.lemmas.Bool.{le-leb, lt-leb, le-ltb}
-use Rattle.std.proofs.lemmas.Bool.Decides.{nat_tests}
 use Rattle.std.proofs.lemmas.Iterator.{YieldsList}
-use Rattle.std.proofs.lemmas.List.Sums.{sum_by-cons}
 use Rattle.codespan_core.specs.Labels.{LaneMark, MultiLabel, Top, Left, Bottom}
 use Rattle.codespan_core.specs.declared.term.config.chars.Chars.{Chars}
 use Rattle.codespan_core.specs.Streams.{Stream, bytes, newline, space}
@@ -18,15 +15,15 @@ use Rattle.codespan_core.proofs.Loops.{StillToWrite}
 use Rattle.codespan_picture.specs.declared.char_metrics.Metrics.{Metrics}
 use Rattle.codespan_picture.specs.declared.arguments.MultiLabel as rust_multi_label
 use Rattle.codespan_picture.specs.declared.rows.lanes.LaneRow.TheVariants.{Underline}
-use Rattle.codespan_picture.specs.CharMetrics.{width_of, leading_whitespace}
+use Rattle.codespan_picture.specs.CharMetrics.{leading_whitespace}
 use Rattle.codespan_picture.specs.Arguments.{LaneMarkTuple, lane_mark_view, multi_label_view}
 use Rattle.codespan_picture.specs.Private.LineViews.{row_lanes_view}
 use Rattle.codespan_picture.specs.Rows.{RowContext, Lanes, Line, UnderlineRow, has_underline}
 use Rattle.codespan_picture.specs.Lanes as kind
-use Rattle.codespan_picture.specs.RowParts.{inner_gutter, underline, underline_message, metrics_before, metrics_up_to}
+use Rattle.codespan_picture.specs.RowParts.{inner_gutter, underline, underline_message}
 use Rattle.codespan_picture.specs.Private.Underlines.{underline_by_width, underline_width}
 use Rattle.codespan_picture.specs.RowStreams.{underline_row, stream_of_rows}
-use Rattle.codespan_picture.specs.RenderedRows.{later_note_rows}
+use Rattle.codespan_picture.specs.RenderedRows.{later_note_lines_stream}
 
 -- ---- the lanes of an underline row
 
@@ -119,7 +116,7 @@ pub record NotesToWrite (s : Sink) (whole : Stream) (padding : ℕ) (left : Text
     (t : Sink) : Type 0 where
   pub note_lines : List (List ℕ)
   pub yields : HasLines left note_lines
-  pub written_so_far : StillToWrite s whole (later_note_rows padding note_lines) t
+  pub written_so_far : StillToWrite s whole (later_note_lines_stream padding note_lines) t
 
 -- one line is the next
 pub record Next (x : List ℕ) (t : TextLines) (note_lines : List (List ℕ)) : Type 0 where

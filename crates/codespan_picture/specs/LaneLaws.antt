@@ -7,13 +7,13 @@ use Rattle.codespan_picture.specs.Types.{Config, Layout}
 use Rattle.codespan_core.specs.FileModel.{FileModel}
 use Rattle.codespan_core.specs.Labels.{LabelModel, first_line, last_line, multi_line_labels}
 use Rattle.codespan_core.specs.Streams.{Stream}
-use Rattle.codespan_picture.specs.declared.lanes.Shape.{Shape}
-use Rattle.codespan_picture.specs.declared.lanes.Shape.TheVariants.{Space, Bar, TopCorner, BottomCorner}
-use Rattle.codespan_picture.specs.Lanes.{LaneRow, Source, Empty, SingleLabels, Underline, row_shape, row_crossing, lane_mark_in, shape_of, style_of_lane_mark, is_unbroken, lane_cells}
+use Rattle.codespan_picture.specs.declared.lane_shapes.Shape.{Shape}
+use Rattle.codespan_picture.specs.declared.lane_shapes.Shape.TheVariants.{Space, Bar, TopCorner, BottomCorner}
+use Rattle.codespan_picture.specs.Lanes.{LaneRow, Source, EmptyOrBreak, SingleLabels, Underline, row_shape, row_crossing, lane_mark_in, shape_of, style_of_lane_mark, is_unbroken, lane_characters}
 use Rattle.codespan_picture.specs.Rows.{Locus, RowContext, Lanes, Line, Row, EmptyRow, BreakRow, SourceRow, CaretRow, PointerRow, HangingRow, UnderlineRow}
 use Rattle.codespan_picture.specs.RowParts.{outer_gutter, outer_gutter_number, border_left, border_left_break, leading_of}
 use Rattle.codespan_picture.specs.RowStreams.{stream_of}
-use Rattle.codespan_picture.specs.Snippets.{LabeledFileModel, line_at, row_after, snippet}
+use Rattle.codespan_picture.specs.Snippets.{LabeledFileModel, line_at, empty_row_after, snippet}
 
 -- the line of a row that has one
 abbrev pub line_of_row : Row → Option Line
@@ -37,7 +37,7 @@ kind_of (CaretRow line) = SingleLabels
 kind_of (PointerRow line) = SingleLabels
 kind_of (HangingRow line x) = SingleLabels
 kind_of (UnderlineRow line m) = Underline m
-kind_of _ = Empty
+kind_of _ = EmptyOrBreak
 
 -- what a row shows in a lane
 abbrev pub shape_in : Layout → Row → ℕ → Shape
@@ -72,7 +72,7 @@ pub record MayLeaveOut (layout : Layout) (s : LabeledFileModel) (rows : List Row
     (x : LabelModel) (top k : ℕ) : Type 0 where
   pub is_classic : is_unbroken layout ≡ false
   pub begins_in_source_row : slice_get rows top ≡ Some (SourceRow (line_at s (first_line s.file x)))
-  pub is_gap : shape_at layout rows k lane ≡ Some Space
+  pub shows_space : shape_at layout rows k lane ≡ Some Space
   pub is_of_line : (row : Row) → slice_get rows k ≡ Some row
       → line_of_row row ≡ Some (line_at s (first_line s.file x))
 
@@ -95,14 +95,15 @@ pub record IsCornerToCorner (layout : Layout) (s : LabeledFileModel) (rows : Lis
 abbrev pub LanesJoinCorners : Config → Layout → LabeledFileModel → Type 0
 LanesJoinCorners config layout s =
     (locus : Locus) (is_followed : Bool) (lane : ℕ) (x : LabelModel) → HasLane s lane x
-    → IsCornerToCorner layout s (snippet config locus s ++ row_after is_followed s) lane x
+    → IsCornerToCorner layout s (snippet config locus s ++ empty_row_after is_followed s) lane x
 
 -- ---- what each lane shows is what the stream of its row has there
 
 -- the two characters of what a row shows in each lane, from left to right
 abbrev pub lanes_shown : RowContext → Row → Lanes → Stream
 lanes_shown context row lanes =
-    flat_map (λ lane. lane_cells context.severity context.chars (row_crossing (kind_of row) lane)
+    flat_map
+    (λ lane. lane_characters context.severity context.chars (row_crossing (kind_of row) lane)
     (style_of_lane_mark (lane_mark_in lanes.lane_marks lane)) (shape_in context.layout row lane))
     (range_with_len 0 lanes.count)
 

@@ -2,8 +2,8 @@
 use Rattle.std.specs.Prelude.{ℕ, Bool, true, false, ◌&&◌, ◌==◌, nat_lt, nat_le, List, ◌++◌, find, Option, Some, None, if◌then◌else◌}
 use Rattle.codespan_picture.specs.Types.{Severity, LabelStyle, Primary, Chars, Layout, Classic, Unbroken}
 use Rattle.codespan_core.specs.Streams.{Stream, LabelStyleMark, Reset, style_mark, glyph, spaces, repeated}
-use Rattle.codespan_picture.specs.declared.lanes.Shape.{Shape}
-use Rattle.codespan_picture.specs.declared.lanes.Shape.TheVariants.{Space, Bar, TopCorner, BottomCorner}
+use Rattle.codespan_picture.specs.declared.lane_shapes.Shape.{Shape}
+use Rattle.codespan_picture.specs.declared.lane_shapes.Shape.TheVariants.{Space, Bar, TopCorner, BottomCorner}
 use Rattle.codespan_core.specs.Labels.{LaneMark, MultiLabel, Top, Left, Bottom}
 
 -- a lane whose label starts at this byte index begins in the source row: the text of the line
@@ -17,9 +17,9 @@ source_shape leading (Top start) = if begins_in_source_row leading start then To
 source_shape leading _ = Bar
 
 -- what it shows in an empty row, and in a break row, which has the lane marks of the line after it
-abbrev pub empty_shape : MultiLabel → Shape
-empty_shape (Top start) = Space
-empty_shape _ = Bar
+abbrev pub empty_or_break_shape : MultiLabel → Shape
+empty_or_break_shape (Top start) = Space
+empty_or_break_shape _ = Bar
 
 -- the layout in which a lane continues in every row below its corner in a source row
 abbrev pub is_unbroken : Layout → Bool
@@ -45,14 +45,14 @@ underline_shape layout leading corner_lane lane (Bottom end message) =
 -- hanging row; the underline row of a lane mark
 pub data LaneRow : Type 0 where
   Source : LaneRow
-  Empty : LaneRow
+  EmptyOrBreak : LaneRow
   SingleLabels : LaneRow
   Underline : LaneMark → LaneRow
 
 -- the table of lanes: what a multi-line label mark shows in a kind of row
 abbrev pub row_shape : Layout → ℕ → LaneRow → ℕ → MultiLabel → Shape
 row_shape layout leading Source lane = source_shape leading
-row_shape layout leading Empty lane = empty_shape
+row_shape layout leading EmptyOrBreak lane = empty_or_break_shape
 row_shape layout leading SingleLabels lane = single_labels_shape layout leading
 row_shape layout leading (Underline m) lane = underline_shape layout leading m.lane lane
 
@@ -90,19 +90,20 @@ label_glyph severity style c =
     style_mark (LabelStyleMark severity style) ++ glyph c ++ style_mark Reset
 
 -- `n` characters of a lane: of the underline that crosses it, or spaces
-unfoldable pub crossing_cells : Severity → Chars → Option LaneMark → ℕ → Stream
-crossing_cells severity chars None n = spaces n
-crossing_cells severity chars (Some m) n =
+unfoldable pub crossing_characters : Severity → Chars → Option LaneMark → ℕ → Stream
+crossing_characters severity chars None n = spaces n
+crossing_characters severity chars (Some m) n =
     style_mark (LabelStyleMark severity m.style) ++ repeated n (underline_char chars m.multi_label)
     ++ style_mark Reset
 
 -- the two characters of a lane: a space, or one character of the line that crosses it, and then its
 -- own; if it shows nothing, two such
-unfoldable pub lane_cells : Severity → Chars → Option LaneMark → LabelStyle → Shape → Stream
-lane_cells severity chars crossing style Space = crossing_cells severity chars crossing 2
-lane_cells severity chars crossing style Bar =
-    crossing_cells severity chars crossing 1 ++ label_glyph severity style chars.multi_left
-lane_cells severity chars crossing style TopCorner =
-    crossing_cells severity chars crossing 1 ++ label_glyph severity style chars.multi_top_left
-lane_cells severity chars crossing style BottomCorner =
-    crossing_cells severity chars crossing 1 ++ label_glyph severity style chars.multi_bottom_left
+unfoldable pub lane_characters : Severity → Chars → Option LaneMark → LabelStyle → Shape → Stream
+lane_characters severity chars crossing style Space = crossing_characters severity chars crossing 2
+lane_characters severity chars crossing style Bar =
+    crossing_characters severity chars crossing 1 ++ label_glyph severity style chars.multi_left
+lane_characters severity chars crossing style TopCorner =
+    crossing_characters severity chars crossing 1 ++ label_glyph severity style chars.multi_top_left
+lane_characters severity chars crossing style BottomCorner =
+    crossing_characters severity chars crossing 1
+    ++ label_glyph severity style chars.multi_bottom_left

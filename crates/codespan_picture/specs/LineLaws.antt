@@ -4,11 +4,11 @@ use Rattle.std.specs.List.{range_with_len}
 use Rattle.codespan_picture.specs.Types.{Config, Layout}
 use Rattle.codespan_core.specs.FileModel.{FileModel, line_count}
 use Rattle.codespan_core.specs.Labels.{LabelModel}
-use Rattle.codespan_picture.specs.declared.lanes.Shape.TheVariants.{Bar}
+use Rattle.codespan_picture.specs.declared.lane_shapes.Shape.TheVariants.{Bar}
 use Rattle.codespan_picture.specs.Lanes.{is_unbroken}
 use Rattle.codespan_picture.specs.Lines.{drawn_lines, has_break_between, is_shown}
 use Rattle.codespan_picture.specs.Rows.{Lanes, Locus, Row, BreakRow, SourceRow}
-use Rattle.codespan_picture.specs.Snippets.{LabeledFileModel, rows_after, rows_of_shown, line_at, snippet}
+use Rattle.codespan_picture.specs.Snippets.{LabeledFileModel, rows_of_drawn, rows_of_shown, line_at, snippet}
 use Rattle.codespan_picture.specs.Padding.{padding_of, count_digits}
 use Rattle.codespan_picture.specs.LaneLaws.{shape_in, HasLane, IsBarLine}
 
@@ -20,7 +20,7 @@ shown_lines config s =
 -- the rows of drawn lines with their breaks follow from the shown lines
 abbrev pub RowsOfShown : Config → LabeledFileModel → Type 0
 RowsOfShown config s =
-    rows_after s None (drawn_lines config s.file s.labels)
+    rows_of_drawn s None (drawn_lines config s.file s.labels)
     ≡ rows_of_shown (line_at s) None (shown_lines config s)
 
 -- ---- breaks

@@ -9,8 +9,8 @@ use Rattle.codespan_core.specs.Labels.{LabelModel, is_primary, is_primary_style,
 use Rattle.codespan_picture.specs.declared.char_metrics.Metrics.{Metrics}
 use Rattle.codespan_picture.specs.CharMetrics.{char_metrics, char_metrics_to_end, width_of, leading_whitespace}
 use Rattle.codespan_picture.specs.Carets.{covers, style_under, caret_for, max_label_end}
-use Rattle.codespan_picture.specs.declared.lanes.Shape.{Shape}
-use Rattle.codespan_picture.specs.Lanes.{LaneRow, row_shape, row_crossing, lane_mark_in, shape_of, style_of_lane_mark, lane_cells, label_glyph}
+use Rattle.codespan_picture.specs.declared.lane_shapes.Shape.{Shape}
+use Rattle.codespan_picture.specs.Lanes.{LaneRow, row_shape, row_crossing, lane_mark_in, shape_of, style_of_lane_mark, lane_characters, label_glyph}
 use Rattle.codespan_picture.specs.Rows.{Locus, RowContext, Lanes, Line, hanging_labels}
 
 -- ---- parts of rows
@@ -75,7 +75,7 @@ label_message severity style message =
 unfoldable pub inner_gutter_column : RowContext → Option LaneMark → (MultiLabel → Shape)
     → Option LaneMark → Stream
 inner_gutter_column context crossing shape lane_mark =
-    lane_cells context.severity context.chars crossing (style_of_lane_mark lane_mark)
+    lane_characters context.severity context.chars crossing (style_of_lane_mark lane_mark)
     (shape_of shape lane_mark)
 
 -- the lanes from left to right

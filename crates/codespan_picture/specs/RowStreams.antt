@@ -5,7 +5,7 @@ use Rattle.codespan_picture.specs.Types.{Severity, Chars}
 use Rattle.codespan_core.specs.Streams.{Stream, Header, HeaderMessage, NoteBullet, SourceBorder, LabelStyleMark, Reset, style_mark, glyph, bytes, space, newline}
 use Rattle.codespan_core.specs.Labels.{LabelModel, LaneMark}
 use Rattle.codespan_core.specs.SnippetStarts.{start_text}
-use Rattle.codespan_picture.specs.Lanes.{Source, Empty, SingleLabels, Underline}
+use Rattle.codespan_picture.specs.Lanes.{Source, EmptyOrBreak, SingleLabels, Underline}
 use Rattle.codespan_picture.specs.Rows.{Locus, HeaderText, RowContext, Lanes, Line, Row, HeaderRow, SnippetStartRow, EmptyRow, BreakRow, SourceRow, CaretRow, PointerRow, HangingRow, UnderlineRow, FirstNoteRow, LaterNoteRow, FinalRow, trailing_label}
 use Rattle.codespan_picture.specs.RowParts.{severity_name, locus, outer_gutter, outer_gutter_number, border_left, border_left_break, label_message, inner_gutter, leading_of, line_metrics, line_metrics_to_end, colored_text, carets, trailing_message, pointers, metrics_before, underline}
 
@@ -39,13 +39,14 @@ snippet_start_row chars padding at =
 -- an empty row of a snippet
 unfoldable pub empty_row : RowContext → Lanes → Stream
 empty_row context lanes =
-    outer_gutter context.padding ++ border_left context.chars ++ inner_gutter context 0 Empty lanes
+    outer_gutter context.padding ++ border_left context.chars
+    ++ inner_gutter context 0 EmptyOrBreak lanes
 
 -- the row of a break
 unfoldable pub break_row : RowContext → Lanes → Stream
 break_row context lanes =
     outer_gutter context.padding ++ border_left_break context.chars
-    ++ inner_gutter context 0 Empty lanes
+    ++ inner_gutter context 0 EmptyOrBreak lanes
 
 -- a line of the source
 unfoldable pub source_row : RowContext → Line → Stream

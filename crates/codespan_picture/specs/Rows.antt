@@ -100,9 +100,9 @@ caret_rows line [] = []
 caret_rows line (x ∷ xs) = CaretRow line ∷ []
 
 -- where labels hang: the pointers, and a row for each message, that of the last label first
-abbrev pub hanging_rows : Line → List LabelModel → List Row
-hanging_rows line [] = []
-hanging_rows line (x ∷ xs) = PointerRow line ∷ map (HangingRow line) (reverse (x ∷ xs))
+abbrev pub pointer_and_hanging_rows : Line → List LabelModel → List Row
+pointer_and_hanging_rows line [] = []
+pointer_and_hanging_rows line (x ∷ xs) = PointerRow line ∷ map (HangingRow line) (reverse (x ∷ xs))
 
 -- the underlines, in the order of the lanes
 abbrev pub underline_rows : Line → List Row
@@ -115,4 +115,4 @@ underline_rows line =
 abbrev pub rows_of : Line → List Row
 rows_of line =
     (SourceRow line ∷ caret_rows line line.labels)
-    ++ hanging_rows line (hanging_labels line.labels) ++ underline_rows line
+    ++ pointer_and_hanging_rows line (hanging_labels line.labels) ++ underline_rows line

@@ -65,8 +65,8 @@ abbrev pub break_rows : (ℕ → Line) → ℕ → List Row
 break_rows line d = BreakRow (line d).lanes ∷ []
 
 -- the rows of drawn lines with their breaks, where `previous` is drawn before them
-abbrev pub rows_after : LabeledFileModel → Option ℕ → List ℕ → List Row
-rows_after s =
+abbrev pub rows_of_drawn : LabeledFileModel → Option ℕ → List ℕ → List Row
+rows_of_drawn s =
     in_sequence (λ l. l) (break_between (break_rows (line_at s))) (line_rows (line_at s))
 
 -- the same rows, from the shown lines alone, in ascending order
@@ -96,11 +96,11 @@ locus_start labels =
 abbrev pub snippet : Config → Locus → LabeledFileModel → List Row
 snippet config locus s =
     (SnippetStartRow locus ∷ EmptyRow (empty_lanes s) ∷ [])
-    ++ rows_after s None (drawn_lines config s.file s.labels)
+    ++ rows_of_drawn s None (drawn_lines config s.file s.labels)
 
 -- the row after a file's snippet, where something follows
-abbrev pub row_after : Bool → LabeledFileModel → List Row
-row_after followed s = if followed then EmptyRow (empty_lanes s) ∷ [] else []
+abbrev pub empty_row_after : Bool → LabeledFileModel → List Row
+empty_row_after followed s = if followed then EmptyRow (empty_lanes s) ∷ [] else []
 
 -- ---- the rows of all files
 
@@ -115,7 +115,8 @@ abbrev pub snippets : Config → Bool → List Locus → List LabeledFileModel �
 snippets config has_notes [] ss = []
 snippets config has_notes (p ∷ ps) [] = []
 snippets config has_notes (p ∷ ps) (s ∷ ss) =
-    snippet config p s ++ row_after (has_any ss || has_notes) s ++ snippets config has_notes ps ss
+    snippet config p s ++ empty_row_after (has_any ss || has_notes) s
+    ++ snippets config has_notes ps ss
 
 -- the rows of a note's lines
 abbrev pub note_line_rows : List (List ℕ) → List Row

@@ -22,7 +22,7 @@ AreTextsAfter text (Slot k ∷ s) = AreTextsAfter text s
 -- the bytes of the stream are UTF-8, and no style mark is inside a character
 pub record IsText (s : Stream) : Type 0 where
   pub utf8 : IsUtf8 (text_of s)
-  pub between_marks : AreTextsAfter [] s
+  pub between_style_marks : AreTextsAfter [] s
 
 -- each character is a Unicode scalar value, and the text before a locus is UTF-8
 pub record AreCharacters (chars : Chars) : Type 0 where

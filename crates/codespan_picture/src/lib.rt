@@ -6,6 +6,6 @@
 pub mod arguments;
 pub mod char_metrics;
 pub mod characters;
-pub mod lanes;
+pub mod lane_shapes;
 pub mod padding;
 pub mod rows;

@@ -96,4 +96,4 @@ pub runs_are_texts : {Id : Type 0} (config : Config) (files : FileDatabase Id) (
 runs_are_texts config files d characters lawful loci named =
     runs-texts Plain [] (output_at config files d loci)
     (text-output files d lawful config.display_style config config characters loci
-    named).between_marks
+    named).between_style_marks

@@ -19,7 +19,7 @@ use Rattle.codespan_picture.specs.Lookups.{filled_lines}
 use Rattle.codespan_picture.specs.Sequences.{break_between, in_sequence}
 use Rattle.codespan_views.specs.Private.FileIndices.{IsIdAt}
 use Rattle.codespan_views.specs.Private.IndexedLabels.{all_annotations}
-use Rattle.codespan_picture.specs.Snippets.{InFile, LabeledFileModel, labeled_file_model, num_multi_labels, line_at, line_rows, break_rows, rows_after, file_ids}
+use Rattle.codespan_picture.specs.Snippets.{InFile, LabeledFileModel, labeled_file_model, num_multi_labels, line_at, line_rows, break_rows, rows_of_drawn, file_ids}
 use Rattle.codespan_views.specs.Private.SnippetLines.{are_shown, lane_marks_in, lines_of, single_labels_in, line_of_group, rows_of_lines, filled_lines_of, are_lane_marks_in_order, is_line_in_order}
 use Rattle.codespan_views.proofs.AnnotationGroups.{lines_after, snippet_lines-by_line, all-on_line}
 use Rattle.codespan_views.proofs.AnnotationLines as annotation_lines
@@ -247,7 +247,7 @@ module _ {Id : Type 0} {database : FileDatabase Id} (lawful : AreFiles database)
   -- ---- the snippet
 
   -- the snippet lines make the rows of the snippet
-  pub snippet-rows : rows_of_lines s.file (num_multi_labels s) (lines_of own) ≡ rows_after s None
+  pub snippet-rows : rows_of_lines s.file (num_multi_labels s) (lines_of own) ≡ rows_of_drawn s None
       (drawn_lines config s.file s.labels)
   snippet-rows =
       ap (rows_of_lines (file id) (num_multi_labels s)) snippet_lines-are

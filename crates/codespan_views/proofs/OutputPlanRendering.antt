@@ -9,7 +9,7 @@ use Rattle.codespan_core.specs.Streams.{Stream}
 use Rattle.codespan_core.specs.WriterLaw.{Writes, Sink}
 use Rattle.codespan_core.specs.Errors.{IsIo}
 use Rattle.codespan_views.specs.Private.LookupsWhileRendering.{WroteStream, WritesWithLookups}
-use Rattle.codespan_picture.specs.Snippets.{row_after, snippet, snippets, LabeledFileModel, has_any, labeled_file_model, labeled_file_models}
+use Rattle.codespan_picture.specs.Snippets.{empty_row_after, snippet, snippets, LabeledFileModel, has_any, labeled_file_model, labeled_file_models}
 use Rattle.codespan_picture.specs.Lookups.{lookups_of_file, first_error, late_lookups, snippet_lookups}
 use Rattle.codespan_picture.specs.OutputStreams.{labels_of, context_of, notes_of}
 use Rattle.codespan_picture.specs.Rows.{RowContext, Locus, Row}
@@ -149,7 +149,7 @@ module _ {Id : Type 0} {database : FileDatabase Id} {view_config : RichDiagnosti
 
     -- the rows of the file at the index
     abbrev rows_here : List Row
-    rows_here = snippet (view_config_of view_config) (locus_view snippet_plan.locus) own ++ row_after (has_any (drop (k + 1) ids) || has_notes) own
+    rows_here = snippet (view_config_of view_config) (locus_view snippet_plan.locus) own ++ empty_row_after (has_any (drop (k + 1) ids) || has_notes) own
 
     -- its lookups
     abbrev lookups_here : List (Id × Lookup)
@@ -159,7 +159,7 @@ module _ {Id : Type 0} {database : FileDatabase Id} {view_config : RichDiagnosti
     rows-next : rest k ≡ rows_here ++ rest (k + 1)
     rows-next = ap (λ (ps : List Locus). rows_at ps (drop k ids)) (drop-one loci k (locus_view snippet_plan.locus) (locus-inside at) (locus-at at))
         ∙ ap (rows_at (locus_view snippet_plan.locus ∷ drop (k + 1) loci)) (drop-one ids k snippet_plan.file.now.file_id (id-inside at) (id-at at))
-        ∙ ap (λ (b : Bool). (snippet (view_config_of view_config) (locus_view snippet_plan.locus) own ++ row_after b own) ++ rest (k + 1)) (followed-mapped (drop (k + 1) ids))
+        ∙ ap (λ (b : Bool). (snippet (view_config_of view_config) (locus_view snippet_plan.locus) own ++ empty_row_after b own) ++ rest (k + 1)) (followed-mapped (drop (k + 1) ids))
       where
         followed-mapped : (js : List Id)
             → (has_any (map (labeled database view_config) js) || has_notes)
@@ -202,7 +202,7 @@ module _ {Id : Type 0} {database : FileDatabase Id} {view_config : RichDiagnosti
         run_as (or_failure-none snippet_lines_failure ∙ ap (λ (ls : List Lookup). first_error database.failure (lookups_of_file snippet_plan.file.now.file_id (Source ∷ ls))) is.lookups)
         (sym (rows-two context (rows_in snippet_plan (database.file snippet_plan.file.now.file_id) snippet_lines) (trailing_border_rows snippet_plan follows))
         ∙ ap (stream_of_rows context) (rows-are is follows)
-        ∙ ap (λ (b : Bool). stream_of_rows context (snippet (view_config_of view_config) (locus_view snippet_plan.locus) own ++ row_after b own)) followed)
+        ∙ ap (λ (b : Bool). stream_of_rows context (snippet (view_config_of view_config) (locus_view snippet_plan.locus) own ++ empty_row_after b own)) followed)
         both
 
     -- the file is rendered

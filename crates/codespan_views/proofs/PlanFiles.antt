@@ -16,7 +16,7 @@ use Rattle.codespan_picture.specs.Lines.{drawn_lines}
 use Rattle.codespan_picture.specs.Lookups.{lookups_of_file, filled_lines, first_error, locus_lookups, numbers_for_padding, filled_line_lookups}
 use Rattle.codespan_picture.specs.Padding.{digits_of, numbered_lines, padding_of}
 use Rattle.codespan_views.specs.Private.TextLoci.{IsTextLocus}
-use Rattle.codespan_picture.specs.Snippets.{InFile, LabeledFileModel, labeled_file_model, labeled_file_models, num_multi_labels, locus_start, rows_after, file_ids}
+use Rattle.codespan_picture.specs.Snippets.{InFile, LabeledFileModel, labeled_file_model, labeled_file_models, num_multi_labels, locus_start, rows_of_drawn, file_ids}
 use Rattle.codespan_views.specs.declared.collected.Collected.{Collected}
 use Rattle.codespan_views.specs.declared.labeled_files.LabeledFile.{LabeledFile as RustFile}
 use Rattle.codespan_views.specs.declared.plan.snippet_plans.SnippetPlan.{SnippetPlan}
@@ -48,7 +48,7 @@ use Rattle.codespan_views.proofs.SnippetLineLookups.{lines_of-file, snippet_line
 record AreLinesOfSnippet (config : Config) (s : LabeledFileModel) (snippet_lines : List SnippetLine) : Type 0 where
   fills : filled_lines_of snippet_lines ≡ filled_lines config s
   lines : lines_of_snippet_lines snippet_lines ≡ drawn_lines config s.file s.labels
-  rows : rows_of_lines s.file (num_multi_labels s) snippet_lines ≡ rows_after s None
+  rows : rows_of_lines s.file (num_multi_labels s) snippet_lines ≡ rows_of_drawn s None
       (drawn_lines config s.file s.labels)
   fits : AreInOrder (num_multi_labels s) snippet_lines
 

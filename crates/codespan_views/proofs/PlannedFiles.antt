@@ -5,7 +5,7 @@ use Rattle.std.proofs.lemmas.Grind.{common_steps}
 use Rattle.std.proofs.lemmas.List.{drop-drop, get_or-map, length-drop, length-map, length-take}
 use Rattle.codespan_core.specs.declared.term.config.Config.{Config}
 use Rattle.codespan_core.specs.FileModel.{FileDatabase}
-use Rattle.codespan_picture.specs.Snippets.{row_after, snippet, InFile, LabeledFileModel, empty_lanes, has_any, labeled_file_model}
+use Rattle.codespan_picture.specs.Snippets.{empty_row_after, snippet, InFile, LabeledFileModel, empty_lanes, has_any, labeled_file_model}
 use Rattle.codespan_picture.specs.Rows.{EmptyRow, Row, SnippetStartRow}
 use Rattle.codespan_picture.specs.Arguments.{locus_view}
 use Rattle.codespan_views.specs.Private.OutputPlans.{AreSnippetPlans, IsSnippetPlan, ids_of, loci_of}
@@ -156,7 +156,7 @@ module _ {Id : Type 0} {config : Config} {own : LabeledFileModel} {snippet_plan 
     -- its rows
     pub rows-are : (followed : Bool)
         → rows_in snippet_plan own.file snippet_lines ++ trailing_border_rows snippet_plan
-        followed ≡ snippet config (locus_view snippet_plan.locus) own ++ row_after followed own
+        followed ≡ snippet config (locus_view snippet_plan.locus) own ++ empty_row_after followed own
     rows-are followed =
         (λ i.
         (SnippetStartRow (locus_view snippet_plan.locus)

@@ -8,7 +8,7 @@ use Rattle.codespan_picture.specs.declared.rows.line.RowContext as context
 use Rattle.codespan_picture.specs.declared.rows.line.Lanes as lanes
 use Rattle.codespan_picture.specs.declared.rows.line.Line as line
 use Rattle.codespan_picture.specs.Arguments.{LaneMarkTuple, single_label_views, lanes_of, lane_mark_view}
-use Rattle.codespan_picture.specs.Lanes.{LaneRow, Source, Empty, SingleLabels, Underline, row_shape, row_crossing}
+use Rattle.codespan_picture.specs.Lanes.{LaneRow, Source, EmptyOrBreak, SingleLabels, Underline, row_shape, row_crossing}
 use Rattle.codespan_picture.specs.Rows.{RowContext, Lanes, Line}
 use Rattle.codespan_picture.specs.RowParts.{inner_gutter_column, inner_gutter}
 
@@ -38,7 +38,7 @@ line_view x = record {
 -- a kind of row, as far as its lanes go
 abbrev pub lane_row_view : RustLaneRow → LaneRow
 lane_row_view rust_variant.Source = Source
-lane_row_view rust_variant.Empty = Empty
+lane_row_view rust_variant.EmptyOrBreak = EmptyOrBreak
 lane_row_view rust_variant.SingleLabels = SingleLabels
 lane_row_view (rust_variant.Underline corner_lane style multi_label) =
     Underline (lane_mark_view (corner_lane, style, multi_label))

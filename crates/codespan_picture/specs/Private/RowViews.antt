@@ -8,8 +8,8 @@ use Rattle.codespan_core.specs.Streams.{Stream, Header, bytes, newline, style_ma
 use Rattle.codespan_picture.specs.declared.char_metrics.Metrics.{Metrics}
 use Rattle.codespan_picture.specs.CharMetrics.{char_metrics, char_metrics_to_end}
 use Rattle.codespan_picture.specs.Arguments.{SingleLabelTuple, LaneMarkTuple, single_label_view, single_label_views, lane_mark_view, locus_view, text_now}
-use Rattle.codespan_picture.specs.Lanes.{Source, Underline, crossing_cells, label_glyph}
-use Rattle.codespan_picture.specs.Rows.{caret_rows, hanging_labels, hanging_rows}
+use Rattle.codespan_picture.specs.Lanes.{Source, Underline, crossing_characters, label_glyph}
+use Rattle.codespan_picture.specs.Rows.{caret_rows, hanging_labels, pointer_and_hanging_rows}
 use Rattle.codespan_picture.specs.RowParts.{border_left, carets, metrics_before, outer_gutter, label_message, leading_of, outer_gutter_number, pointers, inner_gutter, severity_name}
 use Rattle.codespan_picture.specs.RowStreams.{bracketed, leading_locus, pointer_row, stream_of_rows}
 use Rattle.codespan_picture.specs.declared.arguments.Locus as rust_locus
@@ -50,7 +50,7 @@ underline_lanes_view x line lane_mark =
 -- space, and its own character
 abbrev pub lane_glyph_view : context.RowContext → Option LaneMarkTuple → LabelStyle → ℕ → Stream
 lane_glyph_view x crossing style own =
-    crossing_cells x.severity x.chars.now (option_map lane_mark_view crossing) 1
+    crossing_characters x.severity x.chars.now (option_map lane_mark_view crossing) 1
     ++ label_glyph x.severity style own
 
 -- ---- the rows under a line
@@ -95,14 +95,15 @@ hanging_stream_view x line labels =
     (filter has_message (single_label_views labels))
 
 -- the pointer row, and the rows of the messages of these labels that may hang
-abbrev pub pointer_and_hanging_view : context.RowContext → rust_line.Line → messages.Messages
+abbrev pub pointer_and_messages_view : context.RowContext → rust_line.Line → messages.Messages
     → Stream
-pointer_and_hanging_view x line found =
+pointer_and_messages_view x line found =
     pointer_row (context_view x) (line_view line) ++ newline
     ++ hanging_stream_view x line found.after.now ++ hanging_stream_view x line found.before.now
 
 -- the pointer row and the rows of all messages of the line that hang, or nothing where none hangs
-abbrev pub hanging_rows_view : context.RowContext → rust_line.Line → Stream
-hanging_rows_view x line =
+abbrev pub pointer_and_hanging_rows_view : context.RowContext → rust_line.Line → Stream
+pointer_and_hanging_rows_view x line =
     stream_of_rows (context_view x)
-    (hanging_rows (line_view line) (hanging_labels (single_label_views line.labels.now)))
+    (pointer_and_hanging_rows (line_view line)
+    (hanging_labels (single_label_views line.labels.now)))

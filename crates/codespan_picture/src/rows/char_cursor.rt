@@ -49,7 +49,7 @@ pub trait CharCursor: Drop {
     /// # Requires
     ///
     /// The cursor has just returned `metrics`.
-    fn has_primary(&mut self, metrics: Metrics) -> bool
+    fn is_covered_by_primary(&mut self, metrics: Metrics) -> bool
         requires { has_returned metrics self.old }
         ensures left { left self.new ≡ left self.old }
         ensures labels { labels self.new ≡ labels self.old }

@@ -7,11 +7,11 @@ ghost use Rattle.codespan_picture.specs.Arguments.{lane_mark_view, multi_label_v
 ghost use Rattle.codespan_picture.specs.Private.LineViews.{context_view, lanes_view, lane_row_view, row_lane_view, row_lanes_view};
 ghost use Rattle.codespan_picture.specs.Private.RowViews.{lane_glyph_view};
 ghost use Rattle.codespan_picture.specs.Private.LaneMarksLeft.{lane_mark_here, lane_marks_after};
-ghost use Rattle.codespan_picture.specs.Lanes.{crossing_cells, lane_cells, underline_char, row_crossing};
+ghost use Rattle.codespan_picture.specs.Lanes.{crossing_characters, lane_characters, underline_char, row_crossing};
 
 use crate::arguments::MultiLabel;
-pub use crate::lanes::Shape;
-use crate::rows::lanes::shapes::shape_in;
+pub use crate::lane_shapes::Shape;
+use crate::rows::lanes::shapes::row_shape;
 use crate::rows::line::{Lanes, RowContext};
 use crate::rows::parts::write_label_glyph;
 use codespan_core::diagnostic::LabelStyle;
@@ -27,7 +27,7 @@ pub enum LaneRow<'d> {
     /// A source row.
     Source,
     /// An empty row or a break row.
-    Empty,
+    EmptyOrBreak,
     /// A row of single-line labels: a caret, pointer or hanging row.
     SingleLabels,
     /// The underline row of a lane mark: its lane, counted from 0, its style, and what its label
@@ -55,8 +55,10 @@ fn crossing<'d>(row: LaneRow<'d>, lane: usize) -> Option<(usize, LabelStyle, Mul
             style,
             multi_label,
         )),
-        LaneRow::Source | LaneRow::Empty | LaneRow::SingleLabels | LaneRow::Underline(_, _, _) =>
-            None,
+        LaneRow::Source
+        | LaneRow::EmptyOrBreak
+        | LaneRow::SingleLabels
+        | LaneRow::Underline(_, _, _) => None,
     }
 }
 
@@ -72,14 +74,14 @@ fn underline_char(chars: &Chars<'_>, multi_label: MultiLabel<'_>) -> char
 
 /// Writes `count` characters of a lane: of the underline that crosses it, or spaces.
 #[inline(always)]
-fn write_crossing_cells<W: PutStyle>(
+fn write_crossing_characters<W: PutStyle>(
     w: &mut W,
     context: RowContext<'_>,
     crossing: Option<(usize, LabelStyle, MultiLabel<'_>)>,
     count: usize,
 ) -> Result<(), W::Error>
     ensures { Writes (W.sink w.old)
-        (crossing_cells context.entry.severity context.entry.chars.now
+        (crossing_characters context.entry.severity context.entry.chars.now
         (option_map lane_mark_view crossing.entry)
         count) result (W.sink w.new) }
 {
@@ -106,14 +108,14 @@ fn write_lane_glyph<W: PutStyle>(
     ensures { Writes (W.sink w.old) (lane_glyph_view context.entry crossing.entry style own)
         result (W.sink w.new) }
 {
-    write_crossing_cells(w, context, crossing, 1)?;
+    write_crossing_characters(w, context, crossing, 1)?;
     write_label_glyph(w, context.severity, style, own)
 }
 
 /// Writes the two characters of a lane.
-#[tactic(auto, unfolding(crate::specs::Lanes::lane_cells))]
+#[tactic(auto, unfolding(crate::specs::Lanes::lane_characters))]
 #[inline(always)]
-fn write_lane_cells<W: PutStyle>(
+fn write_lane_characters<W: PutStyle>(
     w: &mut W,
     context: RowContext<'_>,
     crossing: Option<(usize, LabelStyle, MultiLabel<'_>)>,
@@ -121,12 +123,12 @@ fn write_lane_cells<W: PutStyle>(
     shape: Shape,
 ) -> Result<(), W::Error>
     ensures { Writes (W.sink w.old)
-        (lane_cells context.entry.severity context.entry.chars.now
+        (lane_characters context.entry.severity context.entry.chars.now
         (option_map lane_mark_view crossing.entry)
         style shape) result (W.sink w.new) }
 {
     match shape {
-        Shape::Space => write_crossing_cells(w, context, crossing, 2),
+        Shape::Space => write_crossing_characters(w, context, crossing, 2),
         Shape::Bar => write_lane_glyph(w, context, crossing, style, context.chars.multi_left),
         Shape::TopCorner => write_lane_glyph(
             w,
@@ -161,10 +163,10 @@ fn inner_gutter_column<W: PutStyle>(
 {
     let crossing = crossing(row, lane.index);
     match lane.lane_mark {
-        None => write_lane_cells(w, context, crossing, LabelStyle::Primary, Shape::Space),
+        None => write_lane_characters(w, context, crossing, LabelStyle::Primary, Shape::Space),
         Some((_, style, multi_label)) => {
-            let shape = shape_in(context.layout, leading, row, lane.index, multi_label);
-            write_lane_cells(w, context, crossing, style, shape)
+            let shape = row_shape(context.layout, leading, row, lane.index, multi_label);
+            write_lane_characters(w, context, crossing, style, shape)
         }
     }
 }
@@ -217,7 +219,7 @@ fn num_empty_lanes(row: LaneRow<'_>, lane: usize, until: usize) -> usize
 {
     let end = match row {
         LaneRow::Underline(corner_lane, _, _) => until.min(corner_lane.saturating_add(1)),
-        LaneRow::Source | LaneRow::Empty | LaneRow::SingleLabels => until,
+        LaneRow::Source | LaneRow::EmptyOrBreak | LaneRow::SingleLabels => until,
     };
     end.saturating_sub(lane).min(MAX_EMPTY_LANES)
 }
@@ -263,10 +265,10 @@ fn inner_gutter_columns<W: PutStyle>(
     let mut next = 0;
     let mut lane = 0;
     while lane < lanes.count {
-        let empty = num_empty_lanes(row, lane, next_lane(lanes, next));
-        if empty > 0 {
-            put_spaces(w, empty + empty)?;
-            lane += empty;
+        let num_empty = num_empty_lanes(row, lane, next_lane(lanes, next));
+        if num_empty > 0 {
+            put_spaces(w, num_empty + num_empty)?;
+            lane += num_empty;
         } else {
             let (lane_mark, after) = take_lane_mark(lanes.lane_marks, next, lane);
             let own = Lane {

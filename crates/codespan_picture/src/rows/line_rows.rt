@@ -14,7 +14,7 @@ use crate::rows::carets::write_caret_row;
 use crate::rows::line::{Line, RowContext};
 use crate::rows::line_characters::LineCharacters;
 use crate::rows::messages::Messages;
-use crate::rows::pointers::write_hanging;
+use crate::rows::pointers::write_pointer_and_hanging_rows;
 use crate::rows::source::write_source_row;
 use crate::rows::underlines::write_underlines;
 use codespan_core::term::config::put_style::PutStyle;
@@ -64,6 +64,6 @@ pub fn write_line<W: PutStyle, S: LineCharacters>(
     let messages = Messages::of(line.labels);
     write_source_row(w, context, line, characters)?;
     write_caret_rows(w, context, line, characters, messages)?;
-    write_hanging(w, context, line, characters, messages)?;
+    write_pointer_and_hanging_rows(w, context, line, characters, messages)?;
     write_underlines(w, context, line, characters)
 }

@@ -33,7 +33,7 @@ pub fn write_snippet_empty<W: PutStyle>(
 {
     outer_gutter(w, context.padding)?;
     border_left(w, context.chars)?;
-    inner_gutter(w, context, 0, LaneRow::Empty, lanes)?;
+    inner_gutter(w, context, 0, LaneRow::EmptyOrBreak, lanes)?;
     write_newline(w)
 }
 
@@ -53,7 +53,7 @@ pub fn write_break<W: PutStyle>(
 {
     outer_gutter(w, context.padding)?;
     border_left_break(w, context.chars)?;
-    inner_gutter(w, context, 0, LaneRow::Empty, lanes)?;
+    inner_gutter(w, context, 0, LaneRow::EmptyOrBreak, lanes)?;
     write_newline(w)
 }
 

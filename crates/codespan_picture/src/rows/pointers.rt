@@ -5,7 +5,7 @@ ghost use Rattle.codespan_core.specs.Streams.{newline, spaces};
 ghost use Rattle.codespan_core.specs.WriterLaw.{Writes};
 ghost use Rattle.codespan_picture.specs.Arguments.{single_label_view, single_label_views};
 ghost use Rattle.codespan_picture.specs.Private.LineViews.{context_view, line_view};
-ghost use Rattle.codespan_picture.specs.Private.RowViews.{hanging_stream_view, hanging_rows_view, pointer_and_hanging_view};
+ghost use Rattle.codespan_picture.specs.Private.RowViews.{hanging_stream_view, pointer_and_hanging_rows_view, pointer_and_messages_view};
 ghost use Rattle.codespan_picture.specs.Lanes.{label_glyph};
 ghost use Rattle.codespan_picture.specs.RowParts.{max_label_start};
 ghost use Rattle.codespan_picture.specs.RowStreams.{pointer_row, hanging_row};
@@ -57,7 +57,7 @@ pub fn caret_pointer<W: PutStyle>(
 
 /// What the pointer row and the hanging rows of a line are written from.
 #[derive(Drop)]
-struct HangingRows<'row, 'd, S> {
+struct PointerAndHangingRows<'row, 'd, S> {
     /// What all rows of the output are rendered by.
     context: RowContext<'row>,
     /// The line.
@@ -71,7 +71,7 @@ struct HangingRows<'row, 'd, S> {
 /// Writes the pointer row of a line.
 fn write_pointer_row<W: PutStyle, S: LineCharacters>(
     w: &mut W,
-    rows: &HangingRows<'_, '_, S>,
+    rows: &PointerAndHangingRows<'_, '_, S>,
 ) -> Result<(), W::Error>
     requires input { S.input rows.now.characters.now ≡ char_input rows.now.context rows.now.line }
     requires hanging_labels { AreHanging rows.now.line.labels.now
@@ -89,7 +89,7 @@ fn write_pointer_row<W: PutStyle, S: LineCharacters>(
 /// Writes a hanging message under its pointer.
 fn write_hanging_row<W: PutStyle, S: LineCharacters>(
     w: &mut W,
-    rows: &HangingRows<'_, '_, S>,
+    rows: &PointerAndHangingRows<'_, '_, S>,
     label: &SingleLabel<'_>,
 ) -> Result<(), W::Error>
     requires input { S.input rows.now.characters.now ≡ char_input rows.now.context rows.now.line }
@@ -112,7 +112,7 @@ fn write_hanging_row<W: PutStyle, S: LineCharacters>(
 /// Writes a row for each message of these labels, the last label's first.
 fn write_hanging_rows<W: PutStyle, S: LineCharacters>(
     w: &mut W,
-    rows: &HangingRows<'_, '_, S>,
+    rows: &PointerAndHangingRows<'_, '_, S>,
     labels: &[SingleLabel<'_>],
 ) -> Result<(), W::Error>
     requires input { S.input rows.now.characters.now ≡ char_input rows.now.context rows.now.line }
@@ -135,7 +135,7 @@ fn write_hanging_rows<W: PutStyle, S: LineCharacters>(
 /// Writes the pointer row, and a row for each hanging message, the last label's first.
 fn write_pointers_and_messages<W: PutStyle, S: LineCharacters>(
     w: &mut W,
-    rows: &HangingRows<'_, '_, S>,
+    rows: &PointerAndHangingRows<'_, '_, S>,
 ) -> Result<(), W::Error>
     requires input { S.input rows.now.characters.now ≡ char_input rows.now.context rows.now.line }
     requires hanging_labels { AreHanging rows.now.line.labels.now
@@ -143,7 +143,7 @@ fn write_pointers_and_messages<W: PutStyle, S: LineCharacters>(
     requires slices { ArePrefixAndSuffix rows.now.line.labels.now
         rows.now.messages.before.now rows.now.messages.after.now }
     ensures { Writes (W.sink w.old)
-        (pointer_and_hanging_view rows.now.context rows.now.line rows.now.messages)
+        (pointer_and_messages_view rows.now.context rows.now.line rows.now.messages)
         result (W.sink w.new) }
 {
     write_pointer_row(w, rows)?;
@@ -163,7 +163,7 @@ fn write_pointers_and_messages<W: PutStyle, S: LineCharacters>(
 /// - `characters` has the context's tab width, and the text and labels of `line`.
 /// - The labels with a message in `messages.before` and `messages.after` are those of `line` that
 ///   hang, and the two are a prefix and a suffix of its labels.
-pub fn write_hanging<W: PutStyle, S: LineCharacters>(
+pub fn write_pointer_and_hanging_rows<W: PutStyle, S: LineCharacters>(
     w: &mut W,
     context: RowContext<'_>,
     line: Line<'_, '_>,
@@ -173,13 +173,13 @@ pub fn write_hanging<W: PutStyle, S: LineCharacters>(
     requires input { S.input characters.now ≡ char_input context line }
     requires hanging_labels { AreHanging line.labels.now messages.before.now messages.after.now }
     requires slices { ArePrefixAndSuffix line.labels.now messages.before.now messages.after.now }
-    ensures { Writes (W.sink w.old) (hanging_rows_view context.entry line.entry)
+    ensures { Writes (W.sink w.old) (pointer_and_hanging_rows_view context.entry line.entry)
         result (W.sink w.new) }
 {
     if !has_any_message(messages.before) && !has_any_message(messages.after) {
         return Ok(());
     }
-    let rows = HangingRows {
+    let rows = PointerAndHangingRows {
         context,
         line,
         characters,

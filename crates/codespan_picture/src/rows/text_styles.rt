@@ -42,7 +42,7 @@ pub fn text_style<C: CharCursor>(
     ensures labels { C.labels characters.new ≡ C.labels characters.old }
     ensures style { result ≡ source_style (line_view line.entry) metrics }
 {
-    if characters.has_primary(metrics) || primary.covers_char(metrics) {
+    if characters.is_covered_by_primary(metrics) || primary.covers_char(metrics) {
         Some(LabelStyle::Primary)
     } else {
         None
@@ -50,7 +50,7 @@ pub fn text_style<C: CharCursor>(
 }
 
 /// Returns whether one of these labels is primary.
-fn has_primary(labels: &[SingleLabel<'_>]) -> bool
+fn has_primary_label(labels: &[SingleLabel<'_>]) -> bool
     ensures { result ≡ list_any is_primary (single_label_views labels.now) }
 {
     for label in labels {
@@ -89,7 +89,7 @@ pub fn is_plain(line: Line<'_, '_>) -> bool
     ensures { result ≡ true → (context : RowContextSpec)
         → colored_text context (line_view line.entry) ≡ bytes line.entry.text.now }
 {
-    !has_primary(line.labels)
+    !has_primary_label(line.labels)
         && !has_primary_lane_mark(line.lanes.lane_marks)
         && !has_tab(line.text)
 }

@@ -8,7 +8,7 @@ use Rattle.codespan_picture.specs.Lines.{drawn_lines}
 use Rattle.codespan_picture.specs.Lookups.{lookups_of_file, filled_lines, first_error, locus_lookups, numbers_for_padding, filled_line_lookups}
 use Rattle.codespan_picture.specs.Padding.{padding_of}
 use Rattle.codespan_picture.specs.Rows.{Locus}
-use Rattle.codespan_picture.specs.Snippets.{InFile, LabeledFileModel, labeled_file_model, labeled_file_models, num_multi_labels, rows_after, file_ids}
+use Rattle.codespan_picture.specs.Snippets.{InFile, LabeledFileModel, labeled_file_model, labeled_file_models, num_multi_labels, rows_of_drawn, file_ids}
 use Rattle.codespan_views.specs.declared.plan.OutputPlan.{OutputPlan}
 use Rattle.codespan_views.specs.declared.plan.snippet_plans.SnippetPlan.{SnippetPlan}
 use Rattle.codespan_views.specs.declared.plan.snippet_lines.SnippetLine.{SnippetLine as RustLine}
@@ -36,7 +36,7 @@ pub record IsSnippetPlan {Id : Type 0} (config : Config) (s : LabeledFileModel)
   pub each : AllByRecursion (IsSnippetLineOf s.file) own
   pub fits : AreInOrder (num_multi_labels s) (map snippet_line_view own)
   pub rows : rows_of_lines s.file (num_multi_labels s) (map snippet_line_view own)
-      ≡ rows_after s None (drawn_lines config s.file s.labels)
+      ≡ rows_of_drawn s None (drawn_lines config s.file s.labels)
   pub lookups : lookups_of_lines own ≡ flat_map (filled_line_lookups config.layout)
       (filled_lines config s)
 

@@ -12,7 +12,7 @@ use codespan_core::term::Layout;
 /// Returns what a multi-line label mark shows in a row of this kind. `leading` is the length in
 /// bytes of the white space that the line's text begins with, `lane` the lane of the multi-line
 /// label mark, counted from 0.
-pub fn shape_in(
+pub fn row_shape(
     layout: Layout,
     leading: usize,
     row: LaneRow<'_>,
@@ -25,7 +25,7 @@ pub fn shape_in(
 {
     match (row, multi_label) {
         (LaneRow::Source, MultiLabel::Top(start)) if start <= leading => Shape::TopCorner,
-        (LaneRow::Source | LaneRow::Empty, MultiLabel::Top(_)) => Shape::Space,
+        (LaneRow::Source | LaneRow::EmptyOrBreak, MultiLabel::Top(_)) => Shape::Space,
         (LaneRow::SingleLabels, MultiLabel::Top(start)) if goes_on(layout, leading, start) =>
             Shape::Bar,
         (LaneRow::SingleLabels, MultiLabel::Top(_)) => Shape::Space,
@@ -33,7 +33,7 @@ pub fn shape_in(
             underline_shape(layout, leading, corner_lane, lane, multi_label)
         }
         (
-            LaneRow::Source | LaneRow::Empty | LaneRow::SingleLabels,
+            LaneRow::Source | LaneRow::EmptyOrBreak | LaneRow::SingleLabels,
             MultiLabel::Left | MultiLabel::Bottom(_, _),
         ) => Shape::Bar,
     }

@@ -47,7 +47,7 @@ pub fn style_under(labels: &[SingleLabel<'_>], metrics: Metrics) -> Option<Label
 }
 
 /// Returns whether a primary label covers a byte of the character.
-pub fn has_primary_label(labels: &[SingleLabel<'_>], metrics: Metrics) -> bool
+pub fn is_covered_by_primary(labels: &[SingleLabel<'_>], metrics: Metrics) -> bool
     ensures { result ≡ is_covered is_primary (single_label_views labels.now) metrics }
 {
     for label in labels {

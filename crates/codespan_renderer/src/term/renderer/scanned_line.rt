@@ -8,7 +8,9 @@ ghost use Rattle.codespan_picture.specs.Private.Runs.{AreHanging};
 
 use crate::term::renderer::SingleLabel;
 use crate::term::renderer::char_metrics::{CharMetrics, Metrics};
-use crate::term::renderer::label_styles::{has_primary_label, pointer_style_if_any, style_under};
+use crate::term::renderer::label_styles::{
+    is_covered_by_primary, pointer_style_if_any, style_under,
+};
 use codespan_core::diagnostic::LabelStyle;
 use codespan_core::term::config::put_style::PutStyle;
 use codespan_picture::rows::char_cursor::CharCursor;
@@ -46,8 +48,8 @@ impl<'row, 'd> CharCursor for ScanCursor<'row, 'd> {
     }
 
     #[inline(always)]
-    fn has_primary(&mut self, metrics: Metrics) -> bool {
-        has_primary_label(self.labels, metrics)
+    fn is_covered_by_primary(&mut self, metrics: Metrics) -> bool {
+        is_covered_by_primary(self.labels, metrics)
     }
 }
 

@@ -1,7 +1,7 @@
 use Rattle.std.proofs.Common.{arith, drop}
 use Rattle.std.proofs.lemmas.Result.{err_from_is_err_and}
 use Rattle.codespan_core.proofs.Loops.{StillToWrite-start, StillToWrite-more, StillToWrite-failed, StillToWrite-end}
-use Rattle.codespan_picture.proofs.LaneCursor.{cursor-empty, cursor-next, cursor-end, cursor-lanes}
+use Rattle.codespan_picture.proofs.LaneCursor.{cursor-empty_lanes, cursor-next, cursor-end, cursor-lanes}
 use Rattle.codespan_picture.proofs.rows.lanes.inner_gutter_columns.Goals as goal
 
 pub loop-lane-init : goal.loop-lane-init
@@ -28,18 +28,18 @@ pub returns-in_err-put_spaces : goal.returns-in_err-put_spaces
 returns-in_err-put_spaces g c =
     let p = err_from_is_err_and c.from_residual.result c.from_residual.ensures.1 in
     rw p.1 (StillToWrite-failed _ _ _ _ _ _ _ c.loop-lane.invariant c.in_err-put_spaces.ensures
-    (cursor-empty _ _ _ (drop c.loop-lane.next c.args.lanes.lane_marks.now) c.args.lanes.count
-    c.loop-lane.lane c.next_lane.result c.num_empty_lanes-empty.result c.loop-lane-test.true
-    c.next_lane.ensures.within c.num_empty_lanes-empty.ensures.within
-    c.num_empty_lanes-empty.ensures.no_crossing c.next_lane.ensures.no_lane_mark))
+    (cursor-empty_lanes _ _ _ (drop c.loop-lane.next c.args.lanes.lane_marks.now) c.args.lanes.count
+    c.loop-lane.lane c.next_lane.result c.num_empty_lanes-num_empty.result c.loop-lane-test.true
+    c.next_lane.ensures.within c.num_empty_lanes-num_empty.ensures.within
+    c.num_empty_lanes-num_empty.ensures.no_crossing c.next_lane.ensures.no_lane_mark))
 
-pub loop-lane-preserved-then-empty-gt0 : goal.loop-lane-preserved-then-empty-gt0
-loop-lane-preserved-then-empty-gt0 g c =
+pub loop-lane-preserved-then-num_empty-gt0 : goal.loop-lane-preserved-then-num_empty-gt0
+loop-lane-preserved-then-num_empty-gt0 g c =
     StillToWrite-more _ _ _ _ _ _ _ c.loop-lane.invariant c.in_ok-put_spaces.ensures
-    (cursor-empty _ _ _ (drop c.loop-lane.next c.args.lanes.lane_marks.now) c.args.lanes.count
-    c.loop-lane.lane c.next_lane.result c.num_empty_lanes-empty.result c.loop-lane-test.true
-    c.next_lane.ensures.within c.num_empty_lanes-empty.ensures.within
-    c.num_empty_lanes-empty.ensures.no_crossing c.next_lane.ensures.no_lane_mark)
+    (cursor-empty_lanes _ _ _ (drop c.loop-lane.next c.args.lanes.lane_marks.now) c.args.lanes.count
+    c.loop-lane.lane c.next_lane.result c.num_empty_lanes-num_empty.result c.loop-lane-test.true
+    c.next_lane.ensures.within c.num_empty_lanes-num_empty.ensures.within
+    c.num_empty_lanes-num_empty.ensures.no_crossing c.next_lane.ensures.no_lane_mark)
 
 pub returns : goal.returns
 returns g c = StillToWrite-end _ _ _ _ c.loop-lane.invariant (cursor-end _ _ _ _ _ _ (omega arith))

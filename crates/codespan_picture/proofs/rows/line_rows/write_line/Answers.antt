@@ -17,14 +17,14 @@ returns-in_err-write_caret_rows g c =
     (failed-before _
     (failed-then _ c.in_ok-write_source_row.ensures c.in_err-write_caret_rows.ensures))))
 
-pub returns-in_err-write_hanging : goal.returns-in_err-write_hanging
-returns-in_err-write_hanging g c =
+pub returns-in_err-write_pointer_and_hanging_rows : goal.returns-in_err-write_pointer_and_hanging_rows
+returns-in_err-write_pointer_and_hanging_rows g c =
     rw (line_rows (context_view c.args.context) (line_view c.args.line))
-    (failed _ _ _ _ _ c.from_residual-in_err-write_hanging.ensures.1
+    (failed _ _ _ _ _ c.from_residual-in_err-write_pointer_and_hanging_rows.ensures.1
     (failed-before _
     (failed-then _
     (written-then _ _ _ c.in_ok-write_source_row.ensures c.in_ok-write_caret_rows.ensures)
-    c.in_err-write_hanging.ensures)))
+    c.in_err-write_pointer_and_hanging_rows.ensures)))
 
 pub returns : goal.returns
 returns g c =
@@ -32,5 +32,5 @@ returns g c =
     (writes-last _ _ _ _ _
     (written-then _ _ _
     (written-then _ _ _ c.in_ok-write_source_row.ensures c.in_ok-write_caret_rows.ensures)
-    c.in_ok-write_hanging.ensures)
+    c.in_ok-write_pointer_and_hanging_rows.ensures)
     c.write_underlines.ensures)

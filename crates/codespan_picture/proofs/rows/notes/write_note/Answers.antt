@@ -2,7 +2,7 @@ use Rattle.std.proofs.Common.{ap, refl}
 use Rattle.std.proofs.lemmas.Iterator.Splits.{YieldsList-from_lines}
 use Rattle.std.proofs.lemmas.Result.{err_from_is_err_and}
 use Rattle.codespan_core.proofs.Loops.{StillToWrite-start, StillToWrite-more, StillToWrite-failed, StillToWrite-end}
-use Rattle.codespan_picture.specs.RenderedRows.{later_note_rows, note_stream}
+use Rattle.codespan_picture.specs.RenderedRows.{later_note_lines_stream, note_stream}
 use Rattle.codespan_picture.proofs.UnderlineRows.{lines-next, lines-none}
 use Rattle.codespan_picture.proofs.rows.notes.write_note.Goals as goal
 
@@ -51,7 +51,7 @@ loop-note_line-preserved g c =
       yields = next.yields;
       written_so_far =
           StillToWrite-more _ _ _ _ _ _ _ i.written_so_far c.in_ok-write_later_note_line.ensures
-          (ap (later_note_rows c.args.padding) next.is);
+          (ap (later_note_lines_stream c.args.padding) next.is);
     }
 
 pub returns-in_err-write_later_note_line : goal.returns-in_err-write_later_note_line
@@ -63,10 +63,10 @@ returns-in_err-write_later_note_line g c =
     c.next-in-loop-note_line.new.self _ i.yields c.in-Some-note_line.ensures.steps in
     rw p.1
     (StillToWrite-failed _ _ _ _ _ _ _ i.written_so_far c.in_err-write_later_note_line.ensures
-    (ap (later_note_rows c.args.padding) next.is))
+    (ap (later_note_lines_stream c.args.padding) next.is))
 
 pub returns : goal.returns
 returns g c =
     let i = c.loop-note_line.invariant in
     StillToWrite-end _ _ _ _ i.written_so_far
-    (ap (later_note_rows c.args.padding) (lines-none _ _ _ i.yields c.in-None.ensures.steps))
+    (ap (later_note_lines_stream c.args.padding) (lines-none _ _ _ i.yields c.in-None.ensures.steps))

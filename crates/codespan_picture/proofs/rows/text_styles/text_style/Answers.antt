@@ -9,7 +9,7 @@ use Rattle.codespan_picture.specs.RowParts.{multi_label_covers, source_style}
 use Rattle.codespan_picture.specs.Rows.{Line}
 use Rattle.codespan_picture.specs.Types.{Primary}
 use Rattle.codespan_picture.specs.Private.LineViews.{line_view}
-use Rattle.codespan_picture.proofs.rows.text_styles.text_style.Goals.{then-has_primary, else-has_primary}
+use Rattle.codespan_picture.proofs.rows.text_styles.text_style.Goals.{then-is_covered_by_primary, else-is_covered_by_primary}
 use Rattle.codespan_picture.proofs.rows.text_styles.text_style.Goals as goal
 
 -- the style, by whether a primary label inside the line covers the character, and whether a
@@ -25,25 +25,25 @@ styled line c inside marked same_inside same_marked = rw (same_inside, same_mark
 pub returns-then-covers_char-clause-style : goal.returns-then-covers_char-clause-style
 returns-then-covers_char-clause-style g c =
     let line = line_view c.args.line in
-    let inside = rw c.requires.labels at c.has_primary.ensures.primary in
+    let inside = rw c.requires.labels at c.is_covered_by_primary.ensures.primary in
     let marked = c.requires.primary c.args.metrics c.requires.has_byte in
-    elim c.if-has_primary.branch [
-      | then-has_primary w ↦ styled line c.args.metrics true _ (sym w.if-has_primary.true ∙ inside)
+    elim c.if-is_covered_by_primary.branch [
+      | then-is_covered_by_primary w ↦ styled line c.args.metrics true _ (sym w.if-is_covered_by_primary.true ∙ inside)
           refl
-      | else-has_primary w ↦
-          styled line c.args.metrics false true (sym w.if-has_primary.false ∙ inside)
+      | else-is_covered_by_primary w ↦
+          styled line c.args.metrics false true (sym w.if-is_covered_by_primary.false ∙ inside)
           (sym c.if-covers_char.true ∙ w.value-is ∙ w.covers_char.ensures ∙ marked)
     ]
 
 pub returns-else-covers_char-clause-style : goal.returns-else-covers_char-clause-style
 returns-else-covers_char-clause-style g c =
     let line = line_view c.args.line in
-    let inside = rw c.requires.labels at c.has_primary.ensures.primary in
+    let inside = rw c.requires.labels at c.is_covered_by_primary.ensures.primary in
     let marked = c.requires.primary c.args.metrics c.requires.has_byte in
-    elim c.if-has_primary.branch [
-      | then-has_primary w ↦ absurd
-          (false≢true (sym c.if-covers_char.false ∙ w.value-is ∙ w.if-has_primary.true))
-      | else-has_primary w ↦
-          styled line c.args.metrics false false (sym w.if-has_primary.false ∙ inside)
+    elim c.if-is_covered_by_primary.branch [
+      | then-is_covered_by_primary w ↦ absurd
+          (false≢true (sym c.if-covers_char.false ∙ w.value-is ∙ w.if-is_covered_by_primary.true))
+      | else-is_covered_by_primary w ↦
+          styled line c.args.metrics false false (sym w.if-is_covered_by_primary.false ∙ inside)
           (sym c.if-covers_char.false ∙ w.value-is ∙ w.covers_char.ensures ∙ marked)
     ]

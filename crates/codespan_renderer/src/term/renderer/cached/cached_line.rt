@@ -57,8 +57,8 @@ impl<'cache, 'row, 'd> CharCursor for CachedCursor<'cache, 'row, 'd> {
     }
 
     #[inline(always)]
-    fn has_primary(&mut self, metrics: Metrics) -> bool {
-        self.label_cursor.has_primary(metrics)
+    fn is_covered_by_primary(&mut self, metrics: Metrics) -> bool {
+        self.label_cursor.is_covered_by_primary(metrics)
     }
 }
 

@@ -99,7 +99,7 @@ impl<'row, 'd> LabelCursor<'row, 'd> {
     /// # Requires
     ///
     /// The character has a byte, and the cursor has passed the labels that start before it.
-    pub fn has_primary(&mut self, metrics: Metrics) -> bool
+    pub fn is_covered_by_primary(&mut self, metrics: Metrics) -> bool
         requires has_byte { 1 ≤ metrics.bytes }
         requires passed { HasPassedLabels metrics.byte_index self.old }
         ensures passed { HasPassedLabels (metrics.byte_index + metrics.bytes) self.new }

@@ -2,7 +2,7 @@ use Rattle.std.proofs.Common.{◌≡◌, drop}
 use Rattle.std.specs.List.{list_any}
 use Rattle.codespan_core.specs.Labels.{is_primary}
 use Rattle.codespan_picture.specs.Arguments.{single_label_views}
-use Rattle.codespan_picture.proofs.rows.text_styles.has_primary.Given as goal
+use Rattle.codespan_picture.proofs.rows.text_styles.has_primary_label.Given as goal
 
 -- the remaining labels decide
 abbrev pub invariant-loop-label : goal.invariant-loop-label

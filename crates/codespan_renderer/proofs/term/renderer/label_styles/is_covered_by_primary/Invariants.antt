@@ -4,7 +4,7 @@ use Rattle.std.specs.List.{list_any}
 use Rattle.codespan_core.specs.Labels.{LabelModel, is_primary}
 use Rattle.codespan_picture.specs.Carets.{covers}
 use Rattle.codespan_picture.specs.Arguments.{single_label_views}
-use Rattle.codespan_renderer.proofs.term.renderer.label_styles.has_primary_label.Given as goal
+use Rattle.codespan_renderer.proofs.term.renderer.label_styles.is_covered_by_primary.Given as goal
 
 -- the remaining labels decide
 abbrev pub invariant-loop-label : goal.invariant-loop-label

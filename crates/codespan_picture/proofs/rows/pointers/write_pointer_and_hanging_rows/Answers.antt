@@ -1,8 +1,8 @@
 use Rattle.std.proofs.Common.{refl, sym, ◌∙◌, inl, inr}
 use Rattle.codespan_core.proofs.Loops.{StillToWrite-start, StillToWrite-end}
 use Rattle.codespan_picture.proofs.Hanging.{nothing_hangs, all_hanging}
-use Rattle.codespan_picture.proofs.rows.pointers.write_hanging.Goals.{else-not-has_any_message-via-then-not-has_any_message+else-not-has_any_message-2, else-not-has_any_message-via-else-not-has_any_message}
-use Rattle.codespan_picture.proofs.rows.pointers.write_hanging.Goals as goal
+use Rattle.codespan_picture.proofs.rows.pointers.write_pointer_and_hanging_rows.Goals.{else-not-has_any_message-via-then-not-has_any_message+else-not-has_any_message-2, else-not-has_any_message-via-else-not-has_any_message}
+use Rattle.codespan_picture.proofs.rows.pointers.write_pointer_and_hanging_rows.Goals as goal
 
 pub returns-then-not-has_any_message-2 : goal.returns-then-not-has_any_message-2
 returns-then-not-has_any_message-2 g c =

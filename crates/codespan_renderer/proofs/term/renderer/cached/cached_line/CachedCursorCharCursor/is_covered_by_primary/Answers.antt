@@ -1,0 +1,10 @@
+use Rattle.codespan_renderer.proofs.LabelCursorSteps.{cursor-passed, returned-passed, returned-some}
+use Rattle.codespan_renderer.proofs.term.renderer.cached.cached_line.CachedCursorCharCursor.is_covered_by_primary.Goals as goal
+
+pub is_covered_by_primary-requires : goal.is_covered_by_primary-requires
+is_covered_by_primary-requires c =
+    record { has_byte = returned-some _ _ _ c.requires; passed = returned-passed _ _ _ c.requires }
+
+pub invariant_of-self : goal.invariant_of-self
+invariant_of-self c =
+    record { state = cursor-passed _ _ _ _ c.requires c.is_covered_by_primary.ensures.passed }
