@@ -171,9 +171,9 @@ follow-then after tab byte_index column (c ∷ cs) last = (
   follow-then after tab (byte_index + len_utf8 c) (column + width_at tab column c) cs last,
 )
 
--- the characters of a line, and the placeholder where `to_end` is set
-pub follow-after : (to_end : Bool) (tab : ℕ) (text : List ℕ)
-    → AreContiguous 0 (metrics_then (after_last to_end) tab 0 0 (chars text))
+-- the characters of a line, and the placeholder where `has_placeholder` is set
+pub follow-after : (has_placeholder : Bool) (tab : ℕ) (text : List ℕ)
+    → AreContiguous 0 (metrics_then (after_last has_placeholder) tab 0 0 (chars text))
 follow-after true tab text =
     follow-then placeholder tab 0 0 (chars text) (λ p q. (refl, omega arith, tt))
 follow-after false tab text = follow-then no_more tab 0 0 (chars text) (λ p q. tt)
