@@ -148,8 +148,8 @@ pointers-past labels byte_index column (c ∷ cs) consecutive past =
     (omega arith))
 
 -- the next character begins past the starts, and so do all that follow
-pub pointers-past-at : (labels before after : List SingleLabelTuple) (s t : StartCursor) (greatest_start : ℕ)
-    (cs left : List Metrics) (c : Metrics)
+pub pointers-past-at : (labels before after : List SingleLabelTuple) (s t : StartCursor)
+    (greatest_start : ℕ) (cs left : List Metrics) (c : Metrics)
     → cs ≡ c ∷ left
     → IsPassing before after s t cs → greatest_start < c.byte_index
     → greatest_start ≡ max_label_start (single_label_views labels)
