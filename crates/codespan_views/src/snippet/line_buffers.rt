@@ -7,7 +7,7 @@ ghost use Rattle.codespan_picture.specs.OutputStreams.{label_of};
 ghost use Rattle.codespan_views.specs.Private.AnnotationViews.{annotation_view};
 ghost use Rattle.codespan_views.specs.Private.SnippetLines.{lane_marks_in, single_labels_in};
 
-use crate::annotation::{Annotation, AnnotationKind, multi_label, range_in_line};
+use crate::annotation::{Annotation, AnnotationKind, drawn_range, multi_label};
 use codespan_core::diagnostic::{Label, LabelStyle};
 use codespan_core::files::Error;
 use codespan_renderer::term::renderer::cached::LineMetrics;
@@ -110,7 +110,7 @@ fn single_label<FileId>(label: &Label<FileId>, line_start: usize) -> SingleLabel
 {
     (
         label.style,
-        range_in_line(label, line_start),
+        drawn_range(label, line_start),
         label.message.as_str(),
     )
 }
