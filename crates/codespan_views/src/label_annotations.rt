@@ -33,7 +33,7 @@ pub struct FoundAnnotations<'d, FileId> {
     /// The annotations.
     pub annotations: Vec<Annotation<'d, FileId>>,
     /// The width for the numbers of the lines that labels span.
-    pub padding: PaddingWidth,
+    pub spanned_padding: PaddingWidth,
 }
 
 /// Looks up the lines of a label and makes its annotations.
@@ -194,7 +194,7 @@ impl<'a, 'c, 'd, 'files, F: Files<'files>> LabelCollector<'a, 'c, 'd, 'files, F>
             return Ok(false);
         };
         if is_spanned {
-            found.padding.fit(line.number);
+            found.spanned_padding.fit(line.number);
         }
         self.push_line(line, is_far, &mut found.annotations)?;
         Ok(true)

@@ -96,7 +96,7 @@ module _ {Id : Type 0} (x : CollectedLabel Id) where
   -- the padding has been widened to the number of a line, where the label spans the line
   abbrev pub ExtendsPaddingForLine : FoundAnnotations Id → FoundAnnotations Id → ℕ → Type 0
   ExtendsPaddingForLine old new l =
-      new.padding.digits ≡ fold max old.padding.digits (digits_on x.file x.label l)
+      new.spanned_padding.digits ≡ fold max old.spanned_padding.digits (digits_on x.file x.label l)
 
   -- what the lookups of a line fail with, where it is looked up
   abbrev pub failure_on : ℕ → Option Error
@@ -113,7 +113,7 @@ module _ {Id : Type 0} (x : CollectedLabel Id) where
   -- the padding has been widened to the numbers of the lines that the label spans
   abbrev pub ExtendsPadding : FoundAnnotations Id → FoundAnnotations Id → Type 0
   ExtendsPadding old new =
-      new.padding.digits ≡ fold max old.padding.digits (label_digits x.file x.label)
+      new.spanned_padding.digits ≡ fold max old.spanned_padding.digits (label_digits x.file x.label)
 
   -- what the lookups of its lines fail with
   abbrev pub lines_failure : Option Error

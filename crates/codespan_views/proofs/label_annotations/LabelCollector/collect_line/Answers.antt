@@ -93,14 +93,14 @@ returns-clause-padding g c =
     let lines = collector.lines in
     let found = line_found g c in
     let number = found.1.number_is ∙ ap x.file.line_number found.0 in
-    let digits : FoundAnnotations g.row.F-FileId.Denot → ℕ = λ f. f.padding.digits in
+    let digits : FoundAnnotations g.row.F-FileId.Denot → ℕ = λ f. f.spanned_padding.digits in
     λ _. elim c.if-is_spanned.branch [
       | then-is_spanned w ↦ padding-spanned x lines.first lines.last c.args.index c.requires.lines.first
-          c.requires.lines.last _ c.args.found.now.padding.digits
+          c.requires.lines.last _ c.args.found.now.spanned_padding.digits
           (sym (is_spanned g c) ∙ w.if-is_spanned.true)
           (ap digits w.found-is ∙ rw number at w.fit.ensures)
       | else-is_spanned w ↦ padding-unspanned x lines.first lines.last c.args.index
-          c.requires.lines.first c.requires.lines.last _ c.args.found.now.padding.digits
+          c.requires.lines.first c.requires.lines.last _ c.args.found.now.spanned_padding.digits
           (sym (is_spanned g c) ∙ w.if-is_spanned.false) (ap digits w.found-is)
     ]
 
