@@ -90,11 +90,11 @@ fn collect_in_turn<'files, 'd, F: Files<'files>>(
         let file = get_or_insert_file(&mut labeled, previous, label.file_id)?;
         let lane = labeled[file].num_multi_labels;
         let indices = LabelIndices { file, index, lane };
-        let lines = collect_label(files, config, indices, label, &mut found)?;
-        add_label(&mut labeled, file, label, lines);
+        let span = collect_label(files, config, indices, label, &mut found)?;
+        add_label(&mut labeled, file, label, span);
         previous = file;
         if file == 0 {
-            spanned = spanned.join(lines);
+            spanned = spanned.join(span);
         }
     }
     Ok(Collected {

@@ -24,26 +24,26 @@ pub struct LabeledFile<FileId> {
 }
 
 impl<FileId> LabeledFile<FileId> {
-    /// Adds a label of the file. `lines` are those on which the label starts and ends.
+    /// Adds a label of the file. `span` has the lines on which the label starts and ends.
     ///
     /// # Requires
     ///
     /// One more lane can be counted.
-    fn add(&mut self, label: &Label<FileId>, lines: LabelSpan)
+    fn add(&mut self, label: &Label<FileId>, span: LabelSpan)
         requires { self.old.num_multi_labels + 1 < 2 ^ 64 }
         ensures id { self.new.file_id ≡ self.old.file_id }
         ensures start { self.new.start ≡ start_with self.old.start (label_of label.now).label }
-        ensures lanes { self.new.num_multi_labels ≡ self.old.num_multi_labels + lanes_by lines }
+        ensures lanes { self.new.num_multi_labels ≡ self.old.num_multi_labels + lanes_by span }
     {
         self.start = self.start.with(label);
-        if !lines.is_single() {
+        if !span.is_single() {
             self.num_multi_labels += 1;
         }
     }
 }
 
-/// Adds a label to the file at this 0-based index. `lines` are those on which the label starts and
-/// ends.
+/// Adds a label to the file at this 0-based index. `span` has the lines on which the label starts
+/// and ends.
 ///
 /// # Requires
 ///
@@ -52,7 +52,7 @@ pub fn add_label<FileId>(
     files: &mut Vec<LabeledFile<FileId>>,
     index: usize,
     label: &Label<FileId>,
-    lines: LabelSpan,
+    span: LabelSpan,
 )
     requires index { index < length files.old.items }
     requires bound { slice_index_or (lane_counts files.old.items) index 0 + 1 < 2 ^ 64 }
@@ -60,9 +60,9 @@ pub fn add_label<FileId>(
     ensures starts { starts_view files.new.items
         ≡ starts_with_label (starts_view files.old.items) index (label_of label.now).label }
     ensures lanes { lane_counts files.new.items
-        ≡ lanes_with_label (lane_counts files.old.items) index (lanes_by lines) }
+        ≡ lanes_with_label (lane_counts files.old.items) index (lanes_by span) }
 {
-    files[index].add(label, lines);
+    files[index].add(label, span);
 }
 
 /// Returns the 0-based index of the file with this id, which is appended without labels if there is

@@ -45,7 +45,7 @@ with_file same ids id known one = if list_any (λ j. same j id) ids then known e
 
 -- how many lanes a label takes that starts and ends on these lines
 abbrev pub lanes_by : LabelSpan → ℕ
-lanes_by lines = if lines.first == lines.last then 0 else 1
+lanes_by span = if span.first == span.last then 0 else 1
 
 -- the bytes of loci, with one more label of the file at this index
 abbrev pub starts_with_label : List LocusStart → ℕ → LabelModel → List LocusStart

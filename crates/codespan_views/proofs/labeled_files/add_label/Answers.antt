@@ -31,5 +31,5 @@ returns-clause-starts g c =
 pub returns-clause-lanes : goal.returns-clause-lanes
 returns-clause-lanes g c =
     let lanes : RustFile g.row.FileId.Denot → ℕ = λ f. f.num_multi_labels in
-    map-changed lanes 0 (λ n. n + lanes_by c.args.lines)
+    map-changed lanes 0 (λ n. n + lanes_by c.args.span)
     (at g (goal.at.returns-clause-lanes g c).After-add) c.add.new.self c.add.ensures.lanes
