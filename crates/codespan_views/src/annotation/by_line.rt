@@ -70,8 +70,8 @@ struct Chains {
     next: Vec<usize>,
 }
 
-/// Chains the annotations of each bucket in their order. Those whose bucket is past the last one are
-/// in no chain. `lines` are 0-based indices, the end exclusive.
+/// Chains the annotations of each bucket in their order. Those whose bucket is past the last one
+/// are in no chain. `lines` are 0-based indices, the end exclusive.
 ///
 /// # Errors
 ///
