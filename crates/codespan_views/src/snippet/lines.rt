@@ -9,7 +9,7 @@ ghost use Rattle.codespan_views.specs.Private.SnippetLines.{Labeled, Break, are_
 
 use crate::annotation::{Annotation, LineInfo};
 use crate::plan::snippet_lines::SnippetLine;
-use crate::snippet::line_buffers::{LineBuffers, fill_multi_labels};
+use crate::snippet::line_buffers::{LineBuffers, fill_lane_marks};
 use crate::source_file::SourceFile;
 use codespan_core::diagnostic::Severity;
 use codespan_core::files::{Error, Files};
@@ -147,7 +147,7 @@ impl<'context, 'files, F: Files<'files>> Snippet<'context, 'files, F> {
         let source = &self.text[line.start..line.end];
         let lanes = Lanes {
             count: self.num_multi_labels,
-            lane_marks: buffers.multi_labels.as_slice(),
+            lane_marks: buffers.lane_marks.as_slice(),
         };
         let line = Line::new(line.number, source, buffers.single_labels.as_slice(), lanes);
         let cached = buffers.metrics.cache_line(renderer, line)?;
@@ -176,12 +176,12 @@ impl<'context, 'files, F: Files<'files>> Snippet<'context, 'files, F> {
             (Break (map annotation_view next.now))
             renderer.old result renderer.new }
     {
-        fill_multi_labels(&mut buffers.multi_labels, next)?;
+        fill_lane_marks(&mut buffers.lane_marks, next)?;
         renderer.render_snippet_break(
             self.context.padding,
             self.context.severity,
             self.num_multi_labels,
-            buffers.multi_labels.as_slice(),
+            buffers.lane_marks.as_slice(),
         )
     }
 }
