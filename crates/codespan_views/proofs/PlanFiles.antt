@@ -50,7 +50,7 @@ record AreLinesOfSnippet (config : Config) (s : LabeledFileModel) (snippet_lines
   lines : lines_of_snippet_lines snippet_lines ≡ drawn_lines config s.file s.labels
   rows : rows_of_lines s.file (num_multi_labels s) snippet_lines ≡ rows_after s None
       (drawn_lines config s.file s.labels)
-  fits : AreInOrder (num_multi_labels s) snippet_lines
+  in_order : AreInOrder (num_multi_labels s) snippet_lines
 
 -- in the unbroken layout the numbers of drawn lines count
 numbered : (config : Config) → config.layout ≡ Unbroken → (s : LabeledFileModel)
@@ -82,7 +82,7 @@ module _ {Id : Type 0} {database : FileDatabase Id} (lawful : AreFiles database)
     fills = snippet-fills lawful all k id at;
     lines = snippet-lines lawful all k id at;
     rows = snippet-rows lawful all k id at;
-    fits = snippet-fits lawful all k id at;
+    in_order = snippet-fits lawful all k id at;
   }
 
   -- the numbers that are looked up before the header are those of the padding
@@ -133,7 +133,7 @@ module _ {Id : Type 0} {database : FileDatabase Id} (lawful : AreFiles database)
       locus_is = subst (λ n. IsTextLocus (file f.file_id, n) (locus_view snippet_plan.locus)) (file_locus_start-is known) is.locus_is;
       count_is = is.count_is;
       each = lines_of-file config.layout (file f.file_id) own is.each;
-      fits = subst (AreInOrder (num_multi_labels (labeled f.file_id))) (sym is.are) (snippet k f.file_id at).fits;
+      in_order = subst (AreInOrder (num_multi_labels (labeled f.file_id))) (sym is.are) (snippet k f.file_id at).in_order;
       rows = ap (rows_of_lines (file f.file_id) (num_multi_labels (labeled f.file_id))) is.are ∙ (snippet k f.file_id at).rows;
       lookups =
           snippet_lines-lookups config.layout (file f.file_id) own is.each

@@ -34,7 +34,7 @@ pub record IsSnippetPlan {Id : Type 0} (config : Config) (s : LabeledFileModel)
   pub locus_is : IsLocusOfFile s (locus_view snippet_plan.locus)
   pub count_is : snippet_plan.line_total ≡ length own
   pub each : AllByRecursion (IsSnippetLineOf s.file) own
-  pub fits : AreInOrder (num_multi_labels s) (map snippet_line_view own)
+  pub in_order : AreInOrder (num_multi_labels s) (map snippet_line_view own)
   pub rows : rows_of_lines s.file (num_multi_labels s) (map snippet_line_view own)
       ≡ rows_after s None (drawn_lines config s.file s.labels)
   pub lookups : lookups_of_lines own ≡ flat_map (filled_line_lookups config.layout)

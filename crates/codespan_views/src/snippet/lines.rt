@@ -136,7 +136,7 @@ impl<'context, 'files, F: Files<'files>> Snippet<'context, 'files, F> {
         requires text { self.now.text.now
             ≡ (model_of F.database self.now.file).text }
         requires line { IsLineOf (model_of F.database self.now.file) line }
-        requires fits { IsTrue
+        requires in_order { IsTrue
             (are_annotations_in_order self.now.num_multi_labels
             (map annotation_view annotations.now)) }
         ensures { RendersLine W.sink F.database self.now []
@@ -170,7 +170,7 @@ impl<'context, 'files, F: Files<'files>> Snippet<'context, 'files, F> {
         buffers: &mut LineBuffers<'d>,
         next: &[Annotation<'d, F::FileId>],
     ) -> Result<(), Error>
-        requires fits { IsTrue (are_lane_marks_in_order self.now.num_multi_labels
+        requires in_order { IsTrue (are_lane_marks_in_order self.now.num_multi_labels
             (map annotation_view next.now)) }
         ensures { RendersLine W.sink F.database self.now []
             (Break (map annotation_view next.now))

@@ -54,7 +54,7 @@ render_snippet-requires g c κs =
     c.snippet_plan-item.is in
     let own =
     own-snippet_lines at c.loop-index.invariant.files c.lines_of_file-snippet_lines.ensures in
-    ((refl, tt), record { each = own.each; fit = rw own.lanes_are own.fits })
+    ((refl, tt), record { each = own.each; in_order = rw own.lanes_are own.in_order })
 
 pub returns-in_err-render_snippet : goal.returns-in_err-render_snippet
 returns-in_err-render_snippet g c =

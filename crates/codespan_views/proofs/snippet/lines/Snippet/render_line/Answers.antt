@@ -24,7 +24,7 @@ invariant_of-lanes g c =
           (map annotation_view c.args.annotations.now) _ lane_marks
           (both-true
           (starts_in_order (single_labels_in (map annotation_view c.args.annotations.now)))
-          _ c.requires.fits).1;
+          _ c.requires.in_order).1;
     }
 
 pub returns-in_err-cached : goal.returns-in_err-cached
