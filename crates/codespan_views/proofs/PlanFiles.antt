@@ -29,7 +29,7 @@ use Rattle.codespan_views.specs.Private.LabeledFiles.{HasLabels, ids_view}
 use Rattle.codespan_views.specs.declared.plan.OutputPlan.{OutputPlan}
 use Rattle.codespan_views.specs.Private.SnippetLineViews.{IsSnippetLineIn, numbers_looked_up}
 use Rattle.codespan_views.specs.Private.Loci.{loci_lookups}
-use Rattle.codespan_views.specs.Private.LocusStarts.{locus_byte}
+use Rattle.codespan_views.specs.Private.LocusBytes.{locus_byte}
 use Rattle.codespan_views.specs.Private.FileIndices.{IsIdAt}
 use Rattle.codespan_views.specs.Private.SnippetPlans.{ArePlans, ArePlansOf, IsPlan, number_lookups, plans_failure, line_digits, lines_at, padding_width}
 use Rattle.codespan_views.specs.Private.SnippetLines.{SnippetLine, filled_lines_of, rows_of_lines, AreInOrder}
@@ -106,16 +106,16 @@ module _ {Id : Type 0} {database : FileDatabase Id} (lawful : AreFiles database)
       by_layout Unbroken id = refl
 
   -- where a file's snippet starts
-  file_locus_start-is : {f : RustFile Id} → HasLabels same file xs f
-      → locus_byte f.start ≡ locus_start (labeled f.file_id).labels
-  file_locus_start-is {f} known = ap locus_byte known.start_is ∙ start-is same file f.file_id xs
+  file_locus_byte-is : {f : RustFile Id} → HasLabels same file xs f
+      → locus_byte f.least_starts ≡ locus_start (labeled f.file_id).labels
+  file_locus_byte-is {f} known = ap locus_byte known.least_starts_are ∙ start-is same file f.file_id xs
 
   -- the lookups of the loci of files are those of their snippets
   loci-lookups : (fs : List (RustFile Id)) → AllByRecursion (HasLabels same file xs) fs
       → loci_lookups fs ≡ flat_map (λ id. lookups_of_file id (locus_lookups database xs id))
       (ids_view fs)
   loci-lookups [] known = refl
-  loci-lookups (f ∷ fs) known = λ i. lookups_of_file f.file_id (Name ∷ LocationAt (file_locus_start-is known.0 i) ∷ []) ++ loci-lookups fs known.1 i
+  loci-lookups (f ∷ fs) known = λ i. lookups_of_file f.file_id (Name ∷ LocationAt (file_locus_byte-is known.0 i) ∷ []) ++ loci-lookups fs known.1 i
 
   -- so are those of all files
   loci-are : loci_lookups collected.files.items ≡ file_locus_lookups database xs
@@ -130,7 +130,7 @@ module _ {Id : Type 0} {database : FileDatabase Id} (lawful : AreFiles database)
     file-plan : IsSnippetPlan config (labeled f.file_id) snippet_plan own
     file-plan = record {
       lanes_are = ap (λ (g : RustFile Id). g.num_multi_labels) is.file_is ∙ known.lanes_are;
-      locus_is = subst (λ n. IsTextLocus (file f.file_id, n) (locus_view snippet_plan.locus)) (file_locus_start-is known) is.locus_is;
+      locus_is = subst (λ n. IsTextLocus (file f.file_id, n) (locus_view snippet_plan.locus)) (file_locus_byte-is known) is.locus_is;
       count_is = is.count_is;
       each = lines_of-file config.layout (file f.file_id) own is.each;
       in_order = subst (AreInOrder (num_multi_labels (labeled f.file_id))) (sym is.are) (snippet k f.file_id at).in_order;

@@ -16,7 +16,7 @@ use Rattle.codespan_views.specs.Private.AnnotationViews.{annotation_view}
 use Rattle.codespan_views.specs.Private.SnippetLineViews.{IsSnippetLineIn, numbers_looked_up, snippet_line_view}
 use Rattle.codespan_views.specs.Private.LabeledFiles.{ids_view}
 use Rattle.codespan_views.specs.Private.Loci.{loci_lookups}
-use Rattle.codespan_views.specs.Private.LocusStarts.{locus_byte}
+use Rattle.codespan_views.specs.Private.LocusBytes.{locus_byte}
 use Rattle.codespan_views.specs.Private.SnippetLines.{SnippetLine, filled_lines_of, lines_of}
 use Rattle.codespan_views.specs.Private.TextLoci.{IsTextLocus}
 
@@ -40,7 +40,7 @@ module _ {Id : Type 0} (layout : Layout) (file : Id → FileModel) (es : List An
   pub record IsPlan (k : ℕ) (f : RustFile Id) (snippet_plan : SnippetPlan Id)
       (own : List (RustLine Id)) : Type 0 where
     pub file_is : snippet_plan.file.now ≡ f
-    pub locus_is : IsTextLocus (file f.file_id, locus_byte f.start) (locus_view snippet_plan.locus)
+    pub locus_is : IsTextLocus (file f.file_id, locus_byte f.least_starts) (locus_view snippet_plan.locus)
     pub count_is : snippet_plan.line_total ≡ length own
     pub are : map snippet_line_view own ≡ lines_at es k
     pub each : AllByRecursion (IsSnippetLineIn layout (file f.file_id)) own

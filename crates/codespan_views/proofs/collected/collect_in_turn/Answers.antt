@@ -6,7 +6,7 @@ use Rattle.codespan_views.specs.declared.labeled_files.LabeledFile.{LabeledFile 
 use Rattle.codespan_views.specs.Private.CollectedLabels.{FindsLines, collected_label}
 use Rattle.codespan_views.specs.Private.AnnotationViews.{Adds, IsOfFiles}
 use Rattle.codespan_views.specs.Private.LabeledFiles.{ids_view, lane_counts, num_multi_labels_of, lanes_with_label}
-use Rattle.codespan_views.specs.Private.LocusStarts.{file_locus_start}
+use Rattle.codespan_views.specs.Private.LocusBytes.{file_least_starts}
 use Rattle.codespan_picture.specs.OutputStreams.{label_of}
 use Rattle.codespan_picture.specs.Snippets.{file_ids}
 use Rattle.codespan_views.specs.Private.FileIndices.{AreDistinct, index_of_file}
@@ -167,7 +167,7 @@ returns-clause-collected g c =
       files = record {
         ids_are = done.ids_are;
         labels_are = each-labels same file xs c.loop-index.labeled.items
-            (done.starts_are ∙ ap (map (file_locus_start same xs)) (sym done.ids_are))
+            (done.starts_are ∙ ap (map (file_least_starts same xs)) (sym done.ids_are))
             (done.lanes_are ∙ ap (map (num_multi_labels_of same file xs)) (sym done.ids_are));
         padding_is = done.counted;
       };
