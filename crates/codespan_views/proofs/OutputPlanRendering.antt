@@ -16,7 +16,7 @@ use Rattle.codespan_picture.specs.Rows.{RowContext, Locus, Row}
 use Rattle.codespan_picture.specs.RowStreams.{stream_of_rows}
 use Rattle.codespan_core.specs.FileModel.Lookup.{Source}
 use Rattle.codespan_picture.specs.Arguments.{locus_view}
-use Rattle.codespan_views.specs.Private.OutputPlans.{IsOutputPlan, IsSnippetPlan, ids_of, loci_of}
+use Rattle.codespan_views.specs.Private.OutputPlans.{IsOutputPlan, IsPlanOfLabels, ids_of, loci_of}
 use Rattle.codespan_views.specs.Private.SnippetRows.{trailing_border_rows, lookups_with, rows_in}
 use Rattle.codespan_views.specs.Views.{diagnostic_of, view_config_of}
 use Rattle.codespan_views.specs.declared.rich.RichDiagnostic.{RichDiagnostic}
@@ -138,7 +138,7 @@ module _ {Id : Type 0} {database : FileDatabase Id} {view_config : RichDiagnosti
       no-rows (p ∷ ps) = refl
 
   module _ {snippet_plan : SnippetPlan Id} {snippet_lines : List (RustLine Id)} {follows : Bool} {now : Config} (at : IsElementAt output_plan.snippet_plans.items k snippet_plan)
-      (is : IsSnippetPlan (view_config_of view_config)
+      (is : IsPlanOfLabels (view_config_of view_config)
       (labeled database view_config snippet_plan.file.now.file_id) snippet_plan
       snippet_lines)
       (follows_is : follows ≡ (has_notes || nat_lt (k + 1) (length output_plan.snippet_plans.items)))

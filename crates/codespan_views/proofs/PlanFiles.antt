@@ -22,7 +22,7 @@ use Rattle.codespan_views.specs.declared.labeled_files.LabeledFile.{LabeledFile 
 use Rattle.codespan_views.specs.declared.plan.snippet_plans.SnippetPlan.{SnippetPlan}
 use Rattle.codespan_views.specs.declared.plan.snippet_lines.SnippetLine.{SnippetLine as RustLine}
 use Rattle.codespan_views.specs.Private.Annotations.{Annotation}
-use Rattle.codespan_views.specs.Private.OutputPlans.{AreSnippetPlans, IsOutputPlan, IsSnippetPlan, ids_of, padding_lookups, file_locus_lookups, output_plan_failure}
+use Rattle.codespan_views.specs.Private.OutputPlans.{ArePlansOfLabels, IsOutputPlan, IsPlanOfLabels, ids_of, padding_lookups, file_locus_lookups, output_plan_failure}
 use Rattle.codespan_views.specs.Private.Collections.{IsCollected}
 use Rattle.codespan_views.specs.Private.AnnotationViews.{annotation_view}
 use Rattle.codespan_views.specs.Private.LabeledFiles.{HasLabels, ids_view}
@@ -31,7 +31,7 @@ use Rattle.codespan_views.specs.Private.SnippetLineViews.{IsSnippetLineIn, numbe
 use Rattle.codespan_views.specs.Private.Loci.{loci_lookups}
 use Rattle.codespan_views.specs.Private.LocusBytes.{locus_byte}
 use Rattle.codespan_views.specs.Private.FileIndices.{IsIdAt}
-use Rattle.codespan_views.specs.Private.SnippetPlans.{ArePlans, ArePlansOf, IsPlan, number_lookups, plans_failure, line_digits, lines_at, padding_width}
+use Rattle.codespan_views.specs.Private.SnippetPlans.{ArePlansOfAnnotations, ArePlansOfCollected, IsPlanOfAnnotations, number_lookups, collected_plan_failure, line_digits, lines_at, padding_width}
 use Rattle.codespan_views.specs.Private.SnippetLines.{SnippetLine, filled_lines_of, rows_of_lines, AreInOrder}
 use Rattle.codespan_views.proofs.FileTurns.{flat_map_indexed-same}
 use Rattle.codespan_views.proofs.SpannedPadding.{spanned-padding_width}
@@ -125,9 +125,9 @@ module _ {Id : Type 0} {database : FileDatabase Id} (lawful : AreFiles database)
 
   module _ {k : ℕ} {f : RustFile Id} (at : IsIdAt (file_ids same xs) k f.file_id)
       (known : HasLabels same file xs f) {snippet_plan : SnippetPlan Id} {own : List (RustLine Id)}
-      (is : IsPlan config.layout file es k f snippet_plan own) where
+      (is : IsPlanOfAnnotations config.layout file es k f snippet_plan own) where
     -- it is a file of the output
-    file-plan : IsSnippetPlan config (labeled f.file_id) snippet_plan own
+    file-plan : IsPlanOfLabels config (labeled f.file_id) snippet_plan own
     file-plan = record {
       lanes_are = ap (λ (g : RustFile Id). g.num_multi_labels) is.file_is ∙ known.lanes_are;
       locus_is = subst (λ n. IsTextLocus (file f.file_id, n) (locus_view snippet_plan.locus)) (file_locus_byte-is known) is.locus_is;
@@ -174,7 +174,7 @@ module _ {Id : Type 0} {database : FileDatabase Id} (lawful : AreFiles database)
   -- the ids of plans
   ids-from : (k : ℕ) (fs : List (RustFile Id)) (snippet_plans : List (SnippetPlan Id))
       (snippet_lines : List (RustLine Id))
-      → ArePlans config.layout file es k fs snippet_plans snippet_lines
+      → ArePlansOfAnnotations config.layout file es k fs snippet_plans snippet_lines
       → ids_of snippet_plans ≡ ids_view fs
   ids-from k [] [] snippet_lines h = refl
   ids-from k [] (snippet_plan ∷ snippet_plans) snippet_lines h = absurd h
@@ -187,13 +187,13 @@ module _ {Id : Type 0} {database : FileDatabase Id} (lawful : AreFiles database)
   plans-from : (k : ℕ) (fs : List (RustFile Id)) (snippet_plans : List (SnippetPlan Id))
       (snippet_lines : List (RustLine Id))
       → AreAt k (ids_view fs) → AllByRecursion (HasLabels same file xs) fs
-      → ArePlans config.layout file es k fs snippet_plans snippet_lines
-      → AreSnippetPlans database config xs snippet_plans snippet_lines
+      → ArePlansOfAnnotations config.layout file es k fs snippet_plans snippet_lines
+      → ArePlansOfLabels database config xs snippet_plans snippet_lines
   plans-from k [] [] snippet_lines at known h = tt
   plans-from k [] (snippet_plan ∷ snippet_plans) snippet_lines at known h = absurd h
   plans-from k (f ∷ fs) [] snippet_lines at known h = absurd h
   plans-from k (f ∷ fs) (snippet_plan ∷ snippet_plans) snippet_lines at known h = (
-    subst (λ (g : RustFile Id). IsSnippetPlan config (labeled g.file_id) snippet_plan
+    subst (λ (g : RustFile Id). IsPlanOfLabels config (labeled g.file_id) snippet_plan
         (take snippet_plan.line_total snippet_lines))
         (sym h.0.file_is) (file-plan (are_at-here k f.file_id (ids_view fs) at) known.0 h.0),
     plans-from (k + 1) fs snippet_plans (drop snippet_plan.line_total snippet_lines) (are_at-next k f.file_id (ids_view fs) at) known.1 h.1,
@@ -205,7 +205,7 @@ module _ {Id : Type 0} {database : FileDatabase Id} (lawful : AreFiles database)
       (snippet_lines : List (RustLine Id))
       → AreAt k (ids_view fs)
       → AllByRecursion (HasLabels same file xs) fs
-      → ArePlans config.layout file es k fs snippet_plans snippet_lines
+      → ArePlansOfAnnotations config.layout file es k fs snippet_plans snippet_lines
       → flat_map line_digits snippet_lines ≡ flat_map
       (λ id. digits_of (labeled id) (numbered_lines config (labeled id))) (ids_view fs)
   digits-from unbroken k [] [] snippet_lines at known h = ap (flat_map line_digits) h
@@ -220,7 +220,7 @@ module _ {Id : Type 0} {database : FileDatabase Id} (lawful : AreFiles database)
       (are_at-next k f.file_id (ids_view fs) at) known.1 h.1 i)
 
   module _ (snippet_plans : List (SnippetPlan Id)) (snippet_lines : List (RustLine Id))
-      (found : ArePlans config.layout file es 0 collected.files.items snippet_plans snippet_lines)
+      (found : ArePlansOfAnnotations config.layout file es 0 collected.files.items snippet_plans snippet_lines)
     where
       -- the ids are at their indices
       ids_at : AreAt 0 (ids_view collected.files.items)
@@ -231,7 +231,7 @@ module _ {Id : Type 0} {database : FileDatabase Id} (lawful : AreFiles database)
       plan_ids = ids-from 0 collected.files.items snippet_plans snippet_lines found ∙ all.files.ids_are
 
       -- all plans
-      file_plans : AreSnippetPlans database config xs snippet_plans snippet_lines
+      file_plans : ArePlansOfLabels database config xs snippet_plans snippet_lines
       file_plans = plans-from 0 collected.files.items snippet_plans snippet_lines ids_at all.files.labels_are found
 
       -- in the classic layout the labels determine the padding width
@@ -266,13 +266,13 @@ module _ {Id : Type 0} {database : FileDatabase Id} (lawful : AreFiles database)
     {xs : List (InFile Id)} {collected : Collected Id}
     (all : IsCollected database config xs collected) where
   -- plans fail with what the output plan fails with
-  pub failure-is : plans_failure config.layout database.failure collected ≡ output_plan_failure
+  pub failure-is : collected_plan_failure config.layout database.failure collected ≡ output_plan_failure
       config database xs
   failure-is = λ i. first_error database.failure (numbers-are lawful all i ++ loci-are lawful all i)
 
   -- plans, and the padding width, are the output plan of the labels
   pub output_plan-planned : {output_plan : OutputPlan Id}
-      → ArePlansOf config.layout database.file collected output_plan.snippet_plans.items
+      → ArePlansOfCollected config.layout database.file collected output_plan.snippet_plans.items
       output_plan.snippet_lines.items → output_plan.padding
       ≡ padding_of config (labeled_file_models database.same database.file xs)
       → IsOutputPlan database config xs output_plan
