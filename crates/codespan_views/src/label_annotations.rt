@@ -257,9 +257,7 @@ pub fn collect_label<'files, 'd, F: Files<'files>>(
         (collected_label (F.database files.now) config.now indices label.now)) result }
 {
     let span = label_span(files, label)?;
-    found
-        .annotations
-        .reserve(span.annotation_capacity(config))?;
+    found.annotations.reserve(span.annotation_capacity(config))?;
     let collector = LabelCollector {
         label,
         file: SourceFile {

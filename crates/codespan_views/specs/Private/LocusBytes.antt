@@ -43,7 +43,7 @@ least_starts_with s x = record {
   any = Some (least_with s.any x.start);
 }
 
--- the byte of a file's locus: the least start of a primary label, or of any where none is primary; 0 without
--- labels
+-- the byte of a file's locus: the least start of a primary label, or of any where none is primary;
+-- 0 without labels
 abbrev pub locus_byte : LeastStarts → ℕ
 locus_byte s = unwrap_or s.primary (unwrap_or s.any 0)

@@ -40,14 +40,17 @@ module _ {Id : Type 0} (layout : Layout) (file : Id → FileModel) (es : List An
   pub record IsPlanOfAnnotations (k : ℕ) (f : RustFile Id) (snippet_plan : SnippetPlan Id)
       (own : List (RustLine Id)) : Type 0 where
     pub file_is : snippet_plan.file.now ≡ f
-    pub locus_is : IsTextLocus (file f.file_id, locus_byte f.least_starts) (locus_view snippet_plan.locus)
+    pub locus_is : IsTextLocus (file f.file_id, locus_byte f.least_starts)
+        (locus_view snippet_plan.locus)
     pub count_is : snippet_plan.line_total ≡ length own
     pub are : map snippet_line_view own ≡ lines_at es k
     pub each : AllByRecursion (IsSnippetLineIn layout (file f.file_id)) own
 
   -- the plans are those of the files from an index on, and these are all their lines, those of the
   -- first file in front
-  abbrev pub ArePlansOfAnnotations : ℕ → List (RustFile Id) → List (SnippetPlan Id) → List (RustLine Id) → Type 0
+  abbrev pub ArePlansOfAnnotations : ℕ → List (RustFile Id) → List (SnippetPlan Id)
+      → List (RustLine Id)
+      → Type 0
   ArePlansOfAnnotations k [] [] snippet_lines = snippet_lines ≡ []
   ArePlansOfAnnotations k [] (snippet_plan ∷ snippet_plans) snippet_lines = ⊥
   ArePlansOfAnnotations k (f ∷ fs) [] snippet_lines = ⊥
@@ -59,8 +62,8 @@ module _ {Id : Type 0} (layout : Layout) (file : Id → FileModel) (es : List An
 abbrev pub ArePlansOfCollected : {Id : Type 0} → Layout → (Id → FileModel) → Collected Id
     → List (SnippetPlan Id) → List (RustLine Id) → Type 0
 ArePlansOfCollected layout file collected snippet_plans snippet_lines =
-    ArePlansOfAnnotations layout file (map annotation_view collected.annotations.items) 0 collected.files.items
-    snippet_plans snippet_lines
+    ArePlansOfAnnotations layout file (map annotation_view collected.annotations.items) 0
+    collected.files.items snippet_plans snippet_lines
 
 -- the lookups of the plans: first the numbers of filled lines, of all files, and then the loci of
 -- all files
@@ -71,8 +74,10 @@ collected_plan_lookups layout collected =
     ++ loci_lookups collected.files.items
 
 -- what these lookups fail with
-abbrev pub collected_plan_failure : {Id : Type 0} → Layout → Failures Id → Collected Id → Option Error
-collected_plan_failure layout failure collected = first_error failure (collected_plan_lookups layout collected)
+abbrev pub collected_plan_failure : {Id : Type 0} → Layout → Failures Id → Collected Id
+    → Option Error
+collected_plan_failure layout failure collected =
+    first_error failure (collected_plan_lookups layout collected)
 
 -- the digits of the known number of a line
 abbrev pub line_digits : {Id : Type 0} → RustLine Id → List ℕ
