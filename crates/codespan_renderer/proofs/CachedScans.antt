@@ -15,29 +15,29 @@ use Rattle.codespan_renderer.proofs.WidthSearch.{past-none}
 
 -- a scan that goes on elsewhere yields what the first one would
 cached-after : (tab : ℕ) (text : List ℕ) (cached : List Metrics) (rest fork : CharMetrics)
-    (to_end : Bool)
+    (has_placeholder : Bool)
     → AreCached tab text cached rest
     → ((after : MetricsAfterEnd) → metrics_from after fork ≡ metrics_from after rest)
-    → fork.to_end ≡ to_end
-    → cached ++ metrics_left fork ≡ metrics_then (after_last to_end) tab 0 0 (chars text)
-cached-after tab text cached rest fork to_end are same end =
+    → fork.has_placeholder ≡ has_placeholder
+    → cached ++ metrics_left fork ≡ metrics_then (after_last has_placeholder) tab 0 0 (chars text)
+cached-after tab text cached rest fork has_placeholder are same end =
     ap (λ (e : Bool). cached ++ metrics_from (after_last e) fork) end
-    ∙ ap (λ (cs : List Metrics). cached ++ cs) (same (after_last to_end))
-    ∙ are (after_last to_end)
+    ∙ ap (λ (cs : List Metrics). cached ++ cs) (same (after_last has_placeholder))
+    ∙ are (after_last has_placeholder)
 
 -- the same, where the first ones of the cache are left out
 pub cached-from : (tab : ℕ) (text : List ℕ) (cached : List Metrics) (rest fork : CharMetrics)
-    (to_end : Bool) (n : ℕ)
+    (has_placeholder : Bool) (n : ℕ)
     → AreCached tab text cached rest
     → ((after : MetricsAfterEnd) → metrics_from after fork ≡ metrics_from after rest)
-    → fork.to_end ≡ to_end
+    → fork.has_placeholder ≡ has_placeholder
     → take n
     cached ++ (take (length cached - n) (drop n cached) ++ metrics_left fork)
-    ≡ metrics_then (after_last to_end) tab 0 0 (chars text)
-cached-from tab text cached rest fork to_end n are same end =
+    ≡ metrics_then (after_last has_placeholder) tab 0 0 (chars text)
+cached-from tab text cached rest fork has_placeholder n are same end =
     sym (append_assoc (take n cached) (take (length cached - n) (drop n cached)) (metrics_left fork))
     ∙ ap (λ (cs : List Metrics). cs ++ metrics_left fork) (taken-dropped n cached)
-    ∙ cached-after tab text cached rest fork to_end are same end
+    ∙ cached-after tab text cached rest fork has_placeholder are same end
 
 -- one more character is cached
 cached-more : (tab : ℕ) (text : List ℕ) (cached : List Metrics) (c : Metrics)

@@ -21,7 +21,7 @@ use Rattle.codespan_renderer.specs.declared.term.renderer.cached.cached_metrics.
 use Rattle.codespan_renderer.specs.Private.CachedMetrics.{cached_left}
 use Rattle.codespan_picture.specs.Private.CharCursors.{AreContiguous, is_covered}
 use Rattle.codespan_renderer.specs.Private.CursorStates.{IsBefore, HasReturned}
-use Rattle.codespan_renderer.specs.Private.LabelCursors.{end_with, IsReached, HasPassedLabels}
+use Rattle.codespan_renderer.specs.Private.LabelCursors.{end_with, IsCoverEnd, HasPassedLabels}
 
 -- a label that starts before the character's end covers it where the label has a byte and ends past
 -- the byte index of the character
@@ -54,8 +54,8 @@ or-assoc false b c = refl
 pub reached-more : (passes : LabelModel → Bool) (labels left rest : List LabelModel)
     (x : LabelModel) (byte_index end : ℕ)
     → left ≡ x ∷ rest → x.start < byte_index
-    → IsReached passes labels left byte_index end
-    → IsReached passes labels rest byte_index (end_with (passes x) end x)
+    → IsCoverEnd passes labels left byte_index end
+    → IsCoverEnd passes labels rest byte_index (end_with (passes x) end x)
 reached-more passes labels left rest x byte_index end step prefix r = record {
   is = λ c h some. r.is c h some
       ∙ ap (λ (xs : List LabelModel). nat_lt c.byte_index end || is_covered passes xs c) step
@@ -87,7 +87,7 @@ or-false false = refl
 pub reached-here : (passes : LabelModel → Bool) (labels left : List LabelModel) (byte_index end : ℕ)
     (c : Metrics)
     → c.byte_index + c.bytes ≡ byte_index → 1 ≤ c.bytes
-    → starts_from byte_index left ≡ true → IsReached passes labels left byte_index end
+    → starts_from byte_index left ≡ true → IsCoverEnd passes labels left byte_index end
     → is_covered passes labels c ≡ nat_lt c.byte_index end
 reached-here passes labels left byte_index end c ends some ordered r =
     r.is c (omega arith) some
@@ -171,9 +171,9 @@ follow-then after tab byte_index column (c ∷ cs) last = (
   follow-then after tab (byte_index + len_utf8 c) (column + width_at tab column c) cs last,
 )
 
--- the characters of a line, and the placeholder where `to_end` is set
-pub follow-after : (to_end : Bool) (tab : ℕ) (text : List ℕ)
-    → AreContiguous 0 (metrics_then (after_last to_end) tab 0 0 (chars text))
+-- the characters of a line, and the placeholder where `has_placeholder` is set
+pub follow-after : (has_placeholder : Bool) (tab : ℕ) (text : List ℕ)
+    → AreContiguous 0 (metrics_then (after_last has_placeholder) tab 0 0 (chars text))
 follow-after true tab text =
     follow-then placeholder tab 0 0 (chars text) (λ p q. (refl, omega arith, tt))
 follow-after false tab text = follow-then no_more tab 0 0 (chars text) (λ p q. tt)

@@ -148,13 +148,13 @@ pointers-past labels byte_index column (c ∷ cs) consecutive past =
     (omega arith))
 
 -- the next character begins past the starts, and so do all that follow
-pub pointers-past-at : (labels before after : List SingleLabelTuple) (s t : StartCursor) (last : ℕ)
-    (cs left : List Metrics) (c : Metrics)
+pub pointers-past-at : (labels before after : List SingleLabelTuple) (s t : StartCursor)
+    (greatest_start : ℕ) (cs left : List Metrics) (c : Metrics)
     → cs ≡ c ∷ left
-    → IsPassing before after s t cs → last < c.byte_index
-    → last ≡ max_label_start (single_label_views labels)
+    → IsPassing before after s t cs → greatest_start < c.byte_index
+    → greatest_start ≡ max_label_start (single_label_views labels)
     → pointers_in (hanging_labels (single_label_views labels)) cs ≡ []
-pointers-past-at labels before after s t last cs left c step w past e =
+pointers-past-at labels before after s t greatest_start cs left c step w past e =
     let consecutive : AreConsecutive w.byte_index w.column (c ∷ left) = rw step at w.consecutive in
     pointers-past (single_label_views labels) w.byte_index w.column cs w.consecutive
     (omega (arith, e, past, consecutive.0))

@@ -69,8 +69,8 @@ module _ {Id : Type 0} {database : FileDatabase Id} (lawful : AreFiles database)
   own = filter (is_of_file f) annotations
 
   -- those of a line
-  abbrev bucket : ℕ → List Annotation
-  bucket l = filter (is_on_line l) own
+  abbrev own_on_line : ℕ → List Annotation
+  own_on_line l = filter (is_on_line l) own
 
   -- the file has this index among those of the labels
   here : HasFileIndex same file (file_ids same xs) f id
@@ -104,14 +104,14 @@ module _ {Id : Type 0} {database : FileDatabase Id} (lawful : AreFiles database)
       (all-filter IsInside (is_of_file f) annotations whole))
 
   -- the annotations of a line are of it
-  bucket-on : (l : ℕ) → AllByRecursion (IsOn f l) (bucket l)
-  bucket-on l =
-      all-both (λ e. e.file ≡ f) (λ e. e.line ≡ l) (bucket l)
+  own_on_line-all : (l : ℕ) → AllByRecursion (IsOn f l) (own_on_line l)
+  own_on_line-all l =
+      all-both (λ e. e.file ≡ f) (λ e. e.line ≡ l) (own_on_line l)
       (all-filter (λ e. e.file ≡ f) (is_on_line l) own own-file) (all-on_line l own)
 
   -- they are in order
-  bucket-rises : (l : ℕ) → Rises is_before (bucket l)
-  bucket-rises l = rises-filter is_before (is_on_line l) own own-rises
+  own_on_line-rises : (l : ℕ) → Rises is_before (own_on_line l)
+  own_on_line-rises l = rises-filter is_before (is_on_line l) own own-rises
 
   -- an annotation of the file and the line that passes a test
   abbrev picks : ℕ → (Annotation → Bool) → Annotation → Bool
@@ -143,10 +143,10 @@ module _ {Id : Type 0} {database : FileDatabase Id} (lawful : AreFiles database)
   -- ---- the labels of a line
 
   -- the labels inside the line
-  single_labels-are : (l : ℕ) → single_labels_in (bucket l) ≡ single_labels (file id) s.labels l
+  single_labels-are : (l : ℕ) → single_labels_in (own_on_line l) ≡ single_labels (file id) s.labels l
   single_labels-are l =
-      ascending-same (single_labels_in (bucket l)) (sorted reversed)
-      (single_labels-ascend f l (bucket l) (bucket-on l) (bucket-rises l))
+      ascending-same (single_labels_in (own_on_line l)) (sorted reversed)
+      (single_labels-ascend f l (own_on_line l) (own_on_line-all l) (own_on_line-rises l))
       (sorted-ascends reversed)
       (λ start end. ranges start end ∙ sym (sorted-keeps start end reversed))
     where
@@ -171,10 +171,10 @@ module _ {Id : Type 0} {database : FileDatabase Id} (lawful : AreFiles database)
           subst (Falls is_before) (sym (all_in_range start end)) (annotation_lines.single_labels-fall here config l start end 0 xs)
 
       ranges : (start end : ℕ)
-          → filter (has_range start end) (single_labels_in (bucket l)) ≡ filter
+          → filter (has_range start end) (single_labels_in (own_on_line l)) ≡ filter
           (has_range start end) reversed
       ranges start end =
-          single_labels-of_range start end (bucket l)
+          single_labels-of_range start end (own_on_line l)
           ∙ ap single_labels_in (of_picked l (is_of_range start end) annotations
           ∙ filter-sorted_falls is_before below_order all annotations known.permutation known.sorted
           (picks l (is_of_range start end)) (falls start end)
@@ -198,9 +198,9 @@ module _ {Id : Type 0} {database : FileDatabase Id} (lawful : AreFiles database)
       ∙ annotation_lines.all-lane_marks here config l xs [] 0 refl
 
   -- the lane marks of the annotations of a line
-  lane_marks-are : (l : ℕ) → lane_marks_in (bucket l) ≡ lane_marks l
+  lane_marks-are : (l : ℕ) → lane_marks_in (own_on_line l) ≡ lane_marks l
   lane_marks-are l =
-      lane_marks-rank (bucket l)
+      lane_marks-rank (own_on_line l)
       ∙ ap lane_marks_in (of_picked l (is_kind 2) annotations
       ∙ filter-sorted_climbs is_before below_order all annotations known.permutation known.sorted (picks l (is_kind 2))
       (subst (Climbs is_before) (sym (lane_marks-of_all l))
@@ -209,7 +209,7 @@ module _ {Id : Type 0} {database : FileDatabase Id} (lawful : AreFiles database)
       ∙ lane_marks-of_annotations f l (lane_marks l)
 
   -- a line is rendered with what its labels do on it
-  line-is : (l : ℕ) → line_of_group (file id) (num_multi_labels s) l (bucket l) ≡ line_at s l
+  line-is : (l : ℕ) → line_of_group (file id) (num_multi_labels s) l (own_on_line l) ≡ line_at s l
   line-is l =
       λ i. record (line_at s l) {
         labels =
@@ -225,9 +225,9 @@ module _ {Id : Type 0} {database : FileDatabase Id} (lawful : AreFiles database)
   is_shown l = lines.is_shown config (file id) s.labels l
 
   -- the annotations of a line determine whether it is shown
-  shown-is : (l : ℕ) → are_shown (bucket l) ≡ is_shown l
+  shown-is : (l : ℕ) → are_shown (own_on_line l) ≡ is_shown l
   shown-is l =
-      first-shows f l (bucket l) (bucket-on l) (bucket-rises l)
+      first-shows f l (own_on_line l) (own_on_line-all l) (own_on_line-rises l)
       ∙ any-of_picked l shows_line annotations
       ∙ sym (list_any-IsPermutation (picks l shows_line) all annotations known.permutation)
       ∙ sym (any-of_picked l shows_line all)
@@ -239,10 +239,10 @@ module _ {Id : Type 0} {database : FileDatabase Id} (lawful : AreFiles database)
   shown = filter is_shown (range_with_len 0 (line_count (file id)))
 
   -- the snippet lines are those of the shown lines
-  snippet_lines-are : lines_of own ≡ lines_after bucket None shown
+  snippet_lines-are : lines_of own ≡ lines_after own_on_line None shown
   snippet_lines-are =
       snippet_lines-by_line (line_count (file id)) own (lines-rise f own own-file own-rises) own-below
-      ∙ (λ i. lines_after bucket None (filter (λ l. shown-is l i) (range_with_len 0 (line_count (file id)))))
+      ∙ (λ i. lines_after own_on_line None (filter (λ l. shown-is l i) (range_with_len 0 (line_count (file id)))))
 
   -- ---- the snippet
 
@@ -251,7 +251,7 @@ module _ {Id : Type 0} {database : FileDatabase Id} (lawful : AreFiles database)
       (drawn_lines config s.file s.labels)
   snippet-rows =
       ap (rows_of_lines (file id) (num_multi_labels s)) snippet_lines-are
-      ∙ snippet_lines-rows (file id) (num_multi_labels s) bucket is_shown (line_count (file id)) (none_past config s)
+      ∙ snippet_lines-rows (file id) (num_multi_labels s) own_on_line is_shown (line_count (file id)) (none_past config s)
       ∙ (λ i. in_sequence (λ l. l) (break_between (break_rows (λ l. line-is l i)))
       (line_rows (λ l. line-is l i)) None (drawn_lines config s.file s.labels))
 
@@ -259,22 +259,22 @@ module _ {Id : Type 0} {database : FileDatabase Id} (lawful : AreFiles database)
   pub snippet-fills : filled_lines_of (lines_of own) ≡ filled_lines config s
   snippet-fills =
       ap filled_lines_of snippet_lines-are
-      ∙ snippet_lines-fills bucket is_shown (line_count (file id)) (none_past config s)
+      ∙ snippet_lines-fills own_on_line is_shown (line_count (file id)) (none_past config s)
 
   -- they render the drawn lines
   pub snippet-lines : lines_of_snippet_lines (lines_of own) ≡ drawn_lines config s.file s.labels
   snippet-lines =
       ap lines_of_snippet_lines snippet_lines-are
-      ∙ snippet_lines-lines bucket is_shown (line_count (file id)) (none_past config s)
+      ∙ snippet_lines-lines own_on_line is_shown (line_count (file id)) (none_past config s)
 
   -- a line's labels are in the order of their starts
-  starts-ascend : (l : ℕ) → starts_in_order (single_labels_in (bucket l)) ≡ true
+  starts-ascend : (l : ℕ) → starts_in_order (single_labels_in (own_on_line l)) ≡ true
   starts-ascend l =
-      ascends-starts (single_labels_in (bucket l))
-      (single_labels-ascend f l (bucket l) (bucket-on l) (bucket-rises l))
+      ascends-starts (single_labels_in (own_on_line l))
+      (single_labels-ascend f l (own_on_line l) (own_on_line-all l) (own_on_line-rises l))
 
   -- its lane marks ascend in the lanes of the file
-  lane_marks-fit : (l : ℕ) → are_lane_marks_in_order (num_multi_labels s) (bucket l) ≡ true
+  lane_marks-fit : (l : ℕ) → are_lane_marks_in_order (num_multi_labels s) (own_on_line l) ≡ true
   lane_marks-fit l = ap (ascend_from (num_multi_labels s) 0) (lane_marks-are l) ∙ lane_marks-ascend s l
 
   -- so do those of each snippet line
@@ -282,4 +282,4 @@ module _ {Id : Type 0} {database : FileDatabase Id} (lawful : AreFiles database)
       (λ snippet_line. is_line_in_order (num_multi_labels s) snippet_line ≡ true) (lines_of own)
   snippet-fits =
       subst (AllByRecursion (λ snippet_line. is_line_in_order (num_multi_labels s) snippet_line ≡ true)) (sym snippet_lines-are)
-      (snippet_lines-fit (num_multi_labels s) bucket (λ l i. starts-ascend l i && lane_marks-fit l i) lane_marks-fit None shown)
+      (snippet_lines-fit (num_multi_labels s) own_on_line (λ l i. starts-ascend l i && lane_marks-fit l i) lane_marks-fit None shown)

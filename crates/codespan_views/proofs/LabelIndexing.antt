@@ -54,9 +54,9 @@ abbrev pub label_lanes : FileModel → LabelModel → ℕ
 label_lanes f x = if is_single f x then 0 else 1
 
 -- that is known by the lines that it starts and ends on
-pub lanes_by-are : (f : FileModel) (x : LabelModel) (lines : LabelSpan)
-    → lines.first ≡ first_line f x → lines.last ≡ last_line f x → lanes_by lines ≡ label_lanes f x
-lanes_by-are f x lines first last = λ i. lanes_by (record { first = first i; last = last i })
+pub lanes_by-are : (f : FileModel) (x : LabelModel) (span : LabelSpan)
+    → span.first ≡ first_line f x → span.last ≡ last_line f x → lanes_by span ≡ label_lanes f x
+lanes_by-are f x span first last = λ i. lanes_by (record { first = first i; last = last i })
 
 module _ {Id : Type 0} {same : Id → Id → Bool} (o : IsEquivalence same) where
   module _ {A : Type 0} (h : Id → A) (equal : (i j : Id) → same i j ≡ true → h i ≡ h j) where

@@ -14,14 +14,14 @@ use Rattle.codespan_core.specs.FileModel.{FileDatabase, FileModel}
 use Rattle.codespan_views.specs.declared.annotation.Annotation.{Annotation as RustAnnotation}
 use Rattle.codespan_views.specs.declared.labeled_files.LabeledFile.{LabeledFile as RustFile}
 use Rattle.codespan_views.specs.declared.label_annotations.FoundAnnotations.{FoundAnnotations}
-use Rattle.codespan_views.specs.declared.locus_start.LocusStart.{LocusStart}
+use Rattle.codespan_views.specs.declared.least_starts.LeastStarts.{LeastStarts}
 use Rattle.codespan_views.specs.declared.label_annotations.LabelIndices.{LabelIndices}
 use Rattle.codespan_views.specs.Private.CollectedLabels.{FindsLines, ExtendsPadding, collected_label, label_failure, labels_failure, lookups_of_label}
 use Rattle.codespan_views.specs.Private.Annotations.{Annotation}
 use Rattle.codespan_views.specs.Private.LabelAnnotations.{annotations_of}
 use Rattle.codespan_views.specs.Private.AnnotationViews.{Adds, AddsOf, IsLineOf, IsOfFiles, annotation_view}
 use Rattle.codespan_views.specs.Private.LabeledFiles.{HasLabels, ids_view, lane_counts, num_multi_labels_of, lanes_with_label, starts_with_label, starts_view, with_file}
-use Rattle.codespan_views.specs.Private.LocusStarts.{file_locus_start, no_start}
+use Rattle.codespan_views.specs.Private.LocusBytes.{file_least_starts, no_starts}
 use Rattle.codespan_picture.specs.Lookups.{lookups_of_file, first_error, label_lookups, label_line_lookups}
 use Rattle.codespan_picture.specs.OutputStreams.{label_of}
 use Rattle.codespan_views.specs.Private.FileIndices.{IsIdAt, index_of_file}
@@ -37,7 +37,7 @@ use Rattle.codespan_views.proofs.LabelAnnotations.{all-of_file}
 use Rattle.codespan_views.proofs.LabelIndexing.{AreFiles, IsChanged, annotations_after-more, unchanged-at, label_lanes, num_multi_labels_of-equal, num_multi_labels_of-more, num_multi_labels_of-none, lanes-within, set-at}
 use Rattle.codespan_views.proofs.IndexedElements.{IsElementAt}
 use Rattle.codespan_views.proofs.LabelFiles.{added-with_file, known-more}
-use Rattle.codespan_views.proofs.LocusStarts.{start-unknown, starts-set}
+use Rattle.codespan_views.proofs.LocusBytes.{start-unknown, starts-set}
 use Rattle.codespan_views.proofs.LabelsBefore.{before, before-more, file-inside, has-file, ids-differ}
 use Rattle.codespan_views.proofs.FirstErrors.{first_error-none, first_error-some}
 
@@ -45,10 +45,10 @@ use Rattle.codespan_views.proofs.FirstErrors.{first_error-none, first_error-some
 -- fits the lines that they span, and no lookup failed
 pub record AreCollected {Id : Type 0} (database : FileDatabase Id) (config : Config) (ids : List Id) (done : List (InFile Id)) (files : List (RustFile Id)) (found : FoundAnnotations Id) : Type 0 where
   pub ids_are : ids_view files ≡ ids
-  pub starts_are : starts_view files ≡ map (file_locus_start database.same done) ids
+  pub starts_are : starts_view files ≡ map (file_least_starts database.same done) ids
   pub lanes_are : lane_counts files ≡ map (num_multi_labels_of database.same database.file done) ids
   pub added : Adds (IsOfFiles database.file ids) [] found.annotations.items (annotations_after database.same database.file config ids [] done)
-  pub counted : found.padding.digits ≡ fold max 0 (all_digits database.file done)
+  pub counted : found.spanned_padding.digits ≡ fold max 0 (all_digits database.file done)
   pub succeeded : labels_failure config database done ≡ None
 
 -- the annotations of a label were added, the padding fits the lines that it spans, and no lookup of
@@ -67,7 +67,7 @@ pub record IsAddedLabel {Id : Type 0} (file : Id → FileModel) (at : ℕ) (labe
 -- a file of this id was found: it is one of the files, or comes after them
 pub record IsIndexedFile {Id : Type 0} (same : Id → Id → Bool) (id : Id) (files now : List (RustFile Id)) : Type 0 where
   pub ids : ids_view now ≡ with_file same (ids_view files) id (ids_view files) id
-  pub starts : starts_view now ≡ with_file same (ids_view files) id (starts_view files) no_start
+  pub starts : starts_view now ≡ with_file same (ids_view files) id (starts_view files) no_starts
   pub lanes : lane_counts now ≡ with_file same (ids_view files) id (lane_counts files) 0
 
 module _ {Id : Type 0} {database : FileDatabase Id} (lawful : AreFiles database) {labels : List (Label Id)} {index : ℕ} {label : Label Id} (turn : IsElementAt labels index label) where
@@ -160,9 +160,9 @@ module _ {Id : Type 0} {database : FileDatabase Id} (lawful : AreFiles database)
 
     -- the padding fits the lines that it spans
     counted-more : (more : FoundAnnotations Id)
-        → more.padding.digits ≡ fold max found.padding.digits
+        → more.spanned_padding.digits ≡ fold max found.spanned_padding.digits
         (label_digits (file label.file_id) (label_of label).label)
-        → more.padding.digits ≡ fold max 0 (all_digits file (before labels (index + 1)))
+        → more.spanned_padding.digits ≡ fold max 0 (all_digits file (before labels (index + 1)))
     counted-more more counts =
         let digits : InFile Id → List ℕ = λ x. label_digits (file x.file_id) x.label in
         counts ∙ ap (λ n. fold max n (digits (label_of label))) g.counted
@@ -238,8 +238,8 @@ module _ {Id : Type 0} {database : FileDatabase Id} (lawful : AreFiles database)
         let x = label_of label in
         subst (λ ys. AreCollected database config (file_ids same ys) xs now found) (sym (before-more turn)) (record {
           ids_are = indexed.ids ∙ ap (λ (js : List Id). with_file same js label.file_id js label.file_id) g.ids_are ∙ sym (file_ids-more same o xs x);
-          starts_are = known-more o xs x (file_locus_start same xs) (start-unknown same xs label.file_id) g.starts_are
-              (indexed.starts ∙ ap (λ (js : List Id). with_file same js label.file_id (starts_view files) no_start) g.ids_are);
+          starts_are = known-more o xs x (file_least_starts same xs) (start-unknown same xs label.file_id) g.starts_are
+              (indexed.starts ∙ ap (λ (js : List Id). with_file same js label.file_id (starts_view files) no_starts) g.ids_are);
           lanes_are = known-more o xs x (num_multi_labels_of same file xs) (num_multi_labels_of-none same file xs label.file_id) g.lanes_are
               (indexed.lanes ∙ ap (λ (js : List Id). with_file same js label.file_id (lane_counts files) 0) g.ids_are);
           added = added-with_file o xs x file config g.added;
@@ -275,9 +275,9 @@ collected-all {Id} {database} {config} {files} {found} labels index past g =
 
 -- each file has what the labels add to it
 pub each-labels : {Id : Type 0} (same : Id → Id → Bool) (file : Id → FileModel) (xs : List (InFile Id)) (files : List (RustFile Id))
-    → starts_view files ≡ map (file_locus_start same xs) (ids_view files) → lane_counts files ≡ map (num_multi_labels_of same file xs) (ids_view files) → AllByRecursion (HasLabels same file xs) files
+    → starts_view files ≡ map (file_least_starts same xs) (ids_view files) → lane_counts files ≡ map (num_multi_labels_of same file xs) (ids_view files) → AllByRecursion (HasLabels same file xs) files
 each-labels same file xs [] starts lanes = tt
 each-labels same file xs (f ∷ fs) starts lanes = (
-  record { start_is = ap (λ (ss : List LocusStart). get_or ss 0 f.start) starts; lanes_are = ap (λ (ls : List ℕ). get_or ls 0 f.num_multi_labels) lanes },
+  record { least_starts_are = ap (λ (ss : List LeastStarts). get_or ss 0 f.least_starts) starts; lanes_are = ap (λ (ls : List ℕ). get_or ls 0 f.num_multi_labels) lanes },
   each-labels same file xs fs (ap (drop 1) starts) (ap (drop 1) lanes),
 )

@@ -15,7 +15,7 @@ pub mod LabelsBefore
 pub mod LabelAnnotations
 pub mod LinesOfLabels
 pub mod LabelFiles
-pub mod LocusStarts
+pub mod LocusBytes
 pub mod NearLines
 pub mod RangeMaps
 pub mod Collecting

@@ -22,16 +22,16 @@ use Rattle.codespan_views.specs.declared.labeled_files.LabeledFile.{LabeledFile 
 use Rattle.codespan_views.specs.declared.plan.snippet_plans.SnippetPlan.{SnippetPlan}
 use Rattle.codespan_views.specs.declared.plan.snippet_lines.SnippetLine.{SnippetLine as RustLine}
 use Rattle.codespan_views.specs.Private.Annotations.{Annotation}
-use Rattle.codespan_views.specs.Private.OutputPlans.{AreSnippetPlans, IsOutputPlan, IsSnippetPlan, ids_of, padding_lookups, file_locus_lookups, output_plan_failure}
+use Rattle.codespan_views.specs.Private.OutputPlans.{ArePlansOfLabels, IsOutputPlan, IsPlanOfLabels, ids_of, padding_lookups, file_locus_lookups, output_plan_failure}
 use Rattle.codespan_views.specs.Private.Collections.{IsCollected}
 use Rattle.codespan_views.specs.Private.AnnotationViews.{annotation_view}
 use Rattle.codespan_views.specs.Private.LabeledFiles.{HasLabels, ids_view}
 use Rattle.codespan_views.specs.declared.plan.OutputPlan.{OutputPlan}
 use Rattle.codespan_views.specs.Private.SnippetLineViews.{IsSnippetLineIn, numbers_looked_up}
 use Rattle.codespan_views.specs.Private.Loci.{loci_lookups}
-use Rattle.codespan_views.specs.Private.LocusStarts.{locus_byte}
+use Rattle.codespan_views.specs.Private.LocusBytes.{locus_byte}
 use Rattle.codespan_views.specs.Private.FileIndices.{IsIdAt}
-use Rattle.codespan_views.specs.Private.SnippetPlans.{ArePlans, ArePlansOf, IsPlan, number_lookups, plans_failure, line_digits, lines_at, padding_width}
+use Rattle.codespan_views.specs.Private.SnippetPlans.{ArePlansOfAnnotations, ArePlansOfCollected, IsPlanOfAnnotations, number_lookups, collected_plan_failure, line_digits, lines_at, padding_width}
 use Rattle.codespan_views.specs.Private.SnippetLines.{SnippetLine, filled_lines_of, rows_of_lines, AreInOrder}
 use Rattle.codespan_views.proofs.FileTurns.{flat_map_indexed-same}
 use Rattle.codespan_views.proofs.SpannedPadding.{spanned-padding_width}
@@ -50,7 +50,7 @@ record AreLinesOfSnippet (config : Config) (s : LabeledFileModel) (snippet_lines
   lines : lines_of_snippet_lines snippet_lines ≡ drawn_lines config s.file s.labels
   rows : rows_of_lines s.file (num_multi_labels s) snippet_lines ≡ rows_of_drawn s None
       (drawn_lines config s.file s.labels)
-  fits : AreInOrder (num_multi_labels s) snippet_lines
+  in_order : AreInOrder (num_multi_labels s) snippet_lines
 
 -- in the unbroken layout the numbers of drawn lines count
 numbered : (config : Config) → config.layout ≡ Unbroken → (s : LabeledFileModel)
@@ -82,7 +82,7 @@ module _ {Id : Type 0} {database : FileDatabase Id} (lawful : AreFiles database)
     fills = snippet-fills lawful all k id at;
     lines = snippet-lines lawful all k id at;
     rows = snippet-rows lawful all k id at;
-    fits = snippet-fits lawful all k id at;
+    in_order = snippet-fits lawful all k id at;
   }
 
   -- the numbers that are looked up before the header are those of the padding
@@ -106,16 +106,16 @@ module _ {Id : Type 0} {database : FileDatabase Id} (lawful : AreFiles database)
       by_layout Unbroken id = refl
 
   -- where a file's snippet starts
-  file_locus_start-is : {f : RustFile Id} → HasLabels same file xs f
-      → locus_byte f.start ≡ locus_start (labeled f.file_id).labels
-  file_locus_start-is {f} known = ap locus_byte known.start_is ∙ start-is same file f.file_id xs
+  file_locus_byte-is : {f : RustFile Id} → HasLabels same file xs f
+      → locus_byte f.least_starts ≡ locus_start (labeled f.file_id).labels
+  file_locus_byte-is {f} known = ap locus_byte known.least_starts_are ∙ start-is same file f.file_id xs
 
   -- the lookups of the loci of files are those of their snippets
   loci-lookups : (fs : List (RustFile Id)) → AllByRecursion (HasLabels same file xs) fs
       → loci_lookups fs ≡ flat_map (λ id. lookups_of_file id (locus_lookups database xs id))
       (ids_view fs)
   loci-lookups [] known = refl
-  loci-lookups (f ∷ fs) known = λ i. lookups_of_file f.file_id (Name ∷ LocationAt (file_locus_start-is known.0 i) ∷ []) ++ loci-lookups fs known.1 i
+  loci-lookups (f ∷ fs) known = λ i. lookups_of_file f.file_id (Name ∷ LocationAt (file_locus_byte-is known.0 i) ∷ []) ++ loci-lookups fs known.1 i
 
   -- so are those of all files
   loci-are : loci_lookups collected.files.items ≡ file_locus_lookups database xs
@@ -125,15 +125,15 @@ module _ {Id : Type 0} {database : FileDatabase Id} (lawful : AreFiles database)
 
   module _ {k : ℕ} {f : RustFile Id} (at : IsIdAt (file_ids same xs) k f.file_id)
       (known : HasLabels same file xs f) {snippet_plan : SnippetPlan Id} {own : List (RustLine Id)}
-      (is : IsPlan config.layout file es k f snippet_plan own) where
+      (is : IsPlanOfAnnotations config.layout file es k f snippet_plan own) where
     -- it is a file of the output
-    file-plan : IsSnippetPlan config (labeled f.file_id) snippet_plan own
+    file-plan : IsPlanOfLabels config (labeled f.file_id) snippet_plan own
     file-plan = record {
       lanes_are = ap (λ (g : RustFile Id). g.num_multi_labels) is.file_is ∙ known.lanes_are;
-      locus_is = subst (λ n. IsTextLocus (file f.file_id, n) (locus_view snippet_plan.locus)) (file_locus_start-is known) is.locus_is;
+      locus_is = subst (λ n. IsTextLocus (file f.file_id, n) (locus_view snippet_plan.locus)) (file_locus_byte-is known) is.locus_is;
       count_is = is.count_is;
       each = lines_of-file config.layout (file f.file_id) own is.each;
-      fits = subst (AreInOrder (num_multi_labels (labeled f.file_id))) (sym is.are) (snippet k f.file_id at).fits;
+      in_order = subst (AreInOrder (num_multi_labels (labeled f.file_id))) (sym is.are) (snippet k f.file_id at).in_order;
       rows = ap (rows_of_lines (file f.file_id) (num_multi_labels (labeled f.file_id))) is.are ∙ (snippet k f.file_id at).rows;
       lookups =
           snippet_lines-lookups config.layout (file f.file_id) own is.each
@@ -174,7 +174,7 @@ module _ {Id : Type 0} {database : FileDatabase Id} (lawful : AreFiles database)
   -- the ids of plans
   ids-from : (k : ℕ) (fs : List (RustFile Id)) (snippet_plans : List (SnippetPlan Id))
       (snippet_lines : List (RustLine Id))
-      → ArePlans config.layout file es k fs snippet_plans snippet_lines
+      → ArePlansOfAnnotations config.layout file es k fs snippet_plans snippet_lines
       → ids_of snippet_plans ≡ ids_view fs
   ids-from k [] [] snippet_lines h = refl
   ids-from k [] (snippet_plan ∷ snippet_plans) snippet_lines h = absurd h
@@ -187,13 +187,13 @@ module _ {Id : Type 0} {database : FileDatabase Id} (lawful : AreFiles database)
   plans-from : (k : ℕ) (fs : List (RustFile Id)) (snippet_plans : List (SnippetPlan Id))
       (snippet_lines : List (RustLine Id))
       → AreAt k (ids_view fs) → AllByRecursion (HasLabels same file xs) fs
-      → ArePlans config.layout file es k fs snippet_plans snippet_lines
-      → AreSnippetPlans database config xs snippet_plans snippet_lines
+      → ArePlansOfAnnotations config.layout file es k fs snippet_plans snippet_lines
+      → ArePlansOfLabels database config xs snippet_plans snippet_lines
   plans-from k [] [] snippet_lines at known h = tt
   plans-from k [] (snippet_plan ∷ snippet_plans) snippet_lines at known h = absurd h
   plans-from k (f ∷ fs) [] snippet_lines at known h = absurd h
   plans-from k (f ∷ fs) (snippet_plan ∷ snippet_plans) snippet_lines at known h = (
-    subst (λ (g : RustFile Id). IsSnippetPlan config (labeled g.file_id) snippet_plan
+    subst (λ (g : RustFile Id). IsPlanOfLabels config (labeled g.file_id) snippet_plan
         (take snippet_plan.line_total snippet_lines))
         (sym h.0.file_is) (file-plan (are_at-here k f.file_id (ids_view fs) at) known.0 h.0),
     plans-from (k + 1) fs snippet_plans (drop snippet_plan.line_total snippet_lines) (are_at-next k f.file_id (ids_view fs) at) known.1 h.1,
@@ -205,7 +205,7 @@ module _ {Id : Type 0} {database : FileDatabase Id} (lawful : AreFiles database)
       (snippet_lines : List (RustLine Id))
       → AreAt k (ids_view fs)
       → AllByRecursion (HasLabels same file xs) fs
-      → ArePlans config.layout file es k fs snippet_plans snippet_lines
+      → ArePlansOfAnnotations config.layout file es k fs snippet_plans snippet_lines
       → flat_map line_digits snippet_lines ≡ flat_map
       (λ id. digits_of (labeled id) (numbered_lines config (labeled id))) (ids_view fs)
   digits-from unbroken k [] [] snippet_lines at known h = ap (flat_map line_digits) h
@@ -220,7 +220,7 @@ module _ {Id : Type 0} {database : FileDatabase Id} (lawful : AreFiles database)
       (are_at-next k f.file_id (ids_view fs) at) known.1 h.1 i)
 
   module _ (snippet_plans : List (SnippetPlan Id)) (snippet_lines : List (RustLine Id))
-      (found : ArePlans config.layout file es 0 collected.files.items snippet_plans snippet_lines)
+      (found : ArePlansOfAnnotations config.layout file es 0 collected.files.items snippet_plans snippet_lines)
     where
       -- the ids are at their indices
       ids_at : AreAt 0 (ids_view collected.files.items)
@@ -231,11 +231,11 @@ module _ {Id : Type 0} {database : FileDatabase Id} (lawful : AreFiles database)
       plan_ids = ids-from 0 collected.files.items snippet_plans snippet_lines found ∙ all.files.ids_are
 
       -- all plans
-      file_plans : AreSnippetPlans database config xs snippet_plans snippet_lines
+      file_plans : ArePlansOfLabels database config xs snippet_plans snippet_lines
       file_plans = plans-from 0 collected.files.items snippet_plans snippet_lines ids_at all.files.labels_are found
 
       -- in the classic layout the labels determine the padding width
-      spanned-padding : config.layout ≡ Classic → {padding : ℕ} → padding ≡ collected.padding
+      spanned-padding : config.layout ≡ Classic → {padding : ℕ} → padding ≡ collected.spanned_padding
           → padding ≡ padding_of config (labeled_file_models same file xs)
       spanned-padding classic is = is ∙ all.files.padding_is ∙ spanned-padding_width same file lawful.equivalence lawful.one_file config xs classic
 
@@ -250,12 +250,12 @@ module _ {Id : Type 0} {database : FileDatabase Id} (lawful : AreFiles database)
 
       -- so the width that is chosen by the layout fits
       pub chosen-padding : {padding : ℕ}
-          → padding ≡ padding_width config.layout collected.padding snippet_lines
+          → padding ≡ padding_width config.layout collected.spanned_padding snippet_lines
           → padding ≡ padding_of config (labeled_file_models same file xs)
       chosen-padding {padding} = by_layout config.layout refl
         where
           by_layout : (layout : Layout) → config.layout ≡ layout
-              → padding ≡ padding_width layout collected.padding snippet_lines
+              → padding ≡ padding_width layout collected.spanned_padding snippet_lines
               → padding ≡ padding_of config (labeled_file_models same file xs)
           by_layout Classic classic is = spanned-padding classic is
           by_layout Unbroken unbroken is = rendered-padding unbroken is
@@ -266,13 +266,13 @@ module _ {Id : Type 0} {database : FileDatabase Id} (lawful : AreFiles database)
     {xs : List (InFile Id)} {collected : Collected Id}
     (all : IsCollected database config xs collected) where
   -- plans fail with what the output plan fails with
-  pub failure-is : plans_failure config.layout database.failure collected ≡ output_plan_failure
+  pub failure-is : collected_plan_failure config.layout database.failure collected ≡ output_plan_failure
       config database xs
   failure-is = λ i. first_error database.failure (numbers-are lawful all i ++ loci-are lawful all i)
 
   -- plans, and the padding width, are the output plan of the labels
   pub output_plan-planned : {output_plan : OutputPlan Id}
-      → ArePlansOf config.layout database.file collected output_plan.snippet_plans.items
+      → ArePlansOfCollected config.layout database.file collected output_plan.snippet_plans.items
       output_plan.snippet_lines.items → output_plan.padding
       ≡ padding_of config (labeled_file_models database.same database.file xs)
       → IsOutputPlan database config xs output_plan

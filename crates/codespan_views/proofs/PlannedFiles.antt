@@ -8,8 +8,8 @@ use Rattle.codespan_core.specs.FileModel.{FileDatabase}
 use Rattle.codespan_picture.specs.Snippets.{empty_row_after, snippet, InFile, LabeledFileModel, empty_lanes, has_any, labeled_file_model}
 use Rattle.codespan_picture.specs.Rows.{EmptyRow, Row, SnippetStartRow}
 use Rattle.codespan_picture.specs.Arguments.{locus_view}
-use Rattle.codespan_views.specs.Private.OutputPlans.{AreSnippetPlans, IsSnippetPlan, ids_of, loci_of}
-use Rattle.codespan_views.specs.Private.SnippetRows.{trailing_border_rows, rows_in}
+use Rattle.codespan_views.specs.Private.OutputPlans.{ArePlansOfLabels, IsPlanOfLabels, ids_of, loci_of}
+use Rattle.codespan_views.specs.Private.SnippetRows.{trailing_empty_rows, rows_in}
 use Rattle.codespan_views.specs.Private.SnippetLineViews.{snippet_line_view}
 use Rattle.codespan_views.specs.Private.SnippetLines.{rows_of_lines}
 use Rattle.codespan_views.specs.declared.plan.snippet_plans.SnippetPlan.{SnippetPlan}
@@ -88,17 +88,17 @@ module _ {Id : Type 0} (database : FileDatabase Id) (config : Config) (xs : List
   -- of the files after it
   abbrev pub IsFirstFile : List (SnippetPlan Id) → SnippetPlan Id → List (RustLine Id) → Type 0
   IsFirstFile later snippet_plan snippet_lines =
-      IsSnippetPlan config
+      IsPlanOfLabels config
       (labeled_file_model database.same database.file xs snippet_plan.file.now.file_id)
       snippet_plan
       (take snippet_plan.line_total snippet_lines)
-      × AreSnippetPlans database config xs later (drop snippet_plan.line_total snippet_lines)
+      × ArePlansOfLabels database config xs later (drop snippet_plan.line_total snippet_lines)
 
   -- the files from an index on are those of their labels, with the snippet lines from an index on
   pub record AreFilesFrom (snippet_plans : List (SnippetPlan Id)) (k : ℕ)
       (snippet_lines : List (RustLine Id)) (start : ℕ) : Type 0 where
     pub inside : start ≤ length snippet_lines
-    pub are : AreSnippetPlans database config xs (drop k snippet_plans) (drop start snippet_lines)
+    pub are : ArePlansOfLabels database config xs (drop k snippet_plans) (drop start snippet_lines)
 
 module _ {Id : Type 0} {database : FileDatabase Id} {config : Config} {xs : List (InFile Id)}
     {snippet_plans : List (SnippetPlan Id)} {k : ℕ} {snippet_plan : SnippetPlan Id}
@@ -110,7 +110,7 @@ module _ {Id : Type 0} {database : FileDatabase Id} {config : Config} {xs : List
       (drop start snippet_lines)
   files-at =
       subst
-      (λ (snippet_plans : List (SnippetPlan Id)). AreSnippetPlans database config xs snippet_plans
+      (λ (snippet_plans : List (SnippetPlan Id)). ArePlansOfLabels database config xs snippet_plans
       (drop start snippet_lines))
       (drop-one snippet_plans k snippet_plan at.inside at.is) from.are
 
@@ -130,12 +130,12 @@ module _ {Id : Type 0} {database : FileDatabase Id} {config : Config} {xs : List
   -- it is the file of its labels, with these snippet lines
   pub own-snippet_lines : {own : List (RustLine Id)}
       → own ≡ take snippet_plan.line_total (drop start snippet_lines)
-      → IsSnippetPlan config
+      → IsPlanOfLabels config
       (labeled_file_model database.same database.file xs
       snippet_plan.file.now.file_id) snippet_plan own
   own-snippet_lines is =
       subst
-      (IsSnippetPlan config
+      (IsPlanOfLabels config
       (labeled_file_model database.same database.file xs snippet_plan.file.now.file_id)
       snippet_plan)
       (sym is) files-at.0
@@ -146,16 +146,16 @@ module _ {Id : Type 0} {database : FileDatabase Id} {config : Config} {xs : List
   later-files = record {
     inside = own-inside;
     are =
-        subst (AreSnippetPlans database config xs (drop (k + 1) snippet_plans))
+        subst (ArePlansOfLabels database config xs (drop (k + 1) snippet_plans))
         (drop-drop snippet_plan.line_total start snippet_lines) files-at.1;
   }
 
 module _ {Id : Type 0} {config : Config} {own : LabeledFileModel} {snippet_plan : SnippetPlan Id}
-    {snippet_lines : List (RustLine Id)} (is : IsSnippetPlan config own snippet_plan snippet_lines)
+    {snippet_lines : List (RustLine Id)} (is : IsPlanOfLabels config own snippet_plan snippet_lines)
   where
     -- its rows
     pub rows-are : (followed : Bool)
-        → rows_in snippet_plan own.file snippet_lines ++ trailing_border_rows snippet_plan
+        → rows_in snippet_plan own.file snippet_lines ++ trailing_empty_rows snippet_plan
         followed ≡ snippet config (locus_view snippet_plan.locus) own ++ empty_row_after followed own
     rows-are followed =
         (λ i.

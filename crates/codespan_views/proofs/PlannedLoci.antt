@@ -5,7 +5,7 @@ use Rattle.std.specs.Prelude.{unwrap_or}
 use Rattle.codespan_core.specs.FileModel.{FileModel}
 use Rattle.codespan_core.specs.Labels.{LabelModel, is_primary}
 use Rattle.codespan_picture.specs.Snippets.{InFile, if_any, labeled_file_model, least, locus_start}
-use Rattle.codespan_views.specs.Private.LocusStarts.{file_locus_start, is_locus_label, least_if_any, locus_byte, label_starts}
+use Rattle.codespan_views.specs.Private.LocusBytes.{file_least_starts, is_locus_label, least_if_any, locus_byte, label_starts}
 
 -- the least of some numbers is that of those that there are
 least-unwrap : (ns : List ℕ) → unwrap_or (least_if_any ns) 0 ≡ least ns
@@ -101,7 +101,7 @@ module _ {Id : Type 0} (same : Id → Id → Bool) (file : Id → FileModel) (id
 
   -- the start by the labels is where the snippet starts
   pub start-is : (xs : List (InFile Id))
-      → locus_byte (file_locus_start same xs id) ≡ locus_start
+      → locus_byte (file_least_starts same xs id) ≡ locus_start
       (labeled_file_model same file xs id).labels
   start-is xs = by (least_if_any (label_starts same id true xs)) refl
     where

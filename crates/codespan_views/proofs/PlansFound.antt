@@ -23,7 +23,7 @@ use Rattle.codespan_views.specs.Private.SnippetLineViews.{AddsLines, numbers_loo
 use Rattle.codespan_views.specs.Private.LabeledFiles.{ids_view}
 use Rattle.codespan_views.specs.Private.Loci.{locus_lookups_of, loci_lookups, locus_start_of}
 use Rattle.codespan_views.specs.Private.TextLoci.{IsTextLocus}
-use Rattle.codespan_views.specs.Private.SnippetPlans.{ArePlans, IsPlan, number_lookups, lines_at}
+use Rattle.codespan_views.specs.Private.SnippetPlans.{ArePlansOfAnnotations, IsPlanOfAnnotations, number_lookups, lines_at}
 use Rattle.codespan_views.specs.Private.SnippetLines.{SnippetLine, filled_lines_of, lines_of}
 use Rattle.codespan_views.proofs.FirstErrors.{first_error-append, or_failure-succeeded, or_failure-none, or_failure-some, first_error-none, first_error-some}
 use Rattle.codespan_views.proofs.FileSlices.{next_slice}
@@ -53,7 +53,7 @@ pub plan_found : {Id : Type 0} {files : List (RustFile Id)} {xs zs : List (RustA
     → snippet_plan.file.now ≡ f
     → IsTextLocus (locus_start_of file f) (locus_view snippet_plan.locus)
     → snippet_plan.line_total ≡ count
-    → IsPlan layout file (map annotation_view xs) k f snippet_plan added.more
+    → IsPlanOfAnnotations layout file (map annotation_view xs) k f snippet_plan added.more
 plan_found turn added zs_are counted same locus total = record {
   file_is = same;
   locus_is = locus;
@@ -65,7 +65,7 @@ plan_found turn added zs_are counted same locus total = record {
 -- there are at least as many snippet lines as a plan counts in front
 count-within : {Id : Type 0} {layout : Layout} {file : Id → FileModel} {es : List Annotation}
     {k : ℕ} {f : RustFile Id} {snippet_plan : SnippetPlan Id} (snippet_lines : List (RustLine Id))
-    → IsPlan layout file es k f snippet_plan (take snippet_plan.line_total snippet_lines)
+    → IsPlanOfAnnotations layout file es k f snippet_plan (take snippet_plan.line_total snippet_lines)
     → snippet_plan.line_total ≤ length snippet_lines
 count-within {snippet_plan = snippet_plan} snippet_lines is =
     omega (arith, is.count_is, length-take snippet_plan.line_total snippet_lines)
@@ -73,11 +73,11 @@ count-within {snippet_plan = snippet_plan} snippet_lines is =
 module _ {Id : Type 0} {layout : Layout} {file : Id → FileModel} {es : List Annotation}
     {f : RustFile Id} {snippet_plan : SnippetPlan Id} {own : List (RustLine Id)} where
   -- one plan, with its snippet lines
-  plan-alone : (k : ℕ) → IsPlan layout file es k f snippet_plan own
-      → ArePlans layout file es k (f ∷ []) (snippet_plan ∷ []) own
+  plan-alone : (k : ℕ) → IsPlanOfAnnotations layout file es k f snippet_plan own
+      → ArePlansOfAnnotations layout file es k (f ∷ []) (snippet_plan ∷ []) own
   plan-alone k is =
       let count = is.count_is in (
-        subst (IsPlan layout file es k f snippet_plan)
+        subst (IsPlanOfAnnotations layout file es k f snippet_plan)
             (sym (take_all snippet_plan.line_total own (omega (arith, count)))) is,
         drop_all snippet_plan.line_total own (omega (arith, count)),
       )
@@ -85,27 +85,27 @@ module _ {Id : Type 0} {layout : Layout} {file : Id → FileModel} {es : List An
   -- plans from an index on, and then one more
   plans-more : (k : ℕ) (fs : List (RustFile Id)) (snippet_plans : List (SnippetPlan Id))
       (snippet_lines : List (RustLine Id))
-      → ArePlans layout file es k fs snippet_plans snippet_lines
-      → IsPlan layout file es (k + length fs) f snippet_plan own
-      → ArePlans layout file es k (fs ++ f ∷ []) (snippet_plans ++ snippet_plan ∷ [])
+      → ArePlansOfAnnotations layout file es k fs snippet_plans snippet_lines
+      → IsPlanOfAnnotations layout file es (k + length fs) f snippet_plan own
+      → ArePlansOfAnnotations layout file es k (fs ++ f ∷ []) (snippet_plans ++ snippet_plan ∷ [])
       (snippet_lines ++ own)
   plans-more k [] [] snippet_lines h is =
       let e : k + 0 ≡ k = omega arith in
       subst
-      (λ (front : List (RustLine Id)). ArePlans layout file es k (f ∷ []) (snippet_plan ∷ [])
+      (λ (front : List (RustLine Id)). ArePlansOfAnnotations layout file es k (f ∷ []) (snippet_plan ∷ [])
       (front ++ own))
-      (sym h) (plan-alone k (subst (λ n. IsPlan layout file es n f snippet_plan own) e is))
+      (sym h) (plan-alone k (subst (λ n. IsPlanOfAnnotations layout file es n f snippet_plan own) e is))
   plans-more k [] (first ∷ snippet_plans) snippet_lines h is = absurd h
   plans-more k (g ∷ fs) [] snippet_lines h is = absurd h
   plans-more k (g ∷ fs) (first ∷ snippet_plans) snippet_lines h is =
       let e : k + suc (length fs) ≡ k + 1 + length fs = omega arith in
       let within = count-within snippet_lines h.0 in (
-        subst (IsPlan layout file es k g first)
+        subst (IsPlanOfAnnotations layout file es k g first)
             (sym (take-append-le first.line_total snippet_lines own within)) h.0,
-        subst (ArePlans layout file es (k + 1) (fs ++ f ∷ []) (snippet_plans ++ snippet_plan ∷ []))
+        subst (ArePlansOfAnnotations layout file es (k + 1) (fs ++ f ∷ []) (snippet_plans ++ snippet_plan ∷ []))
             (sym (drop-append-le first.line_total snippet_lines own within))
             (plans-more (k + 1) fs snippet_plans (drop first.line_total snippet_lines) h.1
-            (subst (λ n. IsPlan layout file es n f snippet_plan own) e is)),
+            (subst (λ n. IsPlanOfAnnotations layout file es n f snippet_plan own) e is)),
       )
 
 -- of two errors the first is kept
@@ -131,7 +131,7 @@ module _ {Id : Type 0} (layout : Layout) (file : Id → FileModel) (es : List An
       (snippet_lines : List (RustLine Id)) (located : Result (Unit {0}) Error) : Type 0 where
     pub succeeded : first_error failure (number_lookups layout es (ids_view files)) ≡ None
     pub located_fails : FailsByOrFormatError (first_error failure (loci_lookups files)) located
-    pub plans : IfOk located (λ _. ArePlans layout file es 0 files now snippet_lines)
+    pub plans : IfOk located (λ _. ArePlansOfAnnotations layout file es 0 files now snippet_lines)
 
 module _ {Id : Type 0} {layout : Layout} {file : Id → FileModel} {es : List Annotation}
     {failure : Failures Id} {now : List (SnippetPlan Id)} {snippet_lines : List (RustLine Id)}
@@ -155,7 +155,7 @@ module _ {Id : Type 0} {layout : Layout} {file : Id → FileModel} {es : List An
   -- and the plans are those of all, where no error is kept
   pub plans-all : (files : List (RustFile Id)) (k : ℕ) → length files ≤ k
       → ArePlanned layout file es failure (take k files) now snippet_lines located
-      → IfOk located (λ _. ArePlans layout file es 0 files now snippet_lines)
+      → IfOk located (λ _. ArePlansOfAnnotations layout file es 0 files now snippet_lines)
   plans-all files k past found =
       (subst
       (λ (fs : List (RustFile Id)). ArePlanned layout file es failure fs now snippet_lines located)
@@ -215,22 +215,22 @@ module _ {Id : Type 0} {files : List (RustFile Id)} {k : ℕ} {f : RustFile Id}
       plans-with : {new : List (SnippetPlan Id)} {snippet_plan : SnippetPlan Id}
           {all own : List (RustLine Id)}
           → new ≡ now ++ snippet_plan ∷ [] → all ≡ snippet_lines ++ own
-          → IsPlan layout file es k f snippet_plan own
-          → ArePlans layout file es 0 (take k files) now snippet_lines
-          → ArePlans layout file es 0 (take (k + 1) files) new all
+          → IsPlanOfAnnotations layout file es k f snippet_plan own
+          → ArePlansOfAnnotations layout file es 0 (take k files) now snippet_lines
+          → ArePlansOfAnnotations layout file es 0 (take (k + 1) files) new all
       plans-with {new} {snippet_plan} {all} {own} whole whole_steps is found =
           let index : k ≡ 0 + length (take k files) = omega (arith, files_before) in
           let planned = plans-more 0 (take k files) now snippet_lines found
-          (subst (λ n. IsPlan layout file es n f snippet_plan own) index is) in
-          subst (λ fs. ArePlans layout file es 0 fs new all) (sym (take-at here))
-          (subst₂ (ArePlans layout file es 0 (take k files ++ f ∷ [])) (sym whole) (sym whole_steps)
+          (subst (λ n. IsPlanOfAnnotations layout file es n f snippet_plan own) index is) in
+          subst (λ fs. ArePlansOfAnnotations layout file es 0 fs new all) (sym (take-at here))
+          (subst₂ (ArePlansOfAnnotations layout file es 0 (take k files ++ f ∷ [])) (sym whole) (sym whole_steps)
           planned)
 
       -- it is planned too
       pub planned-more : {new : List (SnippetPlan Id)} {snippet_plan : SnippetPlan Id}
           {all own : List (RustLine Id)}
           → new ≡ now ++ snippet_plan ∷ [] → all ≡ snippet_lines ++ own
-          → IsPlan layout file es k f snippet_plan own
+          → IsPlanOfAnnotations layout file es k f snippet_plan own
           → first_error failure (lookups_at k f.file_id) ≡ None
           → first_error failure (locus_lookups_of f) ≡ None
           → ArePlanned layout file es failure (take (k + 1) files) new all located
@@ -242,8 +242,8 @@ module _ {Id : Type 0} {files : List (RustFile Id)} {k : ℕ} {f : RustFile Id}
             (sym (locus-fails failure ∙ ap (or_failure others) there ∙ or_failure-none others))
             before.located_fails;
         plans =
-            IfOk-weaker located (λ _. ArePlans layout file es 0 (take k files) now snippet_lines)
-            (λ _. ArePlans layout file es 0 (take (k + 1) files) new all)
+            IfOk-weaker located (λ _. ArePlansOfAnnotations layout file es 0 (take k files) now snippet_lines)
+            (λ _. ArePlansOfAnnotations layout file es 0 (take (k + 1) files) new all)
             (λ _ found. plans-with whole whole_steps is found) before.plans;
       }
 
@@ -261,7 +261,7 @@ module _ {Id : Type 0} {files : List (RustFile Id)} {k : ℕ} {f : RustFile Id}
             (first-located_fails _ _ located e before.located_fails known);
         plans =
             some-located_fails located e
-            (λ _. ArePlans layout file es 0 (take (k + 1) files) now all);
+            (λ _. ArePlansOfAnnotations layout file es 0 (take (k + 1) files) now all);
       }
 
       -- an error of the lookups of its numbers is that of all

@@ -21,7 +21,7 @@ use Rattle.codespan_views.specs.declared.plan.snippet_plans.SnippetPlan.{Snippet
 use Rattle.codespan_views.specs.declared.plan.snippet_lines.SnippetLine.{SnippetLine as RustLine}
 use Rattle.codespan_views.specs.Private.CollectedLabels.{labels_failure}
 use Rattle.codespan_views.specs.Private.LookupsWhileRendering.{WroteStream, WrotePrefix, FailedWithLookups, WritesWithLookups}
-use Rattle.codespan_views.specs.Private.OutputPlans.{AreSnippetPlans, IsOutputPlan, ids_of, loci_of, output_plan_failure}
+use Rattle.codespan_views.specs.Private.OutputPlans.{ArePlansOfLabels, IsOutputPlan, ids_of, loci_of, output_plan_failure}
 use Rattle.codespan_views.specs.WriteCalls.{WritesOutput}
 use Rattle.codespan_picture.specs.Lookups.{early_lookups, first_error, late_lookups}
 use Rattle.codespan_picture.specs.OutputStreams.{header_text_of, label_of, labels_of, context_of, notes_of}
@@ -199,7 +199,7 @@ module _ {Id : Type 0} {view_config : Config} {database : FileDatabase Id} {d : 
       (from output_plan.snippet_plans.items output_plan.snippet_lines.items ready.planned.snippet_plans_are)
     where
       from : (snippet_plans : List (SnippetPlan Id)) (snippet_lines : List (RustLine Id))
-          → AreSnippetPlans database view_config (labels_of d) snippet_plans snippet_lines
+          → ArePlansOfLabels database view_config (labels_of d) snippet_plans snippet_lines
           → AllZip IsLocusOfFile
           (map (labeled_file_model database.same database.file (labels_of d))
           (ids_of snippet_plans))

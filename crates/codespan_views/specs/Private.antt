@@ -5,7 +5,7 @@ pub mod TextLoci
 pub mod FileLookups
 pub mod SourceFiles
 pub mod LabelSpans
-pub mod LocusStarts
+pub mod LocusBytes
 pub mod FileIndices
 pub mod LabeledFiles
 pub mod Annotations

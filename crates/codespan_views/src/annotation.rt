@@ -147,7 +147,7 @@ pub fn multi_label<FileId>(
 /// the file at which its line starts; the end is exclusive. It is at least one byte long, unless it
 /// starts at `usize::MAX`.
 #[inline(always)]
-pub fn range_in_line<FileId>(label: &Label<FileId>, line_start: usize) -> Range<usize>
+pub fn drawn_range<FileId>(label: &Label<FileId>, line_start: usize) -> Range<usize>
     ensures start { result.start ≡ (from_line_start line_start (label_of label.now).label).start }
     ensures end { result.end ≡ (from_line_start line_start (label_of label.now).label).end }
 {

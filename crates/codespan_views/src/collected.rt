@@ -28,7 +28,7 @@ pub struct Collected<'d, FileId> {
     pub annotations: Vec<Annotation<'d, FileId>>,
     /// The padding width in the classic layout: the number of digits of the longest number of a
     /// line that a label spans; 0 without such a line.
-    pub padding: usize,
+    pub spanned_padding: usize,
     /// Of the labels of the first file, the least line on which one starts and the greatest on
     /// which one ends, 0-based; `usize::MAX` and 0 without labels.
     pub first_file_span: LabelSpan,
@@ -79,7 +79,7 @@ fn collect_in_turn<'files, 'd, F: Files<'files>>(
     let mut labeled = Vec::new(alloc);
     let mut found = FoundAnnotations {
         annotations: Vec::with_capacity(alloc, labels.len())?,
-        padding: PaddingWidth::with_digits(0),
+        spanned_padding: PaddingWidth::with_digits(0),
     };
     let mut previous = 0;
     let mut spanned = LabelSpan {
@@ -90,18 +90,18 @@ fn collect_in_turn<'files, 'd, F: Files<'files>>(
         let file = get_or_insert_file(&mut labeled, previous, label.file_id)?;
         let lane = labeled[file].num_multi_labels;
         let indices = LabelIndices { file, index, lane };
-        let lines = collect_label(files, config, indices, label, &mut found)?;
-        add_label(&mut labeled, file, label, lines);
+        let span = collect_label(files, config, indices, label, &mut found)?;
+        add_label(&mut labeled, file, label, span);
         previous = file;
         if file == 0 {
-            spanned = spanned.join(lines);
+            spanned = spanned.join(span);
         }
     }
     Ok(Collected {
         labels,
         files: labeled,
         annotations: found.annotations,
-        padding: found.padding.digits,
+        spanned_padding: found.spanned_padding.digits,
         first_file_span: spanned,
     })
 }

@@ -33,7 +33,7 @@ pub struct FoundAnnotations<'d, FileId> {
     /// The annotations.
     pub annotations: Vec<Annotation<'d, FileId>>,
     /// The width for the numbers of the lines that labels span.
-    pub padding: PaddingWidth,
+    pub spanned_padding: PaddingWidth,
 }
 
 /// Looks up the lines of a label and makes its annotations.
@@ -48,7 +48,7 @@ struct LabelCollector<'a, 'c, 'd, 'files, F: Files<'files>> {
     /// The label's indices.
     indices: LabelIndices,
     /// The lines on which it starts and ends.
-    lines: LabelSpan,
+    span: LabelSpan,
 }
 
 impl<'a, 'c, 'd, 'files, F: Files<'files>> LabelCollector<'a, 'c, 'd, 'files, F> {
@@ -57,12 +57,12 @@ impl<'a, 'c, 'd, 'files, F: Files<'files>> LabelCollector<'a, 'c, 'd, 'files, F>
     fn kind_on_line(&self, line: LineInfo) -> Option<AnnotationKind<'d, F::FileId>>
         ensures { option_map (kind_view line.start) result ≡ kind_by self.now line }
     {
-        if self.lines.is_single() && self.lines.first == line.index {
+        if self.span.is_single() && self.span.first == line.index {
             Some(AnnotationKind::Single {
                 index: self.indices.index,
                 label: self.label,
             })
-        } else if self.lines.shows(self.config, line.index) {
+        } else if self.span.shows(self.config, line.index) {
             Some(AnnotationKind::Shown)
         } else {
             None
@@ -73,7 +73,7 @@ impl<'a, 'c, 'd, 'files, F: Files<'files>> LabelCollector<'a, 'c, 'd, 'files, F>
     fn lane_mark_on_line(&self, line: LineInfo) -> Option<AnnotationKind<'d, F::FileId>>
         ensures { option_map (kind_view line.start) result ≡ lane_mark_by self.now line }
     {
-        match self.lines.multi_label_kind(line.index) {
+        match self.span.multi_label_kind(line.index) {
             None => None,
             Some(kind) => Some(AnnotationKind::Multi {
                 kind,
@@ -99,7 +99,7 @@ impl<'a, 'c, 'd, 'files, F: Files<'files>> LabelCollector<'a, 'c, 'd, 'files, F>
         line: LineInfo,
         annotations: &mut Vec<Annotation<'d, F::FileId>>,
     ) -> Result<(), Error>
-        requires far { IsFarInside self.now.config.now self.now.lines.first self.now.lines.last
+        requires far { IsFarInside self.now.config.now self.now.span.first self.now.span.last
             line.index }
         requires lines { HasLabelLines F.database self.now }
         requires line { IsLineOf (model_of F.database self.now.file) line }
@@ -133,8 +133,8 @@ impl<'a, 'c, 'd, 'files, F: Files<'files>> LabelCollector<'a, 'c, 'd, 'files, F>
         is_far: bool,
         annotations: &mut Vec<Annotation<'d, F::FileId>>,
     ) -> Result<(), Error>
-        requires far { is_far ≡ true → IsFarInside self.now.config.now self.now.lines.first
-            self.now.lines.last line.index }
+        requires far { is_far ≡ true → IsFarInside self.now.config.now self.now.span.first
+            self.now.span.last line.index }
         requires lines { HasLabelLines F.database self.now }
         requires line { IsLineOf (model_of F.database self.now.file) line }
         ensures added { OnOk result (AddsLine (label_of_collector F.database self.now)
@@ -170,8 +170,8 @@ impl<'a, 'c, 'd, 'files, F: Files<'files>> LabelCollector<'a, 'c, 'd, 'files, F>
         is_far: bool,
         found: &mut FoundAnnotations<'d, F::FileId>,
     ) -> Result<bool, Error>
-        requires far { is_far ≡ true → IsFarInside self.now.config.now self.now.lines.first
-            self.now.lines.last index }
+        requires far { is_far ≡ true → IsFarInside self.now.config.now self.now.span.first
+            self.now.span.last index }
         requires lines { HasLabelLines F.database self.now }
         ensures inside { IfContinues result
             (HasLineLookedUp (label_of_collector F.database self.now) index) }
@@ -186,15 +186,15 @@ impl<'a, 'c, 'd, 'files, F: Files<'files>> LabelCollector<'a, 'c, 'd, 'files, F>
         ensures failed { IfErr result (λ e. e ≢ Error.OutOfMemory
             → FailsLine F.database self.now index e) }
     {
-        let is_spanned = is_far || self.lines.spans(index);
-        if !is_spanned && !self.lines.is_around(self.config, index) {
+        let is_spanned = is_far || self.span.spans(index);
+        if !is_spanned && !self.span.is_around(self.config, index) {
             return Ok(true);
         }
-        let Some(line) = self.file.line_unless_past_end(index, self.lines.last)? else {
+        let Some(line) = self.file.line_unless_past_end(index, self.span.last)? else {
             return Ok(false);
         };
         if is_spanned {
-            found.padding.fit(line.number);
+            found.spanned_padding.fit(line.number);
         }
         self.push_line(line, is_far, &mut found.annotations)?;
         Ok(true)
@@ -218,11 +218,11 @@ impl<'a, 'c, 'd, 'files, F: Files<'files>> LabelCollector<'a, 'c, 'd, 'files, F>
             (ExtendsPadding (label_of_collector F.database self.now) found.old found.new) }
         ensures failed { FailsBy (lines_failure (label_of_collector F.database self.now)) result }
     {
-        let lines = self.lines;
-        let first = lines.first.saturating_sub(self.config.before_label_lines);
-        let last = lines.last.saturating_add(self.config.after_label_lines);
-        let far = lines.far_lines(self.config);
-        for index in first.min(lines.last)..=last.max(lines.first) {
+        let span = self.span;
+        let first = span.first.saturating_sub(self.config.before_label_lines);
+        let last = span.last.saturating_add(self.config.after_label_lines);
+        let far = span.far_lines(self.config);
+        for index in first.min(span.last)..=last.max(span.first) {
             if !self.collect_line(index, far.contains(&index), found)? {
                 return Ok(());
             }
@@ -245,9 +245,9 @@ pub fn collect_label<'files, 'd, F: Files<'files>>(
     label: &'d Label<F::FileId>,
     found: &mut FoundAnnotations<'d, F::FileId>,
 ) -> Result<LabelSpan, Error>
-    ensures first { IfOk result (λ lines. lines.first
+    ensures first { IfOk result (λ span. span.first
         ≡ line_of_start (F.database files.now).file label.now) }
-    ensures last { IfOk result (λ lines. lines.last
+    ensures last { IfOk result (λ span. span.last
         ≡ line_of_end (F.database files.now).file label.now) }
     ensures added { OnOk result (FindsLines
         (collected_label (F.database files.now) config.now indices label.now) found.old found.new) }
@@ -256,10 +256,8 @@ pub fn collect_label<'files, 'd, F: Files<'files>>(
     ensures failed { FailsBy (label_failure
         (collected_label (F.database files.now) config.now indices label.now)) result }
 {
-    let lines = label_span(files, label)?;
-    found
-        .annotations
-        .reserve(lines.annotation_capacity(config))?;
+    let span = label_span(files, label)?;
+    found.annotations.reserve(span.annotation_capacity(config))?;
     let collector = LabelCollector {
         label,
         file: SourceFile {
@@ -268,8 +266,8 @@ pub fn collect_label<'files, 'd, F: Files<'files>>(
         },
         config,
         indices,
-        lines,
+        span,
     };
     collector.collect_lines(found)?;
-    Ok(lines)
+    Ok(span)
 }

@@ -155,9 +155,9 @@ pub fn label_span<'files, F: Files<'files>>(
     files: &'files F,
     label: &Label<F::FileId>,
 ) -> Result<LabelSpan, Error>
-    ensures first { IfOk result (λ lines. lines.first
+    ensures first { IfOk result (λ span. span.first
         ≡ line_of_start (F.database files.now).file label.now) }
-    ensures last { IfOk result (λ lines. lines.last
+    ensures last { IfOk result (λ span. span.last
         ≡ line_of_end (F.database files.now).file label.now) }
     ensures failed { FailsBy (ends_failure (F.database files.now).failure label.now) result }
 {

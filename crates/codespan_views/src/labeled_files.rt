@@ -4,11 +4,11 @@ ghost use Rattle.std.specs.Prelude.{◌≡◌, ◌<◌, ◌≤◌, ◌+◌, ◌^
 ghost use Rattle.std.specs.List.{AllByRecursion};
 ghost use Rattle.codespan_picture.specs.OutputStreams.{label_of};
 ghost use Rattle.codespan_views.specs.Private.LabeledFiles.{ids_view, lanes_by, lane_counts, lanes_with_label, starts_with_label, starts_view, with_file};
-ghost use Rattle.codespan_views.specs.Private.LocusStarts.{no_start, start_with};
+ghost use Rattle.codespan_views.specs.Private.LocusBytes.{least_starts_with, no_starts};
 ghost use Rattle.codespan_views.specs.Private.FileIndices.{AreDistinct, index_of_file};
 
 use crate::label_span::LabelSpan;
-use crate::locus_start::LocusStart;
+use crate::least_starts::LeastStarts;
 use codespan_core::diagnostic::Label;
 use codespan_core::files::Error;
 
@@ -17,33 +17,34 @@ use codespan_core::files::Error;
 pub struct LabeledFile<FileId> {
     /// The file's id.
     pub file_id: FileId,
-    /// The byte of its locus.
-    pub start: LocusStart,
+    /// The least starts of its labels, from which the byte of its locus is known.
+    pub least_starts: LeastStarts,
     /// The number of its multi-line labels, each of which has a lane.
     pub num_multi_labels: usize,
 }
 
 impl<FileId> LabeledFile<FileId> {
-    /// Adds a label of the file. `lines` are those on which the label starts and ends.
+    /// Adds a label of the file. `span` has the lines on which the label starts and ends.
     ///
     /// # Requires
     ///
     /// One more lane can be counted.
-    fn add(&mut self, label: &Label<FileId>, lines: LabelSpan)
+    fn add(&mut self, label: &Label<FileId>, span: LabelSpan)
         requires { self.old.num_multi_labels + 1 < 2 ^ 64 }
         ensures id { self.new.file_id ≡ self.old.file_id }
-        ensures start { self.new.start ≡ start_with self.old.start (label_of label.now).label }
-        ensures lanes { self.new.num_multi_labels ≡ self.old.num_multi_labels + lanes_by lines }
+        ensures least_starts { self.new.least_starts
+            ≡ least_starts_with self.old.least_starts (label_of label.now).label }
+        ensures lanes { self.new.num_multi_labels ≡ self.old.num_multi_labels + lanes_by span }
     {
-        self.start = self.start.with(label);
-        if !lines.is_single() {
+        self.least_starts = self.least_starts.with(label);
+        if !span.is_single() {
             self.num_multi_labels += 1;
         }
     }
 }
 
-/// Adds a label to the file at this 0-based index. `lines` are those on which the label starts and
-/// ends.
+/// Adds a label to the file at this 0-based index. `span` has the lines on which the label starts
+/// and ends.
 ///
 /// # Requires
 ///
@@ -52,7 +53,7 @@ pub fn add_label<FileId>(
     files: &mut Vec<LabeledFile<FileId>>,
     index: usize,
     label: &Label<FileId>,
-    lines: LabelSpan,
+    span: LabelSpan,
 )
     requires index { index < length files.old.items }
     requires bound { slice_index_or (lane_counts files.old.items) index 0 + 1 < 2 ^ 64 }
@@ -60,9 +61,9 @@ pub fn add_label<FileId>(
     ensures starts { starts_view files.new.items
         ≡ starts_with_label (starts_view files.old.items) index (label_of label.now).label }
     ensures lanes { lane_counts files.new.items
-        ≡ lanes_with_label (lane_counts files.old.items) index (lanes_by lines) }
+        ≡ lanes_with_label (lane_counts files.old.items) index (lanes_by span) }
 {
-    files[index].add(label, lines);
+    files[index].add(label, span);
 }
 
 /// Returns the 0-based index of the file with this id, which is appended without labels if there is
@@ -87,7 +88,7 @@ pub fn get_or_insert_file<FileId: Copy + Eq>(
         ≡ with_file FileId.eq (ids_view files.old.items) id (ids_view files.old.items) id) }
     ensures starts { OnOk result (starts_view files.new.items
         ≡ with_file FileId.eq (ids_view files.old.items) id (starts_view files.old.items)
-        no_start) }
+        no_starts) }
     ensures lanes { OnOk result (lane_counts files.new.items
         ≡ with_file FileId.eq (ids_view files.old.items) id (lane_counts files.old.items) 0) }
     ensures failed { OnErr result (IsErrOf result Error.OutOfMemory) }
@@ -107,14 +108,14 @@ pub fn get_or_insert_file<FileId: Copy + Eq>(
 fn push_file<FileId: Copy>(files: &mut Vec<LabeledFile<FileId>>, id: FileId) -> Result<(), Error>
     ensures ids { OnOk result (ids_view files.new.items ≡ ids_view files.old.items ++ id ∷ []) }
     ensures starts { OnOk result (starts_view files.new.items ≡ starts_view files.old.items
-        ++ no_start ∷ []) }
+        ++ no_starts ∷ []) }
     ensures lanes { OnOk result (lane_counts files.new.items ≡ lane_counts files.old.items
         ++ 0 ∷ []) }
     ensures failed { OnErr result (IsErrOf result Error.OutOfMemory) }
 {
     files.push(LabeledFile {
         file_id: id,
-        start: LocusStart::unknown(),
+        least_starts: LeastStarts::unknown(),
         num_multi_labels: 0,
     })?;
     Ok(())

@@ -12,7 +12,7 @@ pub mod emitting;
 mod label_annotations;
 mod label_span;
 mod labeled_files;
-mod locus_start;
+mod least_starts;
 mod parts;
 mod plan;
 pub mod rich;

@@ -11,7 +11,7 @@ ghost use Rattle.codespan_renderer.specs.Renderers.{writer_of, config_of, SameRe
 ghost use Rattle.codespan_views.specs.WriteCalls.{WritesStyled};
 ghost use Rattle.codespan_views.specs.Private.ViewRendering.{RendersHeadersOf, RendersInStyle};
 
-use crate::locus_start::is_primary;
+use crate::least_starts::is_primary;
 use crate::parts::{render_diagnostic_header, render_notes};
 use crate::source_file::SourceFile;
 use codespan_core::diagnostic::{Diagnostic, Label};

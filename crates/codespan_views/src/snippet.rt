@@ -1,6 +1,6 @@
 //! The snippets of an output, one for each file.
 
-ghost use Rattle.codespan_views.specs.Private.SnippetRows.{RendersSnippet, trailing_border_rows, start_rows};
+ghost use Rattle.codespan_views.specs.Private.SnippetRows.{RendersSnippet, trailing_empty_rows, start_rows};
 ghost use Rattle.codespan_views.specs.Private.Rendering.{RendersRows};
 ghost use Rattle.codespan_views.specs.Private.LineRendering.{AreLinesOf};
 
@@ -86,14 +86,14 @@ pub fn render_snippet<'files, 'd, F: Files<'files>, W: WriteStyle>(
 /// # Errors
 ///
 /// `Io` alone: the writer fails or takes no bytes.
-pub fn render_trailing_border<F, FileId, W: WriteStyle>(
+pub fn render_trailing_empty_row<F, FileId, W: WriteStyle>(
     context: &SnippetContext<'_, F>,
     renderer: &mut Renderer<'_, '_, W>,
     snippet_plan: &SnippetPlan<'_, FileId>,
     is_followed: bool,
 ) -> Result<(), Error>
     ensures { RendersRows W.sink context.now.severity context.now.padding
-        (trailing_border_rows snippet_plan.now is_followed) renderer.old result renderer.new }
+        (trailing_empty_rows snippet_plan.now is_followed) renderer.old result renderer.new }
 {
     if is_followed {
         renderer.render_snippet_empty(

@@ -12,7 +12,7 @@ end_with counts end x = if counts && nat_lt x.start x.end then max end x.end els
 
 -- a character that ends at this byte index or later is covered by a label that passes the test,
 -- exactly where it begins before `end` or is covered by a remaining label that passes
-pub record IsReached (passes : LabelModel → Bool) (labels left : List LabelModel)
+pub record IsCoverEnd (passes : LabelModel → Bool) (labels left : List LabelModel)
     (byte_index end : ℕ) : Type 0 where
   pub is : (c : Metrics) → byte_index ≤ c.byte_index + c.bytes → 1 ≤ c.bytes
       → is_covered passes labels c ≡ (nat_lt c.byte_index end || is_covered passes left c)
@@ -24,7 +24,8 @@ labels_left s = single_label_views (drop s.next s.labels.now)
 -- a cursor has passed the labels that start before this byte index
 pub record HasPassedLabels (byte_index : ℕ) (s : LabelCursor) : Type 0 where
   pub primary :
-      IsReached is_primary (single_label_views s.labels.now) (labels_left s) byte_index
+      IsCoverEnd is_primary (single_label_views s.labels.now) (labels_left s) byte_index
       s.primary_end
-  pub any : IsReached (λ _. true) (single_label_views s.labels.now) (labels_left s) byte_index s.end
+  pub any :
+      IsCoverEnd (λ _. true) (single_label_views s.labels.now) (labels_left s) byte_index s.end
   pub ordered : starts_in_order (labels_left s) ≡ true

@@ -26,7 +26,7 @@ metrics_from after s =
 
 -- the characters that it has not returned yet
 abbrev pub metrics_left : CharMetrics → List Metrics
-metrics_left s = metrics_from (after_last s.to_end) s
+metrics_left s = metrics_from (after_last s.has_placeholder) s
 
 -- the iterator goes over a character
 pub record GoesOver (c : Metrics) (old new : CharMetrics) : Type 0 where

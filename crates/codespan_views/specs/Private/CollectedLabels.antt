@@ -68,9 +68,9 @@ label_of_collector database collector = record {
 pub record HasLabelLines {F Id Name Source : Type 0} (database : F → FileDatabase Id)
     (collector : LabelCollector F Id Name Source) : Type 0 where
   pub first : first_line (model_of database collector.file) (label_of collector.label.now).label
-      ≡ collector.lines.first
+      ≡ collector.span.first
   pub last : last_line (model_of database collector.file) (label_of collector.label.now).label
-      ≡ collector.lines.last
+      ≡ collector.span.last
 
 module _ {Id : Type 0} (x : CollectedLabel Id) where
   -- ---- one line
@@ -96,7 +96,7 @@ module _ {Id : Type 0} (x : CollectedLabel Id) where
   -- the padding has been widened to the number of a line, where the label spans the line
   abbrev pub ExtendsPaddingForLine : FoundAnnotations Id → FoundAnnotations Id → ℕ → Type 0
   ExtendsPaddingForLine old new l =
-      new.padding.digits ≡ fold max old.padding.digits (digits_on x.file x.label l)
+      new.spanned_padding.digits ≡ fold max old.spanned_padding.digits (digits_on x.file x.label l)
 
   -- what the lookups of a line fail with, where it is looked up
   abbrev pub failure_on : ℕ → Option Error
@@ -113,7 +113,7 @@ module _ {Id : Type 0} (x : CollectedLabel Id) where
   -- the padding has been widened to the numbers of the lines that the label spans
   abbrev pub ExtendsPadding : FoundAnnotations Id → FoundAnnotations Id → Type 0
   ExtendsPadding old new =
-      new.padding.digits ≡ fold max old.padding.digits (label_digits x.file x.label)
+      new.spanned_padding.digits ≡ fold max old.spanned_padding.digits (label_digits x.file x.label)
 
   -- what the lookups of its lines fail with
   abbrev pub lines_failure : Option Error
@@ -140,14 +140,14 @@ IfEnded r P = IfOk r (λ goes_on. goes_on ≡ false → P)
 abbrev pub kind_by : {F Id Name Source : Type 0} → LabelCollector F Id Name Source → LineInfo
     → Option AnnotationKind
 kind_by collector line =
-    kind_at collector.config.now collector.indices collector.lines.first collector.lines.last
+    kind_at collector.config.now collector.indices collector.span.first collector.span.last
     line.index line.start (label_of collector.label.now).label
 
 -- its lane mark on a line, by the lines of its ends
 abbrev pub lane_mark_by : {F Id Name Source : Type 0} → LabelCollector F Id Name Source → LineInfo
     → Option AnnotationKind
 lane_mark_by collector line =
-    lane_mark_at collector.indices collector.lines.first collector.lines.last line.index line.start
+    lane_mark_at collector.indices collector.span.first collector.span.last line.index line.start
     (label_of collector.label.now).label
 
 -- a line is looked up for the label, and its lookups fail with this error
@@ -155,4 +155,4 @@ abbrev pub FailsLine : {F Id Name Source : Type 0} → (F → FileDatabase Id)
     → LabelCollector F Id Name Source → ℕ → Error → Type 0
 FailsLine database collector l e =
     IsLookedUp (label_of_collector database collector) l
-    × (failure_unless_past_end database collector.file collector.lines.last l ≡ Some e)
+    × (failure_unless_past_end database collector.file collector.span.last l ≡ Some e)

@@ -6,8 +6,8 @@ use Rattle.codespan_core.specs.Labels.{LabelModel}
 use Rattle.codespan_picture.specs.Snippets.{InFile, labeled_file_model, num_multi_labels}
 use Rattle.codespan_views.specs.declared.labeled_files.LabeledFile.{LabeledFile as RustFile}
 use Rattle.codespan_views.specs.declared.label_span.LabelSpan.{LabelSpan}
-use Rattle.codespan_views.specs.declared.locus_start.LocusStart.{LocusStart}
-use Rattle.codespan_views.specs.Private.LocusStarts.{file_locus_start, no_start, start_with}
+use Rattle.codespan_views.specs.declared.least_starts.LeastStarts.{LeastStarts}
+use Rattle.codespan_views.specs.Private.LocusBytes.{file_least_starts, least_starts_with, no_starts}
 
 -- ---- all files
 
@@ -16,8 +16,8 @@ abbrev pub ids_view : {Id : Type 0} → List (RustFile Id) → List Id
 ids_view {Id} files = map (λ (f : RustFile Id). f.file_id) files
 
 -- the byte of the locus of each
-abbrev pub starts_view : {Id : Type 0} → List (RustFile Id) → List LocusStart
-starts_view {Id} files = map (λ (f : RustFile Id). f.start) files
+abbrev pub starts_view : {Id : Type 0} → List (RustFile Id) → List LeastStarts
+starts_view {Id} files = map (λ (f : RustFile Id). f.least_starts) files
 
 -- how many lanes each has
 abbrev pub lane_counts : {Id : Type 0} → List (RustFile Id) → List ℕ
@@ -28,10 +28,10 @@ abbrev pub num_multi_labels_of : {Id : Type 0} → (Id → Id → Bool) → (Id 
     → List (InFile Id) → Id → ℕ
 num_multi_labels_of same file xs id = num_multi_labels (labeled_file_model same file xs id)
 
--- the byte of the file's locus and the number of its lanes are those of these labels
+-- the least starts of the file's labels and the number of its lanes are those of these labels
 pub record HasLabels {Id : Type 0} (same : Id → Id → Bool) (file : Id → FileModel)
     (xs : List (InFile Id)) (f : RustFile Id) : Type 0 where
-  pub start_is : f.start ≡ file_locus_start same xs f.file_id
+  pub least_starts_are : f.least_starts ≡ file_least_starts same xs f.file_id
   pub lanes_are : f.num_multi_labels ≡ num_multi_labels_of same file xs f.file_id
 
 -- ---- one file more
@@ -45,12 +45,12 @@ with_file same ids id known one = if list_any (λ j. same j id) ids then known e
 
 -- how many lanes a label takes that starts and ends on these lines
 abbrev pub lanes_by : LabelSpan → ℕ
-lanes_by lines = if lines.first == lines.last then 0 else 1
+lanes_by span = if span.first == span.last then 0 else 1
 
 -- the bytes of loci, with one more label of the file at this index
-abbrev pub starts_with_label : List LocusStart → ℕ → LabelModel → List LocusStart
+abbrev pub starts_with_label : List LeastStarts → ℕ → LabelModel → List LeastStarts
 starts_with_label starts index x =
-    slice_set starts index (start_with (slice_index_or starts index no_start) x)
+    slice_set starts index (least_starts_with (slice_index_or starts index no_starts) x)
 
 -- how many lanes all files have, with those of one more label of the file at this index
 abbrev pub lanes_with_label : List ℕ → ℕ → ℕ → List ℕ

@@ -18,7 +18,7 @@ use Rattle.codespan_views.specs.Private.SnippetLines.{SnippetLine, is_line_in_or
 pub record AreLinesOf {Id : Type 0} (f : FileModel) (num_multi_labels : ℕ)
     (snippet_lines : List (RustLine Id)) : Type 0 where
   pub each : AllByRecursion (IsSnippetLineOf f) snippet_lines
-  pub fit : AreInOrder num_multi_labels (map snippet_line_view snippet_lines)
+  pub in_order : AreInOrder num_multi_labels (map snippet_line_view snippet_lines)
 
 -- the snippet has the text of its file, and these are lines of it, each with its labels in order
 pub record HasLines {F Id Name Source : Type 0} (database : F → FileDatabase Id)
@@ -31,7 +31,7 @@ pub record HasLine {F Id Name Source : Type 0} (database : F → FileDatabase Id
     (snippet : Snippet F Id Name Source) (snippet_line : RustLine Id) : Type 0 where
   pub text : snippet.text.now ≡ (model_of database snippet.file).text
   pub is : IsSnippetLineOf (model_of database snippet.file) snippet_line
-  pub fits : IsTrue (is_line_in_order snippet.num_multi_labels (snippet_line_view snippet_line))
+  pub in_order : IsTrue (is_line_in_order snippet.num_multi_labels (snippet_line_view snippet_line))
 
 module _ {W F Id Name Source : Type 0} (sink : W → Sink) (database : F → FileDatabase Id)
     (snippet : Snippet F Id Name Source) where

@@ -5,15 +5,15 @@ use Rattle.codespan_core.specs.FileModel.Lookup.{LocationAt, Name}
 use Rattle.codespan_picture.specs.Types.{Error}
 use Rattle.codespan_picture.specs.Lookups.{Failures, lookups_of_file, first_error}
 use Rattle.codespan_views.specs.declared.labeled_files.LabeledFile.{LabeledFile as RustFile}
-use Rattle.codespan_views.specs.Private.LocusStarts.{locus_byte}
+use Rattle.codespan_views.specs.Private.LocusBytes.{locus_byte}
 
 -- the byte of a file whose locus its snippet shows
 abbrev pub locus_start_of : {Id : Type 0} → (Id → FileModel) → RustFile Id → FileModel × ℕ
-locus_start_of file f = (file f.file_id, locus_byte f.start)
+locus_start_of file f = (file f.file_id, locus_byte f.least_starts)
 
 -- the lookups of the locus of a file's snippet
 abbrev pub locus_lookups_of : {Id : Type 0} → RustFile Id → List (Id × Lookup)
-locus_lookups_of f = lookups_of_file f.file_id (Name ∷ LocationAt (locus_byte f.start) ∷ [])
+locus_lookups_of f = lookups_of_file f.file_id (Name ∷ LocationAt (locus_byte f.least_starts) ∷ [])
 
 -- those of all files
 abbrev pub loci_lookups : {Id : Type 0} → List (RustFile Id) → List (Id × Lookup)

@@ -28,13 +28,13 @@ ids_of {Id} snippet_plans = map (λ (snippet_plan : SnippetPlan Id). snippet_pla
 
 -- the plan is that of a file with its labels: its lanes, its locus, the rows of its lines, and
 -- their lookups
-pub record IsSnippetPlan {Id : Type 0} (config : Config) (s : LabeledFileModel)
+pub record IsPlanOfLabels {Id : Type 0} (config : Config) (s : LabeledFileModel)
     (snippet_plan : SnippetPlan Id) (own : List (RustLine Id)) : Type 0 where
   pub lanes_are : snippet_plan.file.now.num_multi_labels ≡ num_multi_labels s
   pub locus_is : IsLocusOfFile s (locus_view snippet_plan.locus)
   pub count_is : snippet_plan.line_total ≡ length own
   pub each : AllByRecursion (IsSnippetLineOf s.file) own
-  pub fits : AreInOrder (num_multi_labels s) (map snippet_line_view own)
+  pub in_order : AreInOrder (num_multi_labels s) (map snippet_line_view own)
   pub rows : rows_of_lines s.file (num_multi_labels s) (map snippet_line_view own)
       ≡ rows_of_drawn s None (drawn_lines config s.file s.labels)
   pub lookups : lookups_of_lines own ≡ flat_map (filled_line_lookups config.layout)
@@ -43,21 +43,21 @@ pub record IsSnippetPlan {Id : Type 0} (config : Config) (s : LabeledFileModel)
 module _ {Id : Type 0} (database : FileDatabase Id) where
   -- the plans are those of the files of these labels, and the lines are theirs, those of the first
   -- file in front
-  abbrev pub AreSnippetPlans : Config → List (InFile Id) → List (SnippetPlan Id)
+  abbrev pub ArePlansOfLabels : Config → List (InFile Id) → List (SnippetPlan Id)
       → List (RustLine Id)
       → Type 0
-  AreSnippetPlans config xs [] snippet_lines = Unit {0}
-  AreSnippetPlans config xs (snippet_plan ∷ snippet_plans) snippet_lines =
-      IsSnippetPlan config
+  ArePlansOfLabels config xs [] snippet_lines = Unit {0}
+  ArePlansOfLabels config xs (snippet_plan ∷ snippet_plans) snippet_lines =
+      IsPlanOfLabels config
       (labeled_file_model database.same database.file xs snippet_plan.file.now.file_id)
       snippet_plan (take snippet_plan.line_total snippet_lines)
-      × AreSnippetPlans config xs snippet_plans (drop snippet_plan.line_total snippet_lines)
+      × ArePlansOfLabels config xs snippet_plans (drop snippet_plan.line_total snippet_lines)
 
   -- the plan is that of these labels
   pub record IsOutputPlan (config : Config) (xs : List (InFile Id)) (output_plan : OutputPlan Id)
       : Type 0 where
     pub ids_are : ids_of output_plan.snippet_plans.items ≡ file_ids database.same xs
-    pub snippet_plans_are : AreSnippetPlans config xs output_plan.snippet_plans.items
+    pub snippet_plans_are : ArePlansOfLabels config xs output_plan.snippet_plans.items
         output_plan.snippet_lines.items
     pub padding_is : output_plan.padding
         ≡ padding_of config (labeled_file_models database.same database.file xs)

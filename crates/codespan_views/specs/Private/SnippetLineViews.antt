@@ -5,7 +5,7 @@ use Rattle.codespan_picture.specs.Types.{Layout, Classic, Unbroken}
 use Rattle.codespan_core.specs.FileModel.{FileModel, Lookup}
 use Rattle.codespan_core.specs.FileModel.Lookup.{LineNumber}
 use Rattle.codespan_views.specs.declared.plan.snippet_lines.Gap.{Gap}
-use Rattle.codespan_views.specs.declared.plan.snippet_lines.Gap.TheVariants.{Nothing, Line, Lines}
+use Rattle.codespan_views.specs.declared.plan.snippet_lines.Gap.TheVariants as gaps
 use Rattle.codespan_views.specs.declared.plan.snippet_lines.SnippetLine.{SnippetLine as RustLine}
 use Rattle.codespan_views.specs.declared.plan.snippet_lines.SnippetLine.TheVariants as rust
 use Rattle.codespan_views.specs.Private.AnnotationViews.{IsLineOf, annotation_view}
@@ -24,9 +24,9 @@ snippet_line_view (rust.Break next) = Break (map annotation_view next.now)
 
 -- what is in a gap before a line with these annotations, where the line between has those
 abbrev pub gap_lines : List Annotation → List Annotation → Gap → List SnippetLine
-gap_lines hidden next Nothing = []
-gap_lines hidden next (Line l) = Filled l hidden ∷ []
-gap_lines hidden next Lines = Break next ∷ []
+gap_lines hidden next gaps.Nothing = []
+gap_lines hidden next (gaps.Filled l) = Filled l hidden ∷ []
+gap_lines hidden next gaps.Break = Break next ∷ []
 
 -- the gap is that between two shown lines, of which the first may be none
 abbrev pub IsGapBefore : Option ℕ → ℕ → Gap → Type 0

@@ -16,7 +16,7 @@ use Rattle.codespan_views.specs.Private.AnnotationViews.{annotation_view}
 use Rattle.codespan_views.specs.Private.SnippetLineViews.{IsSnippetLineIn, numbers_looked_up, snippet_line_view}
 use Rattle.codespan_views.specs.Private.LabeledFiles.{ids_view}
 use Rattle.codespan_views.specs.Private.Loci.{loci_lookups}
-use Rattle.codespan_views.specs.Private.LocusStarts.{locus_byte}
+use Rattle.codespan_views.specs.Private.LocusBytes.{locus_byte}
 use Rattle.codespan_views.specs.Private.SnippetLines.{SnippetLine, filled_lines_of, lines_of}
 use Rattle.codespan_views.specs.Private.TextLoci.{IsTextLocus}
 
@@ -37,42 +37,47 @@ number_lookups layout es ids =
 
 module _ {Id : Type 0} (layout : Layout) (file : Id → FileModel) (es : List Annotation) where
   -- the plan is that of this file, which is at an index: its locus and its lines
-  pub record IsPlan (k : ℕ) (f : RustFile Id) (snippet_plan : SnippetPlan Id)
+  pub record IsPlanOfAnnotations (k : ℕ) (f : RustFile Id) (snippet_plan : SnippetPlan Id)
       (own : List (RustLine Id)) : Type 0 where
     pub file_is : snippet_plan.file.now ≡ f
-    pub locus_is : IsTextLocus (file f.file_id, locus_byte f.start) (locus_view snippet_plan.locus)
+    pub locus_is : IsTextLocus (file f.file_id, locus_byte f.least_starts)
+        (locus_view snippet_plan.locus)
     pub count_is : snippet_plan.line_total ≡ length own
     pub are : map snippet_line_view own ≡ lines_at es k
     pub each : AllByRecursion (IsSnippetLineIn layout (file f.file_id)) own
 
   -- the plans are those of the files from an index on, and these are all their lines, those of the
   -- first file in front
-  abbrev pub ArePlans : ℕ → List (RustFile Id) → List (SnippetPlan Id) → List (RustLine Id) → Type 0
-  ArePlans k [] [] snippet_lines = snippet_lines ≡ []
-  ArePlans k [] (snippet_plan ∷ snippet_plans) snippet_lines = ⊥
-  ArePlans k (f ∷ fs) [] snippet_lines = ⊥
-  ArePlans k (f ∷ fs) (snippet_plan ∷ snippet_plans) snippet_lines =
-      IsPlan k f snippet_plan (take snippet_plan.line_total snippet_lines)
-      × ArePlans (k + 1) fs snippet_plans (drop snippet_plan.line_total snippet_lines)
+  abbrev pub ArePlansOfAnnotations : ℕ → List (RustFile Id) → List (SnippetPlan Id)
+      → List (RustLine Id)
+      → Type 0
+  ArePlansOfAnnotations k [] [] snippet_lines = snippet_lines ≡ []
+  ArePlansOfAnnotations k [] (snippet_plan ∷ snippet_plans) snippet_lines = ⊥
+  ArePlansOfAnnotations k (f ∷ fs) [] snippet_lines = ⊥
+  ArePlansOfAnnotations k (f ∷ fs) (snippet_plan ∷ snippet_plans) snippet_lines =
+      IsPlanOfAnnotations k f snippet_plan (take snippet_plan.line_total snippet_lines)
+      × ArePlansOfAnnotations (k + 1) fs snippet_plans (drop snippet_plan.line_total snippet_lines)
 
 -- the plans are those of the files that were collected, with all their lines
-abbrev pub ArePlansOf : {Id : Type 0} → Layout → (Id → FileModel) → Collected Id
+abbrev pub ArePlansOfCollected : {Id : Type 0} → Layout → (Id → FileModel) → Collected Id
     → List (SnippetPlan Id) → List (RustLine Id) → Type 0
-ArePlansOf layout file collected snippet_plans snippet_lines =
-    ArePlans layout file (map annotation_view collected.annotations.items) 0 collected.files.items
-    snippet_plans snippet_lines
+ArePlansOfCollected layout file collected snippet_plans snippet_lines =
+    ArePlansOfAnnotations layout file (map annotation_view collected.annotations.items) 0
+    collected.files.items snippet_plans snippet_lines
 
 -- the lookups of the plans: first the numbers of filled lines, of all files, and then the loci of
 -- all files
-abbrev pub plan_lookups : {Id : Type 0} → Layout → Collected Id → List (Id × Lookup)
-plan_lookups layout collected =
+abbrev pub collected_plan_lookups : {Id : Type 0} → Layout → Collected Id → List (Id × Lookup)
+collected_plan_lookups layout collected =
     number_lookups layout (map annotation_view collected.annotations.items)
     (ids_view collected.files.items)
     ++ loci_lookups collected.files.items
 
 -- what these lookups fail with
-abbrev pub plans_failure : {Id : Type 0} → Layout → Failures Id → Collected Id → Option Error
-plans_failure layout failure collected = first_error failure (plan_lookups layout collected)
+abbrev pub collected_plan_failure : {Id : Type 0} → Layout → Failures Id → Collected Id
+    → Option Error
+collected_plan_failure layout failure collected =
+    first_error failure (collected_plan_lookups layout collected)
 
 -- the digits of the known number of a line
 abbrev pub line_digits : {Id : Type 0} → RustLine Id → List ℕ

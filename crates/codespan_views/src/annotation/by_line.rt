@@ -45,7 +45,7 @@ pub fn group_by_line<FileId>(
         return Ok(false);
     }
     let alloc = *annotations.allocator();
-    let mut chains = chain_groups(alloc, annotations, lines)?;
+    let mut chains = chain_buckets(alloc, annotations, lines)?;
     let moved = follow_chains(alloc, annotations, &chains.first, &mut chains.next)?;
     if moved.len() != annotations.len() {
         return Ok(false);
@@ -60,23 +60,23 @@ fn are_worth_moving(len: usize, lines: &Range<usize>) -> bool {
     len >= MIN_LEN && lines.end.saturating_sub(lines.start) <= len
 }
 
-/// The groups of annotations, each a chain.
+/// The buckets of annotations, each a chain.
 #[derive(Drop)]
 struct Chains {
-    /// For each group the index of its first annotation. It is past the end for an empty group.
+    /// For each bucket the index of its first annotation. It is past the end for an empty bucket.
     first: Vec<usize>,
-    /// For each annotation the index of the next one of its group. It is past the end for the last
+    /// For each annotation the index of the next one of its bucket. It is past the end for the last
     /// one.
     next: Vec<usize>,
 }
 
-/// Chains the annotations of each group in their order. Those whose group is past the last one are
-/// in no chain. `lines` are 0-based indices, the end exclusive.
+/// Chains the annotations of each bucket in their order. Those whose bucket is past the last one
+/// are in no chain. `lines` are 0-based indices, the end exclusive.
 ///
 /// # Errors
 ///
 /// `OutOfMemory`: an allocation fails.
-fn chain_groups<FileId>(
+fn chain_buckets<FileId>(
     alloc: Global,
     annotations: &[Annotation<'_, FileId>],
     lines: Range<usize>,
@@ -89,10 +89,10 @@ fn chain_groups<FileId>(
     let mut first = vec![in alloc; len; line_total.saturating_mul(RANK_COUNT)]?;
     let mut next = vec![in alloc; len; len]?;
     for index in (0..len).rev() {
-        let group = group_of(&annotations[index], lines.start);
-        if group < first.len() {
-            next[index] = first[group];
-            first[group] = index;
+        let bucket = bucket_of(&annotations[index], lines.start);
+        if bucket < first.len() {
+            next[index] = first[bucket];
+            first[bucket] = index;
         }
     }
     Ok(Chains { first, next })
@@ -134,10 +134,10 @@ fn follow_chains<'d, FileId>(
     Ok(moved)
 }
 
-/// Returns the index of the annotation's group: each line from the 0-based `first_line` on has one
-/// for each rank. For another line the index is past the last group, unless the line is so far away
-/// that the product wraps; `put_in_order` tests the order afterwards.
-fn group_of<FileId>(annotation: &Annotation<'_, FileId>, first_line: usize) -> usize {
+/// Returns the index of the annotation's bucket: each line from the 0-based `first_line` on has one
+/// for each rank. For another line the index is past the last bucket, unless the line is so far
+/// away that the product wraps; `put_in_order` tests the order afterwards.
+fn bucket_of<FileId>(annotation: &Annotation<'_, FileId>, first_line: usize) -> usize {
     let line = annotation.line.index.wrapping_sub(first_line);
     line.wrapping_mul(RANK_COUNT).wrapping_add(rank(annotation))
 }

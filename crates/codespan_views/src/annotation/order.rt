@@ -6,7 +6,7 @@ ghost use Rattle.codespan_views.specs.Private.Annotations.{IsLaneMarkOn, annotat
 ghost use Rattle.codespan_views.specs.Private.AnnotationViews.{annotation_view};
 
 use crate::annotation::by_line::group_by_line;
-use crate::annotation::{Annotation, AnnotationKind, range_in_line};
+use crate::annotation::{Annotation, AnnotationKind, drawn_range};
 use codespan_core::files::Error;
 use std::cmp::Ordering;
 use std::ops::Range;
@@ -38,8 +38,8 @@ fn compare_kinds<FileId>(left: &Annotation<'_, FileId>, right: &Annotation<'_, F
                 label: other_label,
             },
         ) => {
-            let range = range_in_line(*label, left.line.start);
-            let other = range_in_line(*other_label, right.line.start);
+            let range = drawn_range(*label, left.line.start);
+            let other = drawn_range(*other_label, right.line.start);
             let starts = range.start.cmp(&other.start);
             // By `then` the ends would be compared each time.
             match starts {

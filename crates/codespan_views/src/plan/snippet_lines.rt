@@ -46,9 +46,9 @@ pub enum Gap {
     /// Nothing, or the line is the first shown one.
     Nothing,
     /// The one line between, at this 0-based index, which is filled in.
-    Line(usize),
+    Filled(usize),
     /// Two lines or more, which are left out.
-    Lines,
+    Break,
 }
 
 /// Returns what is before the shown line at this index, where `previous` is the index of the shown
@@ -61,9 +61,9 @@ pub fn gap_before(previous: Option<usize>, index: usize) -> Gap
     };
     let distance = index.saturating_sub(previous);
     if distance == 2 {
-        Gap::Line(index - 1)
+        Gap::Filled(index - 1)
     } else if distance > 2 {
-        Gap::Lines
+        Gap::Break
     } else {
         Gap::Nothing
     }
@@ -122,7 +122,7 @@ impl<'files, F: Files<'files>> LinePlanner<'files, F> {
     {
         match gap {
             Gap::Nothing => {}
-            Gap::Line(index) => {
+            Gap::Filled(index) => {
                 let number = self.known_number(index)?;
                 snippet_lines.push(SnippetLine::Filled {
                     index,
@@ -130,7 +130,7 @@ impl<'files, F: Files<'files>> LinePlanner<'files, F> {
                     annotations: hidden,
                 })?;
             }
-            Gap::Lines => snippet_lines.push(SnippetLine::Break { next })?,
+            Gap::Break => snippet_lines.push(SnippetLine::Break { next })?,
         }
         Ok(())
     }

@@ -11,7 +11,7 @@ ghost use Rattle.codespan_views.specs.Private.Annotations.{is_before};
 ghost use Rattle.codespan_views.specs.Private.AnnotationViews.{IsLineOf, IsOfFiles, annotation_view};
 ghost use Rattle.codespan_views.specs.Private.LabeledFiles.{ids_view};
 ghost use Rattle.codespan_views.specs.Private.Loci.{locus_failure, locus_start_of};
-ghost use Rattle.codespan_views.specs.Private.SnippetPlans.{ArePlansOf, plans_failure};
+ghost use Rattle.codespan_views.specs.Private.SnippetPlans.{ArePlansOfCollected, collected_plan_failure};
 ghost use Rattle.codespan_views.specs.Private.SnippetLines.{filled_lines_of, lines_of};
 ghost use Rattle.codespan_views.specs.Private.SnippetLineViews.{AddsLines, numbers_looked_up};
 ghost use Rattle.codespan_views.specs.Private.TextLoci.{IsTextLocus};
@@ -99,7 +99,7 @@ fn locate_snippet<'files, 'e, F: Files<'files>>(
         files,
         file_id: file.file_id,
     };
-    let locus = source.locus(alloc, file.start.byte())?;
+    let locus = source.locus(alloc, file.least_starts.byte())?;
     Ok(SnippetPlan {
         file,
         locus,
@@ -144,10 +144,10 @@ pub fn plan_snippets<'files, 'e, 'd, F: Files<'files>>(
     requires lines { AllByRecursion (IsOfFiles (F.database files.now).file
         (ids_view collected.now.files.items)) collected.now.annotations.items }
     ensures plans { IfOk result
-        (λ snippet_plans. ArePlansOf layout (F.database files.now).file collected.now
+        (λ snippet_plans. ArePlansOfCollected layout (F.database files.now).file collected.now
         snippet_plans.items snippet_lines.new.items) }
     ensures failed { FailsByOrFormatError
-        (plans_failure layout (F.database files.now).failure collected.now) result }
+        (collected_plan_failure layout (F.database files.now).failure collected.now) result }
 {
     let mut snippet_plans = Vec::with_capacity(alloc, collected.files.len())?;
     let mut located = Ok(());

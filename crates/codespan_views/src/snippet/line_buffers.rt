@@ -7,7 +7,7 @@ ghost use Rattle.codespan_picture.specs.OutputStreams.{label_of};
 ghost use Rattle.codespan_views.specs.Private.AnnotationViews.{annotation_view};
 ghost use Rattle.codespan_views.specs.Private.SnippetLines.{lane_marks_in, single_labels_in};
 
-use crate::annotation::{Annotation, AnnotationKind, multi_label, range_in_line};
+use crate::annotation::{Annotation, AnnotationKind, drawn_range, multi_label};
 use codespan_core::diagnostic::{Label, LabelStyle};
 use codespan_core::files::Error;
 use codespan_renderer::term::renderer::cached::LineMetrics;
@@ -22,7 +22,7 @@ pub struct LineBuffers<'d> {
     /// The single-line labels.
     pub single_labels: Vec<SingleLabel<'d>>,
     /// The lane marks: of each multi-line label its lane, its style and what it does on the line.
-    pub multi_labels: Vec<(usize, LabelStyle, MultiLabel<'d>)>,
+    pub lane_marks: Vec<(usize, LabelStyle, MultiLabel<'d>)>,
     /// The characters of the line and the pointers under them, as far as its rows reach.
     pub metrics: LineMetrics,
 }
@@ -31,11 +31,11 @@ impl<'d> LineBuffers<'d> {
     /// Returns empty buffers. It allocates nothing.
     pub fn new(alloc: Global) -> LineBuffers<'d>
         ensures single_labels { result.single_labels.items ≡ [] }
-        ensures multi_labels { result.multi_labels.items ≡ [] }
+        ensures lane_marks { result.lane_marks.items ≡ [] }
     {
         LineBuffers {
             single_labels: Vec::new(alloc),
-            multi_labels: Vec::new(alloc),
+            lane_marks: Vec::new(alloc),
             metrics: LineMetrics::new(alloc),
         }
     }
@@ -49,33 +49,33 @@ impl<'d> LineBuffers<'d> {
     pub fn refill<FileId>(&mut self, annotations: &[Annotation<'d, FileId>]) -> Result<(), Error>
         ensures single_labels { IfOk result (λ _. single_label_views self.new.single_labels.items
             ≡ single_labels_in (map annotation_view annotations.now)) }
-        ensures multi_labels { IfOk result (λ _. map lane_mark_view self.new.multi_labels.items
+        ensures lane_marks { IfOk result (λ _. map lane_mark_view self.new.lane_marks.items
             ≡ lane_marks_in (map annotation_view annotations.now)) }
         ensures failed { OnErr result (IsErrOf result Error.OutOfMemory) }
     {
-        fill_multi_labels(&mut self.multi_labels, annotations)?;
+        fill_lane_marks(&mut self.lane_marks, annotations)?;
         fill_single_labels(&mut self.single_labels, annotations)
     }
 }
 
-/// Replaces the lane marks in `multi_labels` with those of these annotations, in their order.
+/// Replaces the lane marks with those of these annotations, in their order.
 ///
 /// # Errors
 ///
 /// `OutOfMemory`: an allocation fails.
-pub fn fill_multi_labels<'d, FileId>(
-    multi_labels: &mut Vec<(usize, LabelStyle, MultiLabel<'d>)>,
+pub fn fill_lane_marks<'d, FileId>(
+    lane_marks: &mut Vec<(usize, LabelStyle, MultiLabel<'d>)>,
     annotations: &[Annotation<'d, FileId>],
 ) -> Result<(), Error>
-    ensures multi_labels { IfOk result (λ _. map lane_mark_view multi_labels.new.items
+    ensures lane_marks { IfOk result (λ _. map lane_mark_view lane_marks.new.items
         ≡ lane_marks_in (map annotation_view annotations.now)) }
     ensures failed { OnErr result (IsErrOf result Error.OutOfMemory) }
 {
-    multi_labels.clear();
+    lane_marks.clear();
     for annotation in annotations {
         if let AnnotationKind::Multi { kind, lane, label } = annotation.kind {
             let multi = multi_label(label, kind, annotation.line.start);
-            multi_labels.push((lane, label.style, multi))?;
+            lane_marks.push((lane, label.style, multi))?;
         }
     }
     Ok(())
@@ -110,7 +110,7 @@ fn single_label<FileId>(label: &Label<FileId>, line_start: usize) -> SingleLabel
 {
     (
         label.style,
-        range_in_line(label, line_start),
+        drawn_range(label, line_start),
         label.message.as_str(),
     )
 }

@@ -9,7 +9,7 @@ ghost use Rattle.codespan_views.specs.Private.SnippetLines.{Labeled, Break, are_
 
 use crate::annotation::{Annotation, LineInfo};
 use crate::plan::snippet_lines::SnippetLine;
-use crate::snippet::line_buffers::{LineBuffers, fill_multi_labels};
+use crate::snippet::line_buffers::{LineBuffers, fill_lane_marks};
 use crate::source_file::SourceFile;
 use codespan_core::diagnostic::Severity;
 use codespan_core::files::{Error, Files};
@@ -136,7 +136,7 @@ impl<'context, 'files, F: Files<'files>> Snippet<'context, 'files, F> {
         requires text { self.now.text.now
             ≡ (model_of F.database self.now.file).text }
         requires line { IsLineOf (model_of F.database self.now.file) line }
-        requires fits { IsTrue
+        requires in_order { IsTrue
             (are_annotations_in_order self.now.num_multi_labels
             (map annotation_view annotations.now)) }
         ensures { RendersLine W.sink F.database self.now []
@@ -147,7 +147,7 @@ impl<'context, 'files, F: Files<'files>> Snippet<'context, 'files, F> {
         let source = &self.text[line.start..line.end];
         let lanes = Lanes {
             count: self.num_multi_labels,
-            lane_marks: buffers.multi_labels.as_slice(),
+            lane_marks: buffers.lane_marks.as_slice(),
         };
         let line = Line::new(line.number, source, buffers.single_labels.as_slice(), lanes);
         let cached = buffers.metrics.cache_line(renderer, line)?;
@@ -170,18 +170,18 @@ impl<'context, 'files, F: Files<'files>> Snippet<'context, 'files, F> {
         buffers: &mut LineBuffers<'d>,
         next: &[Annotation<'d, F::FileId>],
     ) -> Result<(), Error>
-        requires fits { IsTrue (are_lane_marks_in_order self.now.num_multi_labels
+        requires in_order { IsTrue (are_lane_marks_in_order self.now.num_multi_labels
             (map annotation_view next.now)) }
         ensures { RendersLine W.sink F.database self.now []
             (Break (map annotation_view next.now))
             renderer.old result renderer.new }
     {
-        fill_multi_labels(&mut buffers.multi_labels, next)?;
+        fill_lane_marks(&mut buffers.lane_marks, next)?;
         renderer.render_snippet_break(
             self.context.padding,
             self.context.severity,
             self.num_multi_labels,
-            buffers.multi_labels.as_slice(),
+            buffers.lane_marks.as_slice(),
         )
     }
 }

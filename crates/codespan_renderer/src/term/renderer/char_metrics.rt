@@ -19,7 +19,7 @@ pub struct CharMetrics<'text> {
     tab_width: usize,
     byte_index: usize,
     column: u128,
-    to_end: bool,
+    has_placeholder: bool,
     ghost left: { chars_rest chars ≡ drop byte_index text.now },
     ghost utf8: { ∥ IsUtf8 (chars_rest chars) ∥₁ },
     ghost within: { byte_index ≤ length text.now },
@@ -48,7 +48,7 @@ impl<'text> CharMetrics<'text> {
             tab_width,
             byte_index: 0,
             column: 0,
-            to_end: false,
+            has_placeholder: false,
         }
     }
 
@@ -63,17 +63,17 @@ impl<'text> CharMetrics<'text> {
             tab_width,
             byte_index: 0,
             column: 0,
-            to_end: true,
+            has_placeholder: true,
         }
     }
 
     /// Returns another iterator that goes on where this one is. After the last character it yields
-    /// the placeholder where `to_end` is set.
+    /// the placeholder where `has_placeholder` is set.
     #[inline(always)]
-    pub fn fork(&self, to_end: bool) -> CharMetrics<'text>
+    pub fn fork(&self, has_placeholder: bool) -> CharMetrics<'text>
         ensures same { (after : MetricsAfterEnd)
             → metrics_from after result ≡ metrics_from after self.now }
-        ensures end { result.to_end ≡ to_end }
+        ensures placeholder { result.has_placeholder ≡ has_placeholder }
         ensures byte_index { result.byte_index ≡ self.now.byte_index }
         ensures column { result.column ≡ self.now.column }
     {
@@ -83,7 +83,7 @@ impl<'text> CharMetrics<'text> {
             tab_width: self.tab_width,
             byte_index: self.byte_index,
             column: self.column,
-            to_end,
+            has_placeholder,
         }
     }
 
@@ -91,7 +91,7 @@ impl<'text> CharMetrics<'text> {
     #[inline(always)]
     pub fn next_metrics(&mut self) -> Option<Metrics>
         ensures yields { YieldsCharacter self.old result self.new }
-        ensures end { self.new.to_end ≡ self.old.to_end }
+        ensures placeholder { self.new.has_placeholder ≡ self.old.has_placeholder }
     {
         let left = self.chars.as_str().len();
         match self.chars.next() {
@@ -162,8 +162,8 @@ impl<'text> Iterator for CharMetrics<'text> {
     fn next(&mut self) -> Option<Metrics> {
         match self.next_metrics() {
             Some(metrics) => Some(metrics),
-            None if self.to_end => {
-                self.to_end = false;
+            None if self.has_placeholder => {
+                self.has_placeholder = false;
                 Some(Metrics {
                     ch: ' ',
                     byte_index: self.byte_index,

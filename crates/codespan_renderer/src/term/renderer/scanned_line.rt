@@ -130,10 +130,10 @@ fn scanned_caret_pointers<W: PutStyle>(
     ensures { Writes (W.sink w.old) (pointers_before_view context.entry line.entry before)
         result (W.sink w.new) }
 {
-    let reach = max_label_start(line.labels);
+    let greatest_start = max_label_start(line.labels);
     let mut pending = 0u128;
     for metrics in CharMetrics::new(line.text, context.tab_width) {
-        if metrics.byte_index >= before || metrics.byte_index > reach {
+        if metrics.byte_index >= before || metrics.byte_index > greatest_start {
             break;
         }
         let mut width = metrics.unicode_width;

@@ -6,7 +6,7 @@ use Rattle.codespan_views.specs.declared.labeled_files.LabeledFile.{LabeledFile 
 use Rattle.codespan_views.specs.Private.CollectedLabels.{FindsLines, collected_label}
 use Rattle.codespan_views.specs.Private.AnnotationViews.{Adds, IsOfFiles}
 use Rattle.codespan_views.specs.Private.LabeledFiles.{ids_view, lane_counts, num_multi_labels_of, lanes_with_label}
-use Rattle.codespan_views.specs.Private.LocusStarts.{file_locus_start}
+use Rattle.codespan_views.specs.Private.LocusBytes.{file_least_starts}
 use Rattle.codespan_picture.specs.OutputStreams.{label_of}
 use Rattle.codespan_picture.specs.Snippets.{file_ids}
 use Rattle.codespan_views.specs.Private.FileIndices.{AreDistinct, index_of_file}
@@ -76,15 +76,15 @@ found_there g c =
     c.index-labels-index.result.file_id)
     (sym (equal_ids g c.lifetimes (search rules) c.args.files.now))
 
-pub returns-in_err-lines-clause-failed : goal.returns-in_err-lines-clause-failed
-returns-in_err-lines-clause-failed g c =
+pub returns-in_err-span-clause-failed : goal.returns-in_err-span-clause-failed
+returns-in_err-span-clause-failed g c =
     let lawful = are_files g c.lifetimes (search rules) c.args.files.now in
-    let at = turn g (goal.at.returns-in_err-lines-clause-failed g c).After-index-labels-index in
-    let p = err_from_is_err_and c.from_residual-in_err-lines.result
-    c.from_residual-in_err-lines.ensures.1 in
+    let at = turn g (goal.at.returns-in_err-span-clause-failed g c).After-index-labels-index in
+    let p = err_from_is_err_and c.from_residual-in_err-span.result
+    c.from_residual-in_err-span.ensures.1 in
     rw (p.1 ∙ ap Err p.2)
     (λ known. collected-failed lawful at c.loop-index.invariant _
-    (c.in_err-lines.ensures.failed known))
+    (c.in_err-span.ensures.failed known))
 
 -- its index is one of the files'
 indices_inside : (g : Over) (c : In_ok-file g)
@@ -132,10 +132,10 @@ loop-index-preserved g c =
     let at = turn g (goal.at.loop-index-preserved g c).After-index-labels-index in
     let there = indexed g (goal.at.loop-index-preserved g c).In_ok-file at in
     let label = c.index-labels-index.result in
-    let found = c.in_ok-lines.ensures in
+    let found = c.in_ok-span.ensures in
     let known = c.add_label.ensures in
     let own = lanes_by-are (((g.F.Files.database c.args.files.now).file) label.file_id)
-    (label_of label).label c.in_ok-lines.lines found.first found.last in
+    (label_of label).label c.in_ok-span.span found.first found.last in
     let lane = lane_there g (goal.at.loop-index-preserved g c).After-index
     (indices_inside g (goal.at.loop-index-preserved g c).In_ok-file at) in
     let database = g.F.Files.database c.args.files.now in
@@ -167,7 +167,7 @@ returns-clause-collected g c =
       files = record {
         ids_are = done.ids_are;
         labels_are = each-labels same file xs c.loop-index.labeled.items
-            (done.starts_are ∙ ap (map (file_locus_start same xs)) (sym done.ids_are))
+            (done.starts_are ∙ ap (map (file_least_starts same xs)) (sym done.ids_are))
             (done.lanes_are ∙ ap (map (num_multi_labels_of same file xs)) (sym done.ids_are));
         padding_is = done.counted;
       };

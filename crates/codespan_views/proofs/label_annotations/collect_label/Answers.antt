@@ -9,4 +9,4 @@ returns-clause-failed g c =
     let failure = (g.F.Files.database c.args.files.now).failure c.args.label.now.file_id in
     let range = c.args.label.now.range in
     ap (λ o. or_failure (failure (LineIndex range.start)) (or_failure (failure (LineIndex range.end)) o)) c.in_ok-collect_lines.ensures.failed
-    ∙ c.in_ok-lines.ensures.failed
+    ∙ c.in_ok-span.ensures.failed

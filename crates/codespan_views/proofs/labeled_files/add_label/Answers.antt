@@ -2,9 +2,9 @@ use Rattle.std.proofs.Common.{ℕ, ◌+◌, ◌∙◌}
 use Rattle.std.proofs.lemmas.List.{set-get_or}
 use Rattle.codespan_picture.specs.OutputStreams.{label_of}
 use Rattle.codespan_views.specs.declared.labeled_files.LabeledFile.{LabeledFile as RustFile}
-use Rattle.codespan_views.specs.declared.locus_start.LocusStart.{LocusStart}
+use Rattle.codespan_views.specs.declared.least_starts.LeastStarts.{LeastStarts}
 use Rattle.codespan_views.specs.Private.LabeledFiles.{ids_view, lanes_by}
-use Rattle.codespan_views.specs.Private.LocusStarts.{no_start, start_with}
+use Rattle.codespan_views.specs.Private.LocusBytes.{no_starts, least_starts_with}
 use Rattle.codespan_views.proofs.IndexedElements.{IsElementAt, map-changed}
 use Rattle.codespan_views.proofs.labeled_files.add_label.Given.{Over}
 use Rattle.codespan_views.proofs.labeled_files.add_label.Goals.{After-add}
@@ -24,12 +24,12 @@ returns-clause-ids g c =
 
 pub returns-clause-starts : goal.returns-clause-starts
 returns-clause-starts g c =
-    let start : RustFile g.row.FileId.Denot → LocusStart = λ f. f.start in
-    map-changed start no_start (λ s. start_with s (label_of c.args.label.now).label)
-    (at g (goal.at.returns-clause-starts g c).After-add) c.add.new.self c.add.ensures.start
+    let start : RustFile g.row.FileId.Denot → LeastStarts = λ f. f.least_starts in
+    map-changed start no_starts (λ s. least_starts_with s (label_of c.args.label.now).label)
+    (at g (goal.at.returns-clause-starts g c).After-add) c.add.new.self c.add.ensures.least_starts
 
 pub returns-clause-lanes : goal.returns-clause-lanes
 returns-clause-lanes g c =
     let lanes : RustFile g.row.FileId.Denot → ℕ = λ f. f.num_multi_labels in
-    map-changed lanes 0 (λ n. n + lanes_by c.args.lines)
+    map-changed lanes 0 (λ n. n + lanes_by c.args.span)
     (at g (goal.at.returns-clause-lanes g c).After-add) c.add.new.self c.add.ensures.lanes

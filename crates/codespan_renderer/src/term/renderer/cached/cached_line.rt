@@ -141,23 +141,23 @@ impl<'cache, 'row, 'd> CachedLine<'cache, 'row, 'd> {
     }
 
     /// Returns a cursor over its characters without the first `skipped` ones, and over the
-    /// placeholder after the last one where `to_end` is set.
+    /// placeholder after the last one where `has_placeholder` is set.
     ///
     /// # Requires
     ///
     /// At least `skipped` characters are cached.
     #[inline(always)]
-    fn cursor(&self, skipped: usize, to_end: bool) -> CachedCursor<'cache, 'row, 'd>
+    fn cursor(&self, skipped: usize, has_placeholder: bool) -> CachedCursor<'cache, 'row, 'd>
         requires { skipped ≤ length self.now.cached.now }
         ensures left { take skipped self.now.cached.now ++ cached_left result.characters
-            ≡ metrics_then (after_last to_end) self.now.tab_width 0 0
+            ≡ metrics_then (after_last has_placeholder) self.now.tab_width 0 0
             (chars self.now.line.text.now) }
         ensures labels { result.label_cursor.labels.now ≡ self.now.line.labels.now }
     {
         CachedCursor {
             characters: CachedMetrics {
                 cached: &self.cached[skipped..],
-                rest: self.rest.fork(to_end),
+                rest: self.rest.fork(has_placeholder),
             },
             label_cursor: LabelCursor::new(self.line.labels),
         }

@@ -65,7 +65,7 @@ impl<'row, 'd> LabelCursor<'row, 'd> {
     {
         let labels = self.labels;
         while self.next < labels.len() && starts_before_end(&labels[self.next], metrics) {
-            self.pass(&labels[self.next]);
+            self.raise_ends(&labels[self.next]);
             self.next += 1;
         }
     }
@@ -112,7 +112,7 @@ impl<'row, 'd> LabelCursor<'row, 'd> {
     }
 
     /// Raises the greatest ends to that of a label, unless it covers no byte.
-    fn pass(&mut self, label: &SingleLabel<'_>)
+    fn raise_ends(&mut self, label: &SingleLabel<'_>)
         ensures primary { self.new.primary_end
             ≡ end_with (is_primary (single_label_view label.now)) self.old.primary_end
             (single_label_view label.now) }

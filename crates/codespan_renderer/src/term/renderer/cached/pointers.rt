@@ -98,9 +98,9 @@ pub fn find_pointers(
     }
     let mut before = StartCursor::new(messages.before);
     let mut after = StartCursor::new(messages.after);
-    let last = max_label_start(line.labels);
+    let greatest_start = max_label_start(line.labels);
     for metrics in characters {
-        if metrics.byte_index > last {
+        if metrics.byte_index > greatest_start {
             return Ok(());
         }
         let early = before.start_style(None, metrics);

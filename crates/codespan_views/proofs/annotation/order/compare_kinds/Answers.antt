@@ -43,8 +43,8 @@ returns-in-Equal g c =
     let singles = c.in-Single-Single in
     let x = from_line_start c.args.left.now.line.start (label_of singles.label.now).label in
     let y = from_line_start c.args.right.now.line.start (label_of singles.other_label.now).label in
-    let range = c.range_in_line-range.ensures in
-    let other = c.range_in_line-other.ensures in
+    let range = c.drawn_range-range.ensures in
+    let other = c.drawn_range-other.ensures in
     rw (singles.is-0, singles.is-1)
     (by_ends singles.index singles.other_index x y c.then.result c.cmp.result c.cmp-in-Equal.result
     range.start other.start range.end other.end (sym c.in-Equal.is ∙ c.cmp-starts.ensures)
@@ -58,7 +58,7 @@ returns-in_default-starts g c =
     let y = from_line_start c.args.right.now.line.start (label_of singles.other_label.now).label in
     rw (singles.is-0, singles.is-1)
     (by_starts singles.index singles.other_index x y c.cmp-starts.result
-    c.range_in_line-range.ensures.start c.range_in_line-other.ensures.start c.cmp-starts.ensures
+    c.drawn_range-range.ensures.start c.drawn_range-other.ensures.start c.cmp-starts.ensures
     c.in_default-starts.not-Equal)
 
 -- lane marks are compared by their lanes alone

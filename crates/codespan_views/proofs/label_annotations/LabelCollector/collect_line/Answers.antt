@@ -32,14 +32,14 @@ line_found g c = rw c.in-Some.is at c.in_ok-line.ensures.found
 
 -- whether the label spans the line
 is_spanned : (g : Over) (c : In_ok-push_line g)
-    → c.if-is_far.is_spanned ≡ spans_line c.args.self.now.lines.first c.args.self.now.lines.last
+    → c.if-is_far.is_spanned ≡ spans_line c.args.self.now.span.first c.args.self.now.span.last
     c.args.index
 is_spanned g c =
-    let lines = c.args.self.now.lines in
+    let span = c.args.self.now.span in
     elim c.if-is_far.branch [
       | then-is_far w ↦ w.is_spanned-is ∙ w.if-is_far.true
           ∙ sym
-          (far-spans c.args.self.now.config.now lines.first lines.last c.args.index
+          (far-spans c.args.self.now.config.now span.first span.last c.args.index
           (c.requires.far w.if-is_far.true))
       | else-is_far w ↦ w.is_spanned-is ∙ w.spans-is_spanned.ensures
     ]
@@ -51,12 +51,12 @@ looked_up : (g : Over) (c : In_ok-push_line g)
 looked_up g c =
     let collector = c.args.self.now in
     let x = label_of_collector g.F.Files.database collector in
-    let lines = collector.lines in
+    let span = collector.span in
     elim c.else-not-is_spanned.branch [
       | else-not-is_spanned-via-then-not-is_spanned+else-not-is_around w ↦
-          looked_up-around x lines.first lines.last c.args.index c.requires.lines.first
+          looked_up-around x span.first span.last c.args.index c.requires.lines.first
           c.requires.lines.last (sym w.is_around.ensures ∙ w.if-not-is_around.false)
-      | else-not-is_spanned-via-else-not-is_spanned w ↦ looked_up-spanned x lines.first lines.last
+      | else-not-is_spanned-via-else-not-is_spanned w ↦ looked_up-spanned x span.first span.last
           c.args.index c.requires.lines.first c.requires.lines.last
           (sym (is_spanned g c) ∙ w.if-not-is_spanned.false)
     ]
@@ -90,17 +90,17 @@ pub returns-clause-padding : goal.returns-clause-padding
 returns-clause-padding g c =
     let collector = c.args.self.now in
     let x = label_of_collector g.F.Files.database collector in
-    let lines = collector.lines in
+    let span = collector.span in
     let found = line_found g c in
     let number = found.1.number_is ∙ ap x.file.line_number found.0 in
-    let digits : FoundAnnotations g.row.F-FileId.Denot → ℕ = λ f. f.padding.digits in
+    let digits : FoundAnnotations g.row.F-FileId.Denot → ℕ = λ f. f.spanned_padding.digits in
     λ _. elim c.if-is_spanned.branch [
-      | then-is_spanned w ↦ padding-spanned x lines.first lines.last c.args.index c.requires.lines.first
-          c.requires.lines.last _ c.args.found.now.padding.digits
+      | then-is_spanned w ↦ padding-spanned x span.first span.last c.args.index c.requires.lines.first
+          c.requires.lines.last _ c.args.found.now.spanned_padding.digits
           (sym (is_spanned g c) ∙ w.if-is_spanned.true)
           (ap digits w.found-is ∙ rw number at w.fit.ensures)
-      | else-is_spanned w ↦ padding-unspanned x lines.first lines.last c.args.index
-          c.requires.lines.first c.requires.lines.last _ c.args.found.now.padding.digits
+      | else-is_spanned w ↦ padding-unspanned x span.first span.last c.args.index
+          c.requires.lines.first c.requires.lines.last _ c.args.found.now.spanned_padding.digits
           (sym (is_spanned g c) ∙ w.if-is_spanned.false) (ap digits w.found-is)
     ]
 

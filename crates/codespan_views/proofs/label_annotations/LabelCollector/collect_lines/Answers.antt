@@ -43,7 +43,7 @@ in_range a b k is_in is is_true = grind (arith, nat_tests)
 
 -- a line that is far from the ends is inside the label
 is_far_inside : (g : Over) (c : goal.After-collect_line-arg-1 g) → c.contains.result ≡ true
-    → IsFarInside c.args.self.now.config.now c.args.self.now.lines.first c.args.self.now.lines.last
+    → IsFarInside c.args.self.now.config.now c.args.self.now.span.first c.args.self.now.span.last
     c.loop-index.index-counter
 is_far_inside g c far =
     let inside = in_range _ _ _ _ c.contains.ensures.value far in

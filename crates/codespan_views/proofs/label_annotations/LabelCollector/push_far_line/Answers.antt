@@ -8,12 +8,12 @@ pub returns-clause-added : goal.returns-clause-added
 returns-clause-added g c =
     let collector = c.args.self.now in
     let x = label_of_collector g.F.Files.database collector in
-    let lines = collector.lines in
+    let span = collector.span in
     let line = c.args.line in
     Adds-as (annotation_if_any-line x c.requires.lines.first c.requires.lines.last c.requires.line
-    (far-kind x.config x.indices lines.first lines.last line.index line.start x.label
+    (far-kind x.config x.indices span.first span.last line.index line.start x.label
     c.requires.far)
-    (far-multi_label x.config x.indices lines.first lines.last line.index line.start collector.label
+    (far-multi_label x.config x.indices span.first span.last line.index line.start collector.label
     c.requires.far))
     (Adds-weaker (λ e same. subst (IsLineOf x.file) (sym same) c.requires.line)
     c.in_ok-push_annotation.ensures.added)

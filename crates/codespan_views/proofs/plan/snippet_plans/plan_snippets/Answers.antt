@@ -2,7 +2,7 @@ use Rattle.std.proofs.Common.{◌<◌, ◌≤◌, [], Err, length, map, get_or, 
 use Rattle.std.proofs.lemmas.Result.{err_from_is_err_and}
 use Rattle.codespan_views.specs.Private.FileLookups.{FailsByOrFormatError}
 use Rattle.codespan_views.specs.Private.AnnotationViews.{annotation_view}
-use Rattle.codespan_views.specs.Private.SnippetPlans.{ArePlans, plans_failure}
+use Rattle.codespan_views.specs.Private.SnippetPlans.{ArePlansOfAnnotations, collected_plan_failure}
 use Rattle.codespan_views.proofs.FileLengths.{rest-sorted}
 use Rattle.codespan_views.proofs.FileSlices.{from_file-first}
 use Rattle.codespan_views.proofs.FileTurns.{IsAtFile, next_inside, next_left, own_lookups, own_lines}
@@ -18,7 +18,7 @@ loop-index-init g c = record {
   planned = record {
     plans =
         subst
-        (λ snippet_plans. ArePlans c.args.layout (((g.F.Files.database c.args.files.now).file))
+        (λ snippet_plans. ArePlansOfAnnotations c.args.layout (((g.F.Files.database c.args.files.now).file))
         (map annotation_view c.args.collected.now.annotations.items) 0 [] snippet_plans
         c.args.snippet_lines.now.items)
         (sym c.in_ok-snippet_plans.ensures.items) c.requires.empty;
@@ -99,7 +99,7 @@ loop-index-preserved g c =
 -- after the last file what is kept is the error of the lookups of all
 all-add : (g : Over) (c : After-branch-located g)
     → FailsByOrFormatError
-    (plans_failure c.args.layout (((g.F.Files.database c.args.files.now).failure))
+    (collected_plan_failure c.args.layout (((g.F.Files.database c.args.files.now).failure))
     c.args.collected.now)
     c.loop-index.located
 all-add g c =

@@ -36,14 +36,14 @@ returns-in_err-caret_pointer g c =
     rw p.1
     (StillToWrite-failed _ _ _ _ _ _ _ c.loop-metrics.invariant.with_written
     c.in_err-caret_pointer.ensures
-    (pointer_first _ _ _ _ _ _ _ _ _ c.max_label_start-reach.ensures c.in-Some.ensures.steps
+    (pointer_first _ _ _ _ _ _ _ _ _ c.max_label_start-greatest_start.ensures c.in-Some.ensures.steps
     (omega arith) (sym c.pointer_style_if_any.ensures ∙ c.in-Some-pointer_style_if_any.is)))
 
 pub loop-metrics-preserved : goal.loop-metrics-preserved
 loop-metrics-preserved g c =
     let i = c.loop-metrics.invariant in
     let step = c.in-Some.ensures.steps in
-    let near : c.in-Some.metrics.byte_index ≤ c.max_label_start-reach.result = omega arith in
+    let near : c.in-Some.metrics.byte_index ≤ c.max_label_start-greatest_start.result = omega arith in
     elim c.match-pointer_style_if_any.branch [
       | in-Some-pointer_style_if_any+in_ok-caret_pointer
           w ↦ let narrower : w.saturating_sub-width.result
@@ -54,14 +54,14 @@ loop-metrics-preserved g c =
                 scan_state-more _ _ _ _ _ (omega arith) (omega arith) (rw step at i.scan_state);
             with_written = StillToWrite-same _ _ _ _ _ (sym (spaces_none _) ∙ spaces_due _ _ 0 _ _ near)
                 (StillToWrite-more _ _ _ _ _ _ _ i.with_written w.in_ok-caret_pointer.ensures
-                (pointer_first _ _ _ _ _ _ _ _ _ c.max_label_start-reach.ensures step (omega arith)
+                (pointer_first _ _ _ _ _ _ _ _ _ c.max_label_start-greatest_start.ensures step (omega arith)
                 (sym c.pointer_style_if_any.ensures ∙ w.in-Some-pointer_style_if_any.is)));
           }
       | in_default w ↦ rw (w.w-is, w.pending-is, w.width-is) record {
         scan_state =
             scan_state-more _ _ _ _ _ (omega arith) (omega arith) (rw step at i.scan_state);
         with_written = StillToWrite-same _ _ _ _ _
-            (spaces_first _ _ _ _ _ _ _ _ c.max_label_start-reach.ensures step (omega arith)
+            (spaces_first _ _ _ _ _ _ _ _ c.max_label_start-greatest_start.ensures step (omega arith)
             (sym c.pointer_style_if_any.ensures ∙ w.in_default.is) ∙ spaces_due _ _ _ _ _ near)
             i.with_written;
       }
@@ -78,7 +78,7 @@ returns g c =
     elim c.match-next.branch [
       | in-None w ↦ spaces_last context labels _ _ _ w.in-None.ensures.steps.0
       | in-Some+then-metrics-before w ↦ spaces_rest context labels _ _ _ _ _ _ w.in-Some.metrics _
-          c.max_label_start-reach.ensures w.in-Some.ensures.steps at.invariant.scan_state
+          c.max_label_start-greatest_start.ensures w.in-Some.ensures.steps at.invariant.scan_state
           w.then-metrics-before.either
     ] in
     StillToWrite-last _ _ _ _ _ _ at.invariant.with_written (rw end c.write_spaces.ensures)

@@ -12,16 +12,16 @@ use Rattle.codespan_views.proofs.LookupRuns.{out_of_memory}
 use Rattle.codespan_views.proofs.LaneMarks.{lanes_fit}
 use Rattle.codespan_views.proofs.snippet.lines.Snippet.render_break.Goals as goal
 
-pub returns-in_err-fill_multi_labels : goal.returns-in_err-fill_multi_labels
-returns-in_err-fill_multi_labels g c =
+pub returns-in_err-fill_lane_marks : goal.returns-in_err-fill_lane_marks
+returns-in_err-fill_lane_marks g c =
     let p = err_from_is_err_and c.from_residual.result c.from_residual.ensures.1 in
-    rw p.1 (allocation_failed (out_of_memory p.2 c.in_err-fill_multi_labels.ensures.failed))
+    rw p.1 (allocation_failed (out_of_memory p.2 c.in_err-fill_lane_marks.ensures.failed))
 
 pub render_snippet_break-requires : goal.render_snippet_break-requires
 render_snippet_break-requires g c = lanes_fit c.args.self.now.num_multi_labels
     (map annotation_view c.args.next.now) _
     (ap (map lane_mark_view) c.as_slice.ensures.value
-    ∙ c.in_ok-fill_multi_labels.ensures.multi_labels) c.requires.fits
+    ∙ c.in_ok-fill_lane_marks.ensures.lane_marks) c.requires.in_order
 
 pub returns : goal.returns
 returns g c =
@@ -29,7 +29,7 @@ returns g c =
     let context = context_of (config_of c.args.renderer.now) snippet.context.now.severity
     snippet.context.now.padding in
     let lane_marks = ap (map lane_mark_view) c.as_slice.ensures.value
-    ∙ c.in_ok-fill_multi_labels.ensures.multi_labels in
+    ∙ c.in_ok-fill_lane_marks.ensures.lane_marks in
     renders_alone
     (renders_as
     (ap

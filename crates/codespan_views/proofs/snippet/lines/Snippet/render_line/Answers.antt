@@ -18,13 +18,13 @@ returns-in_err-refill g c =
 pub invariant_of-lanes : goal.invariant_of-lanes
 invariant_of-lanes g c =
     let lane_marks =
-    ap (map lane_mark_view) c.as_slice.ensures.value ∙ c.in_ok-refill.ensures.multi_labels in
+    ap (map lane_mark_view) c.as_slice.ensures.value ∙ c.in_ok-refill.ensures.lane_marks in
     record {
       in_order = lanes_fit c.args.self.now.num_multi_labels
           (map annotation_view c.args.annotations.now) _ lane_marks
           (both-true
           (starts_in_order (single_labels_in (map annotation_view c.args.annotations.now)))
-          _ c.requires.fits).1;
+          _ c.requires.in_order).1;
     }
 
 pub returns-in_err-cached : goal.returns-in_err-cached
@@ -39,7 +39,7 @@ returns g c =
     let labels =
     ap single_label_views c.as_slice-2.ensures.value ∙ c.in_ok-refill.ensures.single_labels in
     let lane_marks =
-    ap (map lane_mark_view) c.as_slice.ensures.value ∙ c.in_ok-refill.ensures.multi_labels in
+    ap (map lane_mark_view) c.as_slice.ensures.value ∙ c.in_ok-refill.ensures.lane_marks in
     line-rendered g.F.Files.database c.args.self.now c.args.line.index annotations
     (ap line_view c.in_ok-cached.ensures.line ∙ c.new-line.ensures.line
     ∙ line-shown annotations _ _ c.requires.line c.requires.text c.range-source.ensures.value

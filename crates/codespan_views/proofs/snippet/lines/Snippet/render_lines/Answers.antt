@@ -37,7 +37,7 @@ render_snippet_line-requires g c κs =
             subst (IsSnippetLineOf f) (sym c.snippet_line-item.is)
             (All-from_recursion (IsSnippetLineOf f) snippet_lines c.requires.are.each i _
             c.loop-snippet_line-test.true);
-        fits =
+        in_order =
             ap
             (λ snippet_line. is_line_in_order snippet.num_multi_labels
             (snippet_line_view snippet_line))
@@ -48,7 +48,7 @@ render_snippet_line-requires g c κs =
             snippet_lines
             (all-mapped snippet_line_view
             (λ snippet_line. is_line_in_order snippet.num_multi_labels snippet_line ≡ true)
-            snippet_lines c.requires.are.fit)
+            snippet_lines c.requires.are.in_order)
             i _ c.loop-snippet_line-test.true;
       },
     )

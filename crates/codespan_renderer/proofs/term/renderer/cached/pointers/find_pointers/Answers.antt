@@ -33,12 +33,12 @@ loop-metrics-init c =
       found = refl;
     }
 
-pub returns-then-metrics-last-clause-found : goal.returns-then-metrics-last-clause-found
-returns-then-metrics-last-clause-found c =
+pub returns-then-metrics-greatest_start-clause-found : goal.returns-then-metrics-greatest_start-clause-found
+returns-then-metrics-greatest_start-clause-found c =
     let i = c.loop-metrics.invariant in
-    let none = pointers-past-at c.args.line.labels.now _ _ _ _ c.max_label_start-last.result _ _
-    c.in-Some.metrics c.in-Some.ensures.steps i.cursor c.if-metrics-last.true
-    c.max_label_start-last.ensures in
+    let none = pointers-past-at c.args.line.labels.now _ _ _ _ c.max_label_start-greatest_start.result _ _
+    c.in-Some.metrics c.in-Some.ensures.steps i.cursor c.if-metrics-greatest_start.true
+    c.max_label_start-greatest_start.ensures in
     sym (append-nil c.loop-metrics.pointers.items)
     ∙ ap (λ ps. c.loop-metrics.pointers.items ++ ps) (sym none) ∙ i.found
 

@@ -3,5 +3,5 @@ use Rattle.codespan_renderer.proofs.term.renderer.char_metrics.CharMetricsIterat
 
 pub returns-in-Some-clause-steps : goal.returns-in-Some-clause-steps
 returns-in-Some-clause-steps c =
-    rw c.next_metrics.ensures.end
-    (c.in-Some.ensures.yields.yields (after_last c.args.self.now.to_end))
+    rw c.next_metrics.ensures.placeholder
+    (c.in-Some.ensures.yields.yields (after_last c.args.self.now.has_placeholder))

@@ -7,16 +7,16 @@ pub invariant_of-result : goal.invariant_of-result
 invariant_of-result c =
     let s = c.args.self.now in
     let all =
-    cached-from s.tab_width s.line.text.now s.cached.now s.rest c.fork.result c.args.to_end
-    c.args.skipped s.metrics_are c.fork.ensures.same c.fork.ensures.end in
+    cached-from s.tab_width s.line.text.now s.cached.now s.rest c.fork.result c.args.has_placeholder
+    c.args.skipped s.metrics_are c.fork.ensures.same c.fork.ensures.placeholder in
     record {
       state =
           cursor-start _ (take c.args.skipped s.cached.now) _ c.new.ensures.passed
-          (rw all (follow-after c.args.to_end s.tab_width s.line.text.now));
+          (rw all (follow-after c.args.has_placeholder s.tab_width s.line.text.now));
     }
 
 pub returns-clause-left : goal.returns-clause-left
 returns-clause-left c =
     let s = c.args.self.now in
-    cached-from s.tab_width s.line.text.now s.cached.now s.rest c.fork.result c.args.to_end
-    c.args.skipped s.metrics_are c.fork.ensures.same c.fork.ensures.end
+    cached-from s.tab_width s.line.text.now s.cached.now s.rest c.fork.result c.args.has_placeholder
+    c.args.skipped s.metrics_are c.fork.ensures.same c.fork.ensures.placeholder

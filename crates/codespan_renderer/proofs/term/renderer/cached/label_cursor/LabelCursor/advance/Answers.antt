@@ -7,7 +7,7 @@ use Rattle.codespan_renderer.proofs.term.renderer.cached.label_cursor.LabelCurso
 pub loop-self-preserved : goal.loop-self-preserved
 loop-self-preserved c =
     let i = c.loop-self.invariant in
-    let e = c.pass.ensures in
+    let e = c.raise_ends.ensures in
     let step =
     labels-step _ c.args.self.now.labels.now c.loop-self.self.next _ c.loop-self.invariant.same
     (omega arith) in

@@ -11,9 +11,9 @@ use Rattle.codespan_core.specs.declared.diagnostic.Label.{Label}
 use Rattle.codespan_core.specs.Labels.{is_primary}
 use Rattle.codespan_picture.specs.OutputStreams.{label_of}
 use Rattle.codespan_picture.specs.Snippets.{InFile, file_ids}
-use Rattle.codespan_views.specs.declared.locus_start.LocusStart.{LocusStart}
+use Rattle.codespan_views.specs.declared.least_starts.LeastStarts.{LeastStarts}
 use Rattle.codespan_views.specs.Private.LabeledFiles.{starts_with_label}
-use Rattle.codespan_views.specs.Private.LocusStarts.{file_locus_start, is_locus_label, least_if_any, least_with, no_start, start_with, label_starts}
+use Rattle.codespan_views.specs.Private.LocusBytes.{file_least_starts, is_locus_label, least_if_any, least_with, no_starts, least_starts_with, label_starts}
 use Rattle.codespan_views.specs.Private.FileIndices.{index_of_file}
 use Rattle.codespan_picture.proofs.ListElements.{all-weaker, filter-nothing}
 use Rattle.codespan_views.proofs.IndexedElements.{IsElementAt}
@@ -52,7 +52,7 @@ module _ {Id : Type 0} (same : Id → Id → Bool) (xs : List (InFile Id)) (x : 
 
     -- a label of another file changes nothing
     start-others : same id x.file_id ≡ false
-        → file_locus_start same (xs ++ x ∷ []) id ≡ file_locus_start same xs id
+        → file_least_starts same (xs ++ x ∷ []) id ≡ file_least_starts same xs id
     start-others f =
         λ i. record { primary = least_if_any (none true i); any = least_if_any (none false i) }
       where
@@ -67,7 +67,7 @@ module _ {Id : Type 0} (same : Id → Id → Bool) (xs : List (InFile Id)) (x : 
 
     -- one of the file adds its start
     start-own : same id x.file_id ≡ true
-        → file_locus_start same (xs ++ x ∷ []) id ≡ start_with (file_locus_start same xs id) x.label
+        → file_least_starts same (xs ++ x ∷ []) id ≡ least_starts_with (file_least_starts same xs id) x.label
     start-own t =
         λ i.
         record {
@@ -107,7 +107,7 @@ module _ {Id : Type 0} (same : Id → Id → Bool) (xs : List (InFile Id)) (x : 
 -- labels of other files change nothing
 pub start-unknown : {Id : Type 0} (same : Id → Id → Bool) (xs : List (InFile Id)) (id : Id)
     → AllByRecursion (λ (x : InFile Id). same id x.file_id ≡ false) xs
-    → file_locus_start same xs id ≡ no_start
+    → file_least_starts same xs id ≡ no_starts
 start-unknown {Id} same xs id none =
     λ i. record { primary = least_if_any (starts true i); any = least_if_any (starts false i) }
   where
@@ -121,7 +121,7 @@ start-unknown {Id} same xs id none =
 -- equal ids have one start
 start-equal : {Id : Type 0} (same : Id → Id → Bool) (o : IsEquivalence same) (xs : List (InFile Id))
     (i j : Id)
-    → same i j ≡ true → file_locus_start same xs i ≡ file_locus_start same xs j
+    → same i j ≡ true → file_least_starts same xs i ≡ file_least_starts same xs j
 start-equal {Id} same o xs i j t =
     λ k. record { primary = least_if_any (starts true k); any = least_if_any (starts false k) }
   where
@@ -139,34 +139,34 @@ module _ {Id : Type 0} {labels : List (Label Id)} {index : ℕ} {label : Label I
 
   -- the labels of a file up to the next index are those before this one, and this one
   with_label : (j : Id)
-      → file_locus_start same (before labels (index + 1)) j ≡ file_locus_start same
+      → file_least_starts same (before labels (index + 1)) j ≡ file_least_starts same
       (before labels index ++ label_of label ∷ []) j
-  with_label j = ap (λ (ys : List (InFile Id)). file_locus_start same ys j) (before-more turn)
+  with_label j = ap (λ (ys : List (InFile Id)). file_least_starts same ys j) (before-more turn)
 
   -- the label changes the start of its file, and of no other one
-  start-changed : IsChanged same label.file_id (file_locus_start same (before labels index))
-      (file_locus_start same (before labels (index + 1)))
-      (start_with (file_locus_start same (before labels index) label.file_id)
+  start-changed : IsChanged same label.file_id (file_least_starts same (before labels index))
+      (file_least_starts same (before labels (index + 1)))
+      (least_starts_with (file_least_starts same (before labels index) label.file_id)
       (label_of label).label)
   start-changed = record {
     own = λ j t. with_label j ∙ start-own same (before labels index) (label_of label) j t
-        ∙ ap (λ (s : LocusStart). start_with s (label_of label).label)
+        ∙ ap (λ (s : LeastStarts). least_starts_with s (label_of label).label)
         (start-equal same o (before labels index) j label.file_id t);
     others = λ j f. with_label j ∙ start-others same (before labels index) (label_of label) j f;
   }
 
   -- what is known of the label's file, and of all files with the label
-  pub starts-set : {starts now : List LocusStart}
-      → starts ≡ map (file_locus_start same (before labels index)) ids
+  pub starts-set : {starts now : List LeastStarts}
+      → starts ≡ map (file_least_starts same (before labels index)) ids
       → now ≡ starts_with_label starts (index_of_file same ids label.file_id) (label_of label).label
-      → now ≡ map (file_locus_start same (before labels (index + 1))) ids
+      → now ≡ map (file_least_starts same (before labels (index + 1))) ids
   starts-set {starts} are is =
-      is ∙ (λ i. set (are i) (index_of_file same ids label.file_id) (start_with (known i) (label_of label).label)) ∙ set-at o start-changed ids (ids-differ turn o) (has-file turn o)
+      is ∙ (λ i. set (are i) (index_of_file same ids label.file_id) (least_starts_with (known i) (label_of label).label)) ∙ set-at o start-changed ids (ids-differ turn o) (has-file turn o)
     where
-      known : get_or starts (index_of_file same ids label.file_id) no_start ≡ file_locus_start same
+      known : get_or starts (index_of_file same ids label.file_id) no_starts ≡ file_least_starts same
           (before labels index) label.file_id
       known =
-          ap (λ (ss : List LocusStart). get_or ss (index_of_file same ids label.file_id)
-          no_start) are
-          ∙ unchanged-at o (file_locus_start same (before labels index))
-          (start-equal same o (before labels index)) ids label.file_id no_start (has-file turn o)
+          ap (λ (ss : List LeastStarts). get_or ss (index_of_file same ids label.file_id)
+          no_starts) are
+          ∙ unchanged-at o (file_least_starts same (before labels index))
+          (start-equal same o (before labels index)) ids label.file_id no_starts (has-file turn o)

@@ -1,5 +1,5 @@
 use Rattle.std.proofs.Common.{rules}
-use Rattle.codespan_views.proofs.snippet.line_buffers.fill_multi_labels.Goals as goal
+use Rattle.codespan_views.proofs.snippet.line_buffers.fill_lane_marks.Goals as goal
 
 -- no lane mark is taken yet
 pub loop-annotation-init : goal.loop-annotation-init

@@ -1,9 +1,9 @@
-//! The byte of each file's locus.
+//! The least starts of each file's labels, from which the byte of its locus is known.
 
 ghost use Rattle.std.specs.Prelude.{◌≡◌};
 ghost use Rattle.codespan_core.specs.Labels.{is_primary};
 ghost use Rattle.codespan_picture.specs.OutputStreams.{label_of};
-ghost use Rattle.codespan_views.specs.Private.LocusStarts.{least_with, no_start, locus_byte, start_with};
+ghost use Rattle.codespan_views.specs.Private.LocusBytes.{least_starts_with, least_with, locus_byte, no_starts};
 
 use codespan_core::diagnostic::{Label, LabelStyle};
 
@@ -21,29 +21,29 @@ fn least(known: Option<usize>, start: usize) -> usize
     known.map_or(start, |byte| byte.min(start))
 }
 
-/// The byte of a file's locus, by the labels that were added. Byte indices are 0-based.
+/// The least starts of a file's labels, by those that were added. Byte indices are 0-based.
 #[derive(Clone, Copy)]
-pub struct LocusStart {
+pub struct LeastStarts {
     /// The least byte index at which a primary label starts; `None` where none is primary.
     pub primary: Option<usize>,
     /// The least byte index at which any label starts; `None` where there is none.
     pub any: Option<usize>,
 }
 
-impl LocusStart {
-    /// Returns that of a file without labels.
-    pub fn unknown() -> LocusStart
-        ensures { result ≡ no_start }
+impl LeastStarts {
+    /// Returns those of a file without labels.
+    pub fn unknown() -> LeastStarts
+        ensures { result ≡ no_starts }
     {
-        LocusStart {
+        LeastStarts {
             primary: None,
             any: None,
         }
     }
 
-    /// Returns that with one more label of the file.
-    pub fn with<FileId>(self, label: &Label<FileId>) -> LocusStart
-        ensures { result ≡ start_with self (label_of label.now).label }
+    /// Returns those with one more label of the file.
+    pub fn with<FileId>(self, label: &Label<FileId>) -> LeastStarts
+        ensures { result ≡ least_starts_with self (label_of label.now).label }
     {
         let start = label.range.start;
         let primary = if is_primary(label) {
@@ -51,7 +51,7 @@ impl LocusStart {
         } else {
             self.primary
         };
-        LocusStart {
+        LeastStarts {
             primary,
             any: Some(least(self.any, start)),
         }

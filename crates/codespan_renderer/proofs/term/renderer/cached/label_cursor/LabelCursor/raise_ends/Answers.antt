@@ -3,7 +3,7 @@ use Rattle.std.proofs.Common.{rules, ◌≡◌, sym, ◌∙◌}
 use Rattle.std.proofs.lemmas.Bool.{lt-ltb}
 use Rattle.codespan_core.specs.contracts.diagnostic.LabelStyle.{the_type}
 use Rattle.codespan_core.specs.declared.diagnostic.LabelStyle.TheVariants.{Primary}
-use Rattle.codespan_renderer.proofs.term.renderer.cached.label_cursor.LabelCursor.pass.Goals as goal
+use Rattle.codespan_renderer.proofs.term.renderer.cached.label_cursor.LabelCursor.raise_ends.Goals as goal
 
 -- the label is primary and covers a byte, so that its end counts
 pub returns-then-eq-clause-primary : goal.returns-then-eq-clause-primary

@@ -1,5 +1,5 @@
 use Rattle.std.proofs.Common.{refl}
-use Rattle.codespan_views.proofs.locus_start.is_primary.Goals as goal
+use Rattle.codespan_views.proofs.least_starts.is_primary.Goals as goal
 
 -- a primary label
 pub returns-in-Primary : goal.returns-in-Primary

@@ -2,10 +2,10 @@ use Rattle.std.proofs.Common.{◌≡◌, ◌++◌, map, drop}
 use Rattle.codespan_picture.specs.Arguments.{lane_mark_view}
 use Rattle.codespan_views.specs.Private.AnnotationViews.{annotation_view}
 use Rattle.codespan_views.specs.Private.SnippetLines.{lane_marks_in}
-use Rattle.codespan_views.proofs.snippet.line_buffers.fill_multi_labels.Given as goal
+use Rattle.codespan_views.proofs.snippet.line_buffers.fill_lane_marks.Given as goal
 
 -- what is taken and what is left make the whole
 abbrev pub invariant-loop-annotation : goal.invariant-loop-annotation
-invariant-loop-annotation g l = map lane_mark_view l.multi_labels.items
+invariant-loop-annotation g l = map lane_mark_view l.lane_marks.items
     ++ lane_marks_in (map annotation_view (drop l.annotation-index l.annotations))
     ≡ lane_marks_in (map annotation_view l.annotations)

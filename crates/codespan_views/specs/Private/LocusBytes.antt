@@ -1,8 +1,8 @@
--- The byte of each file's locus.
+-- The byte of each file's locus, by the least starts of its labels.
 use Rattle.std.specs.Prelude.{ℕ, Bool, true, false, not, ◌&&◌, ◌||◌, min, List, [], ◌∷◌, map, filter, fold, if◌then◌else◌, Option, Some, None, unwrap_or}
 use Rattle.codespan_core.specs.Labels.{LabelModel, is_primary}
 use Rattle.codespan_picture.specs.Snippets.{InFile}
-use Rattle.codespan_views.specs.declared.locus_start.LocusStart.{LocusStart}
+use Rattle.codespan_views.specs.declared.least_starts.LeastStarts.{LeastStarts}
 
 -- the least of some numbers, if there is one
 abbrev pub least_if_any : List ℕ → Option ℕ
@@ -19,9 +19,10 @@ abbrev pub label_starts : {Id : Type 0} → (Id → Id → Bool) → Id → Bool
 label_starts {Id} same id only_primary xs =
     map (λ (x : InFile Id). x.label.start) (filter (is_locus_label same id only_primary) xs)
 
--- the byte of a file's locus, by these labels
-abbrev pub file_locus_start : {Id : Type 0} → (Id → Id → Bool) → List (InFile Id) → Id → LocusStart
-file_locus_start same xs id = record {
+-- the least starts of a file's labels, of these
+abbrev pub file_least_starts : {Id : Type 0} → (Id → Id → Bool) → List (InFile Id) → Id
+    → LeastStarts
+file_least_starts same xs id = record {
   primary = least_if_any (label_starts same id true xs);
   any = least_if_any (label_starts same id false xs);
 }
@@ -31,18 +32,18 @@ abbrev pub least_with : Option ℕ → ℕ → ℕ
 least_with None n = n
 least_with (Some m) n = min m n
 
--- the byte of a file's locus without labels
-abbrev pub no_start : LocusStart
-no_start = record { primary = None; any = None }
+-- those of a file without labels
+abbrev pub no_starts : LeastStarts
+no_starts = record { primary = None; any = None }
 
--- the byte of a file's locus with one label more
-abbrev pub start_with : LocusStart → LabelModel → LocusStart
-start_with s x = record {
+-- those with one label more
+abbrev pub least_starts_with : LeastStarts → LabelModel → LeastStarts
+least_starts_with s x = record {
   primary = if is_primary x then Some (least_with s.primary x.start) else s.primary;
   any = Some (least_with s.any x.start);
 }
 
--- the byte index: the least start of a primary label, or of any where none is primary; 0 without
--- labels
-abbrev pub locus_byte : LocusStart → ℕ
+-- the byte of a file's locus: the least start of a primary label, or of any where none is primary;
+-- 0 without labels
+abbrev pub locus_byte : LeastStarts → ℕ
 locus_byte s = unwrap_or s.primary (unwrap_or s.any 0)
