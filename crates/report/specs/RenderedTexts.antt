@@ -14,7 +14,7 @@ use Rattle.report_script.specs.declared.script.Fault.{Fault}
 use Rattle.report_script.specs.Requests.{RequestView}
 use Rattle.report_script.specs.ReportDiagnostics.{request_diagnostic, fault_diagnostic}
 use Rattle.report_script.specs.Requests.RequestView.{OneLabel, OfScript}
-use Rattle.report_script.specs.Scripts.{ScriptView, read_script}
+use Rattle.report_script.specs.Scripts.{ScriptView, parsed_script}
 
 -- ---- the output of a diagnostic
 
@@ -48,7 +48,8 @@ rendering_of_script style name input (Err fault) =
 abbrev pub rendering_of : RequestView → List ℕ → Result (List ℕ) (List ℕ)
 rendering_of (OneLabel label_request) input =
     Ok (output_text label_request.style label_request.name input (request_diagnostic label_request))
-rendering_of (OfScript style name) input = rendering_of_script style name input (read_script input)
+rendering_of (OfScript style name) input =
+    rendering_of_script style name input (parsed_script input)
 
 -- the error of rendering: it failed, or the script has the error of this diagnostic
 abbrev pub IsRenderFailure : Result (List ℕ) (List ℕ) → ReportError → Type 0

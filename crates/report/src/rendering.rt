@@ -5,7 +5,7 @@ ghost use Rattle.codespan_core.specs.ConfigEquality.{IsEqualConfig};
 ghost use Rattle.codespan_core.specs.Diagnostics.{diagnostic_view};
 ghost use Rattle.report.specs.RenderedTexts.{report_config, rendering_of, rendering_of_script, output_text, IsRenderFailure};
 ghost use Rattle.report_script.specs.Requests.{request_view};
-ghost use Rattle.report_script.specs.Scripts.{read_script};
+ghost use Rattle.report_script.specs.Scripts.{parsed_script};
 
 use crate::report_error::ReportError;
 use codespan_core::diagnostic::Diagnostic;
@@ -68,10 +68,10 @@ fn render_script(
     input: &str,
 ) -> Result<String, ReportError>
     ensures text { IfOk result (λ text.
-        rendering_of_script style name.now input.now (read_script input.now)
+        rendering_of_script style name.now input.now (parsed_script input.now)
         ≡ Ok (string_bytes text)) }
     ensures failed { IfErr result (IsRenderFailure
-        (rendering_of_script style name.now input.now (read_script input.now))) }
+        (rendering_of_script style name.now input.now (parsed_script input.now))) }
 {
     match parse_script(alloc, input) {
         Ok(script) => {

@@ -24,7 +24,7 @@ use Rattle.report_script.specs.ScriptLines.{ScriptLine, body, is_end, is_newline
 use Rattle.report_script.specs.ScriptLines.{script_lines_from, script_lines, range_at, rest_of}
 use Rattle.report_script.specs.ScriptLines.{script_source, word_of, word_range}
 use Rattle.report_script.specs.ScriptWords.{script_word_named}
-use Rattle.report_script.specs.Scripts.{read_lines, read_script}
+use Rattle.report_script.specs.Scripts.{parsed_lines, parsed_script}
 
 -- what holds of each element of a list holds of each of the list or of none
 each_if : {X : Type 0} (P : X → Type 0) (b : Bool) (xs : List X) → AllByRecursion P xs → AllByRecursion P (if b then [] else xs)
@@ -273,7 +273,7 @@ module _ (input : List ℕ) (utf8 : IsUtf8 input) where
       (fault_lies (before ++ line ∷ []) lines (each_push IsLineAt before line earlier later.0) later.1)
 
   -- the error of what is read of lines
-  read_lies : (lines : List ScriptLine) (fault : Option Fault) (source : Option (List ℕ)) → IfSome fault (FaultLiesIn input) → IfErr (read_lines input lines fault source) (FaultLiesIn input)
+  read_lies : (lines : List ScriptLine) (fault : Option Fault) (source : Option (List ℕ)) → IfSome fault (FaultLiesIn input) → IfErr (parsed_lines input lines fault source) (FaultLiesIn input)
   read_lies lines (Some fault) source inside = inside
   read_lies lines None None inside =
       one_range MissingEnd (record { start = length input; end = length input })
@@ -282,7 +282,7 @@ module _ (input : List ℕ) (utf8 : IsUtf8 input) where
 
 -- the ranges of an error lie inside the input
 pub faults_lie : (input : List ℕ) → FaultsLieInside input
-unfolding read_script script_lines
+unfolding parsed_script script_lines
 faults_lie input utf8 =
     let pieces : List (List ℕ) = slice_split is_newline input in
     let all = lines_are_at input utf8 0 pieces (omega arith) (IsCharBoundary-start input utf8) (sym (join_with_byte-slice_split 10 input)) in

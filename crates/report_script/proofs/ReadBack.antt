@@ -21,7 +21,7 @@ use Rattle.report_script.specs.Statements.Statement.{SeverityLine, CodeLine, Mes
 use Rattle.report_script.specs.ScriptLines.{ScriptLine, is_newline, script_lines_from, script_lines}
 use Rattle.report_script.specs.ScriptLines.{range_at, rest_of, script_source, word_of, word_range}
 use Rattle.report_script.specs.ScriptWords.{script_word_named}
-use Rattle.report_script.specs.Scripts.{script_diagnostic, parsed_label, parsed_note, read_lines, read_script, rest_of_word, parsed_severity}
+use Rattle.report_script.specs.Scripts.{script_diagnostic, parsed_label, parsed_note, parsed_lines, parsed_script, rest_of_word, parsed_severity}
 use Rattle.report_script.proofs.WrittenScripts.{line_at, statement_lines, body_written, source_written}
 use Rattle.report_script.proofs.ReadLines.{rest_by, severity_read, code_read, message_read, note_read, name_read, fields_read, label_read, all_read}
 
@@ -254,7 +254,7 @@ each_by_recursion P (s ∷ ss) all =
 
 -- a script that is written out is read as its statements say
 pub reads_back : (statements : List Statement) (source : List ℕ) → ScriptReadsBack statements source
-unfolding read_script script_lines
+unfolding parsed_script script_lines
 reads_back ss source script =
     let can = each_by_recursion IsStatable ss script.statable in
     let input : List ℕ = written ss source in
@@ -263,9 +263,9 @@ reads_back ss source script =
     source_written input 0 ss source can refl in
     let right : fault_from [] (statement_lines 0 ss) ≡ None = lines_right [] 0 ss can
     (all_once ss can script.one_severity script.one_code script.one_message) in
-    ap (λ ls. read_lines input ls (fault_from [] ls) (script_source input lines))
+    ap (λ ls. parsed_lines input ls (fault_from [] ls) (script_source input lines))
     (body_written 0 ss source can)
-    ∙ ap (λ fault. read_lines input (statement_lines 0 ss) fault (script_source input lines)) right
-    ∙ ap (read_lines input (statement_lines 0 ss) None) found
+    ∙ ap (λ fault. parsed_lines input (statement_lines 0 ss) fault (script_source input lines)) right
+    ∙ ap (parsed_lines input (statement_lines 0 ss) None) found
     ∙ ap (λ diagnostic. Ok (record { diagnostic = diagnostic; source = source }))
     (diagnostic_same ss can)

@@ -90,5 +90,5 @@ missing_end input = fault_at MissingEnd (record { start = length input; end = le
 
 -- the error that is returned is the script's, unless an allocation failed
 abbrev pub IsFaultOf : {T : Type 0} → Result T Fault → ScriptError → Type 0
-IsFaultOf read (errors.Fault fault) = read ≡ Err fault
-IsFaultOf read errors.OutOfMemory = Unit {0}
+IsFaultOf parsed (errors.Fault fault) = parsed ≡ Err fault
+IsFaultOf parsed errors.OutOfMemory = Unit {0}

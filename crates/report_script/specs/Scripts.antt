@@ -104,17 +104,17 @@ script_diagnostic lines = record {
   notes = parsed_notes lines;
 }
 
--- what is read of lines, by their first error and the source: the error, if there is one; else that
+-- what lines parse to, by their first error and the source: the error, if there is one; else that
 -- the end is missing, if there is no source; else what they state
-abbrev pub read_lines : List ℕ → List ScriptLine → Option Fault → Option (List ℕ)
+abbrev pub parsed_lines : List ℕ → List ScriptLine → Option Fault → Option (List ℕ)
     → Result ScriptView Fault
-read_lines input lines (Some fault) source = Err fault
-read_lines input lines None None = Err (missing_end input)
-read_lines input lines None (Some source) =
+parsed_lines input lines (Some fault) source = Err fault
+parsed_lines input lines None None = Err (missing_end input)
+parsed_lines input lines None (Some source) =
     Ok (record { diagnostic = script_diagnostic lines; source = source })
 
 -- what an input states as a script, or its first error
-unfoldable pub read_script : List ℕ → Result ScriptView Fault
-read_script input =
-    read_lines input (body (script_lines input)) (fault_from [] (body (script_lines input)))
+unfoldable pub parsed_script : List ℕ → Result ScriptView Fault
+parsed_script input =
+    parsed_lines input (body (script_lines input)) (fault_from [] (body (script_lines input)))
     (script_source input (script_lines input))

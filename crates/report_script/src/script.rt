@@ -6,7 +6,7 @@
 //! begin with `#` are ignored. `docs/SCRIPT.md` lists the words and their rests.
 
 ghost use Rattle.std.specs.Prelude.{◌≡◌, MatchResult};
-ghost use Rattle.report_script.specs.Scripts.{read_script, script_view};
+ghost use Rattle.report_script.specs.Scripts.{parsed_script, script_view};
 ghost use Rattle.report_script.specs.ScriptFaults.{IsFaultOf};
 ghost use Rattle.report_script.specs.declared.script.ScriptError.TheVariants.{OutOfMemory};
 
@@ -141,8 +141,8 @@ impl From<AllocError> for ScriptError {
 ///   then its repetition, then the fields from left to right.
 /// - `OutOfMemory` if an allocation fails.
 pub fn parse_script(alloc: Global, input: &str) -> Result<Script<'_>, ScriptError>
-    ensures { MatchResult result (λ script. read_script input.now ≡ Ok (script_view script))
-        (λ error. IsFaultOf (read_script input.now) error) }
+    ensures { MatchResult result (λ script. parsed_script input.now ≡ Ok (script_view script))
+        (λ error. IsFaultOf (parsed_script input.now) error) }
 {
     let (lines, source) = split_script(alloc, input)?;
     if let Some(fault) = first_fault(lines.as_slice()) {
