@@ -13,8 +13,8 @@ use Rattle.program_io.specs.Fields.{field_of, is_space, past_space}
 use Rattle.program_io.specs.Names.{severity_named}
 use Rattle.report_script.proofs.ScriptCuts.{left_after}
 use Rattle.report_script.specs.declared.script.Fault.{Fault}
-use Rattle.report_script.specs.declared.script.FaultNumber.{FaultNumber}
-use Rattle.report_script.specs.declared.script.FaultNumber.TheVariants.{UnknownWord, UnknownSeverity, BadNumber, RepeatedWord, MissingEnd}
+use Rattle.report_script.specs.declared.script.FaultKind.{FaultKind}
+use Rattle.report_script.specs.declared.script.FaultKind.TheVariants.{UnknownWord, UnknownSeverity, BadNumber, RepeatedWord, MissingEnd}
 use Rattle.report_script.specs.declared.script.words.Word.{Word}
 use Rattle.report_script.specs.declared.script.words.Word.TheVariants.{Severity, Code, Message, Primary, Secondary, Note}
 use Rattle.report_script.specs.Requests.{number_of}
@@ -219,8 +219,8 @@ module _ (input : List ℕ) (utf8 : IsUtf8 input) where
   -- ---- the errors
 
   -- an error with one range
-  one_range : (number : FaultNumber) (range : Range ℕ) → LiesIn input range → FaultLiesIn input (fault_at number range)
-  one_range number range inside = record { inside = inside; first = tt }
+  one_range : (kind : FaultKind) (range : Range ℕ) → LiesIn input range → FaultLiesIn input (fault_at kind range)
+  one_range kind range inside = record { inside = inside; first = tt }
 
   -- the first line of a word is one of the lines
   line_of_word_at : (word : List ℕ) (lines : List ScriptLine) → AllByRecursion IsLineAt lines → IfSome (line_of_word word lines) IsLineAt
@@ -228,7 +228,7 @@ module _ (input : List ℕ) (utf8 : IsUtf8 input) where
   line_of_word_at word (line ∷ lines) all = some_if IsLineAt (bytes_eq (word_of line) word) (Some line) (line_of_word word lines) all.0 (line_of_word_at word lines all.1)
 
   repeated_lies : (line : ScriptLine) → IsLineAt line → (first : Option ScriptLine) → IfSome first IsLineAt
-      → IfSome (option_map (λ first. record { number = RepeatedWord; range = word_range line; first = Some (word_range first) }) first) (FaultLiesIn input)
+      → IfSome (option_map (λ first. record { kind = RepeatedWord; range = word_range line; first = Some (word_range first) }) first) (FaultLiesIn input)
   repeated_lies line is_at None is_line = tt
   repeated_lies line is_at (Some first) is_line = record { inside = word_lies line is_at; first = word_lies first is_line }
 

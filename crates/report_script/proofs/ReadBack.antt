@@ -12,7 +12,7 @@ use Rattle.codespan_core.specs.declared.diagnostic.Severity.TheVariants.{Error}
 use Rattle.program_io.specs.Fields.{field_of, past_space}
 use Rattle.program_io.specs.Names.{severity_named}
 use Rattle.report_script.specs.declared.script.Fault.{Fault}
-use Rattle.report_script.specs.declared.script.FaultNumber.TheVariants.{UnknownSeverity, RepeatedWord}
+use Rattle.report_script.specs.declared.script.FaultKind.TheVariants.{UnknownSeverity, RepeatedWord}
 use Rattle.report_script.specs.Requests.{number_of}
 use Rattle.report_script.specs.ScriptFaults.{fault_at, fault_from, line_of_word, line_fault, number_fault, or_fault, repetition, severity_fault}
 use Rattle.report_script.specs.ScriptLaws.{ScriptReadsBack}
@@ -98,7 +98,7 @@ not_repeated before line none =
     ap
     (option_map
     (λ first.
-    record { number = RepeatedWord; range = word_range line; first = Some (word_range first) }))
+    record { kind = RepeatedWord; range = word_range line; first = Some (word_range first) }))
     none
 
 -- the line of a statement has no error

@@ -92,10 +92,10 @@ fn notes(alloc: Global, stated: &[&str]) -> Result<Vec<String>, Error>
 pub fn diagnostic_of_fault(alloc: Global, fault: script::Fault) -> Result<Diagnostic<()>, Error>
     ensures { IfOk result (λ d. diagnostic_view d ≡ fault_diagnostic fault) }
 {
-    let label = Label::primary(alloc, (), fault.range).with_message(fault.number.label_message())?;
+    let label = Label::primary(alloc, (), fault.range).with_message(fault.kind.label_message())?;
     let diagnostic = Diagnostic::error(alloc)
-        .with_code(fault.number.code())?
-        .with_message(fault.number.message())?
+        .with_code(fault.kind.code())?
+        .with_message(fault.kind.message())?
         .with_label(label)?;
     match fault.first {
         Some(first) => diagnostic.with_label(Label::secondary(alloc, (), first).with_message(
