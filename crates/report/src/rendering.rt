@@ -13,7 +13,7 @@ use codespan_core::files::{Error, SimpleFile};
 use codespan_core::term::{Config, DisplayStyle};
 use codespan_views::emitting::emit_into_string;
 use report_script::diagnostics::{
-    diagnostic_of_fault, diagnostic_of_request, diagnostic_of_script,
+    diagnostic_of_fault, diagnostic_of_label_request, diagnostic_of_script,
 };
 use report_script::request::{LabelRequest, Request};
 use report_script::script::{ScriptError, parse_script};
@@ -33,13 +33,13 @@ pub fn render(alloc: Global, request: &Request<'_>, input: &str) -> Result<Strin
         (IsRenderFailure (rendering_of (request_view request.now) input.now)) }
 {
     match request {
-        Request::OneLabel(label_request) => render_request(alloc, label_request, input),
+        Request::OneLabel(label_request) => render_label_request(alloc, label_request, input),
         Request::OfScript { style, name } => render_script(alloc, *style, name, input),
     }
 }
 
-/// Renders a request over the input.
-fn render_request(
+/// Renders a label request over the input.
+fn render_label_request(
     alloc: Global,
     label_request: &LabelRequest<'_>,
     input: &str,
@@ -50,7 +50,7 @@ fn render_request(
     ensures failed { IfErr result (IsRenderFailure
         (rendering_of (request_view (Request.OneLabel label_request.now)) input.now)) }
 {
-    let diagnostic = diagnostic_of_request(alloc, label_request)?;
+    let diagnostic = diagnostic_of_label_request(alloc, label_request)?;
     Ok(render_over(
         alloc,
         label_request.style,

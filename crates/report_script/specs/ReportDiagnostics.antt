@@ -1,4 +1,4 @@
--- The diagnostics of requests and of scripts' errors.
+-- The diagnostics of label requests and of scripts' errors.
 use Rattle.std.specs.Prelude.{ℕ, List, [], ◌∷◌, Option, Some, None, codes}
 use Rattle.std.specs.declared.ops.Range.{Range}
 use Rattle.codespan_core.specs.declared.diagnostic.LabelStyle.TheVariants.{Primary, Secondary}
@@ -9,9 +9,9 @@ use Rattle.report_script.specs.declared.script.FaultKind.{FaultKind}
 use Rattle.report_script.specs.declared.script.FaultKind.TheVariants.{UnknownWord, UnknownSeverity, BadNumber, RepeatedWord, MissingEnd}
 use Rattle.report_script.specs.Requests.{LabelRequestView}
 
--- the diagnostic of a request: an error with its message, and one primary label with the same
-abbrev pub request_diagnostic : LabelRequestView → DiagnosticView (Unit {0})
-request_diagnostic label_request = record {
+-- the diagnostic of a label request: an error with its message, and one primary label with the same
+abbrev pub label_request_diagnostic : LabelRequestView → DiagnosticView (Unit {0})
+label_request_diagnostic label_request = record {
   severity = severities.Error;
   code = None;
   message = label_request.message;
