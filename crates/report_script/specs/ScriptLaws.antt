@@ -5,13 +5,13 @@ use Rattle.std.specs.Str.{IsCharBoundary, IsUtf8}
 use Rattle.std.specs.declared.ops.Range.{Range}
 use Rattle.report_script.specs.declared.script.Fault.{Fault}
 use Rattle.report_script.specs.Scripts.{parsed_script}
-use Rattle.report_script.specs.Statements.{AreScript, Statement, stated_diagnostic, written}
+use Rattle.report_script.specs.Statements.{AreScript, Statement, stated_diagnostic, written_script}
 
 -- a script that is written out from its statements is read as what they state
 abbrev pub ScriptReadsBack : List Statement → List ℕ → Type 0
 ScriptReadsBack statements source =
     AreScript statements
-    → parsed_script (written statements source)
+    → parsed_script (written_script statements source)
     ≡ Ok (record { diagnostic = stated_diagnostic statements; source = source })
 
 -- the range does not end before it starts, and lies inside the input, between characters
