@@ -7,7 +7,7 @@ use Rattle.std.specs.Option.{option_map}
 use Rattle.std.proofs.lemmas.Bool.Decides.{nat_tests}
 use Rattle.std.proofs.lemmas.Str.{char_from_byte}
 use Rattle.std.proofs.lemmas.Str.Pattern.{IsSplitOnceResult, split_after, split_parts}
-use Rattle.gallery_script.specs.Escapes.{IsPlain, IsBraced, IsHexCharacter, ParsesUnicodeEscape, ParsesEscape, Unescapes, after_bytes, letter_character}
+use Rattle.gallery_script.specs.Escapes.{IsPlain, IsBraced, IsHexCharacter, ParsesUnicodeEscape, ParsesEscape, Unescapes, letter_character, with_prefix}
 use Rattle.gallery_script.specs.Escapes.Unescapes.{whole, broken, escaped}
 
 -- ---- letters
@@ -113,7 +113,7 @@ numbered text inner x c is split number =
 abbrev pub ContinuesUnescaped : List ℕ → List ℕ → List ℕ → Type 0
 ContinuesUnescaped text unescaped rest =
     (outcome : Option (List ℕ)) → Unescapes rest outcome
-    → Unescapes text (after_bytes unescaped outcome)
+    → Unescapes text (with_prefix unescaped outcome)
 
 -- at the start of the text nothing has been unescaped
 pub none_unescaped : (text unescaped : List ℕ) → unescaped ≡ []
@@ -129,15 +129,15 @@ pub one_more : (text unescaped new rest left : List ℕ) (c : ℕ) (x : Bor (Lis
     → ContinuesUnescaped text new left
 one_more text unescaped new rest left c x before split read is outcome h =
     let parts = split_parts 92 rest (Some x) split (omega arith) in
-    let whole_rest : Unescapes rest (after_bytes (x.0.now ++ encode_utf8 c) outcome) =
-    subst (λ t. Unescapes t (after_bytes (x.0.now ++ encode_utf8 c) outcome)) (sym parts.0)
+    let whole_rest : Unescapes rest (with_prefix (x.0.now ++ encode_utf8 c) outcome) =
+    subst (λ t. Unescapes t (with_prefix (x.0.now ++ encode_utf8 c) outcome)) (sym parts.0)
     (escaped x.0.now x.1.now left c outcome parts.1 read h) in
     subst (Unescapes text) (joined unescaped x.0.now (encode_utf8 c) new outcome is)
     (before _ whole_rest)
   where
     joined : (unescaped plain character new : List ℕ) (outcome : Option (List ℕ))
         → new ≡ (unescaped ++ plain) ++ character
-        → after_bytes unescaped (after_bytes (plain ++ character) outcome) ≡ after_bytes new outcome
+        → with_prefix unescaped (with_prefix (plain ++ character) outcome) ≡ with_prefix new outcome
     joined unescaped plain character new None is = refl
     joined unescaped plain character new (Some bytes) is =
         ap Some (sym (ap (λ front. front ++ bytes) is ∙ simp append_assoc))

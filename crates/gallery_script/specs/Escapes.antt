@@ -47,8 +47,8 @@ abbrev pub IsPlain : List ℕ → Type 0
 IsPlain text = Lacks 92 text
 
 -- an unescaped text, with these bytes before it
-abbrev pub after_bytes : List ℕ → Option (List ℕ) → Option (List ℕ)
-after_bytes front unescaped = option_map (λ bytes. front ++ bytes) unescaped
+abbrev pub with_prefix : List ℕ → Option (List ℕ) → Option (List ℕ)
+with_prefix prefix unescaped = option_map (λ bytes. prefix ++ bytes) unescaped
 
 -- the text that an escaped text stands for; none if a backslash does not begin an escape
 pub data Unescapes : List ℕ → Option (List ℕ) → Type 0 where
@@ -57,4 +57,4 @@ pub data Unescapes : List ℕ → Option (List ℕ) → Type 0 where
       → Unescapes (plain ++ 92 ∷ escape) None
   escaped : (plain escape left : List ℕ) (c : ℕ) (unescaped : Option (List ℕ)) → IsPlain plain
       → ParsesEscape escape (Some (c, left)) → Unescapes left unescaped
-      → Unescapes (plain ++ 92 ∷ escape) (after_bytes (plain ++ encode_utf8 c) unescaped)
+      → Unescapes (plain ++ 92 ∷ escape) (with_prefix (plain ++ encode_utf8 c) unescaped)
