@@ -4,7 +4,7 @@ use Rattle.std.proofs.Common.{◌≡◌, ℕ, ◌<◌, ◌≤◌, ◌⊎◌, inl
 use Rattle.codespan_core.specs.declared.term.config.DisplayStyle.{DisplayStyle}
 use Rattle.std.specs.Option.{option_map}
 use Rattle.program_io.specs.Names.{display_style_named}
-use Rattle.report_script.specs.Requests.{request_of, number_of, label_request_of, with_parts}
+use Rattle.report_script.specs.Requests.{request_of, number_of, label_request_of, label_request_with}
 use Rattle.report_script.specs.Requests.RequestView.{OneLabel, OfScript}
 
 -- five elements by their indices
@@ -43,18 +43,18 @@ pub five_arguments : {A : Type 0} (text : A → List ℕ) (xs : List A)
     → (named : Option DisplayStyle) (first last : Option ℕ)
     → named ≡ display_style_named (text style) → first ≡ number_of (text start)
     → last ≡ number_of (text end)
-    → with_parts (text name) (text message) named first last ≡ label_request_of (map text xs)
+    → label_request_with (text name) (text message) named first last ≡ label_request_of (map text xs)
 unfolding label_request_of
 five_arguments text xs style name start end message least most p q r s t named first last x y z =
     let five = five_elements xs style name start end message least most p q r s t in
-    let request : with_parts (text name) (text message) named first last
+    let request : label_request_with (text name) (text message) named first last
     ≡ label_request_of (text style ∷ text name ∷ text start ∷ text end ∷ text message ∷ []) =
     rw (x, y, z) refl in
     request ∙ ap (λ l. label_request_of (map text l)) (sym five)
 
 -- two elements by their indices
-two_elements : {A : Type 0} (xs : List A) (a b : A) → 2 ≤ length xs → length xs < 3 → a ≡ get_or xs 0 a
-    → b ≡ get_or xs 1 b → xs ≡ a ∷ b ∷ []
+two_elements : {A : Type 0} (xs : List A) (a b : A) → 2 ≤ length xs → length xs < 3
+    → a ≡ get_or xs 0 a → b ≡ get_or xs 1 b → xs ≡ a ∷ b ∷ []
 two_elements [] a b least most p q = absurd (omega arith)
 two_elements (v ∷ []) a b least most p q = absurd (omega arith)
 two_elements (v ∷ w ∷ []) a b least most p q = cc

@@ -14,7 +14,7 @@ use Rattle.report_script.specs.Statements.{IsStatable, Statement, code_stated, j
 use Rattle.report_script.specs.Statements.Statement.{SeverityLine, CodeLine, MessageLine, LabelLine, NoteLine, CommentLine, EmptyLine}
 use Rattle.report_script.specs.ScriptLines.{ScriptLine, rest_of, word_of}
 use Rattle.report_script.specs.ScriptWords.{script_word_named}
-use Rattle.report_script.specs.Scripts.{label_by_word, parsed_label, label_of_rest, parsed_note, with_ends}
+use Rattle.report_script.specs.Scripts.{label_by_word, label_with_ends, parsed_label, label_of_rest, parsed_note}
 use Rattle.report_script.proofs.Numbers.{number_of-decimal}
 use Rattle.report_script.proofs.WrittenScripts.{field_alone, past_alone, first_field, past_field, no_space, line_at, statement_lines}
 
@@ -93,7 +93,7 @@ name_read Help = refl
 -- a label is read field by field
 both_ends : (style : LabelStyle) (range : Range ℕ) (message text : List ℕ) (first last : Option ℕ)
     → text ≡ message → first ≡ Some range.start → last ≡ Some range.end
-    → with_ends style text first last ≡ Some
+    → label_with_ends style text first last ≡ Some
     (record { style = style; file_id = tt; range = range; message = message })
 both_ends style range message text first last p q r = rw (p, q, r)
 

@@ -35,18 +35,18 @@ number_of (d ∷ ds) =
     then Some (digits_value 10 (d ∷ ds)) else None
 
 -- the label request with this name and this message, if there are a style, a start and an end
-abbrev pub with_parts : List ℕ → List ℕ → Option DisplayStyle → Option ℕ → Option ℕ
+abbrev pub label_request_with : List ℕ → List ℕ → Option DisplayStyle → Option ℕ → Option ℕ
     → Option LabelRequestView
-with_parts name message (Some style) (Some start) (Some end) =
+label_request_with name message (Some style) (Some start) (Some end) =
     Some (record { style = style; name = name; start = start; end = end; message = message })
-with_parts name message (Some style) (Some start) None = None
-with_parts name message (Some style) None end = None
-with_parts name message None start end = None
+label_request_with name message (Some style) (Some start) None = None
+label_request_with name message (Some style) None end = None
+label_request_with name message None start end = None
 
 -- the label request that the arguments are: a style, a name, two numbers and a message
 unfoldable pub label_request_of : List (List ℕ) → Option LabelRequestView
 label_request_of (style ∷ name ∷ start ∷ end ∷ message ∷ []) =
-    with_parts name message (display_style_named style) (number_of start) (number_of end)
+    label_request_with name message (display_style_named style) (number_of start) (number_of end)
 label_request_of _ = None
 
 -- what a run renders: an error with one label over the input, or the diagnostic of the script at

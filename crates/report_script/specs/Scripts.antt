@@ -55,21 +55,22 @@ parsed_severity lines =
     severities.Error
 
 -- a label from the numbers of its start and its end
-abbrev pub with_ends : LabelStyle → List ℕ → Option ℕ → Option ℕ → Option (LabelView (Unit {0}))
-with_ends style message (Some start) (Some end) =
+abbrev pub label_with_ends : LabelStyle → List ℕ → Option ℕ → Option ℕ
+    → Option (LabelView (Unit {0}))
+label_with_ends style message (Some start) (Some end) =
     Some (record {
       style = style;
       file_id = tt;
       range = record { start = start; end = end };
       message = message;
     })
-with_ends style message (Some start) None = None
-with_ends style message None end = None
+label_with_ends style message (Some start) None = None
+label_with_ends style message None end = None
 
 -- the label of a style that a rest states: its start, its end, and then its message
 abbrev pub label_of_rest : LabelStyle → List ℕ → Option (LabelView (Unit {0}))
 label_of_rest style rest =
-    with_ends style (past_space (past_space rest)) (number_of (field_of rest))
+    label_with_ends style (past_space (past_space rest)) (number_of (field_of rest))
     (number_of (field_of (past_space rest)))
 
 -- the label of a line with this word
