@@ -18,7 +18,7 @@ over_several case files Holds kind same holds =
     subst (λ k. HoldsOfCase k case Holds) (sym kind) among
 
 module _ (case : Case) (name source : List ℕ) (diagnostic : Diagnostic (Unit {0}))
-    (by_unit_id : IsOnlyFile case name source diagnostic) (Holds : Property) where
+    (only_file : IsOnlyFile case name source diagnostic) (Holds : Property) where
   -- it holds over such a database of its only file
   over_one_file : (database : List ℕ → List ℕ → FileDatabase (Unit {0}))
       → Holds (Unit {0}) (database name source) diagnostic → HoldsOfOnlyFile database case Holds
@@ -30,8 +30,8 @@ module _ (case : Case) (name source : List ℕ) (diagnostic : Diagnostic (Unit {
             source;
         diagnostic =
             diagnostic;
-        only = by_unit_id.only;
-        same = by_unit_id.same;
+        only = only_file.only;
+        same = only_file.same;
         holds = holds;
       }
 

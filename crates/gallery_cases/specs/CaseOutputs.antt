@@ -11,7 +11,7 @@ use Rattle.gallery_script.specs.declared.case.Case.{Case}
 use Rattle.gallery_script.specs.declared.case.DatabaseKind.{DatabaseKind}
 use Rattle.gallery_script.specs.declared.case.DatabaseKind.TheVariants.{One, Several, Mapped}
 use Rattle.gallery_script.specs.Cases.{file_view}
-use Rattle.gallery_script.specs.Database.{BorrowedFile, borrowed_view, by_unit_id, with_numbers}
+use Rattle.gallery_script.specs.Database.{BorrowedFile, borrowed_view, with_numbers, with_unit_ids}
 
 -- ---- file databases
 
@@ -49,7 +49,7 @@ pub record HoldsOfOnlyFile (database : List ℕ → List ℕ → FileDatabase (U
   pub source : List ℕ
   pub diagnostic : Diagnostic (Unit {0})
   pub only : map file_view case.files.items ≡ (name, source) ∷ []
-  pub same : diagnostic_view diagnostic ≡ by_unit_id (diagnostic_view case.diagnostic)
+  pub same : diagnostic_view diagnostic ≡ with_unit_ids (diagnostic_view case.diagnostic)
   pub holds : Holds (Unit {0}) (database name source) diagnostic
 
 -- the property holds of a case's diagnostic over all its files

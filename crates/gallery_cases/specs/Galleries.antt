@@ -14,8 +14,8 @@ heading name = codes "== " ++ name ++ 10 ∷ []
 
 -- a byte of an output, escaped if it is that of the escape character, the null character, the
 -- carriage return or the tab
-abbrev pub shown_byte : ℕ → List ℕ
-shown_byte b =
+abbrev pub escaped_byte : ℕ → List ℕ
+escaped_byte b =
     if b == 27 then codes "\\e"
     else if b == 0 then codes "\\0"
     else if b == 13 then codes "\\r"
@@ -24,7 +24,7 @@ shown_byte b =
 
 -- an output with these bytes escaped
 abbrev pub with_escapes : List ℕ → List ℕ
-with_escapes output = flat_map shown_byte output
+with_escapes output = flat_map escaped_byte output
 
 -- the line of a case that failed: nothing if it did not, else a line with the error's text
 abbrev pub IsFailureLine : Result (Unit {0}) Error → List ℕ → Type 0

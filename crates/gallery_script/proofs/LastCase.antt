@@ -1,5 +1,5 @@
--- For the clauses of `cases::apply_to_last` and `Case::add_source`: the last one of several, and
--- what is done to it.
+-- For the clauses of `cases::apply_to_last` and `Case::continue_source`: the last one of several,
+-- and what is done to it.
 use Rattle.std.proofs.Common.{zero, suc, ◌≡◌, ◌+◌, ◌-◌, ◌<◌, ℕ, List, [], ◌∷◌, ◌++◌, length, map, Result, Ok, Err, OnOk, IfErr, refl, sym, ◌∙◌, ap, subst, inl, inr, ◌⊎◌, arith, string_bytes, String, Global}
 use Rattle.std.proofs.lemmas.List.{map-append}
 use Rattle.std.specs.Prelude.{slice_set, slice_index_or}

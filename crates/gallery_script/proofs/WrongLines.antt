@@ -8,7 +8,7 @@ use Rattle.gallery_script.specs.declared.statement.Statement.{Statement}
 use Rattle.gallery_script.specs.declared.words.Word.{Word}
 use Rattle.program_io.specs.Fields.{field_of, past_space}
 use Rattle.gallery_script.specs.Numbers.{IsBadNumber}
-use Rattle.gallery_script.specs.Statements.{IsWrong, HasBadNumber, HasBadNumberOfThree, past_two}
+use Rattle.gallery_script.specs.Statements.{IsWrong, HasBadNumber, HasBadNumberOfThree, past_two_spaces}
 
 -- a number that has to follow the word is missing
 pub number_missing : (word : Word) (rest : List ℕ) (r : Result Statement LineError)
@@ -32,7 +32,7 @@ pub lacks_second : (rest left : List ℕ) → left ≡ past_space rest → IsBad
 lacks_second rest left is none =
     inr (inl (subst (λ (text : List ℕ). IsBadNumber (field_of text)) is none))
 
-pub lacks_third : (rest left : List ℕ) → left ≡ past_two rest → IsBadNumber (field_of left)
+pub lacks_third : (rest left : List ℕ) → left ≡ past_two_spaces rest → IsBadNumber (field_of left)
     → HasBadNumberOfThree rest
 lacks_third rest left is none =
     inr (inr (subst (λ (text : List ℕ). IsBadNumber (field_of text)) is none))

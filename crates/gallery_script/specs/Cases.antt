@@ -30,7 +30,7 @@ file_view file = (string_bytes file.name, string_bytes file.source)
 
 -- a new case with this name
 pub record IsNew (name : List ℕ) (case : Case) : Type 0 where
-  pub called : case.name.now ≡ name
+  pub named : case.name.now ≡ name
   pub database_kind : case.database_kind ≡ Several
   pub files : case.files.items ≡ []
   pub numbers : case.numbers.items ≡ []

@@ -15,18 +15,18 @@ use Rattle.gallery_script.specs.declared.database.Database.TheVariants.{One, Sev
 use Rattle.gallery_script.specs.Cases.{file_view}
 
 -- a label with the file id `()`, which is that of a database of one file
-abbrev pub label_by_unit_id : LabelView ℕ → LabelView (Unit {0})
-label_by_unit_id label =
+abbrev pub label_with_unit_id : LabelView ℕ → LabelView (Unit {0})
+label_with_unit_id label =
     record { style = label.style; file_id = tt; range = label.range; message = label.message }
 
--- a diagnostic with the file id `()`
-abbrev pub by_unit_id : DiagnosticView ℕ → DiagnosticView (Unit {0})
-by_unit_id diagnostic =
+-- a diagnostic whose labels have the file id `()`
+abbrev pub with_unit_ids : DiagnosticView ℕ → DiagnosticView (Unit {0})
+with_unit_ids diagnostic =
     record {
       severity = diagnostic.severity;
       code = diagnostic.code;
       message = diagnostic.message;
-      labels = map label_by_unit_id diagnostic.labels;
+      labels = map label_with_unit_id diagnostic.labels;
       notes = diagnostic.notes;
     }
 
@@ -49,7 +49,7 @@ borrowed_view file = (file.0.now, file.1.now)
 pub record IsOnlyFile (case : Case) (name source : List ℕ)
     (diagnostic : Diagnostic (Unit {0})) : Type 0 where
   pub only : map file_view case.files.items ≡ (name, source) ∷ []
-  pub same : diagnostic_view diagnostic ≡ by_unit_id (diagnostic_view case.diagnostic)
+  pub same : diagnostic_view diagnostic ≡ with_unit_ids (diagnostic_view case.diagnostic)
 
 -- the file database is that of the case
 abbrev pub IsDatabaseOf : Case → Database → Type 0

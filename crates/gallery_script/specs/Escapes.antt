@@ -29,32 +29,32 @@ IsBraced text digits left = (text ≡ 123 ∷ digits ++ 125 ∷ left) × Lacks 1
 
 -- what is parsed after `\u`: the character of a number in braces, and the remaining text; none if
 -- there is no such number
-abbrev pub ReadsUnicodeEscape : List ℕ → Option (ℕ × List ℕ) → Type 0
-ReadsUnicodeEscape text (Some (c, left)) =
+abbrev pub ParsesUnicodeEscape : List ℕ → Option (ℕ × List ℕ) → Type 0
+ParsesUnicodeEscape text (Some (c, left)) =
     (digits : List ℕ) × IsBraced text digits left × IsHexCharacter digits c
-ReadsUnicodeEscape text None =
+ParsesUnicodeEscape text None =
     (digits left : List ℕ) (c : ℕ) → IsBraced text digits left → ¬ (IsHexCharacter digits c)
 
 -- what is parsed after a backslash: a character, and the remaining text; none if there is no escape
-abbrev pub ReadsEscape : List ℕ → Option (ℕ × List ℕ) → Type 0
-ReadsEscape [] read = read ≡ None
-ReadsEscape (letter ∷ left) read =
-    (letter ≡ 117 → ReadsUnicodeEscape left read)
-    × (letter ≢ 117 → read ≡ option_map (λ c. (c, left)) (letter_character letter))
+abbrev pub ParsesEscape : List ℕ → Option (ℕ × List ℕ) → Type 0
+ParsesEscape [] parsed = parsed ≡ None
+ParsesEscape (letter ∷ left) parsed =
+    (letter ≡ 117 → ParsesUnicodeEscape left parsed)
+    × (letter ≢ 117 → parsed ≡ option_map (λ c. (c, left)) (letter_character letter))
 
 -- the text has no backslash
 abbrev pub IsPlain : List ℕ → Type 0
 IsPlain text = Lacks 92 text
 
 -- an unescaped text, with these bytes before it
-abbrev pub after_bytes : List ℕ → Option (List ℕ) → Option (List ℕ)
-after_bytes front unescaped = option_map (λ bytes. front ++ bytes) unescaped
+abbrev pub with_prefix : List ℕ → Option (List ℕ) → Option (List ℕ)
+with_prefix prefix unescaped = option_map (λ bytes. prefix ++ bytes) unescaped
 
 -- the text that an escaped text stands for; none if a backslash does not begin an escape
 pub data Unescapes : List ℕ → Option (List ℕ) → Type 0 where
   whole : (text : List ℕ) → IsPlain text → Unescapes text (Some text)
-  broken : (plain escape : List ℕ) → IsPlain plain → ReadsEscape escape None
+  broken : (plain escape : List ℕ) → IsPlain plain → ParsesEscape escape None
       → Unescapes (plain ++ 92 ∷ escape) None
   escaped : (plain escape left : List ℕ) (c : ℕ) (unescaped : Option (List ℕ)) → IsPlain plain
-      → ReadsEscape escape (Some (c, left)) → Unescapes left unescaped
-      → Unescapes (plain ++ 92 ∷ escape) (after_bytes (plain ++ encode_utf8 c) unescaped)
+      → ParsesEscape escape (Some (c, left)) → Unescapes left unescaped
+      → Unescapes (plain ++ 92 ∷ escape) (with_prefix (plain ++ encode_utf8 c) unescaped)

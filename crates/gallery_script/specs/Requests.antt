@@ -25,10 +25,10 @@ pub data GalleryRequestView : Type 0 where
 -- `FORMAT NAME`, the case in that format; with any others, nothing
 abbrev pub gallery_request_of : List (List ℕ) → Option GalleryRequestView
 gallery_request_of [] = Some All
-gallery_request_of (word ∷ []) = if bytes_eq word (codes "styles") then Some Styles else None
-gallery_request_of (word ∷ name ∷ []) =
-    option_map (λ format. Document format name) (format_named word)
-gallery_request_of (word ∷ name ∷ more ∷ rest) = None
+gallery_request_of (arg ∷ []) = if bytes_eq arg (codes "styles") then Some Styles else None
+gallery_request_of (format ∷ name ∷ []) =
+    option_map (λ f. Document f name) (format_named format)
+gallery_request_of (format ∷ name ∷ more ∷ rest) = None
 
 -- a request, its name as bytes
 abbrev pub gallery_request_view : Request → GalleryRequestView

@@ -21,12 +21,13 @@ use Rattle.gallery_script.specs.Words.{layout_named, case_word_named}
 
 -- ---- what a line describes
 
--- what follows the second space of a text, and the third
-abbrev pub past_two : List ℕ → List ℕ
-past_two text = past_space (past_space text)
+-- what follows the second space of a text, or nothing
+abbrev pub past_two_spaces : List ℕ → List ℕ
+past_two_spaces text = past_space (past_space text)
 
-abbrev pub past_three : List ℕ → List ℕ
-past_three text = past_space (past_two text)
+-- what follows its third space, or nothing
+abbrev pub past_three_spaces : List ℕ → List ℕ
+past_three_spaces text = past_space (past_two_spaces text)
 
 -- the escaped text stands for these bytes
 abbrev pub UnescapesTo : List ℕ → List ℕ → Type 0
@@ -42,15 +43,15 @@ label_style_word styles.Secondary = Secondary
 pub record AreContextLines (rest : List ℕ) (context : context_lines.ContextLines) : Type 0 where
   pub start : IsNumber (field_of rest) context.start
   pub end : IsNumber (field_of (past_space rest)) context.end
-  pub before : IsNumber (field_of (past_two rest)) context.before
-  pub after : IsNumber (past_three rest) context.after
+  pub before : IsNumber (field_of (past_two_spaces rest)) context.before
+  pub after : IsNumber (past_three_spaces rest) context.after
 
 -- the rest has a label: its file, where it starts, where it ends, and its message
 pub record IsLabel (rest : List ℕ) (label : Label ℕ) : Type 0 where
   pub file : IsNumber (field_of rest) label.file_id
   pub start : IsNumber (field_of (past_space rest)) label.range.start
-  pub end : IsNumber (field_of (past_two rest)) label.range.end
-  pub message : UnescapesTo (past_three rest) (string_bytes label.message)
+  pub end : IsNumber (field_of (past_two_spaces rest)) label.range.end
+  pub message : UnescapesTo (past_three_spaces rest) (string_bytes label.message)
 
 -- what a line describes, by its word and its rest
 abbrev pub Describes : Option Word → List ℕ → Statement → Type 0
@@ -109,13 +110,13 @@ HasUnknownName rest _ = ⊥
 abbrev pub HasBadNumberOfThree : List ℕ → Type 0
 HasBadNumberOfThree rest =
     IsBadNumber (field_of rest)
-    ⊎ (IsBadNumber (field_of (past_space rest)) ⊎ IsBadNumber (field_of (past_two rest)))
+    ⊎ (IsBadNumber (field_of (past_space rest)) ⊎ IsBadNumber (field_of (past_two_spaces rest)))
 
 -- the rest lacks a number that has to follow its word
 abbrev pub HasBadNumber : List ℕ → Word → Type 0
 HasBadNumber rest Number = IsBadNumber (field_of rest) ⊎ IsBadNumber (past_space rest)
 HasBadNumber rest Tab = IsBadNumber rest
-HasBadNumber rest Context = HasBadNumberOfThree rest ⊎ IsBadNumber (past_three rest)
+HasBadNumber rest Context = HasBadNumberOfThree rest ⊎ IsBadNumber (past_three_spaces rest)
 HasBadNumber rest Primary = HasBadNumberOfThree rest
 HasBadNumber rest Secondary = HasBadNumberOfThree rest
 HasBadNumber rest _ = ⊥
@@ -127,8 +128,8 @@ HasBadEscape rest Source = Unescapes rest None
 HasBadEscape rest Code = Unescapes rest None
 HasBadEscape rest Message = Unescapes rest None
 HasBadEscape rest Note = Unescapes rest None
-HasBadEscape rest Primary = Unescapes (past_three rest) None
-HasBadEscape rest Secondary = Unescapes (past_three rest) None
+HasBadEscape rest Primary = Unescapes (past_three_spaces rest) None
+HasBadEscape rest Secondary = Unescapes (past_three_spaces rest) None
 HasBadEscape rest _ = ⊥
 
 -- what is wrong with a line of this word and this rest, whatever precedes it

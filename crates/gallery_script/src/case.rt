@@ -124,7 +124,7 @@ impl<'input> Case<'input> {
         match statement {
             Statement::Database(kind) => self.database_kind = kind,
             Statement::File(name) => self.add_file(name)?,
-            Statement::Source(text) => self.add_source(text.as_str())?,
+            Statement::Source(text) => self.continue_source(text.as_str())?,
             Statement::Number { line, number } => self.numbers.push(SetNumber { line, number })?,
             Statement::Style(style) => self.config.display_style = style,
             Statement::Layout(layout) => self.config.layout = layout,
@@ -154,7 +154,7 @@ impl<'input> Case<'input> {
     }
 
     /// Appends a text to the source of the last file.
-    fn add_source(&mut self, text: &str) -> Result<(), LineError>
+    fn continue_source(&mut self, text: &str) -> Result<(), LineError>
         ensures others { self.new ≡ record self.old { files = self.new.files } }
         ensures files { OnOk result
             (ContinuesSource text.now (map file_view self.old.files.items)

@@ -5,7 +5,7 @@ ghost use Rattle.codespan_base.specs.Diagnostics.{diagnostic_view, label_view};
 ghost use Rattle.codespan_base.specs.MappedFileViews.{mapped_name_of, mapped_source_of, set_numbers_of};
 ghost use Rattle.codespan_base.specs.SimpleFilesViews.{entries};
 ghost use Rattle.gallery_script.specs.Cases.{file_view};
-ghost use Rattle.gallery_script.specs.Database.{IsDatabaseOf, by_unit_id, label_by_unit_id, borrowed_view, with_numbers};
+ghost use Rattle.gallery_script.specs.Database.{IsDatabaseOf, with_unit_ids, label_with_unit_id, borrowed_view, with_numbers};
 
 use crate::case::{Case, DatabaseKind, File, SetNumber};
 use codespan_base::diagnostic::{Diagnostic, Label};
@@ -95,7 +95,7 @@ fn mapped_file<'case>(
 /// 0, and with `OutOfMemory`.
 fn with_unit_ids(alloc: Global, diagnostic: &Diagnostic<usize>) -> Result<Diagnostic<()>, Error>
     ensures { IfOk result (λ converted. diagnostic_view converted
-        ≡ by_unit_id (diagnostic_view diagnostic.now)) }
+        ≡ with_unit_ids (diagnostic_view diagnostic.now)) }
 {
     let Diagnostic {
         severity,
@@ -120,7 +120,7 @@ fn with_unit_ids(alloc: Global, diagnostic: &Diagnostic<usize>) -> Result<Diagno
 /// Returns the label with the file id `()`. Fails with `FileMissing` if it is not in file 0.
 fn with_unit_id(label: Label<usize>) -> Result<Label<()>, Error>
     ensures { IfOk result (λ converted. label_view converted
-        ≡ label_by_unit_id (label_view label)) }
+        ≡ label_with_unit_id (label_view label)) }
 {
     if label.file_id != 0 {
         return Err(Error::FileMissing);

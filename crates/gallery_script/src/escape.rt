@@ -2,7 +2,7 @@
 
 ghost use Rattle.std.specs.Prelude.{◌≡◌, ◌⊎◌, ℕ, ◌≤◌, ◌<◌, length, IfSome, MatchResult, Some, None, string_bytes};
 ghost use Rattle.std.specs.Option.{option_map};
-ghost use Rattle.gallery_script.specs.Escapes.{Unescapes, ReadsEscape, ReadsUnicodeEscape, IsHexCharacter};
+ghost use Rattle.gallery_script.specs.Escapes.{Unescapes, ParsesEscape, ParsesUnicodeEscape, IsHexCharacter};
 ghost use Rattle.gallery_script.specs.declared.errors.LineError.TheVariants.{BadEscape, OutOfMemory};
 
 use crate::errors::LineError;
@@ -32,7 +32,7 @@ pub fn unescape(alloc: Global, text: &str) -> Result<String, LineError>
     let mut rest = text;
     'escapes: while let Some((plain, escape)) = rest.split_once('\\') {
         unescaped.push_str(plain)?;
-        let Some((character, left)) = read_escape(escape) else {
+        let Some((character, left)) = parse_escape(escape) else {
             return Err(LineError::BadEscape);
         };
         unescaped.push(character)?;
@@ -44,9 +44,10 @@ pub fn unescape(alloc: Global, text: &str) -> Result<String, LineError>
 
 /// Parses the escape with which a text begins after its backslash, and returns its character and
 /// what follows it.
-fn read_escape(text: &str) -> Option<(char, &str)>
-    ensures read { ReadsEscape text.now (option_map (λ read. (read.0, read.1.now)) result) }
-    ensures shorter { IfSome result (λ read. length read.1.now < length text.now) }
+fn parse_escape(text: &str) -> Option<(char, &str)>
+    ensures parsed { ParsesEscape text.now
+        (option_map (λ parsed. (parsed.0, parsed.1.now)) result) }
+    ensures shorter { IfSome result (λ parsed. length parsed.1.now < length text.now) }
 {
     let mut characters = text.chars();
     let letter = characters.next()?;
@@ -57,16 +58,17 @@ fn read_escape(text: &str) -> Option<(char, &str)>
         't' => Some(('\t', left)),
         '0' => Some(('\0', left)),
         '\\' => Some(('\\', left)),
-        'u' => read_unicode_escape(left),
+        'u' => parse_unicode_escape(left),
         _ => None,
     }
 }
 
 /// Parses the number in braces with which a text begins, and returns its character and what follows
 /// it.
-fn read_unicode_escape(text: &str) -> Option<(char, &str)>
-    ensures read { ReadsUnicodeEscape text.now (option_map (λ read. (read.0, read.1.now)) result) }
-    ensures shorter { IfSome result (λ read. length read.1.now ≤ length text.now) }
+fn parse_unicode_escape(text: &str) -> Option<(char, &str)>
+    ensures parsed { ParsesUnicodeEscape text.now
+        (option_map (λ parsed. (parsed.0, parsed.1.now)) result) }
+    ensures shorter { IfSome result (λ parsed. length parsed.1.now ≤ length text.now) }
 {
     let braced = text.strip_prefix('{')?;
     let (digits, left) = braced.split_once('}')?;

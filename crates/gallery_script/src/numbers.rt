@@ -30,8 +30,8 @@ pub fn parse_number(text: &str) -> Result<usize, LineError>
 ///
 /// `BadNumber` if what precedes the space is not a number, or does not fit a `usize`.
 pub fn split_number(text: &str) -> Result<(usize, &str), LineError>
-    ensures number { IfOk result (λ read. IsNumber (field_of text.now) read.0) }
-    ensures left { IfOk result (λ read. read.1.now ≡ past_space text.now) }
+    ensures number { IfOk result (λ split. IsNumber (field_of text.now) split.0) }
+    ensures left { IfOk result (λ split. split.1.now ≡ past_space text.now) }
     ensures failed { IfErr result (λ line_error. (line_error ≡ BadNumber)
         × IsBadNumber (field_of text.now)) }
 {

@@ -51,8 +51,11 @@ impl<'args> Request<'args> {
     {
         match args {
             [] => Some(Request::All),
-            [word] if word.as_str() == "styles" => Some(Request::Styles),
-            [word, name] => Some(Request::Document(Format::parse(word.as_str())?, name.as_str())),
+            [arg] if arg.as_str() == "styles" => Some(Request::Styles),
+            [format, name] => Some(Request::Document(
+                Format::parse(format.as_str())?,
+                name.as_str(),
+            )),
             _ => None,
         }
     }

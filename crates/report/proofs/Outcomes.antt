@@ -73,49 +73,49 @@ is_unchanged None b X Y contents = tt
 is_unchanged (Some x) None X Y contents = tt
 is_unchanged (Some x) (Some y) X Y contents = inl contents
 
--- where the source is not UTF-8 the output is unchanged
-pub unchanged_at_not_utf8 : (words : List (List ℕ)) (bytes : Option (List ℕ)) (X : Type 0)
+-- where the input is not UTF-8 the output is unchanged
+pub unchanged_at_not_utf8 : (args : List (List ℕ)) (bytes : Option (List ℕ)) (X : Type 0)
     (outcome : Outcome)
-    → OnOk outcome (WhereKnown words bytes (λ _ source. IsUtf8 source))
-    → IfErr outcome (λ error. WhereKnown words bytes (ReportErrorMeans error))
+    → OnOk outcome (WhereKnown args bytes (λ _ input. IsUtf8 input))
+    → IfErr outcome (λ error. WhereKnown args bytes (ReportErrorMeans error))
     → IfErr outcome (λ error. error ≢ CannotWriteOutput → X)
-    → WhereKnown words bytes (λ _ source. ¬ (IsUtf8 source) → X)
-unchanged_at_not_utf8 words bytes X (Ok done) utf8 reported unchanged =
-    known_weaker (request_of words) bytes (λ _ source. IsUtf8 source)
-    (λ _ source. ¬ (IsUtf8 source) → X)
-    (λ request source is other. absurd (other is)) utf8
-unchanged_at_not_utf8 words bytes X (Err error) utf8 reported unchanged =
-    known_weaker (request_of words) bytes (ReportErrorMeans error)
-    (λ _ source. ¬ (IsUtf8 source) → X)
-    (λ request source are_known other. unchanged
-    (λ output. let wrote : ReportErrorMeans CannotWriteOutput request source =
-    subst (λ (f : RunError ReportError). ReportErrorMeans f request source) output
+    → WhereKnown args bytes (λ _ input. ¬ (IsUtf8 input) → X)
+unchanged_at_not_utf8 args bytes X (Ok done) utf8 reported unchanged =
+    known_weaker (request_of args) bytes (λ _ input. IsUtf8 input)
+    (λ _ input. ¬ (IsUtf8 input) → X)
+    (λ request input is other. absurd (other is)) utf8
+unchanged_at_not_utf8 args bytes X (Err error) utf8 reported unchanged =
+    known_weaker (request_of args) bytes (ReportErrorMeans error)
+    (λ _ input. ¬ (IsUtf8 input) → X)
+    (λ request input are_known other. unchanged
+    (λ output. let wrote : ReportErrorMeans CannotWriteOutput request input =
+    subst (λ (f : RunError ReportError). ReportErrorMeans f request input) output
     are_known in other wrote.0))
     reported
 
 -- the script's error that was written is that of the request
-pub reported_at_bad_script : (words : List (List ℕ)) (bytes : Option (List ℕ)) (outcome : Outcome)
+pub reported_at_bad_script : (args : List (List ℕ)) (bytes : Option (List ℕ)) (outcome : Outcome)
     (status : ℕ) (Reported : List ℕ → Type 0)
     → IsReportStatusOf outcome status → status ≡ 3
-    → IfErr outcome (λ error. WhereKnown words bytes (ReportErrorMeans error))
+    → IfErr outcome (λ error. WhereKnown args bytes (ReportErrorMeans error))
     → IfErr outcome (λ error. IfBadScript error (λ text. Reported (string_bytes text)))
-    → WhereKnown words bytes
-    (λ request source. (text : List ℕ) × (rendering_of request source ≡ Err text) × Reported text)
-reported_at_bad_script words bytes outcome status Reported is three are_known reported = elim is [
+    → WhereKnown args bytes
+    (λ request input. (text : List ℕ) × (rendering_of request input ≡ Err text) × Reported text)
+reported_at_bad_script args bytes outcome status Reported is three are_known reported = elim is [
   | inl other ↦ (let most =
       general.status_at_most outcome status other in absurd (omega (arith, most, three)))
   | inr bad ↦
       let text = bad.1.0 in
       let means = subst
-      (λ (r : Outcome). IfErr r (λ error. WhereKnown words bytes (ReportErrorMeans error)))
+      (λ (r : Outcome). IfErr r (λ error. WhereKnown args bytes (ReportErrorMeans error)))
       bad.1.1 are_known in
       let received = subst
       (λ (r : Outcome). IfErr r
       (λ error. IfBadScript error (λ text. Reported (string_bytes text))))
       bad.1.1 reported in
-      known_weaker (request_of words) bytes (ReportErrorMeans (Failed (BadScript text)))
-      (λ request source. (p : List ℕ) × (rendering_of request source ≡ Err p) × Reported p)
-      (λ request source same. (string_bytes text, same, received)) means
+      known_weaker (request_of args) bytes (ReportErrorMeans (Failed (BadScript text)))
+      (λ request input. (p : List ℕ) × (rendering_of request input ≡ Err p) × Reported p)
+      (λ request input same. (string_bytes text, same, received)) means
 ]
 
 -- no rendering is both an output and the diagnostic of a script's error
@@ -125,17 +125,17 @@ not_both rendering good bad is other = cc (is, other)
 
 -- the status and the output of a run with an error, where the script has one
 bad_script_error : (error : RunError ReportError) (status : ℕ) (X : Type 0) (request : RequestView)
-    (source text : List ℕ)
-    → IsReportStatusOf (Err error) status → ReportErrorMeans error request source
-    → (error ≢ CannotWriteOutput → X) → rendering_of request source ≡ Err text
+    (input text : List ℕ)
+    → IsReportStatusOf (Err error) status → ReportErrorMeans error request input
+    → (error ≢ CannotWriteOutput → X) → rendering_of request input ≡ Err text
     → ((status ≡ 3) ⊎ (status ≡ 1)) × X
-bad_script_error error status X request source text is are_known unchanged bad =
+bad_script_error error status X request input text is are_known unchanged bad =
     let means = λ (other : RunError ReportError) (same : error ≡ other). subst
-    (λ (f : RunError ReportError). ReportErrorMeans f request source) same are_known in
+    (λ (f : RunError ReportError). ReportErrorMeans f request input) same are_known in
     elim (general.failed_output_or_other error) [
       | inl output ↦ (let wrote =
           means CannotWriteOutput output in absurd
-          (not_both (rendering_of request source) wrote.1.0 text wrote.1.1 bad))
+          (not_both (rendering_of request input) wrote.1.0 text wrote.1.1 bad))
       | inr other ↦ (
         status_of_error error status is (λ wrong. means WrongArguments wrong),
         unchanged other,
@@ -143,30 +143,30 @@ bad_script_error error status X request source text is are_known unchanged bad =
     ]
 
 -- where the script has an error, that is written or not, and the output is unchanged
-pub bad_script_status : (words : List (List ℕ)) (bytes : Option (List ℕ)) (outcome : Outcome)
+pub bad_script_status : (args : List (List ℕ)) (bytes : Option (List ℕ)) (outcome : Outcome)
     (status : ℕ) (X : Type 0) (Wrote : List ℕ → Type 0)
     → IsReportStatusOf outcome status
     → OnOk outcome
-    (WhereKnown words bytes
-    (λ request source. (text : List ℕ) × (rendering_of request source ≡ Ok text) × Wrote text))
-    → IfErr outcome (λ error. WhereKnown words bytes (ReportErrorMeans error))
+    (WhereKnown args bytes
+    (λ request input. (text : List ℕ) × (rendering_of request input ≡ Ok text) × Wrote text))
+    → IfErr outcome (λ error. WhereKnown args bytes (ReportErrorMeans error))
     → IfErr outcome (λ error. error ≢ CannotWriteOutput → X)
-    → WhereKnown words bytes
-    (λ request source. (text : List ℕ) → rendering_of request source
+    → WhereKnown args bytes
+    (λ request input. (text : List ℕ) → rendering_of request input
     ≡ Err text → ((status ≡ 3) ⊎ (status ≡ 1)) × X)
-bad_script_status words bytes (Ok done) status X Wrote is rendered are_known unchanged =
-    known_weaker (request_of words) bytes
-    (λ request source. (text : List ℕ) × (rendering_of request source ≡ Ok text) × Wrote text)
-    (λ request source. (text : List ℕ) → rendering_of request source
+bad_script_status args bytes (Ok done) status X Wrote is rendered are_known unchanged =
+    known_weaker (request_of args) bytes
+    (λ request input. (text : List ℕ) × (rendering_of request input ≡ Ok text) × Wrote text)
+    (λ request input. (text : List ℕ) → rendering_of request input
     ≡ Err text → ((status ≡ 3) ⊎ (status ≡ 1)) × X)
-    (λ request source good text bad. absurd
-    (not_both (rendering_of request source) good.0 text good.1 bad))
+    (λ request input good text bad. absurd
+    (not_both (rendering_of request input) good.0 text good.1 bad))
     rendered
-bad_script_status words bytes (Err error) status X Wrote is rendered are_known unchanged =
-    known_weaker (request_of words) bytes (ReportErrorMeans error)
-    (λ request source. (text : List ℕ) → rendering_of request source
+bad_script_status args bytes (Err error) status X Wrote is rendered are_known unchanged =
+    known_weaker (request_of args) bytes (ReportErrorMeans error)
+    (λ request input. (text : List ℕ) → rendering_of request input
     ≡ Err text → ((status ≡ 3) ⊎ (status ≡ 1)) × X)
-    (λ request source reported text bad. bad_script_error error status X request source text is
+    (λ request input reported text bad. bad_script_error error status X request input text is
     reported unchanged bad)
     are_known
 
@@ -197,20 +197,20 @@ unchanged_unless_rendered (Err error) status X old new is line unchanged =
     ]
 
 -- where the output changes, it has received a prefix of what was rendered
-pub prefix_written : (words : List (List ℕ)) (bytes : Option (List ℕ)) (outcome : Outcome)
+pub prefix_written : (args : List (List ℕ)) (bytes : Option (List ℕ)) (outcome : Outcome)
     (status : ℕ) (X : Type 0) (Wrote : RequestView → List ℕ → Type 0)
     → IsReportStatusOf outcome status → status ≡ 1
-    → (IsErrOf outcome CannotWriteOutput → WhereKnown words bytes Wrote)
+    → (IsErrOf outcome CannotWriteOutput → WhereKnown args bytes Wrote)
     → IfErr outcome (λ error. error ≢ CannotWriteOutput → X)
-    → WhereKnown words bytes (λ request source. X ⊎ Wrote request source)
-prefix_written words bytes (Ok done) status X Wrote is one wrote unchanged =
+    → WhereKnown args bytes (λ request input. X ⊎ Wrote request input)
+prefix_written args bytes (Ok done) status X Wrote is one wrote unchanged =
     absurd
     (elim is
     [ inl zero ↦ omega (arith, zero, one) | inr bad ↦ (let script = bad.1.1 in cc script) ])
-prefix_written words bytes (Err error) status X Wrote is one wrote unchanged =
+prefix_written args bytes (Err error) status X Wrote is one wrote unchanged =
     elim (general.failed_output_or_other error) [
-      | inl output ↦ known_weaker (request_of words) bytes Wrote
-          (λ request source. X ⊎ Wrote request source) (λ request source appended. inr appended)
+      | inl output ↦ known_weaker (request_of args) bytes Wrote
+          (λ request input. X ⊎ Wrote request input) (λ request input appended. inr appended)
           (wrote (ap Err output))
-      | inr other ↦ is_unchanged (request_of words) bytes X Wrote (unchanged other)
+      | inr other ↦ is_unchanged (request_of args) bytes X Wrote (unchanged other)
     ]

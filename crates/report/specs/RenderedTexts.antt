@@ -12,9 +12,9 @@ use Rattle.report.specs.declared.report_error.ReportError.{ReportError}
 use Rattle.report.specs.declared.report_error.ReportError.TheVariants as report_errors
 use Rattle.report_script.specs.declared.script.Fault.{Fault}
 use Rattle.report_script.specs.Requests.{RequestView}
-use Rattle.report_script.specs.ReportDiagnostics.{request_diagnostic, fault_diagnostic}
+use Rattle.report_script.specs.ReportDiagnostics.{label_request_diagnostic, fault_diagnostic}
 use Rattle.report_script.specs.Requests.RequestView.{OneLabel, OfScript}
-use Rattle.report_script.specs.Scripts.{ScriptView, read_script}
+use Rattle.report_script.specs.Scripts.{ScriptView, parsed_script}
 
 -- ---- the output of a diagnostic
 
@@ -47,8 +47,11 @@ rendering_of_script style name input (Err fault) =
 -- error
 abbrev pub rendering_of : RequestView → List ℕ → Result (List ℕ) (List ℕ)
 rendering_of (OneLabel label_request) input =
-    Ok (output_text label_request.style label_request.name input (request_diagnostic label_request))
-rendering_of (OfScript style name) input = rendering_of_script style name input (read_script input)
+    Ok
+    (output_text label_request.style label_request.name input
+    (label_request_diagnostic label_request))
+rendering_of (OfScript style name) input =
+    rendering_of_script style name input (parsed_script input)
 
 -- the error of rendering: it failed, or the script has the error of this diagnostic
 abbrev pub IsRenderFailure : Result (List ℕ) (List ℕ) → ReportError → Type 0

@@ -5,7 +5,7 @@ ghost use Rattle.codespan_core.specs.ConfigEquality.{IsEqualConfig};
 ghost use Rattle.codespan_core.specs.Diagnostics.{diagnostic_view};
 ghost use Rattle.report.specs.RenderedTexts.{report_config, rendering_of, rendering_of_script, output_text, IsRenderFailure};
 ghost use Rattle.report_script.specs.Requests.{request_view};
-ghost use Rattle.report_script.specs.Scripts.{read_script};
+ghost use Rattle.report_script.specs.Scripts.{parsed_script};
 
 use crate::report_error::ReportError;
 use codespan_core::diagnostic::Diagnostic;
@@ -13,7 +13,7 @@ use codespan_core::files::{Error, SimpleFile};
 use codespan_core::term::{Config, DisplayStyle};
 use codespan_views::emitting::emit_into_string;
 use report_script::diagnostics::{
-    diagnostic_of_fault, diagnostic_of_request, diagnostic_of_script,
+    diagnostic_of_fault, diagnostic_of_label_request, diagnostic_of_script,
 };
 use report_script::request::{LabelRequest, Request};
 use report_script::script::{ScriptError, parse_script};
@@ -33,13 +33,13 @@ pub fn render(alloc: Global, request: &Request<'_>, input: &str) -> Result<Strin
         (IsRenderFailure (rendering_of (request_view request.now) input.now)) }
 {
     match request {
-        Request::OneLabel(label_request) => render_request(alloc, label_request, input),
+        Request::OneLabel(label_request) => render_label_request(alloc, label_request, input),
         Request::OfScript { style, name } => render_script(alloc, *style, name, input),
     }
 }
 
-/// Renders a request over the input.
-fn render_request(
+/// Renders a label request over the input.
+fn render_label_request(
     alloc: Global,
     label_request: &LabelRequest<'_>,
     input: &str,
@@ -50,7 +50,7 @@ fn render_request(
     ensures failed { IfErr result (IsRenderFailure
         (rendering_of (request_view (Request.OneLabel label_request.now)) input.now)) }
 {
-    let diagnostic = diagnostic_of_request(alloc, label_request)?;
+    let diagnostic = diagnostic_of_label_request(alloc, label_request)?;
     Ok(render_over(
         alloc,
         label_request.style,
@@ -68,10 +68,10 @@ fn render_script(
     input: &str,
 ) -> Result<String, ReportError>
     ensures text { IfOk result (λ text.
-        rendering_of_script style name.now input.now (read_script input.now)
+        rendering_of_script style name.now input.now (parsed_script input.now)
         ≡ Ok (string_bytes text)) }
     ensures failed { IfErr result (IsRenderFailure
-        (rendering_of_script style name.now input.now (read_script input.now))) }
+        (rendering_of_script style name.now input.now (parsed_script input.now))) }
 {
     match parse_script(alloc, input) {
         Ok(script) => {

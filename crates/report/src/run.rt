@@ -41,29 +41,29 @@ pub fn run<R: Read, W: Write, E: Write>(
     ensures no_error { result ≡ 0 → error_output.new ≡ error_output.old }
     ensures read { result ≡ 0 → IsAtEnd (R.remaining input.new) }
     ensures rendered { result ≡ 0 → WhereKnown (map string_bytes args.now) (R.remaining input.old)
-        (λ request source.
-        (text : List ℕ) × (rendering_of request source ≡ Ok text)
+        (λ request bytes.
+        (text : List ℕ) × (rendering_of request bytes ≡ Ok text)
         × Appends (W.contents output.old) (W.contents output.new) text) }
     ensures utf8 { result ≡ 0 → WhereKnown (map string_bytes args.now) (R.remaining input.old)
-        (λ _ source. IsUtf8 source) }
-    ensures unchanged { WhereKnown (map string_bytes args.now) (R.remaining input.old) (λ _ source.
-        ¬ (IsUtf8 source) → output.new ≡ output.old) }
+        (λ _ bytes. IsUtf8 bytes) }
+    ensures unchanged { WhereKnown (map string_bytes args.now) (R.remaining input.old) (λ _ bytes.
+        ¬ (IsUtf8 bytes) → output.new ≡ output.old) }
     ensures reported { result ≡ 3 → WhereKnown (map string_bytes args.now) (R.remaining input.old)
-        (λ request source.
-        (text : List ℕ) × (rendering_of request source ≡ Err text)
+        (λ request bytes.
+        (text : List ℕ) × (rendering_of request bytes ≡ Err text)
         × Appends (E.contents error_output.old) (E.contents error_output.new) text) }
     ensures bad_script { WhereKnown (map string_bytes args.now) (R.remaining input.old)
-        (λ request source.
-        (text : List ℕ) → rendering_of request source ≡ Err text → ((result ≡ 3) ⊎ (result ≡ 1))
+        (λ request bytes.
+        (text : List ℕ) → rendering_of request bytes ≡ Err text → ((result ≡ 3) ⊎ (result ≡ 1))
         × (output.new ≡ output.old)) }
     ensures unrendered { UnchangedUnlessRendered (output.new ≡ output.old) result
         (E.contents error_output.old) (E.contents error_output.new) }
     ensures prefix { result ≡ 1 → WhereKnown (map string_bytes args.now) (R.remaining input.old)
-        (λ request source. (output.new ≡ output.old)
-        ⊎ ((text : List ℕ) × (rendering_of request source ≡ Ok text)
+        (λ request bytes. (output.new ≡ output.old)
+        ⊎ ((text : List ℕ) × (rendering_of request bytes ≡ Ok text)
         × AppendsPrefix (W.contents output.old) (W.contents output.new) text)) }
 {
-    let outcome = report(alloc, args, input, output);
+    let outcome = respond(alloc, args, input, output);
     conclude(outcome, error_output)
 }
 
@@ -95,7 +95,7 @@ pub fn conclude<E: Write>(outcome: Result<(), RunError<ReportError>>, error_outp
 }
 
 /// Reads the arguments and the input, renders, and writes.
-fn report<R: Read, W: Write>(
+fn respond<R: Read, W: Write>(
     alloc: Global,
     args: &[String],
     input: &mut R,
@@ -106,22 +106,22 @@ fn report<R: Read, W: Write>(
     ensures unread { IsErrOf result RunError.WrongArguments → input.new ≡ input.old }
     ensures read { OnOk result (IsAtEnd (R.remaining input.new)) }
     ensures rendered { OnOk result (WhereKnown (map string_bytes args.now) (R.remaining input.old)
-        (λ request source.
-        (text : List ℕ) × (rendering_of request source ≡ Ok text)
+        (λ request bytes.
+        (text : List ℕ) × (rendering_of request bytes ≡ Ok text)
         × Appends (W.contents output.old) (W.contents output.new) text)) }
     ensures utf8 { OnOk result (WhereKnown (map string_bytes args.now) (R.remaining input.old)
-        (λ _ source. IsUtf8 source)) }
+        (λ _ bytes. IsUtf8 bytes)) }
     ensures reported { IfErr result (λ error.
         WhereKnown (map string_bytes args.now) (R.remaining input.old) (ReportErrorMeans error)) }
     ensures unchanged { IfErr result (λ error. error ≢ RunError.CannotWriteOutput
         → output.new ≡ output.old) }
     ensures prefix { IsErrOf result RunError.CannotWriteOutput
-        → WhereKnown (map string_bytes args.now) (R.remaining input.old) (λ request source.
-        (text : List ℕ) × (rendering_of request source ≡ Ok text)
+        → WhereKnown (map string_bytes args.now) (R.remaining input.old) (λ request bytes.
+        (text : List ℕ) × (rendering_of request bytes ≡ Ok text)
         × AppendsPrefix (W.contents output.old) (W.contents output.new) text) }
 {
     let request = Request::from_arguments(args).ok_or(RunError::WrongArguments)?;
-    let source = read_text(alloc, input)?;
-    let text = render(alloc, &request, source.as_str())?;
+    let input_text = read_text(alloc, input)?;
+    let text = render(alloc, &request, input_text.as_str())?;
     write_output(output, text.as_bytes())
 }

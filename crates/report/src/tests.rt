@@ -135,25 +135,25 @@ impl Outcome {
     }
 }
 
-/// Returns the words as the program receives them.
-fn arguments(rt: &impl Abort, alloc: Global, words: &[&str]) -> Vec<String> {
-    let mut args = Vec::new(alloc);
-    for word in words {
-        let arg = String::from_str(alloc, word).expect(rt, "the word");
-        args.push(arg).expect(rt, "the words");
+/// Returns the arguments as the program receives them.
+fn owned_arguments(rt: &impl Abort, alloc: Global, args: &[&str]) -> Vec<String> {
+    let mut owned = Vec::new(alloc);
+    for arg in args {
+        let arg = String::from_str(alloc, arg).expect(rt, "the argument");
+        owned.push(arg).expect(rt, "the arguments");
     }
-    args
+    owned
 }
 
 /// Makes a run over an input and outputs of which `failing` fails.
 pub fn run_over(
     rt: &impl Abort,
     alloc: Global,
-    words: &[&str],
+    args: &[&str],
     text: &[u8],
     failing: Failing,
 ) -> Outcome {
-    let args = arguments(rt, alloc, words);
+    let args = owned_arguments(rt, alloc, args);
     let mut input = Input {
         left: text,
         reads: 0,
@@ -177,13 +177,13 @@ pub type Run<'run> = (&'run [&'run str], &'run [u8], (&'run str, &'run str, u8))
 /// Asserts what is seen of a run of this name, of which `failing` fails. The run reads nothing
 /// exactly if its arguments are wrong.
 pub fn check_run(rt: &impl Abort, alloc: Global, name: &str, failing: Failing, run: &Run<'_>) {
-    let (words, text, expected) = run;
-    let outcome = run_over(rt, alloc, words, text, failing);
+    let (args, text, expected) = run;
+    let outcome = run_over(rt, alloc, args, text, failing);
     let (output, error_output, status) = outcome.seen();
     let is_read = outcome.reads > 0;
     assert!(rt;
         (output, error_output, status) == *expected && is_read == (status != 2),
-        "{name}: {words:?}: {output}{error_output}"
+        "{name}: {args:?}: {output}{error_output}"
     );
 }
 
@@ -279,8 +279,8 @@ fn check_runs(rt: &impl Abort, alloc: Global, name: &str, runs: &[Run<'_>]) {
 /// Asserts what is seen of the runs with wrong arguments. One function names each table, since a
 /// function is proved more slowly for each row of a table that it names.
 fn check_wrong_arguments(rt: &impl Abort, alloc: Global) {
-    for words in &WRONG_ARGUMENTS {
-        let run: Run<'_> = (*words, b"abc\n", MISUSED);
+    for args in &WRONG_ARGUMENTS {
+        let run: Run<'_> = (*args, b"abc\n", MISUSED);
         check_run(rt, alloc, "wrong_arguments", Failing::default(), &run);
     }
 }

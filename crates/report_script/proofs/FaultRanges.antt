@@ -13,8 +13,8 @@ use Rattle.program_io.specs.Fields.{field_of, is_space, past_space}
 use Rattle.program_io.specs.Names.{severity_named}
 use Rattle.report_script.proofs.ScriptCuts.{left_after}
 use Rattle.report_script.specs.declared.script.Fault.{Fault}
-use Rattle.report_script.specs.declared.script.FaultNumber.{FaultNumber}
-use Rattle.report_script.specs.declared.script.FaultNumber.TheVariants.{UnknownWord, UnknownSeverity, BadNumber, RepeatedWord, MissingEnd}
+use Rattle.report_script.specs.declared.script.FaultKind.{FaultKind}
+use Rattle.report_script.specs.declared.script.FaultKind.TheVariants.{UnknownWord, UnknownSeverity, BadNumber, RepeatedWord, MissingEnd}
 use Rattle.report_script.specs.declared.script.words.Word.{Word}
 use Rattle.report_script.specs.declared.script.words.Word.TheVariants.{Severity, Code, Message, Primary, Secondary, Note}
 use Rattle.report_script.specs.Requests.{number_of}
@@ -24,7 +24,7 @@ use Rattle.report_script.specs.ScriptLines.{ScriptLine, body, is_end, is_newline
 use Rattle.report_script.specs.ScriptLines.{script_lines_from, script_lines, range_at, rest_of}
 use Rattle.report_script.specs.ScriptLines.{script_source, word_of, word_range}
 use Rattle.report_script.specs.ScriptWords.{script_word_named}
-use Rattle.report_script.specs.Scripts.{read_lines, read_script}
+use Rattle.report_script.specs.Scripts.{parsed_lines, parsed_script}
 
 -- what holds of each element of a list holds of each of the list or of none
 each_if : {X : Type 0} (P : X → Type 0) (b : Bool) (xs : List X) → AllByRecursion P xs → AllByRecursion P (if b then [] else xs)
@@ -219,8 +219,8 @@ module _ (input : List ℕ) (utf8 : IsUtf8 input) where
   -- ---- the errors
 
   -- an error with one range
-  one_range : (number : FaultNumber) (range : Range ℕ) → LiesIn input range → FaultLiesIn input (fault_at number range)
-  one_range number range inside = record { inside = inside; first = tt }
+  one_range : (kind : FaultKind) (range : Range ℕ) → LiesIn input range → FaultLiesIn input (fault_at kind range)
+  one_range kind range inside = record { inside = inside; first = tt }
 
   -- the first line of a word is one of the lines
   line_of_word_at : (word : List ℕ) (lines : List ScriptLine) → AllByRecursion IsLineAt lines → IfSome (line_of_word word lines) IsLineAt
@@ -228,7 +228,7 @@ module _ (input : List ℕ) (utf8 : IsUtf8 input) where
   line_of_word_at word (line ∷ lines) all = some_if IsLineAt (bytes_eq (word_of line) word) (Some line) (line_of_word word lines) all.0 (line_of_word_at word lines all.1)
 
   repeated_lies : (line : ScriptLine) → IsLineAt line → (first : Option ScriptLine) → IfSome first IsLineAt
-      → IfSome (option_map (λ first. record { number = RepeatedWord; range = word_range line; first = Some (word_range first) }) first) (FaultLiesIn input)
+      → IfSome (option_map (λ first. record { kind = RepeatedWord; range = word_range line; first = Some (word_range first) }) first) (FaultLiesIn input)
   repeated_lies line is_at None is_line = tt
   repeated_lies line is_at (Some first) is_line = record { inside = word_lies line is_at; first = word_lies first is_line }
 
@@ -273,7 +273,7 @@ module _ (input : List ℕ) (utf8 : IsUtf8 input) where
       (fault_lies (before ++ line ∷ []) lines (each_push IsLineAt before line earlier later.0) later.1)
 
   -- the error of what is read of lines
-  read_lies : (lines : List ScriptLine) (fault : Option Fault) (source : Option (List ℕ)) → IfSome fault (FaultLiesIn input) → IfErr (read_lines input lines fault source) (FaultLiesIn input)
+  read_lies : (lines : List ScriptLine) (fault : Option Fault) (source : Option (List ℕ)) → IfSome fault (FaultLiesIn input) → IfErr (parsed_lines input lines fault source) (FaultLiesIn input)
   read_lies lines (Some fault) source inside = inside
   read_lies lines None None inside =
       one_range MissingEnd (record { start = length input; end = length input })
@@ -282,7 +282,7 @@ module _ (input : List ℕ) (utf8 : IsUtf8 input) where
 
 -- the ranges of an error lie inside the input
 pub faults_lie : (input : List ℕ) → FaultsLieInside input
-unfolding read_script script_lines
+unfolding parsed_script script_lines
 faults_lie input utf8 =
     let pieces : List (List ℕ) = slice_split is_newline input in
     let all = lines_are_at input utf8 0 pieces (omega arith) (IsCharBoundary-start input utf8) (sym (join_with_byte-slice_split 10 input)) in

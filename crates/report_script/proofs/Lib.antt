@@ -1,6 +1,6 @@
 -- numbers in decimal digits, and what the arguments request
 pub mod Numbers
-pub mod Words
+pub mod Arguments
 -- a text, cut into lines
 pub mod ScriptCuts
 -- where the errors of an input are
@@ -9,5 +9,5 @@ pub mod FaultRanges
 pub mod WrittenScripts
 pub mod ReadLines
 pub mod ReadBack
--- the diagnostic of a request
-pub mod RequestDiagnostics
+-- the diagnostic of a label request
+pub mod LabelRequestDiagnostics

@@ -12,16 +12,16 @@ use Rattle.codespan_core.specs.declared.diagnostic.Severity.TheVariants.{Error}
 use Rattle.program_io.specs.Fields.{field_of, past_space}
 use Rattle.program_io.specs.Names.{severity_named}
 use Rattle.report_script.specs.declared.script.Fault.{Fault}
-use Rattle.report_script.specs.declared.script.FaultNumber.TheVariants.{UnknownSeverity, RepeatedWord}
+use Rattle.report_script.specs.declared.script.FaultKind.TheVariants.{UnknownSeverity, RepeatedWord}
 use Rattle.report_script.specs.Requests.{number_of}
 use Rattle.report_script.specs.ScriptFaults.{fault_at, fault_from, line_of_word, line_fault, number_fault, or_fault, repetition, severity_fault}
 use Rattle.report_script.specs.ScriptLaws.{ScriptReadsBack}
-use Rattle.report_script.specs.Statements.{IsStatable, Statement, code_stated, label_fields, label_stated, message_stated, note_stated, first_stated, stated_diagnostic, severity_field, severity_stated, statement_line, written}
+use Rattle.report_script.specs.Statements.{IsStatable, Statement, code_stated, label_fields, label_stated, message_stated, note_stated, first_stated, stated_diagnostic, severity_name, severity_stated, statement_line, written_script}
 use Rattle.report_script.specs.Statements.Statement.{SeverityLine, CodeLine, MessageLine, LabelLine, NoteLine, CommentLine, EmptyLine}
 use Rattle.report_script.specs.ScriptLines.{ScriptLine, is_newline, script_lines_from, script_lines}
 use Rattle.report_script.specs.ScriptLines.{range_at, rest_of, script_source, word_of, word_range}
 use Rattle.report_script.specs.ScriptWords.{script_word_named}
-use Rattle.report_script.specs.Scripts.{script_diagnostic, parsed_label, parsed_note, read_lines, read_script, rest_of_word, parsed_severity}
+use Rattle.report_script.specs.Scripts.{script_diagnostic, parsed_label, parsed_note, parsed_lines, parsed_script, rest_of_word, parsed_severity}
 use Rattle.report_script.proofs.WrittenScripts.{line_at, statement_lines, body_written, source_written}
 use Rattle.report_script.proofs.ReadLines.{rest_by, severity_read, code_read, message_read, note_read, name_read, fields_read, label_read, all_read}
 
@@ -98,7 +98,7 @@ not_repeated before line none =
     ap
     (option_map
     (λ first.
-    record { number = RepeatedWord; range = word_range line; first = Some (word_range first) }))
+    record { kind = RepeatedWord; range = word_range line; first = Some (word_range first) }))
     none
 
 -- the line of a statement has no error
@@ -175,31 +175,31 @@ lines_right before start (s ∷ ss) can once =
 
 -- the first severity by its name
 severities_read : (ss : List Statement)
-    → filter_map (λ s. option_map severity_field (severity_stated s)) ss ≡ map severity_field
+    → filter_map (λ s. option_map severity_name (severity_stated s)) ss ≡ map severity_name
     (filter_map severity_stated ss)
 severities_read [] = refl
 severities_read (s ∷ ss) = by_first (severity_stated s) (severities_read ss)
   where
     by_first : (first : Option Severity)
-        → filter_map (λ s. option_map severity_field (severity_stated s)) ss ≡ map severity_field
+        → filter_map (λ s. option_map severity_name (severity_stated s)) ss ≡ map severity_name
         (filter_map severity_stated ss)
-        → cons_option (option_map severity_field first)
-        (filter_map (λ s. option_map severity_field (severity_stated s)) ss)
-        ≡ map severity_field (cons_option first (filter_map severity_stated ss))
+        → cons_option (option_map severity_name first)
+        (filter_map (λ s. option_map severity_name (severity_stated s)) ss)
+        ≡ map severity_name (cons_option first (filter_map severity_stated ss))
     by_first None is = is
-    by_first (Some severity) is = ap (λ names. severity_field severity ∷ names) is
+    by_first (Some severity) is = ap (λ names. severity_name severity ∷ names) is
 
 named_again : (severity : Option Severity)
-    → option_and_then severity_named (option_map severity_field severity) ≡ severity
+    → option_and_then severity_named (option_map severity_name severity) ≡ severity
 named_again None = refl
 named_again (Some severity) = name_read severity
 
 module _ (ss : List Statement) (can : AllByRecursion IsStatable ss) where
   -- the names of the severities
-  names_read : filter_map (rest_by (codes "severity")) (statement_lines 0 ss) ≡ map severity_field
+  names_read : filter_map (rest_by (codes "severity")) (statement_lines 0 ss) ≡ map severity_name
       (filter_map severity_stated ss)
   names_read =
-      all_read (rest_by (codes "severity")) (λ s. option_map severity_field (severity_stated s))
+      all_read (rest_by (codes "severity")) (λ s. option_map severity_name (severity_stated s))
       severity_read 0 ss can
       ∙ severities_read ss
 
@@ -210,7 +210,7 @@ module _ (ss : List Statement) (can : AllByRecursion IsStatable ss) where
       ap (λ name. unwrap_or (option_and_then severity_named name) Error)
       (rest_of_word_first (codes "severity") (statement_lines 0 ss)
       ∙ ap (λ names. slice_get names 0) names_read
-      ∙ slice_get-map severity_field (filter_map severity_stated ss) 0)
+      ∙ slice_get-map severity_name (filter_map severity_stated ss) 0)
       ∙ ap (λ severity. unwrap_or severity Error) (named_again (first_stated severity_stated ss))
 
   code_same : rest_of_word (codes "code") (statement_lines 0 ss) ≡ first_stated code_stated ss
@@ -254,18 +254,18 @@ each_by_recursion P (s ∷ ss) all =
 
 -- a script that is written out is read as its statements say
 pub reads_back : (statements : List Statement) (source : List ℕ) → ScriptReadsBack statements source
-unfolding read_script script_lines
+unfolding parsed_script script_lines
 reads_back ss source script =
     let can = each_by_recursion IsStatable ss script.statable in
-    let input : List ℕ = written ss source in
+    let input : List ℕ = written_script ss source in
     let lines : List ScriptLine = script_lines_from 0 (slice_split is_newline input) in
     let found : script_source input lines ≡ Some source =
     source_written input 0 ss source can refl in
     let right : fault_from [] (statement_lines 0 ss) ≡ None = lines_right [] 0 ss can
     (all_once ss can script.one_severity script.one_code script.one_message) in
-    ap (λ ls. read_lines input ls (fault_from [] ls) (script_source input lines))
+    ap (λ ls. parsed_lines input ls (fault_from [] ls) (script_source input lines))
     (body_written 0 ss source can)
-    ∙ ap (λ fault. read_lines input (statement_lines 0 ss) fault (script_source input lines)) right
-    ∙ ap (read_lines input (statement_lines 0 ss) None) found
+    ∙ ap (λ fault. parsed_lines input (statement_lines 0 ss) fault (script_source input lines)) right
+    ∙ ap (parsed_lines input (statement_lines 0 ss) None) found
     ∙ ap (λ diagnostic. Ok (record { diagnostic = diagnostic; source = source }))
     (diagnostic_same ss can)

@@ -10,11 +10,11 @@ use Rattle.codespan_core.specs.declared.diagnostic.Severity.TheVariants.{Bug, Er
 use Rattle.program_io.specs.Fields.{field_of, is_space, past_space}
 use Rattle.program_io.specs.Names.{severity_named}
 use Rattle.report_script.specs.Requests.{number_of}
-use Rattle.report_script.specs.Statements.{IsStatable, Statement, code_stated, fields, label_fields, label_stated, message_stated, note_stated, severity_field, severity_stated, statement_line}
+use Rattle.report_script.specs.Statements.{IsStatable, Statement, code_stated, joined_fields, label_fields, label_stated, message_stated, note_stated, severity_name, severity_stated, statement_line}
 use Rattle.report_script.specs.Statements.Statement.{SeverityLine, CodeLine, MessageLine, LabelLine, NoteLine, CommentLine, EmptyLine}
 use Rattle.report_script.specs.ScriptLines.{ScriptLine, rest_of, word_of}
 use Rattle.report_script.specs.ScriptWords.{script_word_named}
-use Rattle.report_script.specs.Scripts.{label_by_word, parsed_label, label_of_rest, parsed_note, with_ends}
+use Rattle.report_script.specs.Scripts.{label_by_word, label_with_ends, parsed_label, label_of_rest, parsed_note}
 use Rattle.report_script.proofs.Numbers.{number_of-decimal}
 use Rattle.report_script.proofs.WrittenScripts.{field_alone, past_alone, first_field, past_field, no_space, line_at, statement_lines}
 
@@ -30,7 +30,7 @@ rest_by word line = if bytes_eq (word_of line) word then Some (rest_of line) els
 
 -- the severity, the code, the message and the note of a line are those of its statement
 pub severity_read : (start : ℕ) (s : Statement) → IsStatable s
-    → rest_by (codes "severity") (line_at start s) ≡ option_map severity_field (severity_stated s)
+    → rest_by (codes "severity") (line_at start s) ≡ option_map severity_name (severity_stated s)
 severity_read start (SeverityLine severity) can = refl
 severity_read start (CodeLine text) can = refl
 severity_read start (MessageLine text) can = refl
@@ -82,7 +82,7 @@ note_read start (CommentLine text) can =
 note_read start EmptyLine can = refl
 
 -- the name of a severity is read as that severity
-pub name_read : (severity : Severity) → severity_named (severity_field severity) ≡ Some severity
+pub name_read : (severity : Severity) → severity_named (severity_name severity) ≡ Some severity
 unfolding severity_named
 name_read Bug = refl
 name_read Error = refl
@@ -93,7 +93,7 @@ name_read Help = refl
 -- a label is read field by field
 both_ends : (style : LabelStyle) (range : Range ℕ) (message text : List ℕ) (first last : Option ℕ)
     → text ≡ message → first ≡ Some range.start → last ≡ Some range.end
-    → with_ends style text first last ≡ Some
+    → label_with_ends style text first last ≡ Some
     (record { style = style; file_id = tt; range = range; message = message })
 both_ends style range message text first last p q r = rw (p, q, r)
 
@@ -122,7 +122,7 @@ fields_read range None first last =
 fields_read range (Some message) first last =
     let start = no_space range.start first in
     let end = no_space range.end last in
-    let others : List ℕ = fields (decimal range.end) message in
+    let others : List ℕ = joined_fields (decimal range.end) message in
     let after : past_space (label_fields range (Some message)) ≡ others =
     past_field (decimal range.start) others start in
     record {

@@ -1,5 +1,5 @@
--- For the clauses of `lines::first_line` and `lines::without_return`, and for both laws: a text,
--- cut into lines, and a line that is cut.
+-- For the clauses of `lines::first_line` and `lines::without_carriage_return`, and for both laws: a
+-- text, cut into lines, and a line that is cut.
 use Rattle.std.proofs.Common.{◌≡◌, ◌≢◌, ℕ, ◌+◌, ◌-◌, ◌<◌, ◌≤◌, ◌==◌, true, false, List, [], ◌∷◌, ◌++◌, length, get_or, take, drop, refl, sym, ap, ◌∙◌, arith, if◌then◌else◌}
 use Rattle.std.specs.List.{slice_split}
 use Rattle.std.specs.Str.Lines.{strip_carriage_return}
@@ -106,10 +106,10 @@ return_dropped text front is =
     sym (ap (λ (b : ℕ). if b == 13 then take (length text - 1) text else text) last ∙ accepted)
 
 -- a text without one
-pub no_return : (text : List ℕ) → ((front : List ℕ) → text ≢ front ++ 13 ∷ [])
+pub no_carriage_return : (text : List ℕ) → ((front : List ℕ) → text ≢ front ++ 13 ∷ [])
     → text ≡ strip_carriage_return text
-no_return [] none = refl
-no_return (x ∷ xs) none =
+no_carriage_return [] none = refl
+no_carriage_return (x ∷ xs) none =
     let others : get_or (x ∷ xs) (length (x ∷ xs) - 1) 0 ≢ 13 =
     λ is. none (take (length (x ∷ xs) - 1) (x ∷ xs))
     (ends_in_last (x ∷ xs) (omega arith)

@@ -11,7 +11,7 @@ use Rattle.codespan_core.specs.declared.diagnostic.LabelStyle.TheVariants.{Prima
 use Rattle.codespan_core.specs.declared.diagnostic.Severity.{Severity}
 use Rattle.codespan_core.specs.declared.diagnostic.Severity.TheVariants.{Bug, Error, Warning, Note, Help}
 use Rattle.program_io.specs.Fields.{field_of, is_space, past_space}
-use Rattle.report_script.specs.Statements.{IsLineEnd, IsStatable, Statement, fields, label_fields, severity_field, statement_line, written}
+use Rattle.report_script.specs.Statements.{IsLineSuffix, IsStatable, Statement, joined_fields, label_fields, severity_name, statement_line, written_script}
 use Rattle.report_script.specs.Statements.Statement.{SeverityLine, CodeLine, MessageLine, LabelLine, NoteLine, CommentLine, EmptyLine}
 use Rattle.report_script.specs.ScriptLines.{ScriptLine, body, is_newline, script_lines_from, script_source}
 use Rattle.report_script.proofs.Numbers.{digits_of_decimal}
@@ -35,7 +35,8 @@ past_alone xs lacks =
     ap (λ n. drop (n + 1) xs) end ∙ drop_all (length xs + 1) xs (omega arith)
 
 -- the first of two fields ends at the space between them
-space_at : (xs ys : List ℕ) → Lacks 32 xs → position_or_len is_space (fields xs ys) ≡ length xs
+space_at : (xs ys : List ℕ) → Lacks 32 xs
+    → position_or_len is_space (joined_fields xs ys) ≡ length xs
 space_at xs ys lacks =
     position_or_len_is is_space (xs ++ 32 ∷ ys) (length xs) 0
     (omega (arith, length-append xs (32 ∷ ys)))
@@ -43,11 +44,11 @@ space_at xs ys lacks =
     (λ is. lacks k below (sym (get_or_append_left xs (32 ∷ ys) 0 k below) ∙ is)))
     (λ within. eq-eqb _ _ (get_or_at xs 32 ys 0 (length xs) refl))
 
-pub first_field : (xs ys : List ℕ) → Lacks 32 xs → field_of (fields xs ys) ≡ xs
+pub first_field : (xs ys : List ℕ) → Lacks 32 xs → field_of (joined_fields xs ys) ≡ xs
 first_field xs ys lacks =
     ap (λ n. take n (xs ++ 32 ∷ ys)) (space_at xs ys lacks) ∙ take_at xs (32 ∷ ys) (length xs) refl
 
-pub past_field : (xs ys : List ℕ) → Lacks 32 xs → past_space (fields xs ys) ≡ ys
+pub past_field : (xs ys : List ℕ) → Lacks 32 xs → past_space (joined_fields xs ys) ≡ ys
 past_field xs ys lacks =
     ap (λ n. drop (n + 1) (xs ++ 32 ∷ ys)) (space_at xs ys lacks) ∙ past_one 32 xs ys
 
@@ -68,12 +69,12 @@ above (x ∷ xs) all zero below = ltb-true 13 x (and_parts (ltb 13 x) (list_all 
 above (x ∷ xs) all (suc i) below =
     above xs (and_parts (ltb 13 x) (list_all (ltb 13) xs) all).1 i (omega arith)
 
-end_nothing : IsLineEnd []
+end_nothing : IsLineSuffix []
 end_nothing =
     record {
       no_newline =
           λ k d below. absurd (omega arith);
-      no_return = λ is. absurd (omega (arith, is));
+      no_carriage_return = λ is. absurd (omega (arith, is));
     }
 
 newline_none : (x : ℕ) (xs : List ℕ) → 13 < x → All (λ b. b ≢ 10) xs → All (λ b. b ≢ 10) (x ∷ xs)
@@ -87,26 +88,26 @@ return_none x (y ∷ ys) large none is =
     let last : length (x ∷ y ∷ ys) - 1 ≡ suc (length (y ∷ ys) - 1) = omega arith in
     none (sym (ap (λ n. get_or (x ∷ y ∷ ys) n 0) last) ∙ is)
 
--- such bytes before a text that can be the end of a line
-end_after : (xs ys : List ℕ) → AreAbove xs → IsLineEnd ys → IsLineEnd (xs ++ ys)
+-- such bytes before a text that can be a suffix of a line
+end_after : (xs ys : List ℕ) → AreAbove xs → IsLineSuffix ys → IsLineSuffix (xs ++ ys)
 end_after [] ys large end = end
 end_after (x ∷ xs) ys large end =
     let more = end_after xs ys (λ i below. large (suc i) (omega arith)) end in
     record {
       no_newline =
           newline_none x (xs ++ ys) (large 0 (omega arith)) more.no_newline;
-      no_return =
-          return_none x (xs ++ ys) (large 0 (omega arith)) more.no_return;
+      no_carriage_return =
+          return_none x (xs ++ ys) (large 0 (omega arith)) more.no_carriage_return;
     }
 
-end_decimal : (n : ℕ) (ys : List ℕ) → n < 2 ^ 64 → IsLineEnd ys → IsLineEnd (decimal n ++ ys)
+end_decimal : (n : ℕ) (ys : List ℕ) → n < 2 ^ 64 → IsLineSuffix ys → IsLineSuffix (decimal n ++ ys)
 end_decimal n ys fits end =
     end_after (decimal n) ys
     (λ i below. let digit = digits_of_decimal n fits i below in omega (arith, digit.0)) end
 
 end_label : (range : Range ℕ) (message : Option (List ℕ))
-    → (range.start < 2 ^ 64) × (range.end < 2 ^ 64) × IfSome message IsLineEnd
-    → IsLineEnd (label_fields range message)
+    → (range.start < 2 ^ 64) × (range.end < 2 ^ 64) × IfSome message IsLineSuffix
+    → IsLineSuffix (label_fields range message)
 end_label range None fits =
     end_decimal range.start (32 ∷ decimal range.end) fits.0
     (end_after (32 ∷ []) (decimal range.end) (above (32 ∷ []) refl)
@@ -117,7 +118,7 @@ end_label range (Some message) fits =
     (end_decimal range.end (32 ∷ message) fits.1
     (end_after (32 ∷ []) message (above (32 ∷ []) refl) fits.2)))
 
-end_name : (severity : Severity) → IsLineEnd (severity_field severity)
+end_name : (severity : Severity) → IsLineSuffix (severity_name severity)
 end_name Bug = end_after (codes "bug") [] (above (codes "bug") refl) end_nothing
 end_name Error = end_after (codes "error") [] (above (codes "error") refl) end_nothing
 end_name Warning = end_after (codes "warning") [] (above (codes "warning") refl) end_nothing
@@ -125,9 +126,9 @@ end_name Note = end_after (codes "note") [] (above (codes "note") refl) end_noth
 end_name Help = end_after (codes "help") [] (above (codes "help") refl) end_nothing
 
 -- a statement is written in one line
-line_ends : (s : Statement) → IsStatable s → IsLineEnd (statement_line s)
+line_ends : (s : Statement) → IsStatable s → IsLineSuffix (statement_line s)
 line_ends (SeverityLine severity) can =
-    end_after (codes "severity ") (severity_field severity) (above (codes "severity ") refl)
+    end_after (codes "severity ") (severity_name severity) (above (codes "severity ") refl)
     (end_name severity)
 line_ends (CodeLine text) can = end_after (codes "code ") text (above (codes "code ") refl) can
 line_ends (MessageLine text) can =
@@ -148,7 +149,7 @@ line_unchanged : (s : Statement) → IsStatable s
 line_unchanged s can =
     ap
     (λ b. if b then take (length (statement_line s) - 1) (statement_line s) else statement_line s)
-    (ne_eqb _ _ (line_ends s can).no_return)
+    (ne_eqb _ _ (line_ends s can).no_carriage_return)
 
 -- and is not the line `---`
 line_goes_on : (s : Statement) → bytes_eq (statement_line s) (codes "---") ≡ false
@@ -176,27 +177,27 @@ statement_lines start (s ∷ ss) =
 
 -- the line of the first statement, and what is written after it
 written_after : (s : Statement) (ss : List Statement) (source : List ℕ)
-    → written (s ∷ ss) source ≡ statement_line s ++ 10 ∷ written ss source
+    → written_script (s ∷ ss) source ≡ statement_line s ++ 10 ∷ written_script ss source
 written_after s ss source = simp append_assoc
 
 first_line : (start : ℕ) (s : Statement) (ss : List Statement) (source : List ℕ) → IsStatable s
-    → script_lines_from start (slice_split is_newline (written (s ∷ ss) source))
+    → script_lines_from start (slice_split is_newline (written_script (s ∷ ss) source))
     ≡ line_at start s
     ∷ script_lines_from (start + length (statement_line s) + 1)
-    (slice_split is_newline (written ss source))
+    (slice_split is_newline (written_script ss source))
 first_line start s ss source can =
-    let pieces : List (List ℕ) = slice_split is_newline (written ss source) in
+    let pieces : List (List ℕ) = slice_split is_newline (written_script ss source) in
     let lacks : Lacks 10 (statement_line s) = λ i below. (line_ends s can).no_newline i 0 below in
     ap (λ text. script_lines_from start (slice_split is_newline text)) (written_after s ss source)
-    ∙ ap (script_lines_from start) (pieces_at 10 (statement_line s) (written ss source) lacks)
-    ∙ line_then start (statement_line s) pieces (some_piece is_newline (written ss source))
+    ∙ ap (script_lines_from start) (pieces_at 10 (statement_line s) (written_script ss source) lacks)
+    ∙ line_then start (statement_line s) pieces (some_piece is_newline (written_script ss source))
     ∙ ap
     (λ text. record { start = start; text = text; next = start + length (statement_line s) + 1 }
     ∷ script_lines_from (start + length (statement_line s) + 1) pieces)
     (line_unchanged s can)
 
 end_line : (start : ℕ) (source : List ℕ)
-    → script_lines_from start (slice_split is_newline (written [] source))
+    → script_lines_from start (slice_split is_newline (written_script [] source))
     ≡ record { start = start; text = codes "---"; next = start + 3 + 1 }
     ∷ script_lines_from (start + 3 + 1) (slice_split is_newline source)
 end_line start source =
@@ -208,29 +209,30 @@ end_line start source =
 
 pub body_written : (start : ℕ) (ss : List Statement) (source : List ℕ)
     → AllByRecursion IsStatable ss
-    → body (script_lines_from start (slice_split is_newline (written ss source))) ≡ statement_lines
-    start ss
+    → body (script_lines_from start (slice_split is_newline (written_script ss source)))
+    ≡ statement_lines start ss
 body_written start [] source can = ap body (end_line start source)
 body_written start (s ∷ ss) source can =
     let next : ℕ = start + length (statement_line s) + 1 in
     let lines : List ScriptLine =
-    script_lines_from next (slice_split is_newline (written ss source)) in
+    script_lines_from next (slice_split is_newline (written_script ss source)) in
     ap body (first_line start s ss source can.0)
     ∙ ap (λ b. if b then [] else line_at start s ∷ body lines) (line_goes_on s)
     ∙ ap (λ ls. line_at start s ∷ ls) (body_written next ss source can.1)
 
 pub source_written : (input : List ℕ) (start : ℕ) (ss : List Statement) (source : List ℕ)
-    → AllByRecursion IsStatable ss → drop start input ≡ written ss source
+    → AllByRecursion IsStatable ss → drop start input ≡ written_script ss source
     → script_source input
-    (script_lines_from start (slice_split is_newline (written ss source))) ≡ Some source
+    (script_lines_from start (slice_split is_newline (written_script ss source))) ≡ Some source
 source_written input start [] source can is =
     ap (script_source input) (end_line start source)
     ∙ ap Some (left_after input start (codes "---") source is)
 source_written input start (s ∷ ss) source can is =
     let next : ℕ = start + length (statement_line s) + 1 in
     let lines : List ScriptLine =
-    script_lines_from next (slice_split is_newline (written ss source)) in
+    script_lines_from next (slice_split is_newline (written_script ss source)) in
     ap (script_source input) (first_line start s ss source can.0)
     ∙ ap (λ b. if b then Some (drop next input) else script_source input lines) (line_goes_on s)
     ∙ source_written input next ss source can.1
-    (left_after input start (statement_line s) (written ss source) (is ∙ written_after s ss source))
+    (left_after input start (statement_line s) (written_script ss source)
+    (is ∙ written_after s ss source))

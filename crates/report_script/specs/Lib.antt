@@ -8,5 +8,5 @@ pub mod Scripts
 -- what scripts are written from, and their laws
 pub mod Statements
 pub mod ScriptLaws
--- the diagnostics of requests and of scripts' errors
+-- the diagnostics of label requests and of scripts' errors
 pub mod ReportDiagnostics

@@ -1,17 +1,17 @@
--- The diagnostics of requests and of scripts' errors.
+-- The diagnostics of label requests and of scripts' errors.
 use Rattle.std.specs.Prelude.{ℕ, List, [], ◌∷◌, Option, Some, None, codes}
 use Rattle.std.specs.declared.ops.Range.{Range}
 use Rattle.codespan_core.specs.declared.diagnostic.LabelStyle.TheVariants.{Primary, Secondary}
 use Rattle.codespan_core.specs.declared.diagnostic.Severity.TheVariants as severities
 use Rattle.codespan_core.specs.Diagnostics.{DiagnosticView, LabelView}
 use Rattle.report_script.specs.declared.script.Fault.{Fault}
-use Rattle.report_script.specs.declared.script.FaultNumber.{FaultNumber}
-use Rattle.report_script.specs.declared.script.FaultNumber.TheVariants.{UnknownWord, UnknownSeverity, BadNumber, RepeatedWord, MissingEnd}
+use Rattle.report_script.specs.declared.script.FaultKind.{FaultKind}
+use Rattle.report_script.specs.declared.script.FaultKind.TheVariants.{UnknownWord, UnknownSeverity, BadNumber, RepeatedWord, MissingEnd}
 use Rattle.report_script.specs.Requests.{LabelRequestView}
 
--- the diagnostic of a request: an error with its message, and one primary label with the same
-abbrev pub request_diagnostic : LabelRequestView → DiagnosticView (Unit {0})
-request_diagnostic label_request = record {
+-- the diagnostic of a label request: an error with its message, and one primary label with the same
+abbrev pub label_request_diagnostic : LabelRequestView → DiagnosticView (Unit {0})
+label_request_diagnostic label_request = record {
   severity = severities.Error;
   code = None;
   message = label_request.message;
@@ -25,7 +25,7 @@ request_diagnostic label_request = record {
 }
 
 -- the code of a script's error
-abbrev pub fault_code : FaultNumber → List ℕ
+abbrev pub fault_code : FaultKind → List ℕ
 fault_code UnknownWord = codes "S1"
 fault_code UnknownSeverity = codes "S2"
 fault_code BadNumber = codes "S3"
@@ -33,7 +33,7 @@ fault_code RepeatedWord = codes "S4"
 fault_code MissingEnd = codes "S5"
 
 -- its message
-abbrev pub fault_message : FaultNumber → List ℕ
+abbrev pub fault_message : FaultKind → List ℕ
 fault_message UnknownWord = codes "unknown word"
 fault_message UnknownSeverity = codes "unknown severity"
 fault_message BadNumber = codes "bad number"
@@ -41,7 +41,7 @@ fault_message RepeatedWord = codes "repeated word"
 fault_message MissingEnd = codes "missing end of script"
 
 -- the message of its primary label
-abbrev pub fault_label_message : FaultNumber → List ℕ
+abbrev pub fault_label_message : FaultKind → List ℕ
 fault_label_message UnknownWord =
     codes "expected severity, code, message, primary, secondary or note"
 fault_label_message UnknownSeverity = codes "expected bug, error, warning, note or help"
@@ -60,13 +60,13 @@ label_of_first (Some range) =
 abbrev pub fault_diagnostic : Fault → DiagnosticView (Unit {0})
 fault_diagnostic fault = record {
   severity = severities.Error;
-  code = Some (fault_code fault.number);
-  message = fault_message fault.number;
+  code = Some (fault_code fault.kind);
+  message = fault_message fault.kind;
   labels = record {
     style = Primary;
     file_id = tt;
     range = fault.range;
-    message = fault_label_message fault.number;
+    message = fault_label_message fault.kind;
   } ∷ label_of_first fault.first;
   notes = [];
 }

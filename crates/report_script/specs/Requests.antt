@@ -9,7 +9,7 @@ use Rattle.report_script.specs.declared.request.Request.{Request}
 use Rattle.report_script.specs.declared.request.Request.TheVariants as variants
 use Rattle.report_script.specs.declared.request.LabelRequest.{LabelRequest}
 
--- a request by its fields, its texts as bytes
+-- a label request by its fields, its texts as bytes
 pub record LabelRequestView : Type 0 where
   pub style : DisplayStyle
   pub name : List ℕ
@@ -17,7 +17,7 @@ pub record LabelRequestView : Type 0 where
   pub end : ℕ
   pub message : List ℕ
 
--- the fields of a request
+-- the fields of a label request
 abbrev pub label_request_view : LabelRequest → LabelRequestView
 label_request_view label_request = record {
   style = label_request.style;
@@ -34,19 +34,19 @@ number_of (d ∷ ds) =
     if all_ascii_digits (d ∷ ds) && nat_lt (digits_value 10 (d ∷ ds)) (2 ^ 64)
     then Some (digits_value 10 (d ∷ ds)) else None
 
--- the request with this name and this message, if there are a style, a start and an end
-abbrev pub with_parts : List ℕ → List ℕ → Option DisplayStyle → Option ℕ → Option ℕ
+-- the label request with this name and this message, if there are a style, a start and an end
+abbrev pub label_request_with : List ℕ → List ℕ → Option DisplayStyle → Option ℕ → Option ℕ
     → Option LabelRequestView
-with_parts name message (Some style) (Some start) (Some end) =
+label_request_with name message (Some style) (Some start) (Some end) =
     Some (record { style = style; name = name; start = start; end = end; message = message })
-with_parts name message (Some style) (Some start) None = None
-with_parts name message (Some style) None end = None
-with_parts name message None start end = None
+label_request_with name message (Some style) (Some start) None = None
+label_request_with name message (Some style) None end = None
+label_request_with name message None start end = None
 
--- what the arguments request: they are a style, a name, two numbers and a message
+-- the label request that the arguments are: a style, a name, two numbers and a message
 unfoldable pub label_request_of : List (List ℕ) → Option LabelRequestView
 label_request_of (style ∷ name ∷ start ∷ end ∷ message ∷ []) =
-    with_parts name message (display_style_named style) (number_of start) (number_of end)
+    label_request_with name message (display_style_named style) (number_of start) (number_of end)
 label_request_of _ = None
 
 -- what a run renders: an error with one label over the input, or the diagnostic of the script at
@@ -63,9 +63,9 @@ request_view (variants.OfScript style name) = OfScript style name.now
 -- what the arguments request: with two of them a script, with five an error with one label
 unfoldable pub request_of : List (List ℕ) → Option RequestView
 request_of (style ∷ name ∷ []) = option_map (λ s. OfScript s name) (display_style_named style)
-request_of words = option_map OneLabel (label_request_of words)
+request_of args = option_map OneLabel (label_request_of args)
 
 -- the fact holds of what the arguments request and of the bytes that the reader has, where both are
 -- known
 abbrev pub WhereKnown : List (List ℕ) → Option (List ℕ) → (RequestView → List ℕ → Type 0) → Type 0
-WhereKnown words bytes P = IfSome (request_of words) (λ request. IfSome bytes (P request))
+WhereKnown args bytes P = IfSome (request_of args) (λ request. IfSome bytes (P request))

@@ -6,8 +6,8 @@ use Rattle.std.specs.declared.ops.Range.{Range}
 use Rattle.program_io.specs.Fields.{field_of, past_space}
 use Rattle.program_io.specs.Names.{severity_named}
 use Rattle.report_script.specs.declared.script.Fault.{Fault}
-use Rattle.report_script.specs.declared.script.FaultNumber.{FaultNumber}
-use Rattle.report_script.specs.declared.script.FaultNumber.TheVariants.{UnknownWord, UnknownSeverity, BadNumber, RepeatedWord, MissingEnd}
+use Rattle.report_script.specs.declared.script.FaultKind.{FaultKind}
+use Rattle.report_script.specs.declared.script.FaultKind.TheVariants.{UnknownWord, UnknownSeverity, BadNumber, RepeatedWord, MissingEnd}
 use Rattle.report_script.specs.declared.script.ScriptError.{ScriptError}
 use Rattle.report_script.specs.declared.script.ScriptError.TheVariants as errors
 use Rattle.report_script.specs.declared.script.words.Word.{Word}
@@ -18,8 +18,8 @@ use Rattle.report_script.specs.ScriptLines.{range_at, word_range}
 use Rattle.report_script.specs.ScriptWords.{script_word_named}
 
 -- an error with one range
-abbrev pub fault_at : FaultNumber → Range ℕ → Fault
-fault_at number range = record { number = number; range = range; first = None }
+abbrev pub fault_at : FaultKind → Range ℕ → Fault
+fault_at kind range = record { kind = kind; range = range; first = None }
 
 -- the first of two errors, if there is one
 abbrev pub or_fault : Option Fault → Option Fault → Option Fault
@@ -38,7 +38,7 @@ unfoldable pub repetition : List ScriptLine → ScriptLine → Option Fault
 repetition before line =
     option_map
     (λ first. record {
-      number = RepeatedWord;
+      kind = RepeatedWord;
       range = word_range line;
       first = Some (word_range first);
     })
@@ -90,5 +90,5 @@ missing_end input = fault_at MissingEnd (record { start = length input; end = le
 
 -- the error that is returned is the script's, unless an allocation failed
 abbrev pub IsFaultOf : {T : Type 0} → Result T Fault → ScriptError → Type 0
-IsFaultOf read (errors.Fault fault) = read ≡ Err fault
-IsFaultOf read errors.OutOfMemory = Unit {0}
+IsFaultOf parsed (errors.Fault fault) = parsed ≡ Err fault
+IsFaultOf parsed errors.OutOfMemory = Unit {0}

@@ -4,14 +4,14 @@ use Rattle.std.specs.Prelude.{◌≡◌, ℕ, ◌≤◌, List, length, Ok, IfErr
 use Rattle.std.specs.Str.{IsCharBoundary, IsUtf8}
 use Rattle.std.specs.declared.ops.Range.{Range}
 use Rattle.report_script.specs.declared.script.Fault.{Fault}
-use Rattle.report_script.specs.Scripts.{read_script}
-use Rattle.report_script.specs.Statements.{AreScript, Statement, stated_diagnostic, written}
+use Rattle.report_script.specs.Scripts.{parsed_script}
+use Rattle.report_script.specs.Statements.{AreScript, Statement, stated_diagnostic, written_script}
 
 -- a script that is written out from its statements is read as what they state
 abbrev pub ScriptReadsBack : List Statement → List ℕ → Type 0
 ScriptReadsBack statements source =
     AreScript statements
-    → read_script (written statements source)
+    → parsed_script (written_script statements source)
     ≡ Ok (record { diagnostic = stated_diagnostic statements; source = source })
 
 -- the range does not end before it starts, and lies inside the input, between characters
@@ -28,4 +28,4 @@ pub record FaultLiesIn (input : List ℕ) (fault : Fault) : Type 0 where
 
 -- where an input that is UTF-8 is not a script, the ranges of its error lie inside it
 abbrev pub FaultsLieInside : List ℕ → Type 0
-FaultsLieInside input = IsUtf8 input → IfErr (read_script input) (FaultLiesIn input)
+FaultsLieInside input = IsUtf8 input → IfErr (parsed_script input) (FaultLiesIn input)

@@ -55,21 +55,22 @@ parsed_severity lines =
     severities.Error
 
 -- a label from the numbers of its start and its end
-abbrev pub with_ends : LabelStyle → List ℕ → Option ℕ → Option ℕ → Option (LabelView (Unit {0}))
-with_ends style message (Some start) (Some end) =
+abbrev pub label_with_ends : LabelStyle → List ℕ → Option ℕ → Option ℕ
+    → Option (LabelView (Unit {0}))
+label_with_ends style message (Some start) (Some end) =
     Some (record {
       style = style;
       file_id = tt;
       range = record { start = start; end = end };
       message = message;
     })
-with_ends style message (Some start) None = None
-with_ends style message None end = None
+label_with_ends style message (Some start) None = None
+label_with_ends style message None end = None
 
 -- the label of a style that a rest states: its start, its end, and then its message
 abbrev pub label_of_rest : LabelStyle → List ℕ → Option (LabelView (Unit {0}))
 label_of_rest style rest =
-    with_ends style (past_space (past_space rest)) (number_of (field_of rest))
+    label_with_ends style (past_space (past_space rest)) (number_of (field_of rest))
     (number_of (field_of (past_space rest)))
 
 -- the label of a line with this word
@@ -104,17 +105,17 @@ script_diagnostic lines = record {
   notes = parsed_notes lines;
 }
 
--- what is read of lines, by their first error and the source: the error, if there is one; else that
+-- what lines parse to, by their first error and the source: the error, if there is one; else that
 -- the end is missing, if there is no source; else what they state
-abbrev pub read_lines : List ℕ → List ScriptLine → Option Fault → Option (List ℕ)
+abbrev pub parsed_lines : List ℕ → List ScriptLine → Option Fault → Option (List ℕ)
     → Result ScriptView Fault
-read_lines input lines (Some fault) source = Err fault
-read_lines input lines None None = Err (missing_end input)
-read_lines input lines None (Some source) =
+parsed_lines input lines (Some fault) source = Err fault
+parsed_lines input lines None None = Err (missing_end input)
+parsed_lines input lines None (Some source) =
     Ok (record { diagnostic = script_diagnostic lines; source = source })
 
 -- what an input states as a script, or its first error
-unfoldable pub read_script : List ℕ → Result ScriptView Fault
-read_script input =
-    read_lines input (body (script_lines input)) (fault_from [] (body (script_lines input)))
+unfoldable pub parsed_script : List ℕ → Result ScriptView Fault
+parsed_script input =
+    parsed_lines input (body (script_lines input)) (fault_from [] (body (script_lines input)))
     (script_source input (script_lines input))

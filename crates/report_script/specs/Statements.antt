@@ -21,20 +21,20 @@ pub data Statement : Type 0 where
   CommentLine : List ℕ → Statement
   EmptyLine : Statement
 
--- the text can be the end of a line: it has no newline, and does not end in a carriage return
-pub record IsLineEnd (text : List ℕ) : Type 0 where
+-- the text can be a suffix of a line: it has no newline, and does not end in a carriage return
+pub record IsLineSuffix (text : List ℕ) : Type 0 where
   pub no_newline : All (λ b. b ≢ 10) text
-  pub no_return : slice_index text (length text - 1) ≢ 13
+  pub no_carriage_return : slice_index text (length text - 1) ≢ 13
 
--- a line can state it: its text can be the end of a line, and the numbers of a label fit a usize
+-- a line can state it: its text can be a suffix of a line, and the numbers of a label fit a usize
 abbrev pub IsStatable : Statement → Type 0
 IsStatable (SeverityLine severity) = Unit {0}
-IsStatable (CodeLine text) = IsLineEnd text
-IsStatable (MessageLine text) = IsLineEnd text
+IsStatable (CodeLine text) = IsLineSuffix text
+IsStatable (MessageLine text) = IsLineSuffix text
 IsStatable (LabelLine style range message) =
-    (range.start < 2 ^ 64) × (range.end < 2 ^ 64) × IfSome message IsLineEnd
-IsStatable (NoteLine text) = IsLineEnd text
-IsStatable (CommentLine text) = IsLineEnd text
+    (range.start < 2 ^ 64) × (range.end < 2 ^ 64) × IfSome message IsLineSuffix
+IsStatable (NoteLine text) = IsLineSuffix text
+IsStatable (CommentLine text) = IsLineSuffix text
 IsStatable EmptyLine = Unit {0}
 
 -- ---- what statements state
@@ -91,12 +91,12 @@ pub record AreScript (statements : List Statement) : Type 0 where
 -- ---- how statements are written
 
 -- the name of a severity
-abbrev pub severity_field : Severity → List ℕ
-severity_field Bug = codes "bug"
-severity_field Error = codes "error"
-severity_field Warning = codes "warning"
-severity_field Note = codes "note"
-severity_field Help = codes "help"
+abbrev pub severity_name : Severity → List ℕ
+severity_name Bug = codes "bug"
+severity_name Error = codes "error"
+severity_name Warning = codes "warning"
+severity_name Note = codes "note"
+severity_name Help = codes "help"
 
 -- the word of a label's style
 abbrev pub label_word : LabelStyle → List ℕ
@@ -104,31 +104,32 @@ label_word Primary = codes "primary"
 label_word Secondary = codes "secondary"
 
 -- two fields, with one space between them
-abbrev pub fields : List ℕ → List ℕ → List ℕ
-fields first second = first ++ 32 ∷ second
+abbrev pub joined_fields : List ℕ → List ℕ → List ℕ
+joined_fields first second = first ++ 32 ∷ second
 
 -- the fields of a label: its start, its end, and its message, if it has one
 abbrev pub label_fields : Range ℕ → Option (List ℕ) → List ℕ
-label_fields range None = fields (decimal range.start) (decimal range.end)
+label_fields range None = joined_fields (decimal range.start) (decimal range.end)
 label_fields range (Some message) =
-    fields (decimal range.start) (fields (decimal range.end) message)
+    joined_fields (decimal range.start) (joined_fields (decimal range.end) message)
 
 -- the line of a statement
 abbrev pub statement_line : Statement → List ℕ
-statement_line (SeverityLine severity) = fields (codes "severity") (severity_field severity)
-statement_line (CodeLine text) = fields (codes "code") text
-statement_line (MessageLine text) = fields (codes "message") text
+statement_line (SeverityLine severity) = joined_fields (codes "severity") (severity_name severity)
+statement_line (CodeLine text) = joined_fields (codes "code") text
+statement_line (MessageLine text) = joined_fields (codes "message") text
 statement_line (LabelLine style range message) =
-    fields (label_word style) (label_fields range message)
-statement_line (NoteLine text) = fields (codes "note") text
+    joined_fields (label_word style) (label_fields range message)
+statement_line (NoteLine text) = joined_fields (codes "note") text
 statement_line (CommentLine text) = 35 ∷ text
 statement_line EmptyLine = []
 
 -- a line and its newline
-abbrev pub ended : List ℕ → List ℕ
-ended line = line ++ 10 ∷ []
+abbrev pub terminated_line : List ℕ → List ℕ
+terminated_line line = line ++ 10 ∷ []
 
 -- a script and its source: the lines of the statements, the line `---`, and the source
-abbrev pub written : List Statement → List ℕ → List ℕ
-written statements source =
-    flat_map (λ s. ended (statement_line s)) statements ++ (ended (codes "---") ++ source)
+abbrev pub written_script : List Statement → List ℕ → List ℕ
+written_script statements source =
+    flat_map (λ s. terminated_line (statement_line s)) statements
+    ++ (terminated_line (codes "---") ++ source)

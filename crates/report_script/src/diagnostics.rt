@@ -1,8 +1,8 @@
-//! The diagnostics of requests, of scripts, and of errors in scripts.
+//! The diagnostics of label requests, of scripts, and of errors in scripts.
 
 ghost use Rattle.std.specs.Prelude.{◌≡◌, IfOk, map, string_bytes};
 ghost use Rattle.codespan_core.specs.Diagnostics.{diagnostic_view, label_view};
-ghost use Rattle.report_script.specs.ReportDiagnostics.{request_diagnostic, fault_diagnostic};
+ghost use Rattle.report_script.specs.ReportDiagnostics.{label_request_diagnostic, fault_diagnostic};
 ghost use Rattle.report_script.specs.Requests.{label_request_view};
 ghost use Rattle.report_script.specs.Scripts.{script_label_view, script_view};
 
@@ -13,18 +13,18 @@ use codespan_core::diagnostic::{Diagnostic, Label};
 use codespan_core::files::Error;
 use std::alloc::Global;
 
-/// Returns the diagnostic of a request: an error with its message, and with one primary label that
-/// has the same message.
+/// Returns the diagnostic of a label request: an error with its message, and with one primary label
+/// that has the same message.
 ///
 /// # Errors
 ///
 /// `OutOfMemory` if an allocation fails.
-pub fn diagnostic_of_request(
+pub fn diagnostic_of_label_request(
     alloc: Global,
     label_request: &LabelRequest<'_>,
 ) -> Result<Diagnostic<()>, Error>
     ensures { IfOk result (λ d. diagnostic_view d
-        ≡ request_diagnostic (label_request_view label_request.now)) }
+        ≡ label_request_diagnostic (label_request_view label_request.now)) }
 {
     let label = Label::primary(alloc, (), label_request.start..label_request.end).with_message(
         label_request.message,
@@ -92,10 +92,10 @@ fn notes(alloc: Global, stated: &[&str]) -> Result<Vec<String>, Error>
 pub fn diagnostic_of_fault(alloc: Global, fault: script::Fault) -> Result<Diagnostic<()>, Error>
     ensures { IfOk result (λ d. diagnostic_view d ≡ fault_diagnostic fault) }
 {
-    let label = Label::primary(alloc, (), fault.range).with_message(fault.number.label_message())?;
+    let label = Label::primary(alloc, (), fault.range).with_message(fault.kind.label_message())?;
     let diagnostic = Diagnostic::error(alloc)
-        .with_code(fault.number.code())?
-        .with_message(fault.number.message())?
+        .with_code(fault.kind.code())?
+        .with_message(fault.kind.message())?
         .with_label(label)?;
     match fault.first {
         Some(first) => diagnostic.with_label(Label::secondary(alloc, (), first).with_message(

@@ -6,7 +6,7 @@
 //! begin with `#` are ignored. `docs/SCRIPT.md` lists the words and their rests.
 
 ghost use Rattle.std.specs.Prelude.{◌≡◌, MatchResult};
-ghost use Rattle.report_script.specs.Scripts.{read_script, script_view};
+ghost use Rattle.report_script.specs.Scripts.{parsed_script, script_view};
 ghost use Rattle.report_script.specs.ScriptFaults.{IsFaultOf};
 ghost use Rattle.report_script.specs.declared.script.ScriptError.TheVariants.{OutOfMemory};
 
@@ -44,9 +44,9 @@ pub struct Script<'input> {
     pub source: &'input str,
 }
 
-/// A kind of error in scripts; the kinds are in the order of their numbers, from 1.
+/// A kind of error in scripts; the kinds are in the order of their codes, from `S1`.
 #[derive(Clone, Copy)]
-pub enum FaultNumber {
+pub enum FaultKind {
     /// A line begins with a word that scripts do not have.
     UnknownWord,
     /// The rest of a `severity` line is not the name of a severity.
@@ -59,7 +59,7 @@ pub enum FaultNumber {
     MissingEnd,
 }
 
-impl FaultNumber {
+impl FaultKind {
     ghost use Rattle.report_script.specs.ReportDiagnostics.{fault_code, fault_message, fault_label_message};
 
     /// Returns the code of the diagnostic, from `S1` to `S5` in the order of the kinds.
@@ -67,11 +67,11 @@ impl FaultNumber {
         ensures { result.now ≡ fault_code self }
     {
         match self {
-            FaultNumber::UnknownWord => "S1",
-            FaultNumber::UnknownSeverity => "S2",
-            FaultNumber::BadNumber => "S3",
-            FaultNumber::RepeatedWord => "S4",
-            FaultNumber::MissingEnd => "S5",
+            FaultKind::UnknownWord => "S1",
+            FaultKind::UnknownSeverity => "S2",
+            FaultKind::BadNumber => "S3",
+            FaultKind::RepeatedWord => "S4",
+            FaultKind::MissingEnd => "S5",
         }
     }
 
@@ -80,11 +80,11 @@ impl FaultNumber {
         ensures { result.now ≡ fault_message self }
     {
         match self {
-            FaultNumber::UnknownWord => "unknown word",
-            FaultNumber::UnknownSeverity => "unknown severity",
-            FaultNumber::BadNumber => "bad number",
-            FaultNumber::RepeatedWord => "repeated word",
-            FaultNumber::MissingEnd => "missing end of script",
+            FaultKind::UnknownWord => "unknown word",
+            FaultKind::UnknownSeverity => "unknown severity",
+            FaultKind::BadNumber => "bad number",
+            FaultKind::RepeatedWord => "repeated word",
+            FaultKind::MissingEnd => "missing end of script",
         }
     }
 
@@ -93,13 +93,13 @@ impl FaultNumber {
         ensures { result.now ≡ fault_label_message self }
     {
         match self {
-            FaultNumber::UnknownWord => {
+            FaultKind::UnknownWord => {
                 "expected severity, code, message, primary, secondary or note"
             }
-            FaultNumber::UnknownSeverity => "expected bug, error, warning, note or help",
-            FaultNumber::BadNumber => "expected a decimal number",
-            FaultNumber::RepeatedWord => "given again",
-            FaultNumber::MissingEnd => "expected ---",
+            FaultKind::UnknownSeverity => "expected bug, error, warning, note or help",
+            FaultKind::BadNumber => "expected a decimal number",
+            FaultKind::RepeatedWord => "given again",
+            FaultKind::MissingEnd => "expected ---",
         }
     }
 }
@@ -108,7 +108,7 @@ impl FaultNumber {
 #[derive(Drop)]
 pub struct Fault {
     /// The kind of error.
-    pub number: FaultNumber,
+    pub kind: FaultKind,
     /// The byte range of the input that is wrong, the end exclusive.
     pub range: Range<usize>,
     /// For a repeated word, the byte range of its first occurrence; `None` for any other error.
@@ -141,8 +141,8 @@ impl From<AllocError> for ScriptError {
 ///   then its repetition, then the fields from left to right.
 /// - `OutOfMemory` if an allocation fails.
 pub fn parse_script(alloc: Global, input: &str) -> Result<Script<'_>, ScriptError>
-    ensures { MatchResult result (λ script. read_script input.now ≡ Ok (script_view script))
-        (λ error. IsFaultOf (read_script input.now) error) }
+    ensures { MatchResult result (λ script. parsed_script input.now ≡ Ok (script_view script))
+        (λ error. IsFaultOf (parsed_script input.now) error) }
 {
     let (lines, source) = split_script(alloc, input)?;
     if let Some(fault) = first_fault(lines.as_slice()) {

@@ -7,7 +7,7 @@ ghost use Rattle.report_script.specs.ScriptFaults.{fault_from, line_fault, missi
 use super::line::Line;
 use super::parsed::line_of_word;
 use super::words::{Word, parse_word};
-use super::{Fault, FaultNumber};
+use super::{Fault, FaultKind};
 use crate::request::parse_number;
 use program_io::fields::split_field;
 use program_io::names::parse_severity;
@@ -34,7 +34,7 @@ fn line_fault(before: &[Line<'_>], line: &Line<'_>) -> Option<Fault>
     }
     match parse_word(line.word()) {
         None => Some(fault(
-            FaultNumber::UnknownWord,
+            FaultKind::UnknownWord,
             line.range_at(line.text, line.word()),
         )),
         Some(Word::Severity) => match repetition(before, line) {
@@ -51,15 +51,15 @@ fn line_fault(before: &[Line<'_>], line: &Line<'_>) -> Option<Fault>
 pub(super) fn missing_end(input: &str) -> Fault
     ensures { result ≡ missing_end input.now }
 {
-    fault(FaultNumber::MissingEnd, input.len()..input.len())
+    fault(FaultKind::MissingEnd, input.len()..input.len())
 }
 
 /// Returns an error with one range.
-fn fault(number: FaultNumber, range: Range<usize>) -> Fault
-    ensures { result ≡ record { number = number; range = range; first = None } }
+fn fault(kind: FaultKind, range: Range<usize>) -> Fault
+    ensures { result ≡ record { kind = kind; range = range; first = None } }
 {
     Fault {
-        number,
+        kind,
         range,
         first: None,
     }
@@ -72,7 +72,7 @@ fn repetition(before: &[Line<'_>], line: &Line<'_>) -> Option<Fault>
 {
     let first = line_of_word(line.word(), before)?;
     Some(Fault {
-        number: FaultNumber::RepeatedWord,
+        kind: FaultKind::RepeatedWord,
         range: line.range_at(line.text, line.word()),
         first: Some(first.range_at(first.text, first.word())),
     })
@@ -86,7 +86,7 @@ fn severity_fault(line: &Line<'_>) -> Option<Fault>
     match parse_severity(line.rest()) {
         Some(_) => None,
         None => Some(fault(
-            FaultNumber::UnknownSeverity,
+            FaultKind::UnknownSeverity,
             line.range_at(line.rest(), line.rest()),
         )),
     }
@@ -100,10 +100,10 @@ fn number_fault(line: &Line<'_>) -> Option<Fault>
     let (start, after) = split_field(line.rest());
     let (end, _) = split_field(after);
     if parse_number(start).is_none() {
-        return Some(fault(FaultNumber::BadNumber, line.range_at(line.rest(), start)));
+        return Some(fault(FaultKind::BadNumber, line.range_at(line.rest(), start)));
     }
     if parse_number(end).is_none() {
-        return Some(fault(FaultNumber::BadNumber, line.range_at(after, end)));
+        return Some(fault(FaultKind::BadNumber, line.range_at(after, end)));
     }
     None
 }

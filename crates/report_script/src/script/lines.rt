@@ -9,7 +9,7 @@ use super::line::Line;
 use std::alloc::{AllocError, Global};
 
 /// Returns the text without a carriage return at its end.
-fn without_return(text: &str) -> &str
+fn without_carriage_return(text: &str) -> &str
     ensures text { result.now ≡ strip_carriage_return text.now }
     ensures short { length result.now ≤ length text.now }
 {
@@ -39,7 +39,7 @@ fn first_line(size: usize, left: &str) -> (Line<'_>, Option<&str>)
         Some((text, after)) => (
             Line {
                 start,
-                text: without_return(text),
+                text: without_carriage_return(text),
                 next: size - after.len(),
             },
             Some(after),
@@ -64,9 +64,9 @@ pub(super) fn split_script(
     alloc: Global,
     input: &str,
 ) -> Result<(Vec<Line<'_>>, Option<&str>), AllocError>
-    ensures body { IfOk result (λ read. map script_line_view read.0.items
+    ensures body { IfOk result (λ split. map script_line_view split.0.items
         ≡ body (script_lines input.now)) }
-    ensures source { IfOk result (λ read. option_map (λ source. source.now) read.1
+    ensures source { IfOk result (λ split. option_map (λ source. source.now) split.1
         ≡ script_source input.now (script_lines input.now)) }
 {
     let mut lines = Vec::new(alloc);

@@ -4,7 +4,7 @@ use Rattle.std.proofs.lemmas.Iterator.Adapters.{YieldsList-from_vec}
 use Rattle.std.proofs.lemmas.Iterator.Consumers.{YieldsList-end}
 use Rattle.codespan_base.specs.declared.diagnostic.Label.{Label}
 use Rattle.codespan_base.specs.Diagnostics.{diagnostic_view, label_view}
-use Rattle.gallery_script.specs.Database.{by_unit_id, label_by_unit_id}
+use Rattle.gallery_script.specs.Database.{label_with_unit_id, with_unit_ids}
 use Rattle.gallery_script.proofs.database.with_unit_ids.Goals as goal
 
 -- one more label
@@ -19,11 +19,11 @@ loop-label-preserved c =
           ap (map label_view) c.in_ok-push.ensures.items
           ∙ map_push label_view c.loop-label.labels.items added
           ∙ ap (λ views. views ++ label_view added ∷ []) c.loop-label.invariant.labels
-          ∙ ap (λ view. map label_by_unit_id (map label_view yielded) ++ view ∷ [])
+          ∙ ap (λ view. map label_with_unit_id (map label_view yielded) ++ view ∷ [])
           c.in_ok-with_unit_id.ensures
           ∙ sym
-          (ap (map label_by_unit_id) (map_push label_view yielded label)
-          ∙ map_push label_by_unit_id (map label_view yielded) (label_view label));
+          (ap (map label_with_unit_id) (map_push label_view yielded label)
+          ∙ map_push label_with_unit_id (map label_view yielded) (label_view label));
     }
 
 -- all labels
@@ -38,7 +38,7 @@ returns c =
     let same : c.loop-label.yielded ≡ cloned.labels.items =
     sym (map-id c.loop-label.yielded) ∙ all.0 in
     rw c.loop-label.invariant.code
-    (ap (λ labels. record (by_unit_id (diagnostic_view cloned)) { labels = labels })
+    (ap (λ labels. record (with_unit_ids (diagnostic_view cloned)) { labels = labels })
     (c.loop-label.invariant.labels
-    ∙ ap (λ (ls : List (Label ℕ)). map label_by_unit_id (map label_view ls)) same)
-    ∙ ap by_unit_id c.in_ok-severity.ensures.same)
+    ∙ ap (λ (ls : List (Label ℕ)). map label_with_unit_id (map label_view ls)) same)
+    ∙ ap with_unit_ids c.in_ok-severity.ensures.same)

@@ -13,20 +13,20 @@ escapes-init c =
           c.new-unescaped.ensures.bytes;
     }
 
-pub returns-in_default-read_escape : goal.returns-in_default-read_escape
-returns-in_default-read_escape c =
-    inr (refl, nothing_unescaped c.args.text.now (string_bytes c.escapes.unescaped) c.escapes.rest.now (c.in-Some.plain, c.in-Some.escape) c.escapes.invariant.continues c.in-Some.ensures.cases c.in_default-read_escape.ensures.read)
+pub returns-in_default-parse_escape : goal.returns-in_default-parse_escape
+returns-in_default-parse_escape c =
+    inr (refl, nothing_unescaped c.args.text.now (string_bytes c.escapes.unescaped) c.escapes.rest.now (c.in-Some.plain, c.in-Some.escape) c.escapes.invariant.continues c.in-Some.ensures.cases c.in_default-parse_escape.ensures.parsed)
 
 pub escapes-preserved : goal.escapes-preserved
 escapes-preserved c = record {
   utf8 = search rules;
   continues =
       one_more c.args.text.now (string_bytes c.escapes.unescaped) (string_bytes c.push.new.self)
-      c.escapes.rest.now c.in-Some-read_escape.left.now c.in-Some-read_escape.character
+      c.escapes.rest.now c.in-Some-parse_escape.left.now c.in-Some-parse_escape.character
       (c.in-Some.plain, c.in-Some.escape) c.escapes.invariant.continues c.in-Some.ensures.cases
-      c.in-Some-read_escape.ensures.read
+      c.in-Some-parse_escape.ensures.parsed
       (c.in_ok-push.ensures.bytes
-      ∙ ap (λ front. front ++ encode_utf8 c.in-Some-read_escape.character)
+      ∙ ap (λ front. front ++ encode_utf8 c.in-Some-parse_escape.character)
       c.in_ok-push_str.ensures.bytes);
 }
 

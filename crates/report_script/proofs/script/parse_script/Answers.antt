@@ -1,15 +1,15 @@
 use Rattle.std.proofs.Common.{rules}
-use Rattle.report_script.specs.Scripts.{read_script}
+use Rattle.report_script.specs.Scripts.{parsed_script}
 use Rattle.report_script.proofs.script.parse_script.Goals as goal
 
 pub returns-in-Some : goal.returns-in-Some
-unfolding read_script
+unfolding parsed_script
 returns-in-Some c = search rules
 
 pub returns-in_default-source : goal.returns-in_default-source
-unfolding read_script
+unfolding parsed_script
 returns-in_default-source c = search rules
 
 pub returns : goal.returns
-unfolding read_script
+unfolding parsed_script
 returns c = search rules

@@ -1,7 +1,7 @@
 use Rattle.std.proofs.Common.{◌⊎◌, ◌<◌, ◌≤◌, length, string_bytes, Some, None, inl, inr, ap, sym, ◌∙◌, arith, rules, tests}
 use Rattle.std.specs.Option.{option_map}
 use Rattle.program_io.specs.Names.{display_style_named}
-use Rattle.report_script.proofs.Words.{other_arguments, two_arguments}
+use Rattle.report_script.proofs.Arguments.{other_arguments, two_arguments}
 use Rattle.report_script.specs.Requests.{request_view}
 use Rattle.report_script.specs.Requests.RequestView.{OneLabel, OfScript}
 use Rattle.report_script.proofs.request.Request.from_arguments.Goals.{in_default-via-then-args-lt2, in_default-via-else-args-lt2+else-args-lt3}

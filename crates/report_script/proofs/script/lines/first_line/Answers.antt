@@ -7,7 +7,7 @@ pub returns-in-Some-clause-line : goal.returns-in-Some-clause-line
 returns-in-Some-clause-line c =
     let parts = split_parts 10 c.args.left.now (Some (c.in-Some.text, c.in-Some.after))
     c.in-Some.ensures.cases (lit< tt) in
-    rw c.without_return.ensures.text
+    rw c.without_carriage_return.ensures.text
     (first_then c.args.size c.args.left.now c.in-Some.text.now c.in-Some.after.now c.requires
     parts.0 parts.1)
 

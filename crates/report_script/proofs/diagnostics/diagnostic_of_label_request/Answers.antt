@@ -1,6 +1,6 @@
-use Rattle.report_script.proofs.RequestDiagnostics.{stated}
+use Rattle.report_script.proofs.LabelRequestDiagnostics.{stated}
 use Rattle.report_script.specs.Requests.{label_request_view}
-use Rattle.report_script.proofs.diagnostics.diagnostic_of_request.Goals as goal
+use Rattle.report_script.proofs.diagnostics.diagnostic_of_label_request.Goals as goal
 
 -- an error with one primary label
 pub returns : goal.returns

@@ -1,5 +1,5 @@
--- For the clause of `diagnostics::diagnostic_of_request`: the diagnostic of a request, as its
--- fields are set.
+-- For the clause of `diagnostics::diagnostic_of_label_request`: the diagnostic of a label request,
+-- as its fields are set.
 use Rattle.std.proofs.Common.{◌≡◌, ℕ, List, [], ◌∷◌, ◌++◌, ap, ◌∙◌, refl, string_bytes, None, Result, Ok, Err, IfOk}
 use Rattle.std.specs.declared.ops.Range.{Range}
 use Rattle.codespan_core.specs.declared.diagnostic.Diagnostic.{Diagnostic}
@@ -7,7 +7,7 @@ use Rattle.codespan_core.specs.declared.diagnostic.Label.{Label}
 use Rattle.codespan_core.specs.declared.diagnostic.LabelStyle.TheVariants.{Primary}
 use Rattle.codespan_core.specs.declared.diagnostic.Severity.TheVariants as severities
 use Rattle.codespan_core.specs.Diagnostics.{diagnostic_view, label_view}
-use Rattle.report_script.specs.ReportDiagnostics.{request_diagnostic}
+use Rattle.report_script.specs.ReportDiagnostics.{label_request_diagnostic}
 use Rattle.report_script.specs.Requests.{LabelRequestView}
 
 -- the label is new but for its message, and the diagnostic for its message and its label
@@ -22,7 +22,7 @@ pub stated : {E : Type 0} (label_request : LabelRequestView) (r : Result (Diagno
     → string_bytes error.message ≡ label_request.message
     → IfOk r (λ d. d.labels.items ≡ error.labels.items ++ label ∷ [])
     → IfOk r (λ d. d ≡ record error { labels = d.labels })
-    → IfOk r (λ d. diagnostic_view d ≡ request_diagnostic label_request)
+    → IfOk r (λ d. diagnostic_view d ≡ label_request_diagnostic label_request)
 stated label_request (Err e) new_label label new error style range label_is label_message severity
     code labels notes error_is message added others =
     tt

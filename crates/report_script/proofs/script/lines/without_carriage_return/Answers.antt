@@ -1,7 +1,7 @@
 use Rattle.std.proofs.Common.{lit<, Some, None}
 use Rattle.std.proofs.lemmas.Str.Pattern.{strip_suffix_char}
-use Rattle.report_script.proofs.ScriptCuts.{no_return, return_dropped}
-use Rattle.report_script.proofs.script.lines.without_return.Goals as goal
+use Rattle.report_script.proofs.ScriptCuts.{no_carriage_return, return_dropped}
+use Rattle.report_script.proofs.script.lines.without_carriage_return.Goals as goal
 
 pub returns-in-Some-clause-text : goal.returns-in-Some-clause-text
 returns-in-Some-clause-text c =
@@ -10,5 +10,5 @@ returns-in-Some-clause-text c =
 
 pub returns-in-None-clause-text : goal.returns-in-None-clause-text
 returns-in-None-clause-text c =
-    no_return c.args.text.now
+    no_carriage_return c.args.text.now
     (strip_suffix_char 13 c.args.text.now None c.in-None.ensures.cases (lit< tt))

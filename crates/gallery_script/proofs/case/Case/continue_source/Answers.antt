@@ -1,6 +1,6 @@
 use Rattle.std.proofs.Common.{refl}
 use Rattle.gallery_script.proofs.LastCase.{last_continues}
-use Rattle.gallery_script.proofs.case.Case.add_source.Goals as goal
+use Rattle.gallery_script.proofs.case.Case.continue_source.Goals as goal
 
 pub returns-clause-files : goal.returns-clause-files
 returns-clause-files c =

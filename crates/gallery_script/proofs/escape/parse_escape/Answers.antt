@@ -1,45 +1,45 @@
 use Rattle.std.proofs.Common.{◌∙◌, refl, sym, arith}
 use Rattle.std.specs.Char.{encode_utf8}
 use Rattle.gallery_script.proofs.Escaping.{letter_read, letter_shorter, no_escape, number_read, number_shorter}
-use Rattle.gallery_script.proofs.escape.read_escape.Goals as goal
+use Rattle.gallery_script.proofs.escape.parse_escape.Goals as goal
 
-pub returns-in_default-clause-read : goal.returns-in_default-clause-read
-returns-in_default-clause-read c =
+pub returns-in_default-clause-parsed : goal.returns-in_default-clause-parsed
+returns-in_default-clause-parsed c =
     no_escape c.args.text.now c.next.new.self.rest.now c.in_ok-letter.letter
     (sym c.chars-characters.ensures.rest ∙ c.in_ok-letter.ensures.steps.0)
     (omega arith) (omega arith) (omega arith) (omega arith) (omega arith) (omega arith)
 
-pub returns-in-n-clause-read : goal.returns-in-n-clause-read
+pub returns-in-n-clause-parsed : goal.returns-in-n-clause-parsed
 unfolding encode_utf8
-returns-in-n-clause-read c =
+returns-in-n-clause-parsed c =
     letter_read c.args.text.now c.next.new.self.rest.now c.as_str-left.result.now 110 10
     (rw c.in-n.is at (sym c.chars-characters.ensures.rest ∙ c.in_ok-letter.ensures.steps.0))
     c.as_str-left.ensures (omega arith) refl
 
-pub returns-in-r-clause-read : goal.returns-in-r-clause-read
+pub returns-in-r-clause-parsed : goal.returns-in-r-clause-parsed
 unfolding encode_utf8
-returns-in-r-clause-read c =
+returns-in-r-clause-parsed c =
     letter_read c.args.text.now c.next.new.self.rest.now c.as_str-left.result.now 114 13
     (rw c.in-r.is at (sym c.chars-characters.ensures.rest ∙ c.in_ok-letter.ensures.steps.0))
     c.as_str-left.ensures (omega arith) refl
 
-pub returns-in-t-clause-read : goal.returns-in-t-clause-read
+pub returns-in-t-clause-parsed : goal.returns-in-t-clause-parsed
 unfolding encode_utf8
-returns-in-t-clause-read c =
+returns-in-t-clause-parsed c =
     letter_read c.args.text.now c.next.new.self.rest.now c.as_str-left.result.now 116 9
     (rw c.in-t.is at (sym c.chars-characters.ensures.rest ∙ c.in_ok-letter.ensures.steps.0))
     c.as_str-left.ensures (omega arith) refl
 
-pub returns-in-0-clause-read : goal.returns-in-0-clause-read
+pub returns-in-0-clause-parsed : goal.returns-in-0-clause-parsed
 unfolding encode_utf8
-returns-in-0-clause-read c =
+returns-in-0-clause-parsed c =
     letter_read c.args.text.now c.next.new.self.rest.now c.as_str-left.result.now 48 0
     (rw c.in-0.is at (sym c.chars-characters.ensures.rest ∙ c.in_ok-letter.ensures.steps.0))
     c.as_str-left.ensures (omega arith) refl
 
-pub returns-in-92-clause-read : goal.returns-in-92-clause-read
+pub returns-in-92-clause-parsed : goal.returns-in-92-clause-parsed
 unfolding encode_utf8
-returns-in-92-clause-read c =
+returns-in-92-clause-parsed c =
     letter_read c.args.text.now c.next.new.self.rest.now c.as_str-left.result.now 92 92
     (rw c.in-92.is at (sym c.chars-characters.ensures.rest ∙ c.in_ok-letter.ensures.steps.0))
     c.as_str-left.ensures (omega arith) refl
@@ -79,17 +79,17 @@ returns-in-92-clause-shorter c =
     (rw c.in-92.is at (sym c.chars-characters.ensures.rest ∙ c.in_ok-letter.ensures.steps.0))
     c.as_str-left.ensures
 
-pub returns-in-u-clause-read : goal.returns-in-u-clause-read
+pub returns-in-u-clause-parsed : goal.returns-in-u-clause-parsed
 unfolding encode_utf8
-returns-in-u-clause-read c =
+returns-in-u-clause-parsed c =
     number_read c.args.text.now c.next.new.self.rest.now c.as_str-left.result.now _
     (rw c.in-u.is at (sym c.chars-characters.ensures.rest ∙ c.in_ok-letter.ensures.steps.0))
-    c.as_str-left.ensures c.read_unicode_escape.ensures.read
+    c.as_str-left.ensures c.parse_unicode_escape.ensures.parsed
 
 pub returns-in-u-clause-shorter : goal.returns-in-u-clause-shorter
 unfolding encode_utf8
 returns-in-u-clause-shorter c =
     number_shorter c.args.text.now c.next.new.self.rest.now c.as_str-left.result.now
-    c.read_unicode_escape.result
+    c.parse_unicode_escape.result
     (rw c.in-u.is at (sym c.chars-characters.ensures.rest ∙ c.in_ok-letter.ensures.steps.0))
-    c.as_str-left.ensures c.read_unicode_escape.ensures.shorter
+    c.as_str-left.ensures c.parse_unicode_escape.ensures.shorter
