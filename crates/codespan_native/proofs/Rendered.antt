@@ -25,7 +25,7 @@ use Rattle.codespan_structs.specs.declared.raw.RawFile.{RawFile}
 use Rattle.codespan_native.specs.Meaning.{Means, output_bytes}
 use Rattle.codespan_structs.specs.Converted.{converted_config, display_style_of, converted_file, spelling_of, converted_diagnostic}
 use Rattle.codespan_sources.specs.SourceTexts.{NativeFileView, native_database, native_file_model}
-use Rattle.codespan_native.specs.RenderedStreams.{IsRendered, stream_of_output}
+use Rattle.codespan_native.specs.RenderedStreams.{IsSpelledOutput, stream_of_output}
 
 -- the names of the files are stated
 pub stated : (ss : List NativeFileView) (d : Diagnostic ℕ) → NamesAreStated (native_database ss) d
@@ -102,7 +102,7 @@ pub result_is : (spelling : Spelling) (config : Config) (ss : List NativeFileVie
     (d : Diagnostic ℕ)
     (files : List RawFile) (diagnostic : RawDiagnostic) (raw : RawConfig)
     (r : Result (Vec ℕ Global) OutOfMemory)
-    → IfOk r (λ output. IsRendered config ss d spelling [] output.items)
+    → IfOk r (λ output. IsSpelledOutput config ss d spelling [] output.items)
     → spelling ≡ spelling_of raw → IsEqualConfig (converted_config raw) config
     → ss ≡ map converted_file files
     → diagnostic_view d ≡ converted_diagnostic files diagnostic
@@ -117,7 +117,7 @@ pub means_is : (spelling : Spelling) (config : Config) (ss : List NativeFileView
     (d : Diagnostic ℕ)
     (files : List RawFile) (diagnostic : RawDiagnostic) (raw : RawConfig)
     (r : Result (Vec ℕ Global) OutOfMemory)
-    → IfOk r (λ output. IsRendered config ss d spelling [] output.items)
+    → IfOk r (λ output. IsSpelledOutput config ss d spelling [] output.items)
     → IsEqualConfig (converted_config raw) config → ss ≡ map converted_file files
     → diagnostic_view d ≡ converted_diagnostic files diagnostic
     → IfOk r (λ _. raw.display_style ≡ 0 → Means files diagnostic raw)

@@ -18,6 +18,6 @@ module _ (config : Config) (files : List NativeFileView) (d : Diagnostic ℕ) wh
   MeansIfRich = config.display_style ≡ Rich → MeansLabels config config (native_database files) d
 
   -- the bytes are those in front, and then the output, its style marks spelled so
-  pub record IsRendered (spelling : Spelling) (front bytes : List ℕ) : Type 0 where
+  pub record IsSpelledOutput (spelling : Spelling) (front bytes : List ℕ) : Type 0 where
     pub value : bytes ≡ front ++ spelled spelling stream_of_output
     pub means : MeansIfRich

@@ -7,7 +7,7 @@ ghost use Rattle.codespan_structs.specs.StyleMarkBytes.{style_mark_spelling};
 ghost use Rattle.codespan_base.specs.StyleTables.{ansi_spelling};
 ghost use Rattle.codespan_sources.specs.SourceModel.{native_file_views};
 ghost use Rattle.codespan_structs.specs.Spellings.{spelling_by_kind};
-ghost use Rattle.codespan_native.specs.RenderedStreams.{IsRendered, MeansIfRich, stream_of_output};
+ghost use Rattle.codespan_native.specs.RenderedStreams.{IsSpelledOutput, MeansIfRich, stream_of_output};
 
 use crate::style_mark_writer::StyleMarkWriter;
 use codespan_base::diagnostic::Diagnostic;
@@ -33,7 +33,7 @@ pub fn render(
     files: &NativeFiles<'_>,
     diagnostic: &Diagnostic<usize>,
 ) -> Result<Vec<u8>, OutOfMemory>
-    ensures { IfOk result (λ bytes. IsRendered settings.now.config (native_file_views files.now)
+    ensures { IfOk result (λ bytes. IsSpelledOutput settings.now.config (native_file_views files.now)
         diagnostic.now (spelling_by_kind settings.now.spelling) [] bytes.items) }
 {
     let buffer = Vec::with_capacity(alloc, INITIAL_CAPACITY)?;
@@ -57,7 +57,7 @@ fn render_plain(
     files: &NativeFiles<'_>,
     diagnostic: &Diagnostic<usize>,
 ) -> Result<Vec<u8>, OutOfMemory>
-    ensures { IfOk result (λ bytes. IsRendered config.now (native_file_views files.now)
+    ensures { IfOk result (λ bytes. IsSpelledOutput config.now (native_file_views files.now)
         diagnostic.now plain_spelling buffer.items bytes.items) }
 {
     let mut writer = PlainWriter::new(buffer);
@@ -73,7 +73,7 @@ fn render_ansi(
     files: &NativeFiles<'_>,
     diagnostic: &Diagnostic<usize>,
 ) -> Result<Vec<u8>, OutOfMemory>
-    ensures { IfOk result (λ bytes. IsRendered config.now (native_file_views files.now)
+    ensures { IfOk result (λ bytes. IsSpelledOutput config.now (native_file_views files.now)
         diagnostic.now (ansi_spelling styles.now) buffer.items bytes.items) }
 {
     let mut writer = StylesWriter::new(Ansi::new(buffer), styles);
@@ -89,7 +89,7 @@ fn render_style_marks(
     files: &NativeFiles<'_>,
     diagnostic: &Diagnostic<usize>,
 ) -> Result<Vec<u8>, OutOfMemory>
-    ensures { IfOk result (λ bytes. IsRendered config.now (native_file_views files.now)
+    ensures { IfOk result (λ bytes. IsSpelledOutput config.now (native_file_views files.now)
         diagnostic.now style_mark_spelling buffer.items bytes.items) }
 {
     let mut writer = StyleMarkWriter::new(buffer);

@@ -252,7 +252,7 @@ lanes_are_lines config layout s ordered = λ locus is_followed lane x has.
     let low = line_of-below s.file.starts x.start some in
     let high = line_of-below s.file.starts x.end some in
     one_line layout s (snippet config locus s ++ empty_row_after is_followed s) lane x
-    (whole_before layout lane (line_at s (first_line s.file x)) (snippet config locus s) (trailing_border_rows is_followed)
+    (whole_before layout lane (line_at s (first_line s.file x)) (snippet config locus s) (trailing_empty_rows is_followed)
     (whole_later layout lane (line_at s (first_line s.file x))
     (SnippetStartRow locus ∷ EmptyRow (empty_lanes s) ∷ [])
     (rows_of_drawn s None (drawn_lines config s.file s.labels))
@@ -267,11 +267,11 @@ lanes_are_lines config layout s ordered = λ locus is_followed lane x has.
     (shows-last config (first_line s.file x) (last_line s.file x))))))
     (ended lane is_followed))
   where
-    trailing_border_rows : Bool → List Row
-    trailing_border_rows is_followed = if is_followed then EmptyRow (empty_lanes s) ∷ [] else []
+    trailing_empty_rows : Bool → List Row
+    trailing_empty_rows is_followed = if is_followed then EmptyRow (empty_lanes s) ∷ [] else []
 
     ended : (lane : ℕ) (is_followed : Bool)
-        → AllByRecursion (Shows layout lane Space) (trailing_border_rows is_followed)
+        → AllByRecursion (Shows layout lane Space) (trailing_empty_rows is_followed)
     ended lane true = (refl, tt)
     ended lane false = tt
 
