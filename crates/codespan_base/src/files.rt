@@ -1,5 +1,5 @@
-//! The lookups that rendering makes, and file databases: [`SimpleFiles`], [`MappedFile`], and columns
-//! and locations as most databases count them, are here, and the rest is re-exported.
+//! The lookups that rendering makes, and file databases: [`SimpleFiles`], [`MappedFile`], and
+//! columns and locations as most databases count them, are here; the rest is re-exported.
 
 mod database;
 mod defaults;

@@ -1,5 +1,5 @@
-//! Laws of files, line starts, severities and label styles. Each is the contract of a function that
-//! does nothing and does not fail.
+//! Laws of files, line starts, columns, severities and label styles. Each is the contract of a
+//! function that does nothing and does not fail.
 //!
 //! Users name them as `codespan_base::laws`.
 

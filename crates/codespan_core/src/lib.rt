@@ -3,9 +3,9 @@
 //! functions by which rows are written; with the `Error` of most calls, those of the crates above
 //! too.
 //!
-//! This crate is a layer of `codespan_base`, which adds `SimpleFiles`, `MappedFile`, colors and
-//! laws. Users name its items as `codespan_reporting::diagnostic`, `codespan_reporting::files` and
-//! `codespan_reporting::term`.
+//! All other libraries are over this crate. `codespan_base` re-exports it, and adds `SimpleFiles`,
+//! `MappedFile`, default columns, colors, the writers of styles, and laws. Users name its items as
+//! `codespan_reporting::diagnostic`, `codespan_reporting::files` and `codespan_reporting::term`.
 #![tactic(auto)]
 
 pub mod diagnostic;

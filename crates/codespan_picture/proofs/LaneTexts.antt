@@ -1,4 +1,4 @@
--- For `outputs_are_texts`: the streams of lanes and of cells are texts.
+-- For `outputs_are_texts`: the streams of lanes and of their characters are texts.
 use Rattle.std.proofs.Common.{◌≡◌, ℕ, ◌+◌, ◌-◌, Bool, true, false, ◌&&◌, ◌==◌, List, [], ◌∷◌, Option, Some, None, refl}
 use Rattle.std.specs.Prelude.{if◌then◌else◌, IfSome}
 use Rattle.std.specs.Char.{IsScalar, len_utf8}
@@ -73,7 +73,7 @@ module _ (chars : Chars) (ok : AreCharacters chars) where
   scalar-end_caret Primary = ok.multi_primary_caret_end
   scalar-end_caret Secondary = ok.multi_secondary_caret_end
 
--- ---- cells
+-- ---- the characters of a line
 
 and_true : (a b : Bool) → (a && b) ≡ true → (a ≡ true) × (b ≡ true)
 and_true true b e = (refl, e)

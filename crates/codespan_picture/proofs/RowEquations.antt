@@ -96,7 +96,8 @@ regroup run ended shown rest =
 abbrev row_and_end : RowContext → Row → Stream
 row_and_end context row = stream_of context row ++ newline
 
--- the rows of a line are its source row, its caret row, its hanging rows and its underlines
+-- the rows of a line are its source row, its caret row, its pointer and hanging rows, and its
+-- underlines
 pub line_rows : (context : RowContext) (line : Line) → stream_of_rows context (rows_of line)
     ≡ source_row context line ++ newline ++ stream_of_rows context (caret_rows line line.labels)
     ++ stream_of_rows context (pointer_and_hanging_rows line (hanging_labels line.labels))

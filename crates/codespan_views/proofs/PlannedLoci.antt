@@ -1,5 +1,5 @@
--- Where a file's snippet starts, by its labels, is the start of its locus: for the clause `planned`
--- of `plan_output`.
+-- The byte of a file's locus, by the least starts of its labels, is that of the definitions: for
+-- the clause `planned` of `plan_output`.
 use Rattle.std.proofs.Common.{◌≡◌, ℕ, Bool, true, false, cond, ◌&&◌, List, [], ◌∷◌, map, filter, Option, Some, None, refl, sym, ap, ◌∙◌}
 use Rattle.std.specs.Prelude.{unwrap_or}
 use Rattle.codespan_core.specs.FileModel.{FileModel}

@@ -36,14 +36,14 @@ farther (Some reach) byte_index = Some (max reach byte_index)
 
 -- the greater of a reach and the byte index of a multi-line label mark: the start of a `Top`, the
 -- end of a `Bottom`
-abbrev pub farther_lane_mark : Option ℕ → MultiLabel → Option ℕ
-farther_lane_mark reach (Top start) = farther reach start
-farther_lane_mark reach Left = reach
-farther_lane_mark reach (Bottom end message) = farther reach end
+abbrev pub farther_multi_label : Option ℕ → MultiLabel → Option ℕ
+farther_multi_label reach (Top start) = farther reach start
+farther_multi_label reach Left = reach
+farther_multi_label reach (Bottom end message) = farther reach end
 
 -- how far the rows under a line reach: the greatest start or end of its labels, start of a `Top`
 -- and end of a `Bottom`; none where it has none of them
 abbrev pub reach_of : List LabelModel → List LaneMark → Option ℕ
 reach_of labels lane_marks =
-    fold (λ reach (m : LaneMark). farther_lane_mark reach m.multi_label)
+    fold (λ reach (m : LaneMark). farther_multi_label reach m.multi_label)
     (fold (λ reach (x : LabelModel). farther (farther reach x.start) x.end) None labels) lane_marks

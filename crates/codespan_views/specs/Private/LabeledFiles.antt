@@ -15,7 +15,7 @@ use Rattle.codespan_views.specs.Private.LocusBytes.{file_least_starts, least_sta
 abbrev pub ids_view : {Id : Type 0} → List (RustFile Id) → List Id
 ids_view {Id} files = map (λ (f : RustFile Id). f.file_id) files
 
--- the byte of the locus of each
+-- the least starts of the labels of each
 abbrev pub starts_view : {Id : Type 0} → List (RustFile Id) → List LeastStarts
 starts_view {Id} files = map (λ (f : RustFile Id). f.least_starts) files
 
@@ -47,7 +47,7 @@ with_file same ids id known one = if list_any (λ j. same j id) ids then known e
 abbrev pub lanes_by : LabelSpan → ℕ
 lanes_by span = if span.first == span.last then 0 else 1
 
--- the bytes of loci, with one more label of the file at this index
+-- the least starts of all files, with one more label of the file at this index
 abbrev pub starts_with_label : List LeastStarts → ℕ → LabelModel → List LeastStarts
 starts_with_label starts index x =
     slice_set starts index (least_starts_with (slice_index_or starts index no_starts) x)

@@ -2,7 +2,7 @@
 
 ghost use Rattle.std.specs.Prelude.{◌≡◌, map};
 ghost use Rattle.codespan_picture.specs.Arguments.{lane_mark_view, multi_label_view, single_label_views};
-ghost use Rattle.codespan_renderer.specs.Private.CachedMetrics.{farther, farther_lane_mark, reach_of};
+ghost use Rattle.codespan_renderer.specs.Private.CachedMetrics.{farther, farther_multi_label, reach_of};
 
 use crate::term::renderer::MultiLabel;
 use codespan_picture::rows::line::Line;
@@ -18,15 +18,15 @@ pub fn reach_of(line: Line<'_, '_>) -> Option<usize>
         reach = farther(farther(reach, label.1.start), label.1.end);
     }
     for lane_mark in line.lanes.lane_marks {
-        reach = farther_lane_mark(reach, lane_mark.2);
+        reach = farther_multi_label(reach, lane_mark.2);
     }
     reach
 }
 
 /// Returns the greater of a reach and the byte index of a multi-line label mark: the start of a
 /// `Top`, the end of a `Bottom`.
-fn farther_lane_mark(reach: Option<usize>, multi_label: MultiLabel<'_>) -> Option<usize>
-    ensures { result ≡ farther_lane_mark reach (multi_label_view multi_label.entry) }
+fn farther_multi_label(reach: Option<usize>, multi_label: MultiLabel<'_>) -> Option<usize>
+    ensures { result ≡ farther_multi_label reach (multi_label_view multi_label.entry) }
 {
     match multi_label {
         MultiLabel::Top(start) => farther(reach, start),

@@ -1,7 +1,7 @@
 use Rattle.std.proofs.Common.{◌≡◌, [], drop, map, fold}
 use Rattle.codespan_core.specs.Labels.{LabelModel, LaneMark}
 use Rattle.codespan_picture.specs.Arguments.{lane_mark_view, single_label_views}
-use Rattle.codespan_renderer.specs.Private.CachedMetrics.{farther, farther_lane_mark, reach_of}
+use Rattle.codespan_renderer.specs.Private.CachedMetrics.{farther, farther_multi_label, reach_of}
 use Rattle.codespan_renderer.proofs.term.renderer.cached.reach.reach_of.Given as goal
 
 -- the labels that are left, and then the lane marks, are still to count
@@ -14,7 +14,7 @@ invariant-loop-label l =
 -- the lane marks that are left are
 abbrev pub invariant-loop-lane_mark : goal.invariant-loop-lane_mark
 invariant-loop-lane_mark l =
-    fold (λ reach (m : LaneMark). farther_lane_mark reach m.multi_label) l.reach
+    fold (λ reach (m : LaneMark). farther_multi_label reach m.multi_label) l.reach
     (map lane_mark_view (drop l.lane_mark-index l.line.lanes.lane_marks.now))
     ≡ reach_of (single_label_views l.line.labels.now)
     (map lane_mark_view l.line.lanes.lane_marks.now)

@@ -1,4 +1,4 @@
-use Rattle.codespan_renderer.proofs.term.renderer.cached.reach.farther_lane_mark.Goals as goal
+use Rattle.codespan_renderer.proofs.term.renderer.cached.reach.farther_multi_label.Goals as goal
 
 -- an underline needs the label's end
 pub returns-in-Bottom : goal.returns-in-Bottom
