@@ -33,7 +33,8 @@ pub fn render(
     files: &NativeFiles<'_>,
     diagnostic: &Diagnostic<usize>,
 ) -> Result<Vec<u8>, OutOfMemory>
-    ensures { IfOk result (λ bytes. IsSpelledOutput settings.now.config (native_file_views files.now)
+    ensures { IfOk result (λ bytes.
+        IsSpelledOutput settings.now.config (native_file_views files.now)
         diagnostic.now (spelling_by_kind settings.now.spelling) [] bytes.items) }
 {
     let buffer = Vec::with_capacity(alloc, INITIAL_CAPACITY)?;
