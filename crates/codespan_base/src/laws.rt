@@ -1,11 +1,10 @@
-//! Laws of files, line starts, columns, severities and label styles. Each is the contract of a
-//! function that does nothing and does not fail.
+//! Laws of files, line starts and columns; those of severities and label styles are re-exported.
+//! Each is the contract of a function that does nothing and does not fail.
 //!
 //! Users name them as `codespan_base::laws`.
 
-ghost use Rattle.std.specs.Prelude.{◌≡◌, ◌↔◌, ℕ, List, Option, Some, IsTrue};
+ghost use Rattle.std.specs.Prelude.{◌≡◌, ℕ, List, Option};
 ghost use Rattle.std.specs.Iterator.{IsFinite, Drains};
-ghost use Rattle.std.specs.Ordering.{nat_cmp};
 ghost use Rattle.std.specs.Str.{IsUtf8};
 ghost use Rattle.codespan_base.specs.FileLaws.{LinesJoin, LineCountsNewlines, ColumnsRise, nearest_set_after};
 ghost use Rattle.codespan_base.specs.MappedModel.{nearest_set, with_set_number};
@@ -13,13 +12,9 @@ ghost use Rattle.codespan_base.specs.SetLineNumbers.{IsStrictlySorted};
 ghost use Rattle.codespan_core.specs.LineStarts.{starts_left};
 ghost use Rattle.codespan_core.specs.SimpleModel.{simple_file};
 ghost use Rattle.codespan_core.specs.declared.files.starts.LineStarts.{LineStarts};
-ghost use Rattle.codespan_core.specs.Diagnostics.{severity_rank, style_rank};
-ghost use Rattle.codespan_core.specs.declared.diagnostic.Severity.{Severity};
-ghost use Rattle.codespan_core.specs.declared.diagnostic.LabelStyle.{LabelStyle};
 
-use codespan_core::diagnostic::{LabelStyle, Severity};
 use codespan_core::files::LineStarts;
-use std::hash::Hash;
+pub use codespan_core::laws::{label_styles_agree, severities_agree};
 
 /// States that the line ranges of a [`SimpleFile`](codespan_reporting::files::SimpleFile) follow
 /// each other from byte 0 to the length of its source, and that its lines join to the source.
@@ -59,26 +54,4 @@ pub fn line_starts_end()
     ensures drained { (starts : LineStarts) (items : List ℕ) →
         Drains ⟦<LineStarts<'static> as Iterator>⟧.next_gives starts items →
         items ≡ starts_left starts }
-{}
-
-/// States that severities are ordered `Help` < `Note` < `Warning` < `Error` < `Bug`, that `Ord` and
-/// `PartialOrd` agree, that two are `==` exactly where they are the same, and that equal ones give
-/// a hasher the same input.
-pub fn severities_agree()
-    ensures order { (x y : Severity) →
-        ⟦<Severity as Ord>⟧.cmp x y ≡ nat_cmp (severity_rank x) (severity_rank y) }
-    ensures partial { (x y : Severity) →
-        ⟦<Severity as PartialOrd>⟧.partial_cmp x y ≡ Some (⟦<Severity as Ord>⟧.cmp x y) }
-    ensures equal { (x y : Severity) → IsTrue (⟦<Severity as PartialEq>⟧.eq x y) ↔ (x ≡ y) }
-    ensures hash { (x y : Severity) → IsTrue (⟦<Severity as PartialEq>⟧.eq x y) →
-        ⟦<Severity as Hash>⟧.hash_input x ≡ ⟦<Severity as Hash>⟧.hash_input y }
-{}
-
-/// States that label styles are ordered `Primary` < `Secondary`, and that two are `==` exactly
-/// where they are the same.
-pub fn label_styles_agree()
-    ensures order { (x y : LabelStyle) →
-        ⟦<LabelStyle as PartialOrd>⟧.partial_cmp x y
-        ≡ Some (nat_cmp (style_rank x) (style_rank y)) }
-    ensures equal { (x y : LabelStyle) → IsTrue (⟦<LabelStyle as PartialEq>⟧.eq x y) ↔ (x ≡ y) }
 {}

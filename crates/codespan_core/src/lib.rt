@@ -10,4 +10,5 @@
 
 pub mod diagnostic;
 pub mod files;
+pub mod laws;
 pub mod term;

@@ -1,7 +1,7 @@
 use Rattle.std.proofs.Common.{refl}
 use Rattle.codespan_core.specs.declared.diagnostic.Severity.{Severity}
 use Rattle.codespan_core.specs.declared.diagnostic.Severity.TheVariants.{Help, Note, Warning, Error, Bug}
-use Rattle.codespan_base.proofs.laws.severities_agree.Goals as goal
+use Rattle.codespan_core.proofs.laws.severities_agree.Goals as goal
 
 -- what holds of the five severities holds of each severity
 each : (P : Severity → Type 0) → P Help → P Note → P Warning → P Error → P Bug → (x : Severity)
