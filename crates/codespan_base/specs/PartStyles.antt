@@ -16,18 +16,18 @@ abbrev pub colored : Color → ColorSpec
 colored color = record { fg = Some color; bg = None; bold = false; intense = false }
 
 -- bold and intense, with a color or without
-abbrev pub bright : Option Color → ColorSpec
-bright color = record { fg = color; bg = None; bold = true; intense = true }
+abbrev pub bold_intense : Option Color → ColorSpec
+bold_intense color = record { fg = color; bg = None; bold = true; intense = true }
 
 -- the default styles
 abbrev pub default_styles : Styles
 default_styles = record {
-  header_bug = bright (Some Red);
-  header_error = bright (Some Red);
-  header_warning = bright (Some Yellow);
-  header_note = bright (Some Green);
-  header_help = bright (Some Cyan);
-  header_message = bright None;
+  header_bug = bold_intense (Some Red);
+  header_error = bold_intense (Some Red);
+  header_warning = bold_intense (Some Yellow);
+  header_note = bold_intense (Some Green);
+  header_help = bold_intense (Some Cyan);
+  header_message = bold_intense None;
   primary_label_bug = colored Red;
   primary_label_error = colored Red;
   primary_label_warning = colored Yellow;

@@ -1,5 +1,5 @@
 -- The styles of the parts of the output, and how each style mark is spelled in them.
-pub use Rattle.codespan_base.specs.PartStyles.{bright, colored, default_styles, header_style, label_style, no_color_styles, unset}
+pub use Rattle.codespan_base.specs.PartStyles.{bold_intense, colored, default_styles, header_style, label_style, no_color_styles, unset}
 use Rattle.std.specs.Prelude.{ℕ, List}
 use Rattle.codespan_base.specs.declared.term.config.color.ColorSpec.{ColorSpec}
 use Rattle.codespan_base.specs.declared.term.config.styles.Styles.{Styles}

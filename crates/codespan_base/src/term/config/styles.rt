@@ -1,7 +1,7 @@
 //! The styles of the parts of the output.
 
 ghost use Rattle.std.specs.Prelude.{◌≡◌};
-ghost use Rattle.codespan_base.specs.PartStyles.{colored, bright};
+ghost use Rattle.codespan_base.specs.PartStyles.{colored, bold_intense};
 
 use crate::term::config::color::{Color, ColorSpec};
 use codespan_core::diagnostic::{LabelStyle, Severity};
@@ -148,12 +148,12 @@ impl Default for Styles {
 
     fn default() -> Styles {
         Styles {
-            header_bug: bright(Some(Color::Red)),
-            header_error: bright(Some(Color::Red)),
-            header_warning: bright(Some(Color::Yellow)),
-            header_note: bright(Some(Color::Green)),
-            header_help: bright(Some(Color::Cyan)),
-            header_message: bright(None),
+            header_bug: bold_intense(Some(Color::Red)),
+            header_error: bold_intense(Some(Color::Red)),
+            header_warning: bold_intense(Some(Color::Yellow)),
+            header_note: bold_intense(Some(Color::Green)),
+            header_help: bold_intense(Some(Color::Cyan)),
+            header_message: bold_intense(None),
             primary_label_bug: colored(Color::Red),
             primary_label_error: colored(Color::Red),
             primary_label_warning: colored(Color::Yellow),
@@ -178,8 +178,8 @@ fn colored(color: Color) -> ColorSpec
 }
 
 /// Returns a bold and intense style, with this color if there is one.
-fn bright(color: Option<Color>) -> ColorSpec
-    ensures { result ≡ bright color }
+fn bold_intense(color: Option<Color>) -> ColorSpec
+    ensures { result ≡ bold_intense color }
 {
     ColorSpec {
         fg: color,
