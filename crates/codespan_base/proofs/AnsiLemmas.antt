@@ -24,33 +24,33 @@ ansi_color-plain plane Cyan = refl
 ansi_color-plain plane White = refl
 
 -- an intense color whose number plus 8 has one digit
-pub ansi_color-bright : (plane : ℕ) (c : Color) → color_number c < 2
+pub ansi_color-intense : (plane : ℕ) (c : Color) → color_number c < 2
     → ansi_color (plane ∷ []) true
     (Some c) ≡ 0x1b ∷ 91 ∷ plane ∷ 56 ∷ 59 ∷ 53 ∷ 59 ∷ (56 + color_number c) ∷ 109 ∷ []
 unfolding ansi_color escape digits
-ansi_color-bright plane Black h = refl
-ansi_color-bright plane Red h = refl
-ansi_color-bright plane Green h = absurd (omega arith)
-ansi_color-bright plane Yellow h = absurd (omega arith)
-ansi_color-bright plane Blue h = absurd (omega arith)
-ansi_color-bright plane Magenta h = absurd (omega arith)
-ansi_color-bright plane Cyan h = absurd (omega arith)
-ansi_color-bright plane White h = absurd (omega arith)
+ansi_color-intense plane Black h = refl
+ansi_color-intense plane Red h = refl
+ansi_color-intense plane Green h = absurd (omega arith)
+ansi_color-intense plane Yellow h = absurd (omega arith)
+ansi_color-intense plane Blue h = absurd (omega arith)
+ansi_color-intense plane Magenta h = absurd (omega arith)
+ansi_color-intense plane Cyan h = absurd (omega arith)
+ansi_color-intense plane White h = absurd (omega arith)
 
 -- an intense color whose number plus 8 has two digits
-pub ansi_color-bright_two : (plane : ℕ) (c : Color) → 2 ≤ color_number c
+pub ansi_color-intense_two : (plane : ℕ) (c : Color) → 2 ≤ color_number c
     → ansi_color (plane ∷ []) true
     (Some c) ≡ 0x1b ∷ 91 ∷ plane ∷ 56 ∷ 59 ∷ 53 ∷ 59 ∷ 49 ∷ (48 + (color_number c - 2)) ∷ 109 ∷ []
 unfolding ansi_color escape digits
-ansi_color-bright_two plane Black h = absurd (omega arith)
-ansi_color-bright_two plane Red h = absurd (omega arith)
-ansi_color-bright_two plane Green h = refl
-ansi_color-bright_two plane Yellow h = refl
-ansi_color-bright_two plane Blue h = refl
-ansi_color-bright_two plane Magenta h = refl
-ansi_color-bright_two plane Cyan h = refl
-ansi_color-bright_two plane White h = refl
+ansi_color-intense_two plane Black h = absurd (omega arith)
+ansi_color-intense_two plane Red h = absurd (omega arith)
+ansi_color-intense_two plane Green h = refl
+ansi_color-intense_two plane Yellow h = refl
+ansi_color-intense_two plane Blue h = refl
+ansi_color-intense_two plane Magenta h = refl
+ansi_color-intense_two plane Cyan h = refl
+ansi_color-intense_two plane White h = refl
 
 -- the sequences of a color
 pub ruleset sequences =
-    (ansi_color-none, ansi_color-plain, ansi_color-bright, ansi_color-bright_two)
+    (ansi_color-none, ansi_color-plain, ansi_color-intense, ansi_color-intense_two)
