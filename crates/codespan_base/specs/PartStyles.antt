@@ -42,12 +42,12 @@ default_styles = record {
 -- ---- the styles of headers and labels
 
 -- the style of the severity and the code in a header
-abbrev pub header_style : Styles → Severity → ColorSpec
-header_style styles Bug = styles.header_bug
-header_style styles Error = styles.header_error
-header_style styles Warning = styles.header_warning
-header_style styles Note = styles.header_note
-header_style styles Help = styles.header_help
+abbrev pub header_color_spec : Styles → Severity → ColorSpec
+header_color_spec styles Bug = styles.header_bug
+header_color_spec styles Error = styles.header_error
+header_color_spec styles Warning = styles.header_warning
+header_color_spec styles Note = styles.header_note
+header_color_spec styles Help = styles.header_help
 
 -- the style of a label
 abbrev pub label_style : Styles → Severity → LabelStyle → ColorSpec

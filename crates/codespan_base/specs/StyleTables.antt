@@ -1,5 +1,5 @@
 -- The styles of the parts of the output, and how each style mark is spelled in them.
-pub use Rattle.codespan_base.specs.PartStyles.{bold_intense, colored, default_styles, header_style, label_style, no_color_styles, unset}
+pub use Rattle.codespan_base.specs.PartStyles.{bold_intense, colored, default_styles, header_color_spec, label_style, no_color_styles, unset}
 use Rattle.std.specs.Prelude.{ℕ, List}
 use Rattle.codespan_base.specs.declared.term.config.color.ColorSpec.{ColorSpec}
 use Rattle.codespan_base.specs.declared.term.config.styles.Styles.{Styles}
@@ -9,7 +9,7 @@ use Rattle.codespan_base.specs.Ansi.{ansi_reset, ansi_style}
 -- how a writer of colors spells a style mark, where `set` is its bytes for each style, and `reset`
 -- those for the reset
 abbrev pub spelling_by : Styles → (ColorSpec → List ℕ) → List ℕ → StyleMark → List ℕ
-spelling_by styles set reset (Header severity) = set (header_style styles severity)
+spelling_by styles set reset (Header severity) = set (header_color_spec styles severity)
 spelling_by styles set reset HeaderMessage = set styles.header_message
 spelling_by styles set reset LineNumber = set styles.line_number
 spelling_by styles set reset NoteBullet = set styles.note_bullet

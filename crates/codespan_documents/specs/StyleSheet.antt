@@ -7,7 +7,7 @@ use Rattle.codespan_base.specs.declared.term.config.color.Color.{Color}
 use Rattle.codespan_base.specs.declared.term.config.color.Color.TheVariants.{Black, Red, Green, Yellow, Blue, Magenta, Cyan, White}
 use Rattle.codespan_base.specs.declared.term.config.color.ColorSpec.{ColorSpec}
 use Rattle.codespan_base.specs.declared.term.config.styles.Styles.{Styles}
-use Rattle.codespan_base.specs.StyleTables.{header_style, label_style, unset}
+use Rattle.codespan_base.specs.StyleTables.{header_color_spec, label_style, unset}
 use Rattle.codespan_documents.specs.declared.style.Style.{Style}
 use Rattle.codespan_documents.specs.declared.style.Style.TheVariants.{Plain, Header, HeaderMessage, LineNumber, NoteBullet, SourceBorder, Label}
 use Rattle.codespan_documents.specs.Html.{style_class}
@@ -58,7 +58,7 @@ declarations spec =
 -- the colors and the weight that `styles` has for a style
 abbrev pub color_spec_of_style : Styles → Style → ColorSpec
 color_spec_of_style styles Plain = unset
-color_spec_of_style styles (Header severity) = header_style styles severity
+color_spec_of_style styles (Header severity) = header_color_spec styles severity
 color_spec_of_style styles HeaderMessage = styles.header_message
 color_spec_of_style styles LineNumber = styles.line_number
 color_spec_of_style styles NoteBullet = styles.note_bullet

@@ -14,7 +14,7 @@ use Rattle.codespan_base.specs.declared.term.config.color.Color.TheVariants.{Bla
 use Rattle.codespan_base.specs.declared.term.config.color.ColorSpec.{ColorSpec}
 use Rattle.codespan_base.specs.declared.term.config.styles.Styles.{Styles}
 use Rattle.codespan_base.specs.Ansi.{ansi_bold, ansi_color, ansi_reset, ansi_style, color_number, escape}
-use Rattle.codespan_base.specs.StyleTables.{header_style, label_style}
+use Rattle.codespan_base.specs.StyleTables.{header_color_spec, label_style}
 use Rattle.codespan_base.specs.Streams.{StyleMark, Header, HeaderMessage, LineNumber, NoteBullet, SourceBorder, LabelStyleMark, Reset}
 use Rattle.codespan_documents.specs.declared.text.Run.{Run}
 use Rattle.codespan_documents.specs.Runs.{AreTexts, StyledRun, run_characters, run_view}
@@ -115,7 +115,7 @@ ReadsText-style spec =
 
 -- each style mark is spelled by sequences
 pub ReadsText-mark : (styles : Styles) (mark : StyleMark) → ReadsText (ansi_spelling styles mark) []
-ReadsText-mark styles (Header severity) = ReadsText-style (header_style styles severity)
+ReadsText-mark styles (Header severity) = ReadsText-style (header_color_spec styles severity)
 ReadsText-mark styles HeaderMessage = ReadsText-style styles.header_message
 ReadsText-mark styles LineNumber = ReadsText-style styles.line_number
 ReadsText-mark styles NoteBullet = ReadsText-style styles.note_bullet

@@ -57,11 +57,11 @@ pub struct Styles {
 }
 
 impl Styles {
-    ghost use Rattle.codespan_base.specs.PartStyles.{no_color_styles, header_style, label_style as style_of_label};
+    ghost use Rattle.codespan_base.specs.PartStyles.{no_color_styles, header_color_spec, label_style as style_of_label};
 
     /// Borrows the style of the severity and the code in a header.
     pub fn header(&self, severity: Severity) -> &ColorSpec
-        ensures { result.now ≡ header_style self.now severity }
+        ensures { result.now ≡ header_color_spec self.now severity }
     {
         match severity {
             Severity::Bug => &self.header_bug,
