@@ -50,13 +50,13 @@ header_color_spec styles Note = styles.header_note
 header_color_spec styles Help = styles.header_help
 
 -- the style of a label
-abbrev pub label_style : Styles → Severity → LabelStyle → ColorSpec
-label_style styles severity Secondary = styles.secondary_label
-label_style styles Bug Primary = styles.primary_label_bug
-label_style styles Error Primary = styles.primary_label_error
-label_style styles Warning Primary = styles.primary_label_warning
-label_style styles Note Primary = styles.primary_label_note
-label_style styles Help Primary = styles.primary_label_help
+abbrev pub label_color_spec : Styles → Severity → LabelStyle → ColorSpec
+label_color_spec styles severity Secondary = styles.secondary_label
+label_color_spec styles Bug Primary = styles.primary_label_bug
+label_color_spec styles Error Primary = styles.primary_label_error
+label_color_spec styles Warning Primary = styles.primary_label_warning
+label_color_spec styles Note Primary = styles.primary_label_note
+label_color_spec styles Help Primary = styles.primary_label_help
 
 -- ---- plain styles
 

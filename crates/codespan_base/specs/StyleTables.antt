@@ -1,5 +1,5 @@
 -- The styles of the parts of the output, and how each style mark is spelled in them.
-pub use Rattle.codespan_base.specs.PartStyles.{bold_intense, colored, default_styles, header_color_spec, label_style, no_color_styles, unset}
+pub use Rattle.codespan_base.specs.PartStyles.{bold_intense, colored, default_styles, header_color_spec, label_color_spec, no_color_styles, unset}
 use Rattle.std.specs.Prelude.{ℕ, List}
 use Rattle.codespan_base.specs.declared.term.config.color.ColorSpec.{ColorSpec}
 use Rattle.codespan_base.specs.declared.term.config.styles.Styles.{Styles}
@@ -15,7 +15,7 @@ spelling_by styles set reset LineNumber = set styles.line_number
 spelling_by styles set reset NoteBullet = set styles.note_bullet
 spelling_by styles set reset SourceBorder = set styles.source_border
 spelling_by styles set reset (LabelStyleMark severity style) =
-    set (label_style styles severity style)
+    set (label_color_spec styles severity style)
 spelling_by styles set reset Reset = reset
 
 -- how `Ansi` spells style marks in these styles

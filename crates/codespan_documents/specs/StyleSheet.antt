@@ -7,7 +7,7 @@ use Rattle.codespan_base.specs.declared.term.config.color.Color.{Color}
 use Rattle.codespan_base.specs.declared.term.config.color.Color.TheVariants.{Black, Red, Green, Yellow, Blue, Magenta, Cyan, White}
 use Rattle.codespan_base.specs.declared.term.config.color.ColorSpec.{ColorSpec}
 use Rattle.codespan_base.specs.declared.term.config.styles.Styles.{Styles}
-use Rattle.codespan_base.specs.StyleTables.{header_color_spec, label_style, unset}
+use Rattle.codespan_base.specs.StyleTables.{header_color_spec, label_color_spec, unset}
 use Rattle.codespan_documents.specs.declared.style.Style.{Style}
 use Rattle.codespan_documents.specs.declared.style.Style.TheVariants.{Plain, Header, HeaderMessage, LineNumber, NoteBullet, SourceBorder, Label}
 use Rattle.codespan_documents.specs.Html.{style_class}
@@ -63,7 +63,7 @@ color_spec_of_style styles HeaderMessage = styles.header_message
 color_spec_of_style styles LineNumber = styles.line_number
 color_spec_of_style styles NoteBullet = styles.note_bullet
 color_spec_of_style styles SourceBorder = styles.source_border
-color_spec_of_style styles (Label severity style) = label_style styles severity style
+color_spec_of_style styles (Label severity style) = label_color_spec styles severity style
 
 -- the rule of the class of a style
 abbrev pub rule : Styles → Style → List ℕ

@@ -14,7 +14,7 @@ use Rattle.codespan_base.specs.declared.term.config.color.Color.TheVariants.{Bla
 use Rattle.codespan_base.specs.declared.term.config.color.ColorSpec.{ColorSpec}
 use Rattle.codespan_base.specs.declared.term.config.styles.Styles.{Styles}
 use Rattle.codespan_base.specs.Ansi.{ansi_bold, ansi_color, ansi_reset, ansi_style, color_number, escape}
-use Rattle.codespan_base.specs.StyleTables.{header_color_spec, label_style}
+use Rattle.codespan_base.specs.StyleTables.{header_color_spec, label_color_spec}
 use Rattle.codespan_base.specs.Streams.{StyleMark, Header, HeaderMessage, LineNumber, NoteBullet, SourceBorder, LabelStyleMark, Reset}
 use Rattle.codespan_documents.specs.declared.text.Run.{Run}
 use Rattle.codespan_documents.specs.Runs.{AreTexts, StyledRun, run_characters, run_view}
@@ -121,7 +121,7 @@ ReadsText-mark styles LineNumber = ReadsText-style styles.line_number
 ReadsText-mark styles NoteBullet = ReadsText-style styles.note_bullet
 ReadsText-mark styles SourceBorder = ReadsText-style styles.source_border
 ReadsText-mark styles (LabelStyleMark severity style) =
-    ReadsText-style (label_style styles severity style)
+    ReadsText-style (label_color_spec styles severity style)
 ReadsText-mark styles Reset = ReadsText-reset
 
 -- ---- runs

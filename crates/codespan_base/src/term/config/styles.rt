@@ -57,7 +57,7 @@ pub struct Styles {
 }
 
 impl Styles {
-    ghost use Rattle.codespan_base.specs.PartStyles.{no_color_styles, header_color_spec, label_style as style_of_label};
+    ghost use Rattle.codespan_base.specs.PartStyles.{no_color_styles, header_color_spec, label_color_spec as style_of_label};
 
     /// Borrows the style of the severity and the code in a header.
     pub fn header(&self, severity: Severity) -> &ColorSpec
