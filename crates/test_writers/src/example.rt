@@ -122,7 +122,7 @@ impl<W: Write> Write for TagColor<W> {
 
 #[tactic(auto, using(codespan_base::proofs::AppendsBytes::append_chains))]
 impl<W: Write> WriteColor for TagColor<W> {
-    ghost color_bytes = { color_tag };
+    ghost style_bytes = { color_tag };
 
     ghost reset_bytes = { codes "[/]" };
 

@@ -56,7 +56,7 @@ impl<W: Write> Write for Ansi<W> {
 }
 
 impl<W: Write> WriteColor for Ansi<W> {
-    ghost color_bytes = { ansi_style };
+    ghost style_bytes = { ansi_style };
 
     ghost reset_bytes = { ansi_reset };
 

@@ -76,7 +76,7 @@ pub trait WriteColor: Write {
     ghost use Rattle.codespan_base.specs.declared.term.config.color.ColorSpec.{ColorSpec};
 
     /// The bytes that the writer writes for a style.
-    ghost color_bytes: { ColorSpec → List ℕ };
+    ghost style_bytes: { ColorSpec → List ℕ };
 
     /// The bytes that the writer writes for the reset, which ends a style.
     ghost reset_bytes: { List ℕ };
@@ -88,7 +88,7 @@ pub trait WriteColor: Write {
     /// An [`io::Error`] where a write fails or takes none of its bytes; a prefix of the bytes has
     /// then been written.
     fn set_color(&mut self, spec: &ColorSpec) -> io::Result<()>
-        ensures { AppendsBytes (Self.contents self.old) (color_bytes spec.now)
+        ensures { AppendsBytes (Self.contents self.old) (style_bytes spec.now)
             result (Self.contents self.new) };
 
     /// Writes the bytes of the reset.

@@ -50,7 +50,7 @@ impl<W: Write> Write for NoColor<W> {
 impl<W: Write> WriteColor for NoColor<W> {
     ghost use Rattle.codespan_base.specs.StyleWriters.{no_color_inner};
 
-    ghost color_bytes = { λ _. [] };
+    ghost style_bytes = { λ _. [] };
 
     ghost reset_bytes = { [] };
 

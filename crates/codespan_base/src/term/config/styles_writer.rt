@@ -42,8 +42,8 @@ impl<'a, W: WriteColor> StylesWriter<'a, W> {
 
     /// Returns a writer over `writer` that writes these styles. Its flag is not set.
     pub fn new(writer: W, styles: &'a Styles) -> StylesWriter<'a, W>
-        ensures begins { styles_sink W.contents W.color_bytes W.reset_bytes result
-            ≡ fresh_sink (spelling_by styles.now W.color_bytes W.reset_bytes) (W.contents writer) }
+        ensures begins { styles_sink W.contents W.style_bytes W.reset_bytes result
+            ≡ fresh_sink (spelling_by styles.now W.style_bytes W.reset_bytes) (W.contents writer) }
         ensures inner { styles_inner result ≡ writer }
     {
         StylesWriter {
@@ -62,18 +62,18 @@ impl<'a, W: WriteColor> StylesWriter<'a, W> {
 
     /// Writes the bytes of a style, and sets the flag where that fails.
     fn set_color(&mut self, spec: &ColorSpec) -> io::Result<()>
-        ensures { Writes (styles_sink W.contents W.color_bytes W.reset_bytes self.old)
-            (bytes (W.color_bytes spec.now)) result
-            (styles_sink W.contents W.color_bytes W.reset_bytes self.new) }
+        ensures { Writes (styles_sink W.contents W.style_bytes W.reset_bytes self.old)
+            (bytes (W.style_bytes spec.now)) result
+            (styles_sink W.contents W.style_bytes W.reset_bytes self.new) }
     {
         note_failure(self.inner.set_color(spec), &mut self.failed)
     }
 
     /// Writes the bytes of the reset, and sets the flag where that fails.
     fn reset_color(&mut self) -> io::Result<()>
-        ensures { Writes (styles_sink W.contents W.color_bytes W.reset_bytes self.old)
+        ensures { Writes (styles_sink W.contents W.style_bytes W.reset_bytes self.old)
             (bytes W.reset_bytes) result
-            (styles_sink W.contents W.color_bytes W.reset_bytes self.new) }
+            (styles_sink W.contents W.style_bytes W.reset_bytes self.new) }
     {
         note_failure(self.inner.reset(), &mut self.failed)
     }
@@ -98,7 +98,7 @@ impl<W: WriteColor> Write for StylesWriter<'_, W> {
 impl<W: WriteColor> WriteStyle for StylesWriter<'_, W> {
     ghost use Rattle.codespan_base.specs.StyleWriters.{styles_sink};
 
-    ghost sink = { λ p. styles_sink W.contents W.color_bytes W.reset_bytes p };
+    ghost sink = { λ p. styles_sink W.contents W.style_bytes W.reset_bytes p };
 
     fn set_header(&mut self, severity: Severity) -> io::Result<()> {
         let styles = self.styles;
