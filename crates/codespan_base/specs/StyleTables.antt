@@ -6,17 +6,18 @@ use Rattle.codespan_base.specs.declared.term.config.styles.Styles.{Styles}
 use Rattle.codespan_core.specs.Streams.{StyleMark, Header, HeaderMessage, LineNumber, NoteBullet, SourceBorder, LabelStyleMark, Reset, Spelling}
 use Rattle.codespan_base.specs.Ansi.{ansi_reset, ansi_style}
 
--- how a writer of colors spells a style mark, where `set` is its bytes for each style, and `reset`
--- those for the reset
+-- how a writer of colors spells a style mark, where `style_bytes` is its bytes for each style, and
+-- `reset_bytes` those for the reset
 abbrev pub spelling_by : Styles → (ColorSpec → List ℕ) → List ℕ → StyleMark → List ℕ
-spelling_by styles set reset (Header severity) = set (header_color_spec styles severity)
-spelling_by styles set reset HeaderMessage = set styles.header_message
-spelling_by styles set reset LineNumber = set styles.line_number
-spelling_by styles set reset NoteBullet = set styles.note_bullet
-spelling_by styles set reset SourceBorder = set styles.source_border
-spelling_by styles set reset (LabelStyleMark severity style) =
-    set (label_color_spec styles severity style)
-spelling_by styles set reset Reset = reset
+spelling_by styles style_bytes reset_bytes (Header severity) =
+    style_bytes (header_color_spec styles severity)
+spelling_by styles style_bytes reset_bytes HeaderMessage = style_bytes styles.header_message
+spelling_by styles style_bytes reset_bytes LineNumber = style_bytes styles.line_number
+spelling_by styles style_bytes reset_bytes NoteBullet = style_bytes styles.note_bullet
+spelling_by styles style_bytes reset_bytes SourceBorder = style_bytes styles.source_border
+spelling_by styles style_bytes reset_bytes (LabelStyleMark severity style) =
+    style_bytes (label_color_spec styles severity style)
+spelling_by styles style_bytes reset_bytes Reset = reset_bytes
 
 -- how `Ansi` spells style marks in these styles
 abbrev pub ansi_spelling : Styles → Spelling
