@@ -92,4 +92,4 @@ Puts old bs r new =
 
 -- a writer of this frame with another flag, and with these bytes
 abbrev pub with_flag : Frame → Bool → Option (List ℕ) → Sink
-with_flag f flag bytes = record { frame = record f { failed = flag }; contents = bytes }
+with_flag f flag contents = record { frame = record f { failed = flag }; contents = contents }

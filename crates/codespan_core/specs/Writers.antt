@@ -19,9 +19,9 @@ pub record WritesNothing {T E : Type 0} (old : T) (result : Result (Unit {0}) E)
 
 -- a writer of this spelling and these bytes that owns the writer it writes to, and has not failed
 abbrev pub fresh_sink : Spelling → Option (List ℕ) → Sink
-fresh_sink spelling bytes = record {
+fresh_sink spelling contents = record {
   frame = record { spelling = spelling; failed = false; through = [] };
-  contents = bytes;
+  contents = contents;
 }
 
 -- what a writer of plain text writes to
@@ -54,7 +54,7 @@ plain_ref_sink contents p = record {
 
 -- a plain writer over the reference of this name that has not failed
 abbrev pub fresh_plain_ref : GName → Option (List ℕ) → Sink
-fresh_plain_ref name bytes = record {
+fresh_plain_ref name contents = record {
   frame = record { spelling = plain_spelling; failed = false; through = name ∷ [] };
-  contents = bytes;
+  contents = contents;
 }
