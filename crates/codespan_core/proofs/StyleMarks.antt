@@ -2,7 +2,7 @@
 -- and bytes that a writer of colors writes.
 use Rattle.std.proofs.Common.{◌≡◌, ℕ, Bool, true, List, [], Option, append-nil, Result, Ok, Err, MatchResult, refl, sym, ap, ◌∙◌}
 use Rattle.codespan_core.specs.Streams.{StyleMark, style_mark, bytes}
-use Rattle.codespan_core.specs.WriterLaw.{Frame, Sink, is_known, are_known, extended, PrefixAppended, AppendsBytes, with_written, with_flag, PrefixWritten, Writes}
+use Rattle.codespan_core.specs.WriterLaw.{Frame, Sink, is_known, are_known, extended, PrefixAppended, AppendsBytes, with_written, with_failed, PrefixWritten, Writes}
 use Rattle.codespan_core.proofs.KnownBytes.{extended-nil}
 use Rattle.codespan_core.proofs.Writes.{spelled-bytes}
 
@@ -80,17 +80,17 @@ pub Writes-noted : {E : Type 0} (f : Frame) (old new : Bool) (before after : Opt
     (bs : List ℕ) (returned r : Result (Unit {0}) E)
     → AppendsBytes before bs returned after → r ≡ returned
     → MatchResult r (λ _. new ≡ old) (λ _. new ≡ true)
-    → Writes (with_flag f old before) (bytes bs) r (with_flag f new after)
+    → Writes (with_failed f old before) (bytes bs) r (with_failed f new after)
 Writes-noted f old new before after bs returned (Ok x) appends same flag =
     let frames = ap (λ (b : Bool). record f { failed = b }) flag in
     let appended = rw (← same) at appends in (
       frames,
-      λ known. appended_written (with_flag f old before) (with_flag f new after) bs frames
-          (appended (is_known_contents (with_flag f old before) known)),
+      λ known. appended_written (with_failed f old before) (with_failed f new after) bs frames
+          (appended (is_known_contents (with_failed f old before) known)),
     )
 Writes-noted f old new before after bs returned (Err e) appends same flag =
     let appended = rw (← same) at appends in (
       ap (λ (b : Bool). record f { failed = b }) flag,
-      λ known. prefix_written (with_flag f old before) (with_flag f new after) bs
-          (appended (is_known_contents (with_flag f old before) known)),
+      λ known. prefix_written (with_failed f old before) (with_failed f new after) bs
+          (appended (is_known_contents (with_failed f old before) known)),
     )

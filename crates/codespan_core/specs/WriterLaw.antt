@@ -91,5 +91,5 @@ Puts old bs r new =
     (λ n. new.contents ≡ append_known old.contents (take n bs)) (λ _. new.contents ≡ old.contents))
 
 -- a writer of this frame with another flag, and with these bytes
-abbrev pub with_flag : Frame → Bool → Option (List ℕ) → Sink
-with_flag f flag contents = record { frame = record f { failed = flag }; contents = contents }
+abbrev pub with_failed : Frame → Bool → Option (List ℕ) → Sink
+with_failed f failed contents = record { frame = record f { failed = failed }; contents = contents }

@@ -7,7 +7,7 @@ ghost use Rattle.std.specs.Prelude.{◌≡◌, ◌≤◌, ◌*◌, [], true, len
 ghost use Rattle.std.specs.List.{repeat};
 ghost use Rattle.std.specs.Io.{WritesAtMost};
 ghost use Rattle.codespan_core.specs.Streams.{bytes, glyph, spaces, repeated};
-ghost use Rattle.codespan_core.specs.WriterLaw.{Frame, Puts, Writes, with_flag, AppendsBytes};
+ghost use Rattle.codespan_core.specs.WriterLaw.{Frame, Puts, Writes, with_failed, AppendsBytes};
 ghost use Rattle.codespan_core.specs.Writers.{WritesNothing};
 
 use crate::term::config::plain_ref::PlainWriterRef;
@@ -209,8 +209,8 @@ pub fn write_all<W: Write>(w: &mut W, bytes: &[u8]) -> io::Result<()>
 /// That of the write.
 pub fn forward_put<W: Write>(writer: &mut W, failed: &mut bool, bytes: &[u8]) -> io::Result<usize>
     ensures bound { WritesAtMost result bytes.now }
-    ensures took { (f : Frame) → Puts (with_flag f failed.old (W.contents writer.old)) bytes.now
-        result (with_flag f failed.new (W.contents writer.new)) }
+    ensures took { (f : Frame) → Puts (with_failed f failed.old (W.contents writer.old)) bytes.now
+        result (with_failed f failed.new (W.contents writer.new)) }
 {
     match writer.write(bytes) {
         Ok(count) => {
@@ -233,8 +233,8 @@ pub fn forward_put<W: Write>(writer: &mut W, failed: &mut bool, bytes: &[u8]) ->
 ///
 /// Those of [`write_all`]; each sets the flag.
 pub fn forward_all<W: Write>(writer: &mut W, failed: &mut bool, text: &[u8]) -> io::Result<()>
-    ensures { (f : Frame) → Writes (with_flag f failed.old (W.contents writer.old)) (bytes text.now)
-        result (with_flag f failed.new (W.contents writer.new)) }
+    ensures { (f : Frame) → Writes (with_failed f failed.old (W.contents writer.old))
+        (bytes text.now) result (with_failed f failed.new (W.contents writer.new)) }
 {
     note_failure(write_all(writer, text), failed)
 }
