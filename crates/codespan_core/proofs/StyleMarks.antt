@@ -76,19 +76,19 @@ prefix_written s t bs p =
     }
 
 -- a call that writes these bytes, and whose failure sets the flag, writes them as a stream
-pub Writes-noted : {E : Type 0} (f : Frame) (old new : Bool) (before after : Option (List ℕ))
+pub Writes-forwarded : {E : Type 0} (f : Frame) (old new : Bool) (before after : Option (List ℕ))
     (bs : List ℕ) (returned r : Result (Unit {0}) E)
     → AppendsBytes before bs returned after → r ≡ returned
     → MatchResult r (λ _. new ≡ old) (λ _. new ≡ true)
     → Writes (with_failed f old before) (bytes bs) r (with_failed f new after)
-Writes-noted f old new before after bs returned (Ok x) appends same flag =
+Writes-forwarded f old new before after bs returned (Ok x) appends same flag =
     let frames = ap (λ (b : Bool). record f { failed = b }) flag in
     let appended = rw (← same) at appends in (
       frames,
       λ known. appended_written (with_failed f old before) (with_failed f new after) bs frames
           (appended (is_known_contents (with_failed f old before) known)),
     )
-Writes-noted f old new before after bs returned (Err e) appends same flag =
+Writes-forwarded f old new before after bs returned (Err e) appends same flag =
     let appended = rw (← same) at appends in (
       ap (λ (b : Bool). record f { failed = b }) flag,
       λ known. prefix_written (with_failed f old before) (with_failed f new after) bs

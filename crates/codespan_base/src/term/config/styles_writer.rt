@@ -8,7 +8,7 @@ use crate::term::config::color::{ColorSpec, WriteColor};
 use crate::term::config::styles::Styles;
 use codespan_core::diagnostic::{LabelStyle, Severity};
 use codespan_core::term::config::write_style::WriteStyle;
-use codespan_core::term::config::writing::{forward_put, note_failure};
+use codespan_core::term::config::writing::{forward_put, forward_result};
 use std::io;
 use std::io::Write;
 
@@ -66,7 +66,7 @@ impl<'a, W: WriteColor> StylesWriter<'a, W> {
             (bytes (W.style_bytes spec.now)) result
             (styles_sink W.contents W.style_bytes W.reset_bytes self.new) }
     {
-        note_failure(self.inner.set_color(spec), &mut self.failed)
+        forward_result(self.inner.set_color(spec), &mut self.failed)
     }
 
     /// Writes the bytes of the reset, and sets the flag where that fails.
@@ -75,7 +75,7 @@ impl<'a, W: WriteColor> StylesWriter<'a, W> {
             (bytes W.reset_bytes) result
             (styles_sink W.contents W.style_bytes W.reset_bytes self.new) }
     {
-        note_failure(self.inner.reset(), &mut self.failed)
+        forward_result(self.inner.reset(), &mut self.failed)
     }
 }
 

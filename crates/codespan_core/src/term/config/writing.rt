@@ -236,7 +236,7 @@ pub fn forward_all<W: Write>(writer: &mut W, failed: &mut bool, text: &[u8]) -> 
     ensures { (f : Frame) → Writes (with_failed f failed.old (W.contents writer.old))
         (bytes text.now) result (with_failed f failed.new (W.contents writer.new)) }
 {
-    note_failure(write_all(writer, text), failed)
+    forward_result(write_all(writer, text), failed)
 }
 
 /// Returns what a call of the inner writer returned, and sets the flag where it is an error.
@@ -244,7 +244,7 @@ pub fn forward_all<W: Write>(writer: &mut W, failed: &mut bool, text: &[u8]) -> 
 /// # Errors
 ///
 /// The error that it is passed.
-pub fn note_failure(returned: io::Result<()>, failed: &mut bool) -> io::Result<()>
+pub fn forward_result(returned: io::Result<()>, failed: &mut bool) -> io::Result<()>
     ensures same { result ≡ returned }
     ensures flag { MatchResult result (λ _. failed.new ≡ failed.old) (λ _. failed.new ≡ true) }
 {

@@ -1,8 +1,8 @@
 use Rattle.std.proofs.Common.{false, []}
-use Rattle.codespan_core.proofs.StyleMarks.{Writes-noted}
+use Rattle.codespan_core.proofs.StyleMarks.{Writes-forwarded}
 use Rattle.codespan_base.proofs.term.config.styles_writer.StylesWriter.reset_color.Goals as goal
 
 pub returns : goal.returns
 returns g c =
-    Writes-noted (record { spelling = _; failed = false; through = [] }) _ _ _ _ _ _ _
-    c.reset.ensures c.note_failure.ensures.same c.note_failure.ensures.flag
+    Writes-forwarded (record { spelling = _; failed = false; through = [] }) _ _ _ _ _ _ _
+    c.reset.ensures c.forward_result.ensures.same c.forward_result.ensures.flag
