@@ -15,14 +15,14 @@ abbrev pub line_ends : List ℕ → List ℕ
 line_ends text = drop 1 (line_starts_of text) ++ length text ∷ []
 
 -- the column number of a byte on line i
-abbrev pub simple_column : List ℕ → ℕ → ℕ → ℕ
-simple_column text = column_number_of text (line_starts_of text) (line_ends text)
+abbrev pub simple_column_number : List ℕ → ℕ → ℕ → ℕ
+simple_column_number text = column_number_of text (line_starts_of text) (line_ends text)
 
 -- the number of a byte's line, and its column number there
 abbrev pub simple_location : List ℕ → ℕ → Location
 simple_location text byte =
     let i = line_of (line_starts_of text) byte in
-    record { line_number = i + 1; column_number = simple_column text i byte }
+    record { line_number = i + 1; column_number = simple_column_number text i byte }
 
 -- the file of a name and a text
 abbrev pub simple_file : Option (List ℕ) → List ℕ → FileModel
@@ -33,7 +33,7 @@ simple_file name text = record {
   starts = line_starts_of text;
   ends = line_ends text;
   line_number = λ i. i + 1;
-  column_number = simple_column text;
+  column_number = simple_column_number text;
   location = simple_location text;
 }
 

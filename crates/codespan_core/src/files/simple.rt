@@ -117,7 +117,7 @@ impl<Name, Source: AsStr> SimpleFile<Name, Source> {
 /// No call allocates. Names are borrowed, since the clone of a name need not display the same text.
 impl<'a, Name: Display + 'a, Source: AsStr + 'a> Files<'a> for SimpleFile<Name, Source> {
     ghost use Rattle.codespan_core.specs.DatabaseViews.{file_of, name_of, file_text_of};
-    ghost use Rattle.codespan_core.specs.SimpleModel.{simple_failure, simple_column, simple_location, past_end_failure};
+    ghost use Rattle.codespan_core.specs.SimpleModel.{simple_failure, simple_column_number, simple_location, past_end_failure};
     ghost use Rattle.codespan_core.specs.FileModel.{line_of};
     ghost use Rattle.codespan_core.specs.LawfulFiles.{IsLineRange, NeedsNoMemory, FailsBy, line_number_failure};
     ghost use Rattle.codespan_core.specs.Lemmas.Simple.{simple_lawful, simple_past_end, text_fits, text_is_utf8};
@@ -202,7 +202,7 @@ impl<'a, Name: Display + 'a, Source: AsStr + 'a> Files<'a> for SimpleFile<Name, 
     /// text has no such line.
     fn column_number(&'a self, id: (), line_index: usize, byte_index: usize) -> Result<usize, Error>
         ensures value { IfOk result (λ number.
-            number ≡ simple_column (file_text_of self.now) line_index byte_index) }
+            number ≡ simple_column_number (file_text_of self.now) line_index byte_index) }
         ensures failed { FailsBy (past_end_failure (file_text_of self.now) line_index) result }
         ensures memory { NeedsNoMemory result }
     {

@@ -87,7 +87,7 @@ impl<'a, 'text: 'a> Files<'a> for Listing<'text> {
     ghost use Rattle.codespan_base.specs.FileModel.{line_of, or_failure};
     ghost use Rattle.codespan_base.specs.FileModel.Lookup.{Name as NameLookup, Source as SourceLookup, LineIndex, LineNumber, ColumnNumber, LocationAt, LineRange};
     ghost use Rattle.codespan_base.specs.Lines.{line_starts_of};
-    ghost use Rattle.codespan_base.specs.SimpleModel.{simple_file, simple_column, past_end_failure};
+    ghost use Rattle.codespan_base.specs.SimpleModel.{simple_file, simple_column_number, past_end_failure};
     ghost use Rattle.codespan_base.specs.Lemmas.Simple.{or_failure-past_end, renumbered_lawful, simple_lawful, simple_past_end, text_fits, text_is_utf8};
     ghost use Rattle.codespan_tests.specs.Listings.{is_at, is_from_index, failed_if, failed_if-other};
 
@@ -106,7 +106,7 @@ impl<'a, 'text: 'a> Files<'a> for Listing<'text> {
             line_number = λ i. i;
             location = λ byte.
                 let i = line_of (line_starts_of text) byte in
-                record { line_number = i; column_number = simple_column text i byte };
+                record { line_number = i; column_number = simple_column_number text i byte };
           };
       failure = λ _. elim [
         | NameLookup ↦ failed_if s.failed.name 1 0
