@@ -47,8 +47,8 @@ number_failure (Some s) i =
     else Some (LineTooLarge i (s.0 + (2 ^ 64 - 1 - s.1)))
 
 -- the column number of a byte on a line
-abbrev pub mapped_column : List ℕ → ℕ → ℕ → ℕ
-mapped_column text = column_number_of text (line_starts_of text) (mapped_ends text)
+abbrev pub mapped_column_number : List ℕ → ℕ → ℕ → ℕ
+mapped_column_number text = column_number_of text (line_starts_of text) (mapped_ends text)
 
 -- the number of the byte's line, and its column number there
 abbrev pub mapped_location : List ℕ → List (ℕ × ℕ) → ℕ → Location
@@ -56,7 +56,7 @@ mapped_location text set_numbers byte =
     let i = line_of (line_starts_of text) byte in
     record {
       line_number = number_from (nearest_set set_numbers i) i;
-      column_number = mapped_column text i byte;
+      column_number = mapped_column_number text i byte;
     }
 
 -- the file of a name, a text and set numbers
@@ -64,7 +64,7 @@ abbrev pub mapped_file : Option (List ℕ) → List ℕ → List (ℕ × ℕ) �
 mapped_file name text set_numbers = record (simple_file name text) {
   ends = mapped_ends text;
   line_number = λ i. number_from (nearest_set set_numbers i) i;
-  column_number = mapped_column text;
+  column_number = mapped_column_number text;
   location = mapped_location text set_numbers;
 }
 

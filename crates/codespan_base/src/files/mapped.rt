@@ -128,7 +128,7 @@ impl<Name, Source: AsStr> MappedFile<Name, Source> {
 impl<'a, Name: Display + 'a, Source: AsStr + 'a> Files<'a> for MappedFile<Name, Source> {
     ghost use Rattle.codespan_base.specs.MappedFileViews.{mapped_failure_of, mapped_file_of, mapped_name_of, mapped_text_of, set_numbers_of};
     ghost use Rattle.codespan_core.specs.SimpleModel.{past_end_failure};
-    ghost use Rattle.codespan_base.specs.MappedModel.{mapped_column, mapped_location, number_from, nearest_set};
+    ghost use Rattle.codespan_base.specs.MappedModel.{mapped_column_number, mapped_location, number_from, nearest_set};
     ghost use Rattle.codespan_core.specs.FileModel.{line_of};
     ghost use Rattle.codespan_core.specs.LawfulFiles.{IsLineRange, NeedsNoMemory, FailsBy};
     ghost use Rattle.codespan_core.specs.FileModel.Lookup.{LineNumber, LocationAt};
@@ -228,7 +228,7 @@ impl<'a, Name: Display + 'a, Source: AsStr + 'a> Files<'a> for MappedFile<Name, 
     /// text has no such line.
     fn column_number(&'a self, id: (), line_index: usize, byte_index: usize) -> Result<usize, Error>
         ensures value { IfOk result (λ number.
-            number ≡ mapped_column (mapped_text_of self.now) line_index byte_index) }
+            number ≡ mapped_column_number (mapped_text_of self.now) line_index byte_index) }
         ensures failed { FailsBy (past_end_failure (mapped_text_of self.now) line_index) result }
         ensures memory { NeedsNoMemory result }
     {
