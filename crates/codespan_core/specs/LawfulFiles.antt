@@ -81,8 +81,8 @@ abbrev pub line_number_failure : ℕ → Option Error
 line_number_failure i = if i == 2 ^ 64 - 1 then Some (LineTooLarge i (2 ^ 64 - 2)) else None
 
 -- what the default column number fails with
-abbrev pub column_failure : (Lookup → Option Error) → ℕ → Option Error
-column_failure failure i = or_failure (failure Source) (failure (LineRange i))
+abbrev pub column_number_failure : (Lookup → Option Error) → ℕ → Option Error
+column_number_failure failure i = or_failure (failure Source) (failure (LineRange i))
 
 -- what the default location fails with
 abbrev pub location_failure : FileModel → (Lookup → Option Error) → ℕ → Option Error
