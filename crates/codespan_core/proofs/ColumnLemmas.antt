@@ -10,7 +10,7 @@ use Rattle.std.specs.Str.{IsCharBoundary}
 use Rattle.std.specs.declared.ops.Range.{Range}
 use Rattle.codespan_core.specs.declared.files.Location.{Location}
 use Rattle.codespan_core.specs.FileModel.{FileModel, line_of}
-use Rattle.codespan_core.specs.LawfulFiles.{IsLineRange, column_of, location_of}
+use Rattle.codespan_core.specs.LawfulFiles.{IsLineRange, column_index_on, location_of}
 use Rattle.codespan_core.specs.Lines.{is_char_boundary, column_index_of}
 
 -- the test is true of a boundary
@@ -50,7 +50,7 @@ pub ruleset column_steps = (is_char_boundary_yes, is_char_boundary_no, count_ran
 -- a column that is counted in the text of a file, between the ends of a line, is that of the line
 pub column_in_line : (f : FileModel) (i byte : ℕ) (text : List ℕ) (r : Range ℕ) (n : ℕ)
     → n ≡ column_index_of text r.start r.end byte → text ≡ f.text → IsLineRange f i r
-    → n + 1 ≡ column_of f i byte + 1
+    → n + 1 ≡ column_index_on f i byte + 1
 column_in_line f i byte text r n counted same line =
     rw (counted, same, line.start_is, line.end_is) refl
 

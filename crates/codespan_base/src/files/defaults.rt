@@ -2,7 +2,7 @@
 //! are those of the Rust crate's default bodies.
 
 ghost use Rattle.std.specs.Prelude.{◌≡◌, ◌+◌, IfOk};
-ghost use Rattle.codespan_core.specs.LawfulFiles.{FailsBy, column_of, location_of, column_number_failure, location_failure};
+ghost use Rattle.codespan_core.specs.LawfulFiles.{FailsBy, column_index_on, location_of, column_number_failure, location_failure};
 
 use crate::files::{Error, Files, Location};
 use std::convert::AsStr;
@@ -24,7 +24,7 @@ pub fn default_column_number<'a, F: Files<'a>>(
     byte_index: usize,
 ) -> Result<usize, Error>
     ensures value { IfOk result (λ n.
-        n ≡ column_of ((F.database files.now).file id) line_index byte_index + 1) }
+        n ≡ column_index_on ((F.database files.now).file id) line_index byte_index + 1) }
     ensures failed { FailsBy (column_number_failure ((F.database files.now).failure id) line_index)
         result }
 {
