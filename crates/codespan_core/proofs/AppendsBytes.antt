@@ -7,7 +7,7 @@ use Rattle.std.proofs.lemmas.Result.{err_from_is_err_and}
 use Rattle.codespan_core.specs.declared.term.config.plain_ref.PlainWriterRef.{PlainWriterRef}
 use Rattle.codespan_core.specs.Streams.{bytes, plain_spelling}
 use Rattle.codespan_core.specs.WriterLaw.{Frame, Sink, KeepsFrame, Writes, is_known, with_written, are_known, extended, PrefixAppended, AppendsBytes}
-use Rattle.codespan_core.specs.Writers.{fresh_plain_ref, borrow_name, plain_ref_sink, borrowed_writer}
+use Rattle.codespan_core.specs.Writers.{fresh_plain_ref_sink, borrow_name, plain_ref_sink, borrowed_writer}
 use Rattle.codespan_core.proofs.KnownBytes.{extended-append, extended-nil, are_known-extended, PrefixAppended-first, PrefixAppended-last, PrefixAppended_first_2, PrefixAppended_first_3}
 use Rattle.codespan_core.proofs.Writes.{spelled-bytes}
 
@@ -77,7 +77,7 @@ appends-failed Q o a k r h p = let e = (err_from_is_err_and r h).1 in rw e p
 keeps_reference : {W E : Type 0} (contents_of : W → Option (List ℕ))
     (before after : PlainWriterRef W) (name : GName) (contents : Option (List ℕ)) (x : W)
     (r : Result (Unit {0}) E)
-    → plain_ref_sink contents_of before ≡ fresh_plain_ref name contents
+    → plain_ref_sink contents_of before ≡ fresh_plain_ref_sink name contents
     → KeepsFrame (plain_ref_sink contents_of before).frame r
     (plain_ref_sink contents_of after).frame
     → (name ≡ borrow_name after → x ≡ borrowed_writer after) → x ≡ borrowed_writer after
@@ -94,7 +94,7 @@ keeps_reference contents_of before after name contents x (Err e) begins keeps ba
 pub written_to_plain_ref : {W E : Type 0} (contents_of : W → Option (List ℕ))
     (before after : PlainWriterRef W) (name : GName) (contents : Option (List ℕ)) (x : W)
     (bs : List ℕ) (r : Result (Unit {0}) E)
-    → plain_ref_sink contents_of before ≡ fresh_plain_ref name contents
+    → plain_ref_sink contents_of before ≡ fresh_plain_ref_sink name contents
     → Writes (plain_ref_sink contents_of before) (bytes bs) r (plain_ref_sink contents_of after)
     → (name ≡ borrow_name after → x ≡ borrowed_writer after)
     → AppendsBytes contents bs r (contents_of x)

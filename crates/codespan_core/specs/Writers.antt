@@ -53,8 +53,8 @@ plain_ref_sink contents p = record {
 }
 
 -- a plain writer over the reference of this name that has not failed
-abbrev pub fresh_plain_ref : GName → Option (List ℕ) → Sink
-fresh_plain_ref name contents = record {
+abbrev pub fresh_plain_ref_sink : GName → Option (List ℕ) → Sink
+fresh_plain_ref_sink name contents = record {
   frame = record { spelling = plain_spelling; failed = false; through = name ∷ [] };
   contents = contents;
 }

@@ -14,7 +14,7 @@ use Rattle.codespan_core.specs.LawfulFiles.{IsLawful}
 use Rattle.codespan_core.specs.Streams.{Stream, Spelling, spelled, text_of, plain_spelling}
 use Rattle.codespan_core.specs.WriterLaw.{Frame, Sink, with_written, is_known, are_known, extended, PrefixWritten, PrefixAppended}
 use Rattle.codespan_core.specs.declared.term.config.plain_ref.PlainWriterRef.{PlainWriterRef}
-use Rattle.codespan_core.specs.Writers.{fresh_plain_ref, fresh_sink, borrow_name, plain_ref_sink, borrowed_writer}
+use Rattle.codespan_core.specs.Writers.{fresh_plain_ref_sink, fresh_sink, borrow_name, plain_ref_sink, borrowed_writer}
 use Rattle.codespan_picture.specs.Rows.{Locus}
 use Rattle.codespan_picture.specs.TextLaws.{AreCharacters}
 use Rattle.codespan_picture.proofs.PictureTexts.{text-output}
@@ -170,7 +170,7 @@ module _ {Id : Type 0} {config : Config} {files : FileDatabase Id} {d : Diagnost
   pub written_back : {W : Type 0} (contents_of : W → Option (List ℕ))
       (before after : PlainWriterRef W) {name : GName} {contents : Option (List ℕ)} {x : W}
       {r : Result (Unit {0}) Error}
-      → plain_ref_sink contents_of before ≡ fresh_plain_ref name contents
+      → plain_ref_sink contents_of before ≡ fresh_plain_ref_sink name contents
       → WritesStyled config.display_style config config files d (plain_ref_sink contents_of before)
       r (plain_ref_sink contents_of after)
       → (name ≡ borrow_name after → x ≡ borrowed_writer after)
