@@ -68,7 +68,8 @@ FailsPastEnd f i o = f.exists ≡ true → IsPastEndError o ↔ (length f.starts
 
 -- the column of a byte on line i, counted from 0
 abbrev pub column_index_on : FileModel → ℕ → ℕ → ℕ
-column_index_on f i byte = column_index_of f.text (slice_index f.starts i) (slice_index f.ends i) byte
+column_index_on f i byte =
+    column_index_of f.text (slice_index f.starts i) (slice_index f.ends i) byte
 
 -- the number of the byte's line, and its column number there
 abbrev pub location_of : FileModel → ℕ → Location
