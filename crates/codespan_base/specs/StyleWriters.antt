@@ -30,7 +30,7 @@ styles_sink contents style_bytes reset_bytes p = record {
   frame = record {
     spelling = spelling_by p.styles.now style_bytes reset_bytes;
     failed = p.failed;
-    through = [];
+    borrows = [];
   };
   contents = contents p.inner;
 }

@@ -83,11 +83,11 @@ keeps_reference : {W E : Type 0} (contents_of : W → Option (List ℕ))
     → (name ≡ borrowed_reference after → x ≡ borrowed_writer after) → x ≡ borrowed_writer after
 keeps_reference contents_of before after name contents x (Ok done) begins keeps back =
     let kept : (borrowed_reference after ∷ []) ≡ (name ∷ []) =
-    ap (λ (f : Frame). f.through) keeps ∙ ap (λ (s : Sink). s.frame.through) begins in
+    ap (λ (f : Frame). f.borrows) keeps ∙ ap (λ (s : Sink). s.frame.borrows) begins in
     back cc
 keeps_reference contents_of before after name contents x (Err e) begins keeps back =
     let kept : (borrowed_reference after ∷ []) ≡ (name ∷ []) =
-    ap (λ (f : Frame). f.through) keeps ∙ ap (λ (s : Sink). s.frame.through) begins in
+    ap (λ (f : Frame). f.borrows) keeps ∙ ap (λ (s : Sink). s.frame.borrows) begins in
     back cc
 
 -- bytes that were written through the reference are in the borrowed writer

@@ -38,7 +38,7 @@ pub record Frame : Type 0 where
   -- a style mark or a `put` failed, or a `put` of some bytes took none
   pub failed : Bool
   -- the names of the references that it writes through
-  pub through : List GName
+  pub borrows : List GName
 
 -- a writer, as a contract sees it; the bytes of some writers are not known
 pub record Sink : Type 0 where

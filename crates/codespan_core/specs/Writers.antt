@@ -20,7 +20,7 @@ pub record WritesNothing {T E : Type 0} (old : T) (result : Result (Unit {0}) E)
 -- a writer of this spelling and these bytes that owns the writer it writes to, and has not failed
 abbrev pub fresh_sink : Spelling → Option (List ℕ) → Sink
 fresh_sink spelling contents = record {
-  frame = record { spelling = spelling; failed = false; through = [] };
+  frame = record { spelling = spelling; failed = false; borrows = [] };
   contents = contents;
 }
 
@@ -31,7 +31,7 @@ plain_inner p = p.inner
 -- a plain writer spells every style mark as nothing
 abbrev pub plain_sink : {W : Type 0} → (W → Option (List ℕ)) → PlainWriter W → Sink
 plain_sink contents p = record {
-  frame = record { spelling = plain_spelling; failed = p.failed; through = [] };
+  frame = record { spelling = plain_spelling; failed = p.failed; borrows = [] };
   contents = contents p.inner;
 }
 
@@ -48,13 +48,13 @@ borrowed_reference p = p.writer.ghost_name
 -- a plain writer that writes through the reference
 abbrev pub plain_ref_sink : {W : Type 0} → (W → Option (List ℕ)) → PlainWriterRef W → Sink
 plain_ref_sink contents p = record {
-  frame = record { spelling = plain_spelling; failed = p.failed; through = borrowed_reference p ∷ [] };
+  frame = record { spelling = plain_spelling; failed = p.failed; borrows = borrowed_reference p ∷ [] };
   contents = contents (borrowed_writer p);
 }
 
 -- a plain writer over the reference of this name that has not failed
 abbrev pub fresh_plain_ref_sink : GName → Option (List ℕ) → Sink
 fresh_plain_ref_sink name contents = record {
-  frame = record { spelling = plain_spelling; failed = false; through = name ∷ [] };
+  frame = record { spelling = plain_spelling; failed = false; borrows = name ∷ [] };
   contents = contents;
 }

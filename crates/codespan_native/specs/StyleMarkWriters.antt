@@ -7,7 +7,7 @@ use Rattle.codespan_native.specs.declared.style_mark_writer.StyleMarkWriter.{Sty
 -- what the law of writers sees of a writer of style marks in band
 abbrev pub style_mark_sink : Bool → Option (List ℕ) → Sink
 style_mark_sink failed contents = record {
-  frame = record { spelling = style_mark_spelling; failed = failed; through = [] };
+  frame = record { spelling = style_mark_spelling; failed = failed; borrows = [] };
   contents = contents;
 }
 

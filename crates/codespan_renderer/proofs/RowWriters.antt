@@ -34,7 +34,7 @@ rest_of [] = []
 rest_of (name ∷ names) = names
 
 abbrev frame_before : Frame → Frame
-frame_before f = record f { through = rest_of f.through }
+frame_before f = record f { borrows = rest_of f.borrows }
 
 abbrev sink_before : Sink → Sink
 sink_before s = record s { frame = frame_before s.frame }
@@ -56,10 +56,10 @@ same_reference : {E : Type 0} (n m : GName) (s : Sink) (items : Stream) (r : Res
     (t : Sink)
     → Writes (sink_through n s) items r (sink_through m t) → m ≡ n
 same_reference n m s items (Ok x) t p =
-    let e : (m ∷ t.frame.through) ≡ (n ∷ s.frame.through) = ap (λ (f : Frame). f.through) p.0 in
+    let e : (m ∷ t.frame.borrows) ≡ (n ∷ s.frame.borrows) = ap (λ (f : Frame). f.borrows) p.0 in
     cc
 same_reference n m s items (Err x) t p =
-    let e : (m ∷ t.frame.through) ≡ (n ∷ s.frame.through) = ap (λ (f : Frame). f.through) p.0 in
+    let e : (m ∷ t.frame.borrows) ≡ (n ∷ s.frame.borrows) = ap (λ (f : Frame). f.borrows) p.0 in
     cc
 
 -- equal contexts and equal lines make equal rows

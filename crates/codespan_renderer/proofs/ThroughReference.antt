@@ -13,7 +13,7 @@ prefix_through name s items t p =
     record { prefix = p.prefix; rest = p.rest; whole = p.whole; contents = p.contents }
 
 abbrev frame_through : GName → Frame → Frame
-frame_through name f = record f { through = name ∷ f.through }
+frame_through name f = record f { borrows = name ∷ f.borrows }
 
 -- a call of the writer has the same result behind the reference
 pub writes_through : {E : Type 0} (name : GName) (s : Sink) (items : Stream)

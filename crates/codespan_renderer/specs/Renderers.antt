@@ -27,7 +27,7 @@ pub record SameRenderer {W : Type 0} (old new : Renderer W) : Type 0 where
 
 -- a writer, behind one more reference
 abbrev pub sink_through : GName → Sink → Sink
-sink_through name s = record s { frame = record s.frame { through = name ∷ s.frame.through } }
+sink_through name s = record s { frame = record s.frame { borrows = name ∷ s.frame.borrows } }
 
 -- the law sees a renderer as its writer, behind its reference
 abbrev pub renderer_sink : {W : Type 0} → (W → Sink) → Renderer W → Sink

@@ -129,10 +129,10 @@ module _ {Id : Type 0} {config : Config} {files : FileDatabase Id} {d : Diagnost
   -- a call writes through the references that it wrote through
   references_of : {old : Sink} (r : Result (Unit {0}) Error) {new : Sink}
       → WritesStyled config.display_style config config files d old r new
-      → new.frame.through ≡ old.frame.through
-  references_of (Ok done) rendered = ap (λ (f : Frame). f.through) rendered.writes.on_end.0
+      → new.frame.borrows ≡ old.frame.borrows
+  references_of (Ok done) rendered = ap (λ (f : Frame). f.borrows) rendered.writes.on_end.0
   references_of (Err e) rendered =
-      ⊎_elim (λ w. ap (λ (f : Frame). f.through) w.1) (λ w. ap (λ (f : Frame). f.through) w.0)
+      ⊎_elim (λ w. ap (λ (f : Frame). f.borrows) w.1) (λ w. ap (λ (f : Frame). f.borrows) w.0)
       rendered.writes.on_end.error_is
 
   -- a writer of plain text has received the output's text, or a prefix of it
@@ -177,7 +177,7 @@ module _ {Id : Type 0} {config : Config} {files : FileDatabase Id} {d : Diagnost
       → WritesText config files d contents r (contents_of x)
   written_back {W} contents_of before after {name} {contents} {x} {r} begins renders back =
       let unchanged : (borrowed_reference after ∷ []) ≡ (name ∷ []) =
-      references_of r renders ∙ ap (λ (s : Sink). s.frame.through) begins in
+      references_of r renders ∙ ap (λ (s : Sink). s.frame.borrows) begins in
       let named : name ≡ borrowed_reference after = cc in
       subst (λ (o : Option (List ℕ)). WritesText config files d o r (contents_of x))
       (ap (λ (s : Sink). s.contents) begins)

@@ -19,7 +19,7 @@ tag Reset = codes "[/]"
 -- what the law sees of a writer of tags
 abbrev pub tag_sink : Bool → Option (List ℕ) → Sink
 tag_sink failed contents =
-    record { frame = record { spelling = tag; failed = failed; through = [] }; contents = contents }
+    record { frame = record { spelling = tag; failed = failed; borrows = [] }; contents = contents }
 
 -- the tag of a style: bold alone has one
 abbrev pub color_tag : ColorSpec → List ℕ

@@ -17,7 +17,7 @@ sequence Reset = 0x1b ∷ codes "[0m"
 abbrev pub spelling_sink : Bool → Option (List ℕ) → Sink
 spelling_sink failed contents =
     record {
-      frame = record { spelling = sequence; failed = failed; through = [] };
+      frame = record { spelling = sequence; failed = failed; borrows = [] };
       contents
           = contents;
     }

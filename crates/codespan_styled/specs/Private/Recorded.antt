@@ -75,6 +75,6 @@ has_failed r = r.failed
 -- the writer, as the law of writers sees it
 abbrev pub recorder_sink : Recorder → Sink
 recorder_sink r = record {
-  frame = record { spelling = style_spelling; failed = r.failed; through = [] };
+  frame = record { spelling = style_spelling; failed = r.failed; borrows = [] };
   contents = Some (recorded r);
 }

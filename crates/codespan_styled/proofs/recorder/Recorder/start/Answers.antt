@@ -8,7 +8,7 @@ pub returns-in-Ok : goal.returns-in-Ok
 returns-in-Ok c =
     let frame = ap
     (λ failed. let f : Frame =
-    record { spelling = style_spelling; failed = failed; through = [] } in f)
+    record { spelling = style_spelling; failed = failed; borrows = [] } in f)
     c.in-Ok.ensures.flag in (
       frame,
       λ known. appended_written _ _ _ frame (c.in-Ok.ensures.appends (is_known_contents _ known)),

@@ -4,5 +4,5 @@ use Rattle.codespan_base.proofs.term.config.styles_writer.StylesWriter.reset_col
 
 pub returns : goal.returns
 returns g c =
-    Writes-forwarded (record { spelling = _; failed = false; through = [] }) _ _ _ _ _ _ _
+    Writes-forwarded (record { spelling = _; failed = false; borrows = [] }) _ _ _ _ _ _ _
     c.reset.ensures c.forward_result.ensures.same c.forward_result.ensures.flag

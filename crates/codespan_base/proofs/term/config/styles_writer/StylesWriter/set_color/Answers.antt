@@ -4,5 +4,5 @@ use Rattle.codespan_base.proofs.term.config.styles_writer.StylesWriter.set_color
 
 pub returns : goal.returns
 returns g c =
-    Writes-forwarded (record { spelling = _; failed = false; through = [] }) _ _ _ _ _ _ _
+    Writes-forwarded (record { spelling = _; failed = false; borrows = [] }) _ _ _ _ _ _ _
     c.set_color.ensures c.forward_result.ensures.same c.forward_result.ensures.flag

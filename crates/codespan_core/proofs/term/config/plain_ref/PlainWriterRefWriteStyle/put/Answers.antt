@@ -10,5 +10,5 @@ returns-clause-took g c =
       spelling =
           plain_spelling;
       failed = false;
-      through = borrowed_reference c.args.self.now ∷ [];
+      borrows = borrowed_reference c.args.self.now ∷ [];
     })
