@@ -7,7 +7,7 @@ use Rattle.std.proofs.lemmas.Result.{err_from_is_err_and}
 use Rattle.codespan_core.specs.declared.term.config.plain_ref.PlainWriterRef.{PlainWriterRef}
 use Rattle.codespan_core.specs.Streams.{bytes, plain_spelling}
 use Rattle.codespan_core.specs.WriterLaw.{Frame, Sink, KeepsFrame, Writes, is_known, with_written, are_known, extended, PrefixAppended, AppendsBytes}
-use Rattle.codespan_core.specs.Writers.{fresh_plain_ref_sink, borrowed_reference, plain_ref_sink, borrowed_writer}
+use Rattle.codespan_core.specs.Writers.{fresh_plain_ref_sink, plain_reference, plain_ref_sink, borrowed_writer}
 use Rattle.codespan_core.proofs.KnownBytes.{extended-append, extended-nil, are_known-extended, PrefixAppended-first, PrefixAppended-last, PrefixAppended_first_2, PrefixAppended_first_3}
 use Rattle.codespan_core.proofs.Writes.{spelled-bytes}
 
@@ -80,13 +80,13 @@ keeps_reference : {W E : Type 0} (contents_of : W → Option (List ℕ))
     → plain_ref_sink contents_of before ≡ fresh_plain_ref_sink name contents
     → KeepsFrame (plain_ref_sink contents_of before).frame r
     (plain_ref_sink contents_of after).frame
-    → (name ≡ borrowed_reference after → x ≡ borrowed_writer after) → x ≡ borrowed_writer after
+    → (name ≡ plain_reference after → x ≡ borrowed_writer after) → x ≡ borrowed_writer after
 keeps_reference contents_of before after name contents x (Ok done) begins keeps back =
-    let kept : (borrowed_reference after ∷ []) ≡ (name ∷ []) =
+    let kept : (plain_reference after ∷ []) ≡ (name ∷ []) =
     ap (λ (f : Frame). f.borrows) keeps ∙ ap (λ (s : Sink). s.frame.borrows) begins in
     back cc
 keeps_reference contents_of before after name contents x (Err e) begins keeps back =
-    let kept : (borrowed_reference after ∷ []) ≡ (name ∷ []) =
+    let kept : (plain_reference after ∷ []) ≡ (name ∷ []) =
     ap (λ (f : Frame). f.borrows) keeps ∙ ap (λ (s : Sink). s.frame.borrows) begins in
     back cc
 
@@ -96,7 +96,7 @@ pub written_to_plain_ref : {W E : Type 0} (contents_of : W → Option (List ℕ)
     (bs : List ℕ) (r : Result (Unit {0}) E)
     → plain_ref_sink contents_of before ≡ fresh_plain_ref_sink name contents
     → Writes (plain_ref_sink contents_of before) (bytes bs) r (plain_ref_sink contents_of after)
-    → (name ≡ borrowed_reference after → x ≡ borrowed_writer after)
+    → (name ≡ plain_reference after → x ≡ borrowed_writer after)
     → AppendsBytes contents bs r (contents_of x)
 unfolding with_written is_known
 written_to_plain_ref {W} {E} contents_of before after name contents x bs (Ok done) begins p back =

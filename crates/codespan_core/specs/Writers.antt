@@ -42,13 +42,13 @@ abbrev pub borrowed_writer : {W : Type 0} → PlainWriterRef W → W
 borrowed_writer p = p.writer.now
 
 -- the name of the reference by which it is borrowed
-abbrev pub borrowed_reference : {W : Type 0} → PlainWriterRef W → GName
-borrowed_reference p = p.writer.ghost_name
+abbrev pub plain_reference : {W : Type 0} → PlainWriterRef W → GName
+plain_reference p = p.writer.ghost_name
 
 -- a plain writer that writes through the reference
 abbrev pub plain_ref_sink : {W : Type 0} → (W → Option (List ℕ)) → PlainWriterRef W → Sink
 plain_ref_sink contents p = record {
-  frame = record { spelling = plain_spelling; failed = p.failed; borrows = borrowed_reference p ∷ [] };
+  frame = record { spelling = plain_spelling; failed = p.failed; borrows = plain_reference p ∷ [] };
   contents = contents (borrowed_writer p);
 }
 

@@ -14,7 +14,7 @@ use Rattle.codespan_core.specs.LawfulFiles.{IsLawful}
 use Rattle.codespan_core.specs.Streams.{Stream, Spelling, spelled, text_of, plain_spelling}
 use Rattle.codespan_core.specs.WriterLaw.{Frame, Sink, with_written, is_known, are_known, extended, PrefixWritten, PrefixAppended}
 use Rattle.codespan_core.specs.declared.term.config.plain_ref.PlainWriterRef.{PlainWriterRef}
-use Rattle.codespan_core.specs.Writers.{fresh_plain_ref_sink, fresh_sink, borrowed_reference, plain_ref_sink, borrowed_writer}
+use Rattle.codespan_core.specs.Writers.{fresh_plain_ref_sink, fresh_sink, plain_reference, plain_ref_sink, borrowed_writer}
 use Rattle.codespan_picture.specs.Rows.{Locus}
 use Rattle.codespan_picture.specs.TextLaws.{AreCharacters}
 use Rattle.codespan_picture.proofs.PictureTexts.{text-output}
@@ -173,12 +173,12 @@ module _ {Id : Type 0} {config : Config} {files : FileDatabase Id} {d : Diagnost
       → plain_ref_sink contents_of before ≡ fresh_plain_ref_sink name contents
       → WritesStyled config.display_style config config files d (plain_ref_sink contents_of before)
       r (plain_ref_sink contents_of after)
-      → (name ≡ borrowed_reference after → x ≡ borrowed_writer after)
+      → (name ≡ plain_reference after → x ≡ borrowed_writer after)
       → WritesText config files d contents r (contents_of x)
   written_back {W} contents_of before after {name} {contents} {x} {r} begins renders back =
-      let unchanged : (borrowed_reference after ∷ []) ≡ (name ∷ []) =
+      let unchanged : (plain_reference after ∷ []) ≡ (name ∷ []) =
       references_of r renders ∙ ap (λ (s : Sink). s.frame.borrows) begins in
-      let named : name ≡ borrowed_reference after = cc in
+      let named : name ≡ plain_reference after = cc in
       subst (λ (o : Option (List ℕ)). WritesText config files d o r (contents_of x))
       (ap (λ (s : Sink). s.contents) begins)
       (subst

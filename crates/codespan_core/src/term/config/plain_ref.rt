@@ -21,11 +21,11 @@ pub struct PlainWriterRef<'writer, W> {
 }
 
 impl<'writer, W: Write> PlainWriterRef<'writer, W> {
-    ghost use Rattle.codespan_core.specs.Writers.{borrowed_reference, borrowed_writer, plain_ref_sink, fresh_plain_ref_sink};
+    ghost use Rattle.codespan_core.specs.Writers.{plain_reference, borrowed_writer, plain_ref_sink, fresh_plain_ref_sink};
 
     /// Returns a writer of plain text over `writer`. Its flag is not set.
     pub fn new(writer: &'writer mut W) -> PlainWriterRef<'writer, W>
-        ensures reference { borrowed_reference result ≡ writer.entry.ghost_name }
+        ensures reference { plain_reference result ≡ writer.entry.ghost_name }
         ensures begins { plain_ref_sink W.contents result
             ≡ fresh_plain_ref_sink writer.entry.ghost_name (W.contents writer.old) }
     {

@@ -1,6 +1,6 @@
 use Rattle.std.proofs.Common.{false, [], ◌∷◌}
 use Rattle.codespan_core.specs.Streams.{plain_spelling}
-use Rattle.codespan_core.specs.Writers.{borrowed_reference}
+use Rattle.codespan_core.specs.Writers.{plain_reference}
 use Rattle.codespan_core.proofs.term.config.plain_ref.PlainWriterRefWriteStyle.put.Goals as goal
 
 pub returns-clause-took : goal.returns-clause-took
@@ -10,5 +10,5 @@ returns-clause-took g c =
       spelling =
           plain_spelling;
       failed = false;
-      borrows = borrowed_reference c.args.self.now ∷ [];
+      borrows = plain_reference c.args.self.now ∷ [];
     })
