@@ -87,7 +87,7 @@ impl<'a, 'text: 'a> Files<'a> for Copying<'text> {
     // There is one id.
     ghost same_file = { λ s i j e. (refl, refl) };
 
-    ghost same_is = { λ s. refl };
+    ghost same_is_eq = { λ s. refl };
 
     ghost past_end = { λ s _ i.
         simple_past_end (Some (name_of s.file).now) (source_of s.file).now i };

@@ -133,7 +133,7 @@ pub struct Location {
 ///         rw (one_part ⟦<Part as PartialEq>⟧.eq (λ h. absurd (cc)) (λ h. absurd (cc)) i j e)
 ///         (refl, refl) };
 ///
-///     ghost same_is = { λ s. refl };
+///     ghost same_is_eq = { λ s. refl };
 ///
 ///     // A line past the last one fails as in its `SimpleFile`.
 ///     ghost past_end = { λ s id i.
@@ -273,7 +273,7 @@ pub trait Files<'a> {
         × ((database s).failure i ≡ (database s).failure j) };
 
     /// Ids are equal where `==` says so.
-    ghost same_is: { (s : Self) → (database s).same ≡ Self.FileId.eq };
+    ghost same_is_eq: { (s : Self) → (database s).same ≡ Self.FileId.eq };
 
     /// Of a file that exists, `line_range` fails with [`Error::LineTooLarge`] exactly past the last
     /// line.

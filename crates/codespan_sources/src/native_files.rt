@@ -90,7 +90,7 @@ impl<'files, 'a: 'files> Files<'files> for NativeFiles<'a> {
         let files = native_database (native_file_views s) in
         same_at files.file files.failure i j e };
 
-    ghost same_is = { λ s. refl };
+    ghost same_is_eq = { λ s. refl };
 
     ghost past_end = { λ s id i. database_fails_past_end (native_file_views s) id i };
 

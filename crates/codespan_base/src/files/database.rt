@@ -108,7 +108,7 @@ impl<'a, Name: Display + 'a, Source: AsStr + 'a> Files<'a> for SimpleFiles<Name,
     ghost same_file = { λ s i j e.
         same_at (database_file_of Name.output s) (database_failure_of s) i j e };
 
-    ghost same_is = { λ s. refl };
+    ghost same_is_eq = { λ s. refl };
 
     ghost past_end = { λ s id i.
         past_end_or _ (λ entry. simple_failure (Source.text entry.1)) i (slice_get (entries s) id)

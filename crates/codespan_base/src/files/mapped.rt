@@ -156,7 +156,7 @@ impl<'a, Name: Display + 'a, Source: AsStr + 'a> Files<'a> for MappedFile<Name, 
 
     ghost same_file = { λ s i j e. (refl, refl) };
 
-    ghost same_is = { λ s. refl };
+    ghost same_is_eq = { λ s. refl };
 
     ghost past_end = { λ s _ i.
         mapped_past_end (Name.output (mapped_name_of s)) (mapped_text_of s) (set_numbers_of s) i };

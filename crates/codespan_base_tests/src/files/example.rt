@@ -115,7 +115,7 @@ impl<'a, 'text: 'a> Files<'a> for Listing<'text> {
     // There is one id.
     ghost same_file = { λ s i j e. (refl, refl) };
 
-    ghost same_is = { λ s. refl };
+    ghost same_is_eq = { λ s. refl };
 
     // A line past the last fails as in that file.
     ghost past_end = { λ s _ i.

@@ -142,7 +142,7 @@ impl<'a, Name: Display + 'a, Source: AsStr + 'a> Files<'a> for SimpleFile<Name, 
 
     ghost same_file = { λ s i j e. (refl, refl) };
 
-    ghost same_is = { λ s. refl };
+    ghost same_is_eq = { λ s. refl };
 
     ghost past_end = { λ s _ i. simple_past_end (Name.output (name_of s)) (file_text_of s) i };
 

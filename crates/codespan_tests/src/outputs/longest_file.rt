@@ -75,7 +75,7 @@ impl<'a, 'text: 'a> Files<'a> for LongestFile<'text> {
 
     ghost same_file = { λ s i j e. (refl, refl) };
 
-    ghost same_is = { λ s. refl };
+    ghost same_is_eq = { λ s. refl };
 
     ghost past_end = { λ s _ i. longest_past_end s.name.now i };
 }

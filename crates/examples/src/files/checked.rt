@@ -127,7 +127,7 @@ impl<'a, 'text: 'a> Files<'a> for Checked<'text> {
         rw (one_part ⟦<Part as PartialEq>⟧.eq (λ h. absurd (cc)) (λ h. absurd (cc)) i j e)
         (refl, refl) };
 
-    ghost same_is = { λ s. refl };
+    ghost same_is_eq = { λ s. refl };
 
     // A line past the last one fails as in its `SimpleFile`.
     ghost past_end = { λ s id i.

@@ -25,12 +25,12 @@ are_files : (g : Over) (κs : Lfts 8) → g.claim κs → (files : g.row.F.Denot
     → AreFiles (g.F.Files.database files)
 are_files g κs claim files =
     let laws = g.met.F.Files κs claim in
-    are-files (laws.same_is files) g.met.F.FileId.Eq.laws (laws.same_file files) (laws.lawful files)
+    are-files (laws.same_is_eq files) g.met.F.FileId.Eq.laws (laws.same_file files) (laws.lawful files)
 
 -- which ids are equal
 equal_ids : (g : Over) (κs : Lfts 8) → g.claim κs → (files : g.row.F.Denot)
     → (g.F.Files.database files).same ≡ g.F.FileId.PartialEq.eq
-equal_ids g κs claim files = (g.met.F.Files κs claim).same_is files
+equal_ids g κs claim files = (g.met.F.Files κs claim).same_is_eq files
 
 pub get_or_insert_file-requires : goal.get_or_insert_file-requires
 get_or_insert_file-requires g c =

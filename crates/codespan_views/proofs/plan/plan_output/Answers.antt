@@ -12,7 +12,7 @@ are_files : (g : Over) (κs : Lfts 9) → g.claim κs → (files : g.row.F.Denot
     → AreFiles (g.F.Files.database files)
 are_files g κs claim files =
     let laws = g.met.F.Files κs claim in
-    are-files (laws.same_is files) g.met.F.FileId.Eq.laws (laws.same_file files) (laws.lawful files)
+    are-files (laws.same_is_eq files) g.met.F.FileId.Eq.laws (laws.same_file files) (laws.lawful files)
 
 pub plan_snippets-requires : goal.plan_snippets-requires
 plan_snippets-requires g c κs =

@@ -27,13 +27,13 @@ written is equal lawful writes = record {
 
 pub returns-then-is_empty-clause-renders : goal.returns-then-is_empty-clause-renders
 returns-then-is_empty-clause-renders g c =
-    written ((g.met.F.Files c.lifetimes (search rules)).same_is c.args.files.now)
+    written ((g.met.F.Files c.lifetimes (search rules)).same_is_eq c.args.files.now)
     g.met.FileId.Eq.laws ((g.met.F.Files c.lifetimes (search rules)).lawful c.args.files.now)
     (bare-whole c.render_without_labels.result (search rules) c.render_without_labels.ensures.writes
     c.render_without_labels.ensures.io)
 
 pub returns-else-is_empty-clause-renders : goal.returns-else-is_empty-clause-renders
 returns-else-is_empty-clause-renders g c =
-    written ((g.met.F.Files c.lifetimes (search rules)).same_is c.args.files.now)
+    written ((g.met.F.Files c.lifetimes (search rules)).same_is_eq c.args.files.now)
     g.met.FileId.Eq.laws ((g.met.F.Files c.lifetimes (search rules)).lawful c.args.files.now)
     c.render_labels.ensures.renders
