@@ -14,7 +14,7 @@ pub record Cuts (from : ℕ) (bs xs : List ℕ) : Type 0 where
   pub above : (k : ℕ) → k < length xs → from < get_or xs k 0
   pub within : (k : ℕ) → k < length xs → get_or xs k 0 ≤ from + length bs
   pub newline : (k : ℕ) → k < length xs → get_or bs (get_or xs k 0 - (from + 1)) 0 ≡ 10
-  pub rising : (k : ℕ) → k + 1 < length xs → get_or xs k 0 < get_or xs (k + 1) 0
+  pub ascending : (k : ℕ) → k + 1 < length xs → get_or xs k 0 < get_or xs (k + 1) 0
 
 -- a newline among the bytes after the first
 later_byte : (b : ℕ) (bs : List ℕ) (from x : ℕ) → from + 1 < x
@@ -29,7 +29,7 @@ cuts_no from b bs xs c = record {
   above = λ k h. omega (arith, c.above k h);
   within = λ k h. omega (arith, c.within k h);
   newline = λ k h. later_byte b bs from _ (c.above k h) (c.newline k h);
-  rising = c.rising;
+  ascending = c.ascending;
 }
 
 -- with one more start in front, all are after `from`
@@ -55,13 +55,13 @@ newline_cons from bs xs c (suc k) h =
     later_byte 10 bs from _ (c.above k (omega arith)) (c.newline k (omega arith))
 
 -- and they ascend
-rising_cons : (from : ℕ) (bs xs : List ℕ) → Cuts (from + 1) bs xs → (k : ℕ)
+ascending_cons : (from : ℕ) (bs xs : List ℕ) → Cuts (from + 1) bs xs → (k : ℕ)
     → k + 1 < length ((from + 1) ∷ xs)
     → get_or ((from + 1) ∷ xs) k 0 < get_or ((from + 1) ∷ xs) (k + 1) 0
-rising_cons from bs xs c zero h = c.above 0 (omega arith)
-rising_cons from bs xs c (suc k) h =
+ascending_cons from bs xs c zero h = c.above 0 (omega arith)
+ascending_cons from bs xs c (suc k) h =
     let e : suc k + 1 ≡ suc (k + 1) = omega arith in
-    rw e (c.rising k (omega arith))
+    rw e (c.ascending k (omega arith))
 
 -- a first byte that is a newline adds a start
 cuts_yes : (from b : ℕ) (bs xs : List ℕ) → b ≡ 10 → Cuts (from + 1) bs xs
@@ -70,7 +70,7 @@ cuts_yes from b bs xs e c = record {
   above = above_cons from b bs xs c;
   within = within_cons from b bs xs c;
   newline = λ k h. rw e (newline_cons from bs xs c k h);
-  rising = rising_cons from bs xs c;
+  ascending = ascending_cons from bs xs c;
 }
 
 -- a first byte adds a start exactly where it is a newline
@@ -85,7 +85,7 @@ cuts from [] = record {
   above = λ k h. absurd (omega arith);
   within = λ k h. absurd (omega arith);
   newline = λ k h. absurd (omega arith);
-  rising = λ k h. absurd (omega arith);
+  ascending = λ k h. absurd (omega arith);
 }
 cuts from (b ∷ bs) = cuts_by from b bs _ (eqb b 10) refl (cuts (from + 1) bs)
 

@@ -44,7 +44,7 @@ pub ascending : (text : List ℕ) (i : ℕ) → i + 1 < length (line_starts_of t
 ascending text zero h = (cuts 0 text).above 0 (omega arith)
 ascending text (suc k) h =
     let e : suc k + 1 ≡ suc (k + 1) = omega arith in
-    rw e ((cuts 0 text).rising k (omega arith))
+    rw e ((cuts 0 text).ascending k (omega arith))
 
 -- a line before the last ends where the next one starts
 pub end_before_last : (text : List ℕ) (i : ℕ) → i + 1 < length (line_starts_of text)
@@ -122,35 +122,35 @@ or_failure-past_end f i None p other h =
 or_failure-past_end f i (Some e) p other h = h
 
 -- a line d lines further down starts no earlier
-rising_by : (text : List ℕ) (i d : ℕ) → i + d < length (line_starts_of text)
+in_order_by : (text : List ℕ) (i d : ℕ) → i + d < length (line_starts_of text)
     → get_or (line_starts_of text) i 0 ≤ get_or (line_starts_of text) (i + d) 0
-rising_by text i zero h = rw add-zero (omega arith)
-rising_by text i (suc d) h =
+in_order_by text i zero h = rw add-zero (omega arith)
+in_order_by text i (suc d) h =
     let e : i + suc d ≡ (i + d) + 1 = omega arith in
     let before : get_or (line_starts_of text) i 0 ≤ get_or (line_starts_of text) (i + d) 0 =
-    rising_by text i d (omega arith) in
+    in_order_by text i d (omega arith) in
     let after :
     get_or (line_starts_of text) (i + d) 0 < get_or (line_starts_of text) ((i + d) + 1) 0
     = ascending text (i + d) (omega arith) in
     rw e (omega arith)
 
 -- lines start in their order
-rising : (text : List ℕ) (i j : ℕ) → i ≤ j → j < length (line_starts_of text)
+in_order : (text : List ℕ) (i j : ℕ) → i ≤ j → j < length (line_starts_of text)
     → get_or (line_starts_of text) i 0 ≤ get_or (line_starts_of text) j 0
-rising text i j h k =
+in_order text i j h k =
     let e : j ≡ i + (j - i) = omega arith in
-    rw e (rising_by text i (j - i) (omega arith))
+    rw e (in_order_by text i (j - i) (omega arith))
 
 -- the line of a byte at which a line starts
 pub line_found_at_start : (text xs : List ℕ) (byte i : ℕ) → xs ≡ line_starts_of text
     → IsBinarySearchResult (λ y. nat_cmp y byte) xs (Ok i) → i ≡ line_of (line_starts_of text) byte
 unfolding line_of
 line_found_at_start text xs byte i e found =
-    let f = searched (line_starts_of text) byte (Ok i) (rw e at found) (rising text) in
+    let f = searched (line_starts_of text) byte (Ok i) (rw e at found) (in_order text) in
     let n : count_by (λ s. nat_le s byte) (line_starts_of text) ≡ i + 1 =
     count_split byte (line_starts_of text) (i + 1) (omega (arith, f.0))
-    (λ k p. omega (arith, rising text k i (omega arith) f.0, f.1))
-    (λ k p q. omega (arith, rising text (i + 1) k p q, ascending text i (omega arith), f.1)) in
+    (λ k p. omega (arith, in_order text k i (omega arith) f.0, f.1))
+    (λ k p q. omega (arith, in_order text (i + 1) k p q, ascending text i (omega arith), f.1)) in
     omega arith
 
 -- the line of a byte within a line
@@ -159,7 +159,7 @@ pub line_found_inside : (text xs : List ℕ) (byte i : ℕ) → xs ≡ line_star
     → (1 ≤ i) × (i - 1 ≡ line_of (line_starts_of text) byte)
 unfolding line_of
 line_found_inside text xs byte i e found =
-    let f = searched (line_starts_of text) byte (Err i) (rw e at found) (rising text) in
+    let f = searched (line_starts_of text) byte (Err i) (rw e at found) (in_order text) in
     let n : count_by (λ s. nat_le s byte) (line_starts_of text) ≡ i =
     count_split byte (line_starts_of text) i f.0 (λ k p. omega (arith, f.1 k p)) f.2 in
     let some : 1 ≤ i =
