@@ -1,4 +1,4 @@
--- For the laws `lines_join_to_source` and `columns_rise`: the lines of a text join to it, and
+-- For the laws `lines_join_to_source` and `columns_never_decrease`: the lines of a text join to it, and
 -- columns never decrease along a line.
 use Rattle.std.proofs.Common.{◌≡◌, ℕ, zero, suc, ◌+◌, ◌-◌, ◌≤◌, min, Bool, cond, List, ◌++◌, drop, flat_map, length, get_or, Option, refl, sym, ap, ◌∙◌, arith}
 use Rattle.std.specs.Prelude.{count_by, slice_range}
@@ -10,7 +10,7 @@ use Rattle.codespan_core.specs.Lines.{line_starts_of, starts_after, is_char_boun
 use Rattle.codespan_core.specs.FileModel.{line_text}
 use Rattle.codespan_core.specs.SimpleModel.{simple_file, line_ends}
 use Rattle.codespan_core.specs.Lemmas.Simple.{ascending, end_before_last, end_of_last}
-use Rattle.codespan_base.specs.FileLaws.{LinesJoin, ColumnsRise}
+use Rattle.codespan_base.specs.FileLaws.{LinesJoin, ColumnsNeverDecrease}
 
 -- a range and the rest of the list after it
 touching : {X : Type 0} (a b : ℕ) (xs : List X) → a ≤ b
@@ -64,7 +64,7 @@ counts-rise p a (suc m) (suc n) h =
     )
 
 -- columns never decrease along a line
-pub columns_rise : ColumnsRise
-columns_rise text start end byte later h =
+pub columns_never_decrease : ColumnsNeverDecrease
+columns_never_decrease text start end byte later h =
     counts-rise (is_char_boundary text) (start + 1) (min byte (min end (length text)) - start)
     (min later (min end (length text)) - start) (omega arith)

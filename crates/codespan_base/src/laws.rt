@@ -6,7 +6,7 @@
 ghost use Rattle.std.specs.Prelude.{◌≡◌, ℕ, List, Option};
 ghost use Rattle.std.specs.Iterator.{IsFinite, Drains};
 ghost use Rattle.std.specs.Str.{IsUtf8};
-ghost use Rattle.codespan_base.specs.FileLaws.{LinesJoin, LineCountsNewlines, ColumnsRise, nearest_set_after};
+ghost use Rattle.codespan_base.specs.FileLaws.{LinesJoin, LineCountsNewlines, ColumnsNeverDecrease, nearest_set_after};
 ghost use Rattle.codespan_base.specs.MappedModel.{nearest_set, with_set_number};
 ghost use Rattle.codespan_base.specs.SetLineNumbers.{IsStrictlySorted};
 ghost use Rattle.codespan_core.specs.LineStarts.{starts_left};
@@ -41,8 +41,8 @@ pub fn set_numbers_count_on()
 {}
 
 /// States that on a line a later byte has no smaller column.
-pub fn columns_rise()
-    ensures { ColumnsRise }
+pub fn columns_never_decrease()
+    ensures { ColumnsNeverDecrease }
 {}
 
 /// States that the iterator of [`line_starts`](codespan_reporting::files::line_starts) ends, and
