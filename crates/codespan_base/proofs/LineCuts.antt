@@ -1,5 +1,5 @@
--- For the laws `lines_join_to_source` and `columns_never_decrease`: the lines of a text join to it, and
--- columns never decrease along a line.
+-- For the laws `lines_join_to_source` and `columns_never_decrease`: the lines of a text join to it,
+-- and columns never decrease along a line.
 use Rattle.std.proofs.Common.{◌≡◌, ℕ, zero, suc, ◌+◌, ◌-◌, ◌≤◌, min, Bool, cond, List, ◌++◌, drop, flat_map, length, get_or, Option, refl, sym, ap, ◌∙◌, arith}
 use Rattle.std.specs.Prelude.{count_by, slice_range}
 use Rattle.std.specs.List.{range_with_len}
