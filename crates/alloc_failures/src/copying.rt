@@ -31,7 +31,7 @@ impl<'text> Copying<'text> {
 impl<'a, 'text: 'a> Files<'a> for Copying<'text> {
     ghost use Rattle.codespan_base.specs.DatabaseViews.{name_of, source_of};
     ghost use Rattle.codespan_base.specs.SimpleModel.{simple_file, simple_failure};
-    ghost use Rattle.codespan_base.specs.Lemmas.Simple.{simple_lawful, simple_past_end, text_fits, text_is_utf8};
+    ghost use Rattle.codespan_base.specs.Lemmas.Simple.{simple_lawful, simple_past_last_line, text_fits, text_is_utf8};
 
     type FileId = ();
 
@@ -89,6 +89,6 @@ impl<'a, 'text: 'a> Files<'a> for Copying<'text> {
 
     ghost same_is_eq = { λ s. refl };
 
-    ghost past_end = { λ s _ i.
-        simple_past_end (Some (name_of s.file).now) (source_of s.file).now i };
+    ghost past_last_line = { λ s _ i.
+        simple_past_last_line (Some (name_of s.file).now) (source_of s.file).now i };
 }

@@ -8,7 +8,7 @@ use Rattle.codespan_core.specs.FileModel.{FileModel, Lookup, line_of}
 use Rattle.codespan_core.specs.LawfulFiles.{line_number_failure}
 use Rattle.codespan_core.specs.FileModel.Lookup.{LineNumber, ColumnNumber, LocationAt, LineRange}
 use Rattle.codespan_core.specs.Lines.{line_starts_of, starts_after, column_number_of}
-use Rattle.codespan_core.specs.SimpleModel.{simple_file, past_end_failure}
+use Rattle.codespan_core.specs.SimpleModel.{simple_file, past_last_line_failure}
 
 -- the ends of the lines, before their newlines
 abbrev pub mapped_ends : List ℕ → List ℕ
@@ -71,8 +71,8 @@ mapped_file name text set_numbers = record (simple_file name text) {
 -- what a lookup fails with
 abbrev pub mapped_failure : List ℕ → List (ℕ × ℕ) → Lookup → Option Error
 mapped_failure text set_numbers (LineNumber i) = number_failure (nearest_set set_numbers i) i
-mapped_failure text set_numbers (ColumnNumber i byte) = past_end_failure text i
-mapped_failure text set_numbers (LineRange i) = past_end_failure text i
+mapped_failure text set_numbers (ColumnNumber i byte) = past_last_line_failure text i
+mapped_failure text set_numbers (LineRange i) = past_last_line_failure text i
 mapped_failure text set_numbers (LocationAt byte) =
     let i = line_of (line_starts_of text) byte in number_failure (nearest_set set_numbers i) i
 mapped_failure text set_numbers _ = None

@@ -6,7 +6,7 @@ ghost use Rattle.std.specs.Prelude.{◌≡◌, ◌^◌, ◌-◌, [], ◌∷◌, 
 ghost use Rattle.codespan_core.specs.FileModel.{line_of, line_text};
 ghost use Rattle.codespan_core.specs.FileModel.Lookup.{Source, LineNumber, LineRange};
 ghost use Rattle.codespan_core.specs.Lines.{line_starts_of, column_index_of};
-ghost use Rattle.codespan_core.specs.SimpleModel.{simple_file, simple_failure, past_end_failure, missing_failure};
+ghost use Rattle.codespan_core.specs.SimpleModel.{simple_file, simple_failure, past_last_line_failure, missing_failure};
 ghost use Rattle.codespan_base.specs.MappedModel.{with_set_number, number_from, nearest_set, mapped_failure};
 ghost use Rattle.codespan_core.specs.declared.files.error.Error.TheVariants.{FileMissing, LineTooLarge};
 
@@ -28,7 +28,7 @@ fn columns_and_starts()
 /// Computes the errors of a missing file and of a line past the last.
 fn missing_file()
     ensures missing { missing_failure Source ≡ Some FileMissing }
-    ensures past_end { simple_failure (codes "a\nb") (LineRange 2) ≡ Some (LineTooLarge 2 1) }
+    ensures past_last_line { simple_failure (codes "a\nb") (LineRange 2) ≡ Some (LineTooLarge 2 1) }
 {}
 
 /// Computes lookups of the greatest indices, and the column in a reversed range.
@@ -51,7 +51,7 @@ fn mapped_overflow()
         mapped_failure (codes "a\nb\nc\nd") set_numbers (LineNumber 1) ≡ None }
     ensures failed { let set_numbers = with_set_number 1 (2 ^ 64 - 1) [] in
         mapped_failure (codes "a\nb\nc\nd") set_numbers (LineNumber 2) ≡ Some (LineTooLarge 2 1) }
-    ensures no_line { past_end_failure (codes "a\nb\nc\nd") 4 ≡ Some (LineTooLarge 4 3) }
+    ensures no_line { past_last_line_failure (codes "a\nb\nc\nd") 4 ≡ Some (LineTooLarge 4 3) }
 {}
 
 /// Computes the set numbers after a number is set again: the later one replaces the earlier one.

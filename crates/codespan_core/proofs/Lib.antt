@@ -2,7 +2,7 @@
 pub mod TextLemmas
 -- columns, and lines past the end
 pub mod ColumnLemmas
-pub mod PastEndFailures
+pub mod PastLastLineFailures
 -- what writers write
 pub mod KnownBytes
 pub mod Writes

@@ -58,13 +58,13 @@ IsLineTooLarge (LineTooLarge given max) = Unit {0}
 IsLineTooLarge _ = ⊥
 
 -- the lookup fails with `LineTooLarge`
-abbrev pub IsPastEndError : Option Error → Type 0
-IsPastEndError None = ⊥
-IsPastEndError (Some e) = IsLineTooLarge e
+abbrev pub IsPastLastLineError : Option Error → Type 0
+IsPastLastLineError None = ⊥
+IsPastLastLineError (Some e) = IsLineTooLarge e
 
 -- of a file that exists, a line fails with `LineTooLarge` exactly where it is past the last
-abbrev pub FailsPastEnd : FileModel → ℕ → Option Error → Type 0
-FailsPastEnd f i o = f.exists ≡ true → IsPastEndError o ↔ (length f.starts ≤ i)
+abbrev pub FailsPastLastLine : FileModel → ℕ → Option Error → Type 0
+FailsPastLastLine f i o = f.exists ≡ true → IsPastLastLineError o ↔ (length f.starts ≤ i)
 
 -- the column of a byte on line i, counted from 0
 abbrev pub column_index_on : FileModel → ℕ → ℕ → ℕ

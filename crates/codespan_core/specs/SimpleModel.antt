@@ -39,16 +39,16 @@ simple_file name text = record {
 
 -- what the lookup of the range of line i, or of a column on it, fails with: `LineTooLarge`, where
 -- the line is past the last
-abbrev pub past_end_failure : List ℕ → ℕ → Option Error
-past_end_failure text i =
+abbrev pub past_last_line_failure : List ℕ → ℕ → Option Error
+past_last_line_failure text i =
     if nat_lt i (length (line_starts_of text)) then None
     else Some (LineTooLarge i (length (line_starts_of text) - 1))
 
 -- what a lookup fails with
 abbrev pub simple_failure : List ℕ → Lookup → Option Error
 simple_failure text (LineNumber i) = line_number_failure i
-simple_failure text (ColumnNumber i byte) = past_end_failure text i
-simple_failure text (LineRange i) = past_end_failure text i
+simple_failure text (ColumnNumber i byte) = past_last_line_failure text i
+simple_failure text (LineRange i) = past_last_line_failure text i
 simple_failure text _ = None
 
 -- the file of an id that names none

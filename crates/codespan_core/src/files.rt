@@ -72,7 +72,7 @@ pub struct Location {
 /// ```rust
 /// impl<'a, 'text: 'a> Files<'a> for Checked<'text> {
 ///     ghost use Rattle.codespan_base.specs.SimpleModel.{simple_file, simple_failure};
-///     ghost use Rattle.codespan_base.specs.Lemmas.Simple.{simple_lawful, simple_past_end};
+///     ghost use Rattle.codespan_base.specs.Lemmas.Simple.{simple_lawful, simple_past_last_line};
 ///     ghost use Rattle.codespan_base.specs.Lemmas.Simple.{text_fits, text_is_utf8};
 ///     ghost use Rattle.examples.specs.Parts.{one_part};
 ///
@@ -136,14 +136,15 @@ pub struct Location {
 ///     ghost same_is_eq = { λ s. refl };
 ///
 ///     // A line past the last one fails as in its `SimpleFile`.
-///     ghost past_end = { λ s id i.
-///         simple_past_end (part_name id) (source_of (of_part s.schema s.document id)).now i };
+///     ghost past_last_line = { λ s id i.
+///         simple_past_last_line (part_name id)
+///             (source_of (of_part s.schema s.document id)).now i };
 /// }
 /// ```
 pub trait Files<'a> {
     ghost use Rattle.codespan_core.specs.declared.files.error.Error.{Error};
     ghost use Rattle.codespan_core.specs.FileModel.{FileDatabase, line_of};
-    ghost use Rattle.codespan_core.specs.LawfulFiles.{IsLawful, FailsPastEnd, IsLineRange};
+    ghost use Rattle.codespan_core.specs.LawfulFiles.{IsLawful, FailsPastLastLine, IsLineRange};
     ghost use Rattle.codespan_core.specs.FileModel.Lookup.{Name, Source, LineIndex, LineNumber, ColumnNumber, LocationAt, LineRange};
 
     /// The type of ids. Equal ids are ids of one file.
@@ -277,6 +278,6 @@ pub trait Files<'a> {
 
     /// Of a file that exists, `line_range` fails with [`Error::LineTooLarge`] exactly past the last
     /// line.
-    ghost past_end: { (s : Self) (id : Self.FileId) (i : ℕ) →
-        FailsPastEnd ((database s).file id) i ((database s).failure id (LineRange i)) };
+    ghost past_last_line: { (s : Self) (id : Self.FileId) (i : ℕ) →
+        FailsPastLastLine ((database s).file id) i ((database s).failure id (LineRange i)) };
 }

@@ -69,7 +69,7 @@ impl<'a> NativeFiles<'a> {
 
 impl<'files, 'a: 'files> Files<'files> for NativeFiles<'a> {
     ghost use Rattle.codespan_base.specs.Lemmas.Missing.{same_at};
-    ghost use Rattle.codespan_sources.specs.Lemmas.NativeFiles.{database_is_lawful, database_fails_past_end};
+    ghost use Rattle.codespan_sources.specs.Lemmas.NativeFiles.{database_is_lawful, database_fails_past_last_line};
     ghost use Rattle.codespan_sources.specs.SourceModel.{native_file_views};
     ghost use Rattle.codespan_sources.specs.SourceTexts.{native_database};
 
@@ -92,7 +92,7 @@ impl<'files, 'a: 'files> Files<'files> for NativeFiles<'a> {
 
     ghost same_is_eq = { λ s. refl };
 
-    ghost past_end = { λ s id i. database_fails_past_end (native_file_views s) id i };
+    ghost past_last_line = { λ s id i. database_fails_past_last_line (native_file_views s) id i };
 
     fn name(&'files self, id: usize) -> Result<&'a str, Error> {
         Ok(self.get(id)?.name())

@@ -12,10 +12,10 @@ use Rattle.std.proofs.lemmas.Str.Ascii.{IsAscii-from_all}
 use Rattle.codespan_base.specs.declared.files.Error.{Error}
 use Rattle.codespan_base.specs.declared.files.Error.TheVariants.{FileMissing, LineTooLarge}
 use Rattle.codespan_base.specs.FileModel.{FileModel, Lookup, line_of}
-use Rattle.codespan_base.specs.LawfulFiles.{IsLawful, FailsPastEnd}
+use Rattle.codespan_base.specs.LawfulFiles.{IsLawful, FailsPastLastLine}
 use Rattle.codespan_base.specs.FileModel.Lookup.{Source, LineRange}
 use Rattle.codespan_base.specs.Lemmas.Lines.{count_split}
-use Rattle.codespan_base.specs.Lemmas.Simple.{past_end_is}
+use Rattle.codespan_base.specs.Lemmas.Simple.{past_last_line_is}
 
 -- the greatest index
 unfoldable pub greatest : ℕ
@@ -130,8 +130,8 @@ longest_lawful name = record {
   missing_text = λ e. absurd (cc);
 }
 
-pub longest_past_end : (name : List ℕ) (i : ℕ)
-    → FailsPastEnd (longest_file name) i (longest_failure (LineRange i))
-longest_past_end name i there = rw starts_len (past_end_is (2 ^ 64) i)
+pub longest_past_last_line : (name : List ℕ) (i : ℕ)
+    → FailsPastLastLine (longest_file name) i (longest_failure (LineRange i))
+longest_past_last_line name i there = rw starts_len (past_last_line_is (2 ^ 64) i)
 
 pub ruleset longest_lines = (line_of_byte, start_at, starts_len)

@@ -8,7 +8,7 @@ use Rattle.std.proofs.lemmas.List.{append-nil, map-append}
 use Rattle.codespan_core.specs.declared.files.Error.{Error}
 use Rattle.codespan_core.specs.declared.files.Error.TheVariants.{FileMissing, IndexTooLarge, LineTooLarge, ColumnTooLarge, InvalidCharBoundary, Io, FormatError, OutOfMemory}
 use Rattle.codespan_core.specs.FileModel.{Lookup, line_count, or_failure}
-use Rattle.codespan_core.specs.LawfulFiles.{IsLawful, FailsPastEnd, IsPastEndError}
+use Rattle.codespan_core.specs.LawfulFiles.{IsLawful, FailsPastLastLine, IsPastLastLineError}
 use Rattle.codespan_core.specs.FileModel.Lookup.{LineRange, LineNumber}
 use Rattle.codespan_core.specs.Labels.{first_line, last_line}
 use Rattle.codespan_core.specs.Lemmas.Lines.{lines_have_indices, lines_within_text}
@@ -187,13 +187,13 @@ module _ {Id : Type 0} {x : CollectedLabel Id} where
         neither false = refl
 
     -- the end of all indices
-    collected-whole : n ≡ 2 ^ 64 → IsLawful x.file → FailsPastEnd x.file n (x.failure x.file_id (LineRange n))
+    collected-whole : n ≡ 2 ^ 64 → IsLawful x.file → FailsPastLastLine x.file n (x.failure x.file_id (LineRange n))
         → CollectsLabel x xs ys
-    collected-whole all law past_end =
+    collected-whole all law past_last_line =
         let past : line_count x.file ≤ n = omega (arith, all, lines_have_indices x.file law) in
-        collected-context past (too_large (x.failure x.file_id (LineRange n)) ((past_end (is_existing x.file.exists refl)).1 past))
+        collected-context past (too_large (x.failure x.file_id (LineRange n)) ((past_last_line (is_existing x.file.exists refl)).1 past))
       where
-        too_large : (o : Option Error) → IsPastEndError o → ends_context_lines o ≡ true
+        too_large : (o : Option Error) → IsPastLastLineError o → ends_context_lines o ≡ true
         too_large (Some (LineTooLarge given last)) h = refl
         too_large None h = absurd h
         too_large (Some FileMissing) h = absurd h
@@ -214,10 +214,10 @@ module _ {Id : Type 0} {x : CollectedLabel Id} where
     -- the end of the context, or of all indices
     pub collected-reach : first_line x.file x.label < n
         → min (last_line x.file x.label + x.config.after_label_lines + 1) (2 ^ 64) ≤ n → n ≤ 2 ^ 64
-        → IsLawful x.file → FailsPastEnd x.file n (x.failure x.file_id (LineRange n)) → CollectsLabel x xs ys
-    collected-reach first far below law past_end =
+        → IsLawful x.file → FailsPastLastLine x.file n (x.failure x.file_id (LineRange n)) → CollectsLabel x xs ys
+    collected-reach first far below law past_last_line =
         ⊎_elim (λ (h : last_line x.file x.label + x.config.after_label_lines < n). collected-end first h)
-        (λ (h : n ≤ last_line x.file x.label + x.config.after_label_lines). collected-whole (omega (arith, h, far, below)) law past_end)
+        (λ (h : n ≤ last_line x.file x.label + x.config.after_label_lines). collected-whole (omega (arith, h, far, below)) law past_last_line)
         (cases_lt (last_line x.file x.label + x.config.after_label_lines) n)
 
     -- a line whose lookups fail

@@ -83,8 +83,8 @@ impl<'a, Name: Display + 'a, Source: AsStr + 'a> Files<'a> for SimpleFiles<Name,
     ghost use Rattle.codespan_core.specs.FileModel.{line_of};
     ghost use Rattle.codespan_core.specs.LawfulFiles.{IsLineRange, NeedsNoMemory, FailsBy, line_number_failure};
     ghost use Rattle.codespan_core.specs.FileModel.Lookup.{Name as NameLookup, Source as SourceLookup, LineIndex, LineNumber, ColumnNumber, LocationAt, LineRange};
-    ghost use Rattle.codespan_core.specs.Lemmas.Simple.{simple_lawful, simple_past_end, text_fits, text_is_utf8};
-    ghost use Rattle.codespan_core.specs.Lemmas.Missing.{database_lawful, past_end_or, same_at};
+    ghost use Rattle.codespan_core.specs.Lemmas.Simple.{simple_lawful, simple_past_last_line, text_fits, text_is_utf8};
+    ghost use Rattle.codespan_core.specs.Lemmas.Missing.{database_lawful, past_last_line_or, same_at};
 
     /// The index of a file, from 0.
     type FileId = usize;
@@ -110,9 +110,10 @@ impl<'a, Name: Display + 'a, Source: AsStr + 'a> Files<'a> for SimpleFiles<Name,
 
     ghost same_is_eq = { λ s. refl };
 
-    ghost past_end = { λ s id i.
-        past_end_or _ (λ entry. simple_failure (Source.text entry.1)) i (slice_get (entries s) id)
-        (λ entry. simple_past_end (Name.output entry.0) (Source.text entry.1) i) };
+    ghost past_last_line = { λ s id i.
+        past_last_line_or _ (λ entry. simple_failure (Source.text entry.1)) i
+        (slice_get (entries s) id)
+        (λ entry. simple_past_last_line (Name.output entry.0) (Source.text entry.1) i) };
 
     /// Returns the file's name.
     ///

@@ -69,7 +69,7 @@ impl<Name: Drop, Source: AsStr + Drop> MappedFile<Name, Source> {
 impl<Name, Source: AsStr> MappedFile<Name, Source> {
     ghost use Rattle.codespan_base.specs.MappedFileViews.{mapped_name_of, mapped_source_of, mapped_text_of, set_numbers_of};
     ghost use Rattle.codespan_core.specs.LawfulFiles.{FailsBy};
-    ghost use Rattle.codespan_core.specs.SimpleModel.{past_end_failure};
+    ghost use Rattle.codespan_core.specs.SimpleModel.{past_last_line_failure};
     ghost use Rattle.codespan_base.specs.MappedModel.{nearest_set, with_set_number};
 
     /// Sets the number of the line at this index, from 0; replaces an earlier one. The law
@@ -88,7 +88,8 @@ impl<Name, Source: AsStr> MappedFile<Name, Source> {
         ensures ok { OnOk result (set_numbers_of self.new
             ≡ with_set_number line_index number (set_numbers_of self.old)) }
         ensures err { OnErr result (set_numbers_of self.new ≡ set_numbers_of self.old) }
-        ensures failed { FailsBy (past_end_failure (mapped_text_of self.old) line_index) result }
+        ensures failed { FailsBy (past_last_line_failure (mapped_text_of self.old) line_index)
+            result }
     {
         self.file.check_line(line_index)?;
         let set_number = SetNumber { line_index, number };
@@ -127,12 +128,12 @@ impl<Name, Source: AsStr> MappedFile<Name, Source> {
 /// No call allocates. Names are borrowed, since the clone of a name need not display the same text.
 impl<'a, Name: Display + 'a, Source: AsStr + 'a> Files<'a> for MappedFile<Name, Source> {
     ghost use Rattle.codespan_base.specs.MappedFileViews.{mapped_failure_of, mapped_file_of, mapped_name_of, mapped_text_of, set_numbers_of};
-    ghost use Rattle.codespan_core.specs.SimpleModel.{past_end_failure};
+    ghost use Rattle.codespan_core.specs.SimpleModel.{past_last_line_failure};
     ghost use Rattle.codespan_base.specs.MappedModel.{mapped_column_number, mapped_location, number_from, nearest_set};
     ghost use Rattle.codespan_core.specs.FileModel.{line_of};
     ghost use Rattle.codespan_core.specs.LawfulFiles.{IsLineRange, NeedsNoMemory, FailsBy};
     ghost use Rattle.codespan_core.specs.FileModel.Lookup.{LineNumber, LocationAt};
-    ghost use Rattle.codespan_base.specs.Lemmas.Mapped.{mapped_lawful, mapped_past_end};
+    ghost use Rattle.codespan_base.specs.Lemmas.Mapped.{mapped_lawful, mapped_past_last_line};
     ghost use Rattle.codespan_core.specs.Lemmas.Simple.{text_fits, text_is_utf8};
 
     /// The one id.
@@ -158,8 +159,9 @@ impl<'a, Name: Display + 'a, Source: AsStr + 'a> Files<'a> for MappedFile<Name, 
 
     ghost same_is_eq = { λ s. refl };
 
-    ghost past_end = { λ s _ i.
-        mapped_past_end (Name.output (mapped_name_of s)) (mapped_text_of s) (set_numbers_of s) i };
+    ghost past_last_line = { λ s _ i.
+        mapped_past_last_line (Name.output (mapped_name_of s)) (mapped_text_of s)
+        (set_numbers_of s) i };
 
     /// Returns the file's name. Never fails.
     fn name(&'a self, _id: ()) -> Result<&'a Name, Error>
@@ -229,7 +231,8 @@ impl<'a, Name: Display + 'a, Source: AsStr + 'a> Files<'a> for MappedFile<Name, 
     fn column_number(&'a self, id: (), line_index: usize, byte_index: usize) -> Result<usize, Error>
         ensures value { IfOk result (λ number.
             number ≡ mapped_column_number (mapped_text_of self.now) line_index byte_index) }
-        ensures failed { FailsBy (past_end_failure (mapped_text_of self.now) line_index) result }
+        ensures failed { FailsBy (past_last_line_failure (mapped_text_of self.now) line_index)
+            result }
         ensures memory { NeedsNoMemory result }
     {
         let range = self.line_range(id, line_index)?;
@@ -266,7 +269,8 @@ impl<'a, Name: Display + 'a, Source: AsStr + 'a> Files<'a> for MappedFile<Name, 
     #[tactic(auto, using(crate::specs::Lemmas::Mapped::mapped_range))]
     fn line_range(&'a self, id: (), line_index: usize) -> Result<Range<usize>, Error>
         ensures value { IfOk result (IsLineRange (mapped_file_of Name.output self.now) line_index) }
-        ensures failed { FailsBy (past_end_failure (mapped_text_of self.now) line_index) result }
+        ensures failed { FailsBy (past_last_line_failure (mapped_text_of self.now) line_index)
+            result }
         ensures memory { NeedsNoMemory result }
     {
         let range = self.file.line_range(id, line_index)?;

@@ -39,8 +39,8 @@ impl<'a, 'text: 'a> Files<'a> for Listing<'text> {
     ghost use Rattle.codespan_base.specs.FileModel.{line_of};
     ghost use Rattle.codespan_base.specs.FileModel.Lookup.{Name as NameLookup, Source as SourceLookup, LineIndex, LineNumber, ColumnNumber, LocationAt, LineRange};
     ghost use Rattle.codespan_base.specs.Lines.{line_starts_of};
-    ghost use Rattle.codespan_base.specs.SimpleModel.{simple_file, simple_column_number, past_end_failure};
-    ghost use Rattle.codespan_base.specs.Lemmas.Simple.{renumbered_lawful, simple_lawful, simple_past_end, text_fits, text_is_utf8};
+    ghost use Rattle.codespan_base.specs.SimpleModel.{simple_file, simple_column_number, past_last_line_failure};
+    ghost use Rattle.codespan_base.specs.Lemmas.Simple.{renumbered_lawful, simple_lawful, simple_past_last_line, text_fits, text_is_utf8};
 
     type FileId = ();
 
@@ -64,9 +64,9 @@ impl<'a, 'text: 'a> Files<'a> for Listing<'text> {
         | SourceLookup ↦ None
         | LineIndex byte ↦ None
         | LineNumber i ↦ None
-        | ColumnNumber i byte ↦ past_end_failure (source_of s.file).now i
+        | ColumnNumber i byte ↦ past_last_line_failure (source_of s.file).now i
         | LocationAt byte ↦ None
-        | LineRange i ↦ past_end_failure (source_of s.file).now i
+        | LineRange i ↦ past_last_line_failure (source_of s.file).now i
       ];
     } };
 
@@ -118,8 +118,8 @@ impl<'a, 'text: 'a> Files<'a> for Listing<'text> {
     ghost same_is_eq = { λ s. refl };
 
     // A line past the last fails as in that file.
-    ghost past_end = { λ s _ i.
-        simple_past_end (Some (name_of s.file).now) (source_of s.file).now i };
+    ghost past_last_line = { λ s _ i.
+        simple_past_last_line (Some (name_of s.file).now) (source_of s.file).now i };
 }
 
 #[test]

@@ -1,5 +1,5 @@
--- For the members `lawful`, `same_file` and `past_end` of `SimpleFiles` of `codespan_base`: the law
--- of a file database some of whose ids name no file.
+-- For the members `lawful`, `same_file` and `past_last_line` of `SimpleFiles` of `codespan_base`:
+-- the law of a file database some of whose ids name no file.
 use Rattle.std.proofs.Common.{◌≡◌, ℕ, zero, suc, ◌<◌, true, Option, Some, None, refl, ap, arith, eqb}
 use Rattle.std.proofs.lemmas.Bool.{eqb-true}
 use Rattle.std.specs.Option.{option_map_or}
@@ -9,7 +9,7 @@ use Rattle.std.specs.Str.{IsCharBoundary}
 use Rattle.std.proofs.lemmas.Str.{IsUtf8-nil}
 use Rattle.codespan_core.specs.declared.files.error.Error.{Error}
 use Rattle.codespan_core.specs.FileModel.{FileModel, Lookup}
-use Rattle.codespan_core.specs.LawfulFiles.{IsLawful, FailsPastEnd}
+use Rattle.codespan_core.specs.LawfulFiles.{IsLawful, FailsPastLastLine}
 use Rattle.codespan_core.specs.FileModel.Lookup.{LineRange}
 use Rattle.codespan_core.specs.SimpleModel.{missing_file, missing_failure}
 
@@ -45,12 +45,12 @@ database_lawful view file (x ∷ xs) zero h = h x
 database_lawful view file (x ∷ xs) (suc id) h = database_lawful view file xs id h
 
 -- and where the file of each item fails past its last line as the law says, so does that of each id
-pub past_end_or : {X : Type 0} (file : X → FileModel) (failure : X → Lookup → Option Error) (i : ℕ)
-    (o : Option X) → ((x : X) → FailsPastEnd (file x) i (failure x (LineRange i)))
-    → FailsPastEnd (option_map_or file o missing_file) i
+pub past_last_line_or : {X : Type 0} (file : X → FileModel) (failure : X → Lookup → Option Error)
+    (i : ℕ) (o : Option X) → ((x : X) → FailsPastLastLine (file x) i (failure x (LineRange i)))
+    → FailsPastLastLine (option_map_or file o missing_file) i
     (option_map_or (λ x. failure x (LineRange i)) o (missing_failure (LineRange i)))
-past_end_or file failure i None h = λ there. absurd (cc)
-past_end_or file failure i (Some x) h = h x
+past_last_line_or file failure i None h = λ there. absurd (cc)
+past_last_line_or file failure i (Some x) h = h x
 
 -- two functions have the same values at two numbers that are equal by the test
 pub same_at : {A B : Type 0} (f : ℕ → A) (g : ℕ → B) (i j : ℕ) → eqb i j ≡ true

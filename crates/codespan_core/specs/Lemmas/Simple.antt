@@ -1,4 +1,4 @@
--- For the members `lawful` and `past_end` of `SimpleFile`: the file of a text is lawful.
+-- For the members `lawful` and `past_last_line` of `SimpleFile`: the file of a text is lawful.
 use Rattle.std.proofs.Common.{◌≡◌, ℕ, zero, suc, ◌+◌, ◌-◌, ◌^◌, ◌<◌, ◌≤◌, List, [], ◌∷◌, length, get_or, refl, arith, Option, ◌⊎◌, ⊎_elim, inl, inr}
 use Rattle.std.proofs.lemmas.Bool.{cases_lt}
 use Rattle.std.proofs.lemmas.Bool.Decides.{leb_tells}
@@ -21,7 +21,7 @@ use Rattle.codespan_core.specs.Lines.{line_starts_of, starts_after}
 use Rattle.codespan_core.specs.SimpleModel.{simple_file, simple_failure, line_ends}
 use Rattle.codespan_core.specs.declared.files.Location.{Location}
 use Rattle.codespan_core.specs.FileModel.{FileModel, or_failure}
-use Rattle.codespan_core.specs.LawfulFiles.{IsLawful, FailsPastEnd, IsPastEndError}
+use Rattle.codespan_core.specs.LawfulFiles.{IsLawful, FailsPastLastLine, IsPastLastLineError}
 use Rattle.codespan_core.specs.FileModel.Lookup.{LineRange}
 use Rattle.codespan_core.specs.Lemmas.Lines.{cuts, count_split}
 
@@ -101,25 +101,25 @@ simple_lawful name text u fits = record {
 }
 
 -- of n lines, exactly those from n on fail with the error past the last
-pub past_end_is : (n i : ℕ)
-    → IsPastEndError (if nat_lt i n then None else Some (LineTooLarge i (n - 1))) ↔ (n ≤ i)
-past_end_is n i =
+pub past_last_line_is : (n i : ℕ)
+    → IsPastLastLineError (if nat_lt i n then None else Some (LineTooLarge i (n - 1))) ↔ (n ≤ i)
+past_last_line_is n i =
     elim (leb_tells (suc i) n) [
       | inl p ↦ rw p.0 (absurd, λ h. omega (arith, h, p.1))
       | inr p ↦ rw p.0 (λ _. omega (arith, p.1), λ _. tt)
     ]
 
 -- the file of a text fails past its last line
-pub simple_past_end : (name : Option (List ℕ)) (text : List ℕ) (i : ℕ)
-    → FailsPastEnd (simple_file name text) i (simple_failure text (LineRange i))
-simple_past_end name text i there = past_end_is (length (line_starts_of text)) i
+pub simple_past_last_line : (name : Option (List ℕ)) (text : List ℕ) (i : ℕ)
+    → FailsPastLastLine (simple_file name text) i (simple_failure text (LineRange i))
+simple_past_last_line name text i there = past_last_line_is (length (line_starts_of text)) i
 
 -- the law still holds where lines that exist may fail too, with any other error
-pub or_failure-past_end : (f : FileModel) (i : ℕ) (o p : Option Error) → (IsPastEndError p → ⊥)
-    → FailsPastEnd f i o → FailsPastEnd f i (or_failure o p)
-or_failure-past_end f i None p other h =
+pub or_failure-past_last_line : (f : FileModel) (i : ℕ) (o p : Option Error)
+    → (IsPastLastLineError p → ⊥) → FailsPastLastLine f i o → FailsPastLastLine f i (or_failure o p)
+or_failure-past_last_line f i None p other h =
     λ there. (λ past. absurd (other past), λ late. absurd ((h there).1 late))
-or_failure-past_end f i (Some e) p other h = h
+or_failure-past_last_line f i (Some e) p other h = h
 
 -- a line d lines further down starts no earlier
 in_order_by : (text : List ℕ) (i d : ℕ) → i + d < length (line_starts_of text)

@@ -66,7 +66,7 @@ impl<Name: Drop, Source: AsStr + Drop> SimpleFile<Name, Source> {
 
 impl<Name, Source: AsStr> SimpleFile<Name, Source> {
     ghost use Rattle.codespan_core.specs.DatabaseViews.{name_of, source_of, file_text_of};
-    ghost use Rattle.codespan_core.specs.SimpleModel.{past_end_failure};
+    ghost use Rattle.codespan_core.specs.SimpleModel.{past_last_line_failure};
     ghost use Rattle.codespan_core.specs.LawfulFiles.{NeedsNoMemory, FailsBy};
 
     /// Borrows the name.
@@ -100,7 +100,8 @@ impl<Name, Source: AsStr> SimpleFile<Name, Source> {
     pub fn check_line(&self, line_index: usize) -> Result<(), Error>
         ensures exists { OnOk result
             (line_index < length (line_starts_of (file_text_of self.now))) }
-        ensures failed { FailsBy (past_end_failure (file_text_of self.now) line_index) result }
+        ensures failed { FailsBy (past_last_line_failure (file_text_of self.now) line_index)
+            result }
         ensures memory { NeedsNoMemory result }
     {
         let count = self.line_count();
@@ -117,10 +118,10 @@ impl<Name, Source: AsStr> SimpleFile<Name, Source> {
 /// No call allocates. Names are borrowed, since the clone of a name need not display the same text.
 impl<'a, Name: Display + 'a, Source: AsStr + 'a> Files<'a> for SimpleFile<Name, Source> {
     ghost use Rattle.codespan_core.specs.DatabaseViews.{file_of, name_of, file_text_of};
-    ghost use Rattle.codespan_core.specs.SimpleModel.{simple_failure, simple_column_number, simple_location, past_end_failure};
+    ghost use Rattle.codespan_core.specs.SimpleModel.{simple_failure, simple_column_number, simple_location, past_last_line_failure};
     ghost use Rattle.codespan_core.specs.FileModel.{line_of};
     ghost use Rattle.codespan_core.specs.LawfulFiles.{IsLineRange, NeedsNoMemory, FailsBy, line_number_failure};
-    ghost use Rattle.codespan_core.specs.Lemmas.Simple.{simple_lawful, simple_past_end, text_fits, text_is_utf8};
+    ghost use Rattle.codespan_core.specs.Lemmas.Simple.{simple_lawful, simple_past_last_line, text_fits, text_is_utf8};
 
     /// The one id.
     type FileId = ();
@@ -144,7 +145,8 @@ impl<'a, Name: Display + 'a, Source: AsStr + 'a> Files<'a> for SimpleFile<Name, 
 
     ghost same_is_eq = { λ s. refl };
 
-    ghost past_end = { λ s _ i. simple_past_end (Name.output (name_of s)) (file_text_of s) i };
+    ghost past_last_line = { λ s _ i.
+        simple_past_last_line (Name.output (name_of s)) (file_text_of s) i };
 
     /// Returns the file's name. Never fails.
     fn name(&'a self, _id: ()) -> Result<&'a Name, Error>
@@ -203,7 +205,8 @@ impl<'a, Name: Display + 'a, Source: AsStr + 'a> Files<'a> for SimpleFile<Name, 
     fn column_number(&'a self, id: (), line_index: usize, byte_index: usize) -> Result<usize, Error>
         ensures value { IfOk result (λ number.
             number ≡ simple_column_number (file_text_of self.now) line_index byte_index) }
-        ensures failed { FailsBy (past_end_failure (file_text_of self.now) line_index) result }
+        ensures failed { FailsBy (past_last_line_failure (file_text_of self.now) line_index)
+            result }
         ensures memory { NeedsNoMemory result }
     {
         let range = self.line_range(id, line_index)?;
@@ -234,7 +237,8 @@ impl<'a, Name: Display + 'a, Source: AsStr + 'a> Files<'a> for SimpleFile<Name, 
     /// text has no such line.
     fn line_range(&'a self, _id: (), line_index: usize) -> Result<Range<usize>, Error>
         ensures value { IfOk result (IsLineRange (file_of Name.output self.now) line_index) }
-        ensures failed { FailsBy (past_end_failure (file_text_of self.now) line_index) result }
+        ensures failed { FailsBy (past_last_line_failure (file_text_of self.now) line_index)
+            result }
         ensures memory { NeedsNoMemory result }
     {
         self.check_line(line_index)?;

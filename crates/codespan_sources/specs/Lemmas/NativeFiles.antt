@@ -3,9 +3,9 @@ use Rattle.std.proofs.lemmas.Str.{IsUtf8-had}
 use Rattle.std.specs.Prelude.{ℕ, List, length, slice_get, Option}
 use Rattle.codespan_base.specs.declared.files.Location.{Location}
 use Rattle.codespan_base.specs.FileModel.Lookup.{LineRange}
-use Rattle.codespan_base.specs.LawfulFiles.{IsLawful, FailsPastEnd}
-use Rattle.codespan_base.specs.Lemmas.Simple.{past_end_is, text_fits, text_is_utf8}
-use Rattle.codespan_base.specs.Lemmas.Missing.{past_end_or, database_lawful}
+use Rattle.codespan_base.specs.LawfulFiles.{IsLawful, FailsPastLastLine}
+use Rattle.codespan_base.specs.Lemmas.Simple.{past_last_line_is, text_fits, text_is_utf8}
+use Rattle.codespan_base.specs.Lemmas.Missing.{past_last_line_or, database_lawful}
 use Rattle.codespan_sources.specs.declared.native_file.stated.StatedText.{StatedText}
 use Rattle.codespan_sources.specs.declared.native_file.text.SourceText.{SourceText}
 use Rattle.codespan_sources.specs.declared.native_file.text.SourceText.TheVariants.{Newline, Stated}
@@ -36,9 +36,9 @@ database_is_lawful files id =
     (λ f. text_is_lawful f.text (location_at f.first_byte f.locations.now))
 
 -- the lookup of a line's range fails past the last line
-pub database_fails_past_end : (views : List NativeFileView) (id i : ℕ)
-    → FailsPastEnd ((native_database views).file id) i
+pub database_fails_past_last_line : (views : List NativeFileView) (id i : ℕ)
+    → FailsPastLastLine ((native_database views).file id) i
     ((native_database views).failure id (LineRange i))
-database_fails_past_end views id i =
-    past_end_or native_file_model native_failure i (slice_get views id)
-    (λ view there. past_end_is (length view.text.starts) i)
+database_fails_past_last_line views id i =
+    past_last_line_or native_file_model native_failure i (slice_get views id)
+    (λ view there. past_last_line_is (length view.text.starts) i)

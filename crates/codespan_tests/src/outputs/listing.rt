@@ -87,8 +87,8 @@ impl<'a, 'text: 'a> Files<'a> for Listing<'text> {
     ghost use Rattle.codespan_base.specs.FileModel.{line_of, or_failure};
     ghost use Rattle.codespan_base.specs.FileModel.Lookup.{Name as NameLookup, Source as SourceLookup, LineIndex, LineNumber, ColumnNumber, LocationAt, LineRange};
     ghost use Rattle.codespan_base.specs.Lines.{line_starts_of};
-    ghost use Rattle.codespan_base.specs.SimpleModel.{simple_file, simple_column_number, past_end_failure};
-    ghost use Rattle.codespan_base.specs.Lemmas.Simple.{or_failure-past_end, renumbered_lawful, simple_lawful, simple_past_end, text_fits, text_is_utf8};
+    ghost use Rattle.codespan_base.specs.SimpleModel.{simple_file, simple_column_number, past_last_line_failure};
+    ghost use Rattle.codespan_base.specs.Lemmas.Simple.{or_failure-past_last_line, renumbered_lawful, simple_lawful, simple_past_last_line, text_fits, text_is_utf8};
     ghost use Rattle.codespan_tests.specs.Listings.{is_at, is_from_index, failed_if, failed_if-other};
 
     type FileId = ();
@@ -113,9 +113,9 @@ impl<'a, 'text: 'a> Files<'a> for Listing<'text> {
         | SourceLookup ↦ failed_if s.failed.source 2 0
         | LineIndex byte ↦ failed_if (is_from_index s.failed.line_index byte) 4 byte
         | LineNumber i ↦ failed_if (is_at s.failed.line_number i) 5 i
-        | ColumnNumber i byte ↦ past_end_failure (source_of s.file).now i
+        | ColumnNumber i byte ↦ past_last_line_failure (source_of s.file).now i
         | LocationAt byte ↦ failed_if s.failed.location 3 byte
-        | LineRange i ↦ or_failure (past_end_failure (source_of s.file).now i)
+        | LineRange i ↦ or_failure (past_last_line_failure (source_of s.file).now i)
             (failed_if (is_at s.failed.line_range i) 6 i)
       ];
     } };
@@ -191,9 +191,9 @@ impl<'a, 'text: 'a> Files<'a> for Listing<'text> {
     ghost same_is_eq = { λ s. refl };
 
     // A line past the last one fails as in its `SimpleFile`.
-    ghost past_end = { λ s _ i.
+    ghost past_last_line = { λ s _ i.
         let text = (source_of s.file).now in
         let name = Some (name_of s.file).now in
-        or_failure-past_end (simple_file name text) i (past_end_failure text i) _
-        (failed_if-other (is_at s.failed.line_range i) 6 i) (simple_past_end name text i) };
+        or_failure-past_last_line (simple_file name text) i (past_last_line_failure text i) _
+        (failed_if-other (is_at s.failed.line_range i) 6 i) (simple_past_last_line name text i) };
 }

@@ -19,7 +19,7 @@ struct LongestFile<'text> {
 }
 
 impl<'a, 'text: 'a> Files<'a> for LongestFile<'text> {
-    ghost use Rattle.codespan_tests.specs.LongestFiles.{longest_file, longest_failure, longest_lawful, longest_past_end};
+    ghost use Rattle.codespan_tests.specs.LongestFiles.{longest_file, longest_failure, longest_lawful, longest_past_last_line};
 
     type FileId = ();
 
@@ -77,7 +77,7 @@ impl<'a, 'text: 'a> Files<'a> for LongestFile<'text> {
 
     ghost same_is_eq = { λ s. refl };
 
-    ghost past_end = { λ s _ i. longest_past_end s.name.now i };
+    ghost past_last_line = { λ s _ i. longest_past_last_line s.name.now i };
 }
 
 /// Returns a diagnostic with a label on the fourth line from the end, and one on the last.

@@ -68,7 +68,7 @@ impl<'text> Checked<'text> {
 
 impl<'a, 'text: 'a> Files<'a> for Checked<'text> {
     ghost use Rattle.codespan_base.specs.SimpleModel.{simple_file, simple_failure};
-    ghost use Rattle.codespan_base.specs.Lemmas.Simple.{simple_lawful, simple_past_end, text_fits, text_is_utf8};
+    ghost use Rattle.codespan_base.specs.Lemmas.Simple.{simple_lawful, simple_past_last_line, text_fits, text_is_utf8};
     ghost use Rattle.examples.specs.Parts.{one_part};
 
     type FileId = Part;
@@ -130,6 +130,6 @@ impl<'a, 'text: 'a> Files<'a> for Checked<'text> {
     ghost same_is_eq = { λ s. refl };
 
     // A line past the last one fails as in its `SimpleFile`.
-    ghost past_end = { λ s id i.
-        simple_past_end (part_name id) (source_of (of_part s.schema s.document id)).now i };
+    ghost past_last_line = { λ s id i.
+        simple_past_last_line (part_name id) (source_of (of_part s.schema s.document id)).now i };
 }

@@ -118,7 +118,7 @@ all_done g c at_last =
     (arith, at_last, c.max-index-end.ensures, c.saturating_add-last.ensures, c.requires.last))
     (omega (arith, c.max-index-end.ensures, c.loop-index-test.true))
     (files.lawful c.args.self.now.file.files.now x.file_id)
-    (files.past_end c.args.self.now.file.files.now x.file_id _)
+    (files.past_last_line c.args.self.now.file.files.now x.file_id _)
 
 pub returns-else-not-branch-clause-added : goal.returns-else-not-branch-clause-added
 returns-else-not-branch-clause-added g c =

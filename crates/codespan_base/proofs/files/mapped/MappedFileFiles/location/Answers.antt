@@ -1,7 +1,7 @@
 use Rattle.std.proofs.lemmas.Result.{err_from_is_err_and}
 use Rattle.codespan_base.specs.MappedFileViews.{mapped_file_of, mapped_text_of}
 use Rattle.codespan_core.proofs.ColumnLemmas.{location_in_file}
-use Rattle.codespan_core.proofs.PastEndFailures.{byte_line_exists, never}
+use Rattle.codespan_core.proofs.PastLastLineFailures.{byte_line_exists, never}
 use Rattle.codespan_base.proofs.files.mapped.MappedFileFiles.location.Goals as goal
 
 -- the line number is that of the byte's line, and the column number that of the byte on it

@@ -1,7 +1,7 @@
 use Rattle.std.proofs.Common.{arith}
 use Rattle.codespan_core.specs.DatabaseViews.{file_of}
 use Rattle.codespan_core.proofs.ColumnLemmas.{location_in_file}
-use Rattle.codespan_core.proofs.PastEndFailures.{byte_line_exists, byte_line_numbered, never}
+use Rattle.codespan_core.proofs.PastLastLineFailures.{byte_line_exists, byte_line_numbered, never}
 use Rattle.codespan_core.proofs.files.simple.SimpleFileFiles.location.Goals as goal
 
 -- the line number is that of the byte's line, and the column number that of the byte on it

@@ -8,18 +8,18 @@ use Rattle.codespan_core.specs.FileModel.{line_of}
 use Rattle.codespan_core.specs.LawfulFiles.{line_number_failure}
 use Rattle.codespan_core.specs.Lines.{line_starts_of}
 use Rattle.codespan_core.specs.Lemmas.Lines.{line_of_below}
-use Rattle.codespan_core.specs.SimpleModel.{past_end_failure}
+use Rattle.codespan_core.specs.SimpleModel.{past_last_line_failure}
 
 -- a line that is not below the number of lines fails, with the index of the last line
-pub past_end_failure_late : (text : List ℕ) (i n : ℕ) → n ≡ length (line_starts_of text) → n ≤ i
-    → past_end_failure text i ≡ Some (LineTooLarge i (n - 1))
-past_end_failure_late text i n count late =
+pub past_last_line_failure_late : (text : List ℕ) (i n : ℕ) → n ≡ length (line_starts_of text)
+    → n ≤ i → past_last_line_failure text i ≡ Some (LineTooLarge i (n - 1))
+past_last_line_failure_late text i n count late =
     rw count (rw (lt-leb (suc i) (length (line_starts_of text)) (omega arith)) refl)
 
 -- a line that is below it does not fail
-pub past_end_failure_early : (text : List ℕ) (i : ℕ) → i < length (line_starts_of text)
-    → past_end_failure text i ≡ None
-past_end_failure_early text i early =
+pub past_last_line_failure_early : (text : List ℕ) (i : ℕ) → i < length (line_starts_of text)
+    → past_last_line_failure text i ≡ None
+past_last_line_failure_early text i early =
     rw (le-leb (suc i) (length (line_starts_of text)) (omega arith)) refl
 
 -- the line of a byte exists
@@ -29,9 +29,9 @@ byte_line_below text byte i line = rw line (line_of_below (line_starts_of text) 
 
 -- so a lookup of it does not fail
 pub byte_line_exists : (text : List ℕ) (byte i : ℕ) → i ≡ line_of (line_starts_of text) byte
-    → past_end_failure text i ≡ None
+    → past_last_line_failure text i ≡ None
 byte_line_exists text byte i line =
-    past_end_failure_early text i (byte_line_below text byte i line)
+    past_last_line_failure_early text i (byte_line_below text byte i line)
 
 -- and has a number, where there are fewer than 2^64 starts
 pub byte_line_numbered : (text starts : List ℕ) (byte i : ℕ) → starts ≡ line_starts_of text
