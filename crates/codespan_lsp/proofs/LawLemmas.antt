@@ -98,7 +98,7 @@ module _ (encoding : PositionEncoding) (f : FileModel) (law : IsLawful f) where
   returns : (byte : ℕ) → IsOnLine f byte → RoundTrip encoding f byte
   returns byte on = record {
     is_at = at-own byte on;
-    alone = λ other at. alone (position_of encoding f byte) other byte at (at-own byte on);
+    unique = λ other at. unique (position_of encoding f byte) other byte at (at-own byte on);
   }
 
   ascends : (a b : ℕ) → IsOnLine f a → IsOnLine f b → a < b

@@ -17,7 +17,7 @@ pub record IsOnLine (f : FileModel) (byte : ℕ) : Type 0 where
 -- a byte is at its position, and no other byte is
 pub record RoundTrip (encoding : PositionEncoding) (f : FileModel) (byte : ℕ) : Type 0 where
   pub is_at : IsByteAt encoding f (position_of encoding f byte) byte
-  pub alone : (other : ℕ) → IsByteAt encoding f (position_of encoding f byte) other
+  pub unique : (other : ℕ) → IsByteAt encoding f (position_of encoding f byte) other
       → other ≡ byte
 
 -- each byte on a line goes to a position and back to itself
