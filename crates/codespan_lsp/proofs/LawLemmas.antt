@@ -63,8 +63,8 @@ module _ (encoding : PositionEncoding) (f : FileModel) (law : IsLawful f) where
       omega (arith, some, sum)
 
   -- only one byte is at a position
-  alone : (p : Position) (a b : ℕ) → IsByteAt encoding f p a → IsByteAt encoding f p b → a ≡ b
-  alone p a b at_a at_b =
+  unique : (p : Position) (a b : ℕ) → IsByteAt encoding f p a → IsByteAt encoding f p b → a ≡ b
+  unique p a b at_a at_b =
       elim (cases_order a b) [
         | inl same ↦ same
         | inr apart ↦ elim apart [
