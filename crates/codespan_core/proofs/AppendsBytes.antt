@@ -5,11 +5,11 @@ use Rattle.std.specs.Borrow.{GName}
 use Rattle.std.specs.Result.{IsErrAnd}
 use Rattle.std.proofs.lemmas.Result.{err_from_is_err_and}
 use Rattle.codespan_core.specs.declared.term.config.plain_ref.PlainWriterRef.{PlainWriterRef}
-use Rattle.codespan_core.specs.Streams.{bytes, plain_spelling}
+use Rattle.codespan_core.specs.Streams.{byte_stream, plain_spelling}
 use Rattle.codespan_core.specs.WriterLaw.{Frame, Sink, KeepsFrame, Writes, is_known, with_written, are_known, extended, PrefixAppended, AppendsBytes}
 use Rattle.codespan_core.specs.Writers.{fresh_plain_ref_sink, plain_reference, plain_ref_sink, borrowed_writer}
 use Rattle.codespan_core.proofs.KnownBytes.{extended-append, extended-nil, are_known-extended, PrefixAppended-first, PrefixAppended-last, PrefixAppended_first_2, PrefixAppended_first_3}
-use Rattle.codespan_core.proofs.Writes.{spelled-bytes}
+use Rattle.codespan_core.proofs.Writes.{spelled-byte_stream}
 
 -- calls that write bytes, one after another
 pub ruleset append_chains = (
@@ -95,7 +95,7 @@ pub written_to_plain_ref : {W E : Type 0} (contents_of : W → Option (List ℕ)
     (before after : PlainWriterRef W) (name : GName) (contents : Option (List ℕ)) (x : W)
     (bs : List ℕ) (r : Result (Unit {0}) E)
     → plain_ref_sink contents_of before ≡ fresh_plain_ref_sink name contents
-    → Writes (plain_ref_sink contents_of before) (bytes bs) r (plain_ref_sink contents_of after)
+    → Writes (plain_ref_sink contents_of before) (byte_stream bs) r (plain_ref_sink contents_of after)
     → (name ≡ plain_reference after → x ≡ borrowed_writer after)
     → AppendsBytes contents bs r (contents_of x)
 unfolding with_written is_known
@@ -106,7 +106,7 @@ written_to_plain_ref {W} {E} contents_of before after name contents x bs (Ok don
     ap contents_of
     (keeps_reference {E = E} contents_of before after name contents x (Ok done) begins p.0 back)
     ∙ ap (λ (s : Sink). s.contents) (p.1 (ap are_known previous ∙ known))
-    ∙ ap (extended (contents_of (borrowed_writer before))) (spelled-bytes plain_spelling bs)
+    ∙ ap (extended (contents_of (borrowed_writer before))) (spelled-byte_stream plain_spelling bs)
     ∙ ap (λ (o : Option (List ℕ)). extended o bs) previous
 written_to_plain_ref {W} {E} contents_of before after name contents x bs (Err e) begins p back =
     λ known.
@@ -116,7 +116,7 @@ written_to_plain_ref {W} {E} contents_of before after name contents x bs (Err e)
     record {
       prefix = written_prefix.prefix;
       rest = written_prefix.rest;
-      whole = written_prefix.whole ∙ spelled-bytes plain_spelling bs;
+      whole = written_prefix.whole ∙ spelled-byte_stream plain_spelling bs;
       contents =
           ap contents_of
           (keeps_reference {E = E} contents_of before after name contents x (Err e) begins p.0 back)

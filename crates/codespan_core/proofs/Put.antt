@@ -4,11 +4,11 @@ use Rattle.std.specs.Io.KnownBytes.{append_known, Appends, Keeps}
 use Rattle.std.proofs.lemmas.Bool.{ne_eqb, false≢true}
 use Rattle.std.proofs.lemmas.Bool.Decides.{nat_tests}
 use Rattle.std.proofs.lemmas.List.{take-append-drop}
-use Rattle.codespan_core.specs.Streams.{bytes}
+use Rattle.codespan_core.specs.Streams.{byte_stream}
 use Rattle.codespan_core.specs.WriterLaw.{Frame, Sink, failed_frame, after_put, with_written, is_known, are_known, extended, PrefixWritten}
 use Rattle.codespan_core.proofs.StyleMarks.{sink-by}
 use Rattle.codespan_core.proofs.KnownBytes.{append_known-nil}
-use Rattle.codespan_core.proofs.Writes.{spelled-bytes, bytes-append}
+use Rattle.codespan_core.proofs.Writes.{spelled-byte_stream, byte_stream-append}
 
 -- a `put` that takes none of some bytes sets the flag
 pub after_put-none : (f : Frame) (bs : List ℕ) (n : ℕ) → n ≡ 0 → 0 < length bs
@@ -27,20 +27,20 @@ after_put-some f bs (suc n) h = rw (ne_eqb (suc n) 0 (λ e. omega (arith, e))) r
 pub put-with_written : (s : Sink) (bs : List ℕ) (n : ℕ) (t : Sink) → (n ≡ 0 → ⊥)
     → (t.frame ≡ after_put s.frame bs n)
     × (is_known s ≡ true → t.contents ≡ append_known s.contents (take n bs))
-    → (t.frame ≡ s.frame) × (is_known s ≡ true → t ≡ with_written s (bytes (take n bs)))
+    → (t.frame ≡ s.frame) × (is_known s ≡ true → t ≡ with_written s (byte_stream (take n bs)))
 unfolding with_written extended
 put-with_written s bs n t h p =
     let f : t.frame ≡ s.frame = p.0 ∙ after_put-some s.frame bs n (λ e. absurd (h e)) in (
       f,
       λ known. sink-by s t _ _ f (p.1 known
-          ∙ ap (append_known s.contents) (sym (spelled-bytes s.frame.spelling (take n bs)))),
+          ∙ ap (append_known s.contents) (sym (spelled-byte_stream s.frame.spelling (take n bs)))),
     )
 
 -- a `put` that took none of some bytes, as a failed stream
 pub put-none : (s : Sink) (bs : List ℕ) (n : ℕ) (t : Sink) → n ≡ 0 → 0 < length bs
     → (t.frame ≡ after_put s.frame bs n)
     × (is_known s ≡ true → t.contents ≡ append_known s.contents (take n bs))
-    → (t.frame ≡ failed_frame s.frame) × (is_known s ≡ true → PrefixWritten s (bytes bs) t)
+    → (t.frame ≡ failed_frame s.frame) × (is_known s ≡ true → PrefixWritten s (byte_stream bs) t)
 unfolding extended
 put-none s bs n t e h p =
     let f : t.frame ≡ failed_frame s.frame = p.0 ∙ after_put-none s.frame bs n e h in (
@@ -51,7 +51,7 @@ put-none s bs n t e h p =
         rest =
             bs;
         whole =
-            sym (spelled-bytes s.frame.spelling bs);
+            sym (spelled-byte_stream s.frame.spelling bs);
         contents =
             p.1 known ∙ ap (λ (k : ℕ). append_known s.contents (take k bs)) e;
       },
@@ -60,7 +60,7 @@ put-none s bs n t e h p =
 -- a `put` that failed, as a failed stream
 pub put-failed : (s : Sink) (bs : List ℕ) (t : Sink)
     → (t.frame ≡ failed_frame s.frame) × (is_known s ≡ true → t.contents ≡ s.contents)
-    → (t.frame ≡ failed_frame s.frame) × (is_known s ≡ true → PrefixWritten s (bytes bs) t)
+    → (t.frame ≡ failed_frame s.frame) × (is_known s ≡ true → PrefixWritten s (byte_stream bs) t)
 unfolding extended
 put-failed s bs t p = (
   p.0,
@@ -70,15 +70,15 @@ put-failed s bs t p = (
     rest =
         bs;
     whole =
-        sym (spelled-bytes s.frame.spelling bs);
+        sym (spelled-byte_stream s.frame.spelling bs);
     contents =
         p.1 known ∙ sym (append_known-nil s.contents);
   },
 )
 
 -- the bytes that were taken, and those that are left
-pub bytes-take : (n : ℕ) (bs : List ℕ) → bytes bs ≡ bytes (take n bs) ++ bytes (drop n bs)
-bytes-take n bs = ap bytes (sym (take-append-drop n bs)) ∙ bytes-append (take n bs) (drop n bs)
+pub byte_stream-take : (n : ℕ) (bs : List ℕ) → byte_stream bs ≡ byte_stream (take n bs) ++ byte_stream (drop n bs)
+byte_stream-take n bs = ap byte_stream (sym (take-append-drop n bs)) ∙ byte_stream-append (take n bs) (drop n bs)
 
 -- ---- a `put` that is one `write` of the inner writer
 

@@ -9,26 +9,26 @@ use Rattle.std.proofs.lemmas.Grind.{common_steps}
 use Rattle.std.proofs.Math.Seq.{take-append_seam}
 use Rattle.std.proofs.lemmas.List.{drop-set, length-append, length-drop, replicate-append-replicate, take-replicate, take-take}
 use Rattle.std.specs.Prelude.{slice_set}
-use Rattle.codespan_core.specs.Streams.{Stream, bytes, spaces, repeated, glyph}
-use Rattle.codespan_core.proofs.Writes.{bytes-append}
+use Rattle.codespan_core.specs.Streams.{Stream, byte_stream, spaces, repeated, glyph}
+use Rattle.codespan_core.proofs.Writes.{byte_stream-append}
 
 -- ---- spaces
 
 -- the first k of them
-pub spaces-next : (k n : ℕ) → k ≤ n → spaces n ≡ bytes (replicate k 32) ++ spaces (n - k)
+pub spaces-next : (k n : ℕ) → k ≤ n → spaces n ≡ byte_stream (replicate k 32) ++ spaces (n - k)
 unfolding spaces
 spaces-next k n h =
     let e : n ≡ k + (n - k) = omega arith in
     let f : replicate {A = ℕ} n 32 ≡ replicate k 32 ++ replicate (n - k) 32 =
     ap (λ (m : ℕ). replicate {A = ℕ} m 32) e ∙ sym (replicate-append-replicate k (n - k) 32) in
-    ap bytes f ∙ bytes-append (replicate k 32) (replicate (n - k) 32)
+    ap byte_stream f ∙ byte_stream-append (replicate k 32) (replicate (n - k) 32)
 
 -- the first n of k spaces
-pub spaces-front : (k n : ℕ) → n ≤ k → bytes (take n (replicate k 32)) ≡ spaces n
+pub spaces-front : (k n : ℕ) → n ≤ k → byte_stream (take n (replicate k 32)) ≡ spaces n
 unfolding spaces
 spaces-front k n h =
     let e : take n (replicate {A = ℕ} k 32) ≡ replicate n 32 = take-replicate n k 32 h in
-    ap bytes e
+    ap byte_stream e
 
 -- ---- one character many times
 
@@ -42,15 +42,15 @@ repeat-add {A = A} (suc k) n xs =
     ∙ sym (append_assoc xs (repeat k xs) (repeat n xs))
 
 -- no bytes
-bytes-nil : bytes [] ≡ []
-unfolding bytes
-bytes-nil = refl
+byte_stream-nil : byte_stream [] ≡ []
+unfolding byte_stream
+byte_stream-nil = refl
 
 -- bytes that are repeated, as a stream
-pub bytes-repeat : (n : ℕ) (bs : List ℕ) → bytes (repeat n bs) ≡ repeat n (bytes bs)
-bytes-repeat zero bs = bytes-nil
-bytes-repeat (suc n) bs =
-    bytes-append bs (repeat n bs) ∙ ap (λ (l : Stream). bytes bs ++ l) (bytes-repeat n bs)
+pub byte_stream-repeat : (n : ℕ) (bs : List ℕ) → byte_stream (repeat n bs) ≡ repeat n (byte_stream bs)
+byte_stream-repeat zero bs = byte_stream-nil
+byte_stream-repeat (suc n) bs =
+    byte_stream-append bs (repeat n bs) ∙ ap (λ (l : Stream). byte_stream bs ++ l) (byte_stream-repeat n bs)
 
 -- the number of bytes of k copies
 length-repeat : (k : ℕ) (bs : List ℕ) → length (repeat k bs) ≡ k * length bs
@@ -80,13 +80,13 @@ repeated-two c = ap (λ (l : Stream). glyph c ++ l) (append-nil (glyph c))
 
 -- a character of three bytes twice
 pub repeated-pair : (c : ℕ) (xs : List ℕ) → length xs ≡ 3 → xs ≡ encode_utf8 c
-    → bytes
+    → byte_stream
     (get_or xs 0 0 ∷ get_or xs 1 0 ∷ get_or xs 2 0 ∷ get_or xs 0 0 ∷ get_or xs 1 0 ∷ get_or xs 2 0
     ∷ [])
     ≡ repeated 2 c
 unfolding repeated
 repeated-pair c (x ∷ y ∷ z ∷ []) e is =
-    bytes-repeat 2 (x ∷ y ∷ z ∷ []) ∙ ap (λ (l : List ℕ). repeat 2 (bytes l)) is
+    byte_stream-repeat 2 (x ∷ y ∷ z ∷ []) ∙ ap (λ (l : List ℕ). repeat 2 (byte_stream l)) is
 repeated-pair c [] e is = absurd (omega (arith, e))
 repeated-pair c (x ∷ []) e is = absurd (omega (arith, e))
 repeated-pair c (x ∷ y ∷ []) e is = absurd (omega (arith, e))
@@ -95,25 +95,25 @@ repeated-pair c (x ∷ y ∷ z ∷ w ∷ xs) e is = absurd (omega (arith, e))
 -- a run that begins with k copies holds the first k of them
 pub repeated-next : (k n c : ℕ) (g run : List ℕ) → g ≡ encode_utf8 c → k ≤ n
     → take (k * length g) run ≡ repeat k g
-    → repeated n c ≡ bytes (take (k * length g) run) ++ repeated (n - k) c
+    → repeated n c ≡ byte_stream (take (k * length g) run) ++ repeated (n - k) c
 unfolding repeated
 repeated-next k n c g run e h r =
     let all : n ≡ k + (n - k) = omega arith in
-    let front : bytes (take (k * length g) run) ≡ repeat k (glyph c) =
-    ap bytes r ∙ bytes-repeat k g ∙ ap (λ (l : List ℕ). repeat k (bytes l)) e in
+    let front : byte_stream (take (k * length g) run) ≡ repeat k (glyph c) =
+    ap byte_stream r ∙ byte_stream-repeat k g ∙ ap (λ (l : List ℕ). repeat k (byte_stream l)) e in
     ap (λ (m : ℕ). repeat m (glyph c)) all ∙ repeat-add k (n - k) (glyph c)
     ∙ ap (λ (l : Stream). l ++ repeat (n - k) (glyph c)) (sym front)
 
 -- and the first n copies, where there are no more than k
 pub repeated-front : (k n c : ℕ) (g run : List ℕ) → g ≡ encode_utf8 c → n ≤ k
-    → take (k * length g) run ≡ repeat k g → bytes (take (n * length g) run) ≡ repeated n c
+    → take (k * length g) run ≡ repeat k g → byte_stream (take (n * length g) run) ≡ repeated n c
 unfolding repeated
 repeated-front k n c g run e h r =
     let f : n * length g ≤ k * length g = mul-le-mul_right (length g) h in
     let fewer : take (n * length g) run ≡ repeat n g =
     sym (take-take (n * length g) (k * length g) run f) ∙ ap (take (n * length g)) r
     ∙ take-repeat n k g h in
-    ap bytes fewer ∙ bytes-repeat n g ∙ ap (λ (l : List ℕ). repeat n (bytes l)) e
+    ap byte_stream fewer ∙ byte_stream-repeat n g ∙ ap (λ (l : List ℕ). repeat n (byte_stream l)) e
 
 -- the number of bytes of one more copy
 pub add-one_mul : (n m : ℕ) → (n + 1) * m ≡ n * m + m

@@ -1,10 +1,10 @@
 -- For the clauses of the style marks of each `WriteStyle`: a style mark as the bytes that spell it,
 -- and bytes that a writer of colors writes.
 use Rattle.std.proofs.Common.{◌≡◌, ℕ, Bool, true, List, [], Option, append-nil, Result, Ok, Err, MatchResult, refl, sym, ap, ◌∙◌}
-use Rattle.codespan_core.specs.Streams.{StyleMark, style_mark, bytes}
+use Rattle.codespan_core.specs.Streams.{StyleMark, style_mark, byte_stream}
 use Rattle.codespan_core.specs.WriterLaw.{Frame, Sink, is_known, are_known, extended, PrefixAppended, AppendsBytes, with_written, with_failed, PrefixWritten, Writes}
 use Rattle.codespan_core.proofs.KnownBytes.{extended-nil}
-use Rattle.codespan_core.proofs.Writes.{spelled-bytes}
+use Rattle.codespan_core.proofs.Writes.{spelled-byte_stream}
 
 -- a style mark that is spelled as no bytes changes nothing
 pub written_no_style_mark : (s : Sink) (m : StyleMark) → s.frame.spelling m ≡ []
@@ -15,22 +15,22 @@ written_no_style_mark s m e =
 
 -- a style mark was written where the bytes that spell it were
 pub written_style_mark : (s : Sink) (m : StyleMark)
-    → with_written s (style_mark m) ≡ with_written s (bytes (s.frame.spelling m))
+    → with_written s (style_mark m) ≡ with_written s (byte_stream (s.frame.spelling m))
 unfolding with_written style_mark
 written_style_mark s m =
     ap (λ (l : List ℕ). record s { contents = extended s.contents l })
     (append-nil (s.frame.spelling m)
-    ∙ sym (spelled-bytes s.frame.spelling (s.frame.spelling m)))
+    ∙ sym (spelled-byte_stream s.frame.spelling (s.frame.spelling m)))
 
 -- a prefix of a style mark was written where one of the bytes that spell it was
 pub prefix_style_mark : (s : Sink) (m : StyleMark) (t : Sink)
-    → PrefixWritten s (bytes (s.frame.spelling m)) t → PrefixWritten s (style_mark m) t
+    → PrefixWritten s (byte_stream (s.frame.spelling m)) t → PrefixWritten s (style_mark m) t
 unfolding style_mark
 prefix_style_mark s m t p = record {
   prefix = p.prefix;
   rest = p.rest;
   whole =
-      p.whole ∙ spelled-bytes s.frame.spelling (s.frame.spelling m)
+      p.whole ∙ spelled-byte_stream s.frame.spelling (s.frame.spelling m)
       ∙ sym (append-nil (s.frame.spelling m));
   contents = p.contents;
 }
@@ -40,7 +40,7 @@ pub ruleset marking = (written_style_mark, prefix_style_mark)
 
 -- a call that writes the bytes that spell a style mark writes the style mark
 pub Writes-style_mark : {E : Type 0} (s : Sink) (m : StyleMark) (r : Result (Unit {0}) E) (t : Sink)
-    → Writes s (bytes (s.frame.spelling m)) r t → Writes s (style_mark m) r t
+    → Writes s (byte_stream (s.frame.spelling m)) r t → Writes s (style_mark m) r t
 Writes-style_mark s m (Ok x) t p = (p.0, λ known. p.1 known ∙ sym (written_style_mark s m))
 Writes-style_mark s m (Err e) t p = (p.0, λ known. prefix_style_mark s m t (p.1 known))
 
@@ -57,21 +57,21 @@ is_known_contents s h = h
 
 -- the bytes were written
 pub appended_written : (s t : Sink) (bs : List ℕ) → t.frame ≡ s.frame
-    → t.contents ≡ extended s.contents bs → t ≡ with_written s (bytes bs)
+    → t.contents ≡ extended s.contents bs → t ≡ with_written s (byte_stream bs)
 unfolding with_written
 appended_written s t bs f e =
-    sink-by s t _ _ f (e ∙ ap (extended s.contents) (sym (spelled-bytes s.frame.spelling bs)))
+    sink-by s t _ _ f (e ∙ ap (extended s.contents) (sym (spelled-byte_stream s.frame.spelling bs)))
 
 -- a prefix of the bytes was written
 pub prefix_written : (s t : Sink) (bs : List ℕ) → PrefixAppended s.contents bs t.contents
-    → PrefixWritten s (bytes bs) t
+    → PrefixWritten s (byte_stream bs) t
 prefix_written s t bs p =
     record {
       prefix =
           p.prefix;
       rest =
           p.rest;
-      whole = p.whole ∙ sym (spelled-bytes s.frame.spelling bs);
+      whole = p.whole ∙ sym (spelled-byte_stream s.frame.spelling bs);
       contents = p.contents;
     }
 
@@ -80,7 +80,7 @@ pub Writes-forwarded : {E : Type 0} (f : Frame) (old new : Bool) (before after :
     (bs : List ℕ) (returned r : Result (Unit {0}) E)
     → AppendsBytes before bs returned after → r ≡ returned
     → MatchResult r (λ _. new ≡ old) (λ _. new ≡ true)
-    → Writes (with_failed f old before) (bytes bs) r (with_failed f new after)
+    → Writes (with_failed f old before) (byte_stream bs) r (with_failed f new after)
 Writes-forwarded f old new before after bs returned (Ok x) appends same flag =
     let frames = ap (λ (b : Bool). record f { failed = b }) flag in
     let appended = rw (← same) at appends in (

@@ -1,6 +1,6 @@
 -- For `Loops`, `Put`, `Chains` and each clause `Writes`: calls that write, one after another.
 use Rattle.std.proofs.Common.{◌≡◌, ℕ, List, [], ◌∷◌, ◌++◌, refl, sym, ap, ◌∙◌, append_assoc, Option}
-use Rattle.codespan_core.specs.Streams.{Stream, Byte, Mark, Slot, Spelling, spelled, bytes}
+use Rattle.codespan_core.specs.Streams.{Stream, Byte, Mark, Slot, Spelling, spelled, byte_stream}
 use Rattle.codespan_core.specs.WriterLaw.{Sink, with_written, is_known, extended, PrefixWritten}
 use Rattle.codespan_core.proofs.KnownBytes.{extended-append, extended-nil, are_known-extended}
 
@@ -14,16 +14,16 @@ spelled-append f (Mark m ∷ a) b =
     ∙ sym (append_assoc (f m) (spelled f a) (spelled f b))
 
 -- bytes are spelled as themselves
-pub spelled-bytes : (f : Spelling) (bs : List ℕ) → spelled f (bytes bs) ≡ bs
-unfolding bytes
-spelled-bytes f [] = refl
-spelled-bytes f (b ∷ bs) = ap (λ (l : List ℕ). b ∷ l) (spelled-bytes f bs)
+pub spelled-byte_stream : (f : Spelling) (bs : List ℕ) → spelled f (byte_stream bs) ≡ bs
+unfolding byte_stream
+spelled-byte_stream f [] = refl
+spelled-byte_stream f (b ∷ bs) = ap (λ (l : List ℕ). b ∷ l) (spelled-byte_stream f bs)
 
 -- two texts as one stream
-pub bytes-append : (a b : List ℕ) → bytes (a ++ b) ≡ bytes a ++ bytes b
-unfolding bytes
-bytes-append [] b = refl
-bytes-append (x ∷ a) b = ap (λ (l : Stream). Byte x ∷ l) (bytes-append a b)
+pub byte_stream-append : (a b : List ℕ) → byte_stream (a ++ b) ≡ byte_stream a ++ byte_stream b
+unfolding byte_stream
+byte_stream-append [] b = refl
+byte_stream-append (x ∷ a) b = ap (λ (l : Stream). Byte x ∷ l) (byte_stream-append a b)
 
 -- a stream was written, and then another
 pub with_written-append : (s : Sink) (a b : Stream)

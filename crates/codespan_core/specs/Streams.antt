@@ -27,8 +27,8 @@ abbrev pub Stream : Type 0
 Stream = List Item
 
 -- a text as a stream
-unfoldable pub bytes : List ℕ → Stream
-bytes bs = map Byte bs
+unfoldable pub byte_stream : List ℕ → Stream
+byte_stream bs = map Byte bs
 
 -- one style mark as a stream
 unfoldable pub style_mark : StyleMark → Stream
@@ -36,19 +36,19 @@ style_mark m = Mark m ∷ []
 
 -- that many spaces
 unfoldable pub spaces : ℕ → Stream
-spaces n = bytes (replicate n 32)
+spaces n = byte_stream (replicate n 32)
 
 -- one space
 abbrev pub space : Stream
-space = bytes (32 ∷ [])
+space = byte_stream (32 ∷ [])
 
 -- the end of a row
 abbrev pub newline : Stream
-newline = bytes (10 ∷ [])
+newline = byte_stream (10 ∷ [])
 
 -- one character, by its code
 abbrev pub glyph : ℕ → Stream
-glyph c = bytes (encode_utf8 c)
+glyph c = byte_stream (encode_utf8 c)
 
 -- that many of one character
 unfoldable pub repeated : ℕ → ℕ → Stream

@@ -6,7 +6,7 @@ use Rattle.codespan_base.specs.declared.diagnostic.Severity.{Severity}
 use Rattle.codespan_base.specs.declared.diagnostic.LabelStyle.{LabelStyle}
 use Rattle.codespan_base.specs.declared.term.config.chars.Chars.{Chars}
 use Rattle.codespan_base.specs.Labels.{LabelModel, LaneMark, MultiLabel, Top, Left, Bottom}
-use Rattle.codespan_base.specs.Streams.{Stream, StyleMark, Reset, LabelStyleMark, SourceBorder, NoteBullet, style_mark, bytes, glyph, repeated, space}
+use Rattle.codespan_base.specs.Streams.{Stream, StyleMark, Reset, LabelStyleMark, SourceBorder, NoteBullet, style_mark, byte_stream, glyph, repeated, space}
 use Rattle.codespan_picture.specs.RowLaws.{row_length, character_count, CharactersAreFree}
 use Rattle.codespan_base.specs.SnippetStarts.{start_text}
 use Rattle.codespan_picture.specs.declared.char_metrics.Metrics.{Metrics}
@@ -15,7 +15,7 @@ use Rattle.codespan_picture.specs.Lanes.{label_glyph}
 use Rattle.codespan_picture.specs.Rows.{RowContext, Locus, Lanes, Line, Row, HeaderRow, SnippetStartRow, EmptyRow, BreakRow, SourceRow, CaretRow, PointerRow, HangingRow, UnderlineRow, FirstNoteRow, LaterNoteRow, FinalRow, hanging_labels, trailing_label}
 use Rattle.codespan_picture.specs.RowParts.{outer_gutter, outer_gutter_number, border_left, border_left_break, style_change, styled, lanes_in, locus, line_metrics, line_metrics_to_end, inner_gutter, colored_text, caret_glyphs, carets, trailing_message, label_message, starts_in, max_label_start, spaces_up_to, pointer_style, pointer_at, pointers, metrics_before, underline, underline_message}
 use Rattle.codespan_picture.specs.RowStreams.{stream_of, snippet_start_row, empty_row, break_row, source_row, row_start, caret_row, pointer_row, hanging_row, underline_row, first_note_row}
-use Rattle.codespan_picture.proofs.Texts.{row_length-append, row_length-glyph, row_length-repeated, text_of-bytes}
+use Rattle.codespan_picture.proofs.Texts.{row_length-append, row_length-glyph, row_length-repeated, text_of-byte_stream}
 use Rattle.codespan_laws.proofs.LaneWidths.{row_length-lanes_in, row_length-label_glyph}
 
 -- two streams have equally many characters
@@ -43,11 +43,11 @@ flat_as_long f g e (x ∷ xs) =
 
 -- ---- single characters
 
-texts : (a b : List ℕ) → character_count a ≡ character_count b → AreAsLong (bytes a) (bytes b)
+texts : (a b : List ℕ) → character_count a ≡ character_count b → AreAsLong (byte_stream a) (byte_stream b)
 texts a b e =
     record {
       same =
-          ap character_count (text_of-bytes a) ∙ e ∙ sym (ap character_count (text_of-bytes b));
+          ap character_count (text_of-byte_stream a) ∙ e ∙ sym (ap character_count (text_of-byte_stream b));
     }
 
 glyphs : (c d : ℕ) → AreAsLong (glyph c) (glyph d)
@@ -218,7 +218,7 @@ module _ (context : RowContext) (chars : Chars) where
       (lanes_as_long _ _ _ _ line.lanes)))
       (underline_as_long m.style (line_metrics context line) m.multi_label))
   rows_as_long e (FirstNoteRow note_line) =
-      same_before _ _ (bytes note_line) (same_before _ _ space (same_before _ _ (style_mark Reset)
+      same_before _ _ (byte_stream note_line) (same_before _ _ space (same_before _ _ (style_mark Reset)
       (same_after (outer_gutter context.padding ++ style_mark NoteBullet) (glyph chars.note_bullet)
       (glyph context.chars.note_bullet) (glyphs chars.note_bullet context.chars.note_bullet))))
   rows_as_long e (LaterNoteRow note_line) = as_long _

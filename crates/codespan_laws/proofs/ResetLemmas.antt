@@ -6,7 +6,7 @@ use Rattle.codespan_base.specs.declared.diagnostic.LabelStyle.{LabelStyle}
 use Rattle.codespan_base.specs.declared.diagnostic.LabelStyle.TheVariants.{Primary, Secondary}
 use Rattle.codespan_base.specs.declared.term.config.chars.Chars.{Chars}
 use Rattle.codespan_base.specs.Labels.{LaneMark, MultiLabel}
-use Rattle.codespan_base.specs.Streams.{Stream, StyleMark, Byte, Mark, Slot, Reset, LabelStyleMark, bytes, style_mark, spaces, repeated, glyph}
+use Rattle.codespan_base.specs.Streams.{Stream, StyleMark, Byte, Mark, Slot, Reset, LabelStyleMark, byte_stream, style_mark, spaces, repeated, glyph}
 use Rattle.codespan_picture.specs.declared.char_metrics.Metrics.{Metrics}
 use Rattle.codespan_picture.specs.declared.lane_shapes.Shape.{Shape}
 use Rattle.codespan_picture.specs.declared.lane_shapes.Shape.TheVariants.{Space, Bar, TopCorner, BottomCorner}
@@ -37,21 +37,21 @@ unfolding style_mark
 closes-reset s = record { closed = ends_reset-append true s (Mark Reset ∷ []) }
 
 -- text changes nothing
-pub ends_reset-bytes : (closed : Bool) (bs : List ℕ) → ends_reset closed (bytes bs) ≡ closed
-unfolding bytes
-ends_reset-bytes closed [] = refl
-ends_reset-bytes closed (b ∷ bs) = ends_reset-bytes closed bs
+pub ends_reset-byte_stream : (closed : Bool) (bs : List ℕ) → ends_reset closed (byte_stream bs) ≡ closed
+unfolding byte_stream
+ends_reset-byte_stream closed [] = refl
+ends_reset-byte_stream closed (b ∷ bs) = ends_reset-byte_stream closed bs
 
 pub ends_reset-spaces : (closed : Bool) (n : ℕ) → ends_reset closed (spaces n) ≡ closed
 unfolding spaces
-ends_reset-spaces closed n = ends_reset-bytes closed _
+ends_reset-spaces closed n = ends_reset-byte_stream closed _
 
 pub ends_reset-repeated : (closed : Bool) (n c : ℕ) → ends_reset closed (repeated n c) ≡ closed
 unfolding repeated
 ends_reset-repeated closed zero c = refl
 ends_reset-repeated closed (suc n) c =
     ends_reset-append closed (glyph c) (repeat n (glyph c))
-    ∙ ap (λ o. ends_reset o (repeat n (glyph c))) (ends_reset-bytes closed _)
+    ∙ ap (λ o. ends_reset o (repeat n (glyph c))) (ends_reset-byte_stream closed _)
     ∙ ends_reset-repeated closed n c
 
 -- a stream between a style mark and a reset closes

@@ -6,7 +6,7 @@ use Rattle.codespan_base.specs.declared.diagnostic.Severity.{Severity}
 use Rattle.codespan_base.specs.declared.diagnostic.LabelStyle.{LabelStyle}
 use Rattle.codespan_base.specs.declared.term.config.chars.Chars.{Chars}
 use Rattle.codespan_base.specs.Labels.{LabelModel}
-use Rattle.codespan_base.specs.Streams.{Stream, LabelStyleMark, bytes, spaces, glyph, space}
+use Rattle.codespan_base.specs.Streams.{Stream, LabelStyleMark, byte_stream, spaces, glyph, space}
 use Rattle.codespan_picture.specs.declared.char_metrics.Metrics.{Metrics}
 use Rattle.codespan_picture.specs.Carets.{style_under, max_label_end}
 use Rattle.codespan_picture.specs.Lanes.{label_glyph}
@@ -14,12 +14,12 @@ use Rattle.codespan_picture.specs.Rows.{Locus, RowContext, Line, Row, HeaderRow,
 use Rattle.codespan_picture.specs.RowParts.{inner_gutter, source_glyph, source_style, colored_text, caret_glyphs, carets, trailing_message, label_message, spaces_up_to, pointer_at, pointer_style, pointers, starts_in, max_label_start, outer_gutter, outer_gutter_number, border_left, border_left_break, locus, line_metrics}
 use Rattle.codespan_picture.specs.RowStreams.{stream_of, header_row, snippet_start_row, empty_row, break_row, source_row, row_start, caret_row, pointer_row, hanging_row, underline_row, first_note_row, later_note_row}
 use Rattle.codespan_picture.specs.RowLaws.{ends_reset, RowsEndReset}
-use Rattle.codespan_laws.proofs.ResetLemmas.{Closes, closes-append, closes-reset, ends_reset-bytes, ends_reset-spaces, ends_reset-repeated, closes-in_style, closes-label_glyph, closes-flat_map, closes-lanes_in, ends_reset-styled}
+use Rattle.codespan_laws.proofs.ResetLemmas.{Closes, closes-append, closes-reset, ends_reset-byte_stream, ends_reset-spaces, ends_reset-repeated, closes-in_style, closes-label_glyph, closes-flat_map, closes-lanes_in, ends_reset-styled}
 
 -- ---- rows
 
-closes-bytes : (bs : List ℕ) → Closes (bytes bs)
-closes-bytes bs = record { closed = ends_reset-bytes true bs }
+closes-byte_stream : (bs : List ℕ) → Closes (byte_stream bs)
+closes-byte_stream bs = record { closed = ends_reset-byte_stream true bs }
 
 ends_reset-source_glyph : (closed : Bool) (c : Metrics)
     → ends_reset closed (source_glyph c) ≡ closed
@@ -29,7 +29,7 @@ ends_reset-source_glyph closed c = by_test (c.ch == 9)
     by_test : (b : Bool)
         → ends_reset closed (if b then spaces c.unicode_width else glyph c.ch) ≡ closed
     by_test true = ends_reset-spaces closed c.unicode_width
-    by_test false = ends_reset-bytes closed _
+    by_test false = ends_reset-byte_stream closed _
 
 ends_reset-caret_glyphs : (chars : Chars) (end : ℕ) (style : Option LabelStyle) (closed : Bool)
     (c : Metrics)
@@ -76,7 +76,7 @@ closes-trailing_message : (severity : Severity) (x : Option LabelModel)
 unfolding trailing_message
 closes-trailing_message severity None = record { closed = refl }
 closes-trailing_message severity (Some x) =
-    closes-append space _ (closes-bytes _) (closes-label_message severity x.style x.message)
+    closes-append space _ (closes-byte_stream _) (closes-label_message severity x.style x.message)
 
 closes-spaces_up_to : (byte_index : ℕ) (c : Metrics) (n : ℕ) → Closes (spaces_up_to byte_index c n)
 unfolding spaces_up_to
@@ -116,7 +116,7 @@ closes-outer_gutter n = record { closed = ends_reset-spaces true (n + 1) }
 
 closes-outer_gutter_number : (padding n : ℕ) → Closes (outer_gutter_number padding n)
 unfolding outer_gutter_number
-closes-outer_gutter_number padding n = closes-append _ space (closes-reset _) (closes-bytes _)
+closes-outer_gutter_number padding n = closes-append _ space (closes-reset _) (closes-byte_stream _)
 
 closes-border_left : (chars : Chars) → Closes (border_left chars)
 unfolding border_left
@@ -131,9 +131,9 @@ unfolding locus
 closes-locus p =
     closes-append _ _
     (closes-append _ _
-    (closes-append _ _ (closes-append _ _ (closes-bytes _) (closes-bytes _)) (closes-bytes _))
-    (closes-bytes _))
-    (closes-bytes _)
+    (closes-append _ _ (closes-append _ _ (closes-byte_stream _) (closes-byte_stream _)) (closes-byte_stream _))
+    (closes-byte_stream _))
+    (closes-byte_stream _)
 
 closes-row_start : (context : RowContext) (line : Line) → Closes (row_start context line)
 unfolding row_start inner_gutter
@@ -141,14 +141,14 @@ closes-row_start context line =
     closes-append _ space
     (closes-append _ _ (closes-append _ _ (closes-outer_gutter _) (closes-border_left _))
     (closes-lanes_in context _ _ line.lanes))
-    (closes-bytes _)
+    (closes-byte_stream _)
 
 closes-row : (context : RowContext) (row : Row) → Closes (stream_of context row)
 unfolding header_row snippet_start_row empty_row break_row source_row caret_row pointer_row
     hanging_row underline_row first_note_row later_note_row inner_gutter
 closes-row context (HeaderRow at header_text) = closes-reset _
 closes-row context (SnippetStartRow at) =
-    closes-append _ (locus at) (closes-append _ space (closes-reset _) (closes-bytes _))
+    closes-append _ (locus at) (closes-append _ space (closes-reset _) (closes-byte_stream _))
     (closes-locus at)
 closes-row context (EmptyRow lanes) =
     closes-append _ _ (closes-append _ _ (closes-outer_gutter _) (closes-border_left _))
@@ -162,7 +162,7 @@ closes-row context (SourceRow line) =
     (closes-append _ _
     (closes-append _ _ (closes-outer_gutter_number _ _) (closes-border_left _))
     (closes-lanes_in context _ _ line.lanes))
-    (closes-bytes _))
+    (closes-byte_stream _))
     (closes-colored_text context line)
 closes-row context (CaretRow line) =
     closes-append _ _
@@ -176,13 +176,13 @@ closes-row context (HangingRow line x) =
     (closes-label_message context.severity x.style x.message)
 closes-row context (UnderlineRow line m) = closes-reset _
 closes-row context (FirstNoteRow note_line) =
-    closes-append _ (bytes note_line) (closes-append _ space (closes-reset _) (closes-bytes _))
-    (closes-bytes note_line)
+    closes-append _ (byte_stream note_line) (closes-append _ space (closes-reset _) (closes-byte_stream _))
+    (closes-byte_stream note_line)
 closes-row context (LaterNoteRow note_line) =
-    closes-append _ (bytes note_line)
-    (closes-append _ space (closes-append _ space (closes-outer_gutter _) (closes-bytes _))
-    (closes-bytes _))
-    (closes-bytes note_line)
+    closes-append _ (byte_stream note_line)
+    (closes-append _ space (closes-append _ space (closes-outer_gutter _) (closes-byte_stream _))
+    (closes-byte_stream _))
+    (closes-byte_stream note_line)
 closes-row context FinalRow = record { closed = refl }
 
 pub rows_end_reset : RowsEndReset

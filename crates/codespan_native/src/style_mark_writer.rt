@@ -2,7 +2,7 @@
 
 ghost use Rattle.std.specs.Prelude.{◌≡◌, refl};
 ghost use Rattle.codespan_base.specs.Diagnostics.{severity_rank};
-ghost use Rattle.codespan_base.specs.Streams.{bytes};
+ghost use Rattle.codespan_base.specs.Streams.{byte_stream};
 ghost use Rattle.codespan_base.specs.WriterLaw.{Writes};
 ghost use Rattle.codespan_structs.specs.StyleMarkBytes.{style_mark_bytes};
 ghost use Rattle.codespan_native.specs.StyleMarkWriters.{style_mark_sink};
@@ -75,7 +75,7 @@ impl<W: Write> StyleMarkWriter<W> {
     /// Writes the style mark of this number, and sets `failed` where that fails.
     fn write_style_mark(&mut self, number: u8) -> io::Result<()>
         ensures { Writes (style_mark_sink self.old.failed (W.contents self.old.inner))
-            (bytes (style_mark_bytes number)) result
+            (byte_stream (style_mark_bytes number)) result
             (style_mark_sink self.new.failed (W.contents self.new.inner)) }
     {
         forward_all(

@@ -5,7 +5,7 @@ use Rattle.codespan_core.specs.declared.diagnostic.Severity.{Severity}
 use Rattle.codespan_core.specs.declared.diagnostic.LabelStyle.{LabelStyle}
 use Rattle.codespan_core.specs.declared.term.config.chars.Chars.{Chars}
 use Rattle.codespan_core.specs.Labels.{LabelModel}
-use Rattle.codespan_core.specs.Streams.{Stream, spaces, bytes, repeated}
+use Rattle.codespan_core.specs.Streams.{Stream, spaces, byte_stream, repeated}
 use Rattle.codespan_picture.specs.declared.char_metrics.Metrics.{Metrics}
 use Rattle.codespan_picture.specs.Carets.{style_under, caret_for, max_label_end}
 use Rattle.codespan_picture.specs.Rows.{RowContext}
@@ -31,7 +31,7 @@ carets_left context labels previous run cs =
 -- no run has begun
 pub carets-start : (context : RowContext) (labels : List LabelModel) (cs : List Metrics)
     → carets_left context labels None 0 cs ≡ carets context labels cs
-unfolding carets caret_run spaces bytes
+unfolding carets caret_run spaces byte_stream
 carets-start context labels cs = refl
 
 -- ---- a run
@@ -52,7 +52,7 @@ spaces-count chars end c run false e =
 
 -- a run without a cell
 none-run : (chars : Chars) (style : Option LabelStyle) → caret_run chars style 0 ≡ []
-unfolding caret_run spaces repeated bytes
+unfolding caret_run spaces repeated byte_stream
 none-run chars None = refl
 none-run chars (Some style) = refl
 

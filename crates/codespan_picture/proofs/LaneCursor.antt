@@ -7,7 +7,7 @@ use Rattle.std.proofs.lemmas.Bool.{ne_eqb, eq-eqb, eqb-true, le-leb, false≢tru
 use Rattle.std.proofs.lemmas.Bool.Decides.{nat_tests}
 use Rattle.std.proofs.lemmas.Grind.{common_steps}
 use Rattle.std.proofs.lemmas.List.{append_assoc}
-use Rattle.codespan_core.specs.Streams.{Stream, spaces, bytes}
+use Rattle.codespan_core.specs.Streams.{Stream, spaces, byte_stream}
 use Rattle.codespan_picture.specs.declared.rows.lanes.LaneRow.{LaneRow as RustLaneRow}
 use Rattle.codespan_picture.specs.Arguments.{LaneMarkTuple, lane_mark_view, lanes_of, lanes_in_order, ascend_from}
 use Rattle.codespan_picture.specs.Private.LineViews.{row_lane_view, row_lanes_view, lane_row_view}
@@ -193,7 +193,7 @@ left-all (m ∷ ms) lane none = by (eqb m.0 lane) none
 
 -- no empty lanes at the start
 none-first : (s : Stream) → s ≡ spaces 0 ++ s
-unfolding spaces bytes
+unfolding spaces byte_stream
 none-first s = refl
 
 -- the cursor goes past empty lanes

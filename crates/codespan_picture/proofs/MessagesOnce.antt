@@ -15,7 +15,7 @@ use Rattle.std.specs.Cmp.{IsEquivalence}
 use Rattle.std.specs.Option.{option_map_or}
 use Rattle.std.specs.List.{AllZip}
 use Rattle.std.proofs.lemmas.List.{length-map}
-use Rattle.codespan_core.specs.Streams.{Stream, Byte, Slot, bytes, text_of, with_messages}
+use Rattle.codespan_core.specs.Streams.{Stream, Byte, Slot, byte_stream, text_of, with_messages}
 use Rattle.codespan_core.specs.Labels.{LabelModel, has_message, is_empty_stream, last_line, first_seen}
 use Rattle.codespan_picture.specs.Lines.{drawn_lines}
 use Rattle.codespan_picture.specs.Rows.{HeaderText, Locus, RowContext}
@@ -25,7 +25,7 @@ use Rattle.codespan_picture.specs.OutputStreams.{AreLoci, IsLocus, header_text_o
 use Rattle.codespan_picture.specs.Padding.{padding_of}
 use Rattle.codespan_picture.specs.MessageLaws.{slotted, all_slotted, message_text, slotted_output, MessagesAppearOnce}
 use Rattle.codespan_picture.proofs.Loci.{zip_length}
-use Rattle.codespan_picture.proofs.Texts.{text_of-bytes}
+use Rattle.codespan_picture.proofs.Texts.{text_of-byte_stream}
 use Rattle.codespan_picture.proofs.SlotLemmas.{slots, slots-rows}
 use Rattle.codespan_picture.proofs.LineSlots.{sum-zero, sum-map, sum-filter, label_slots, on_line}
 use Rattle.codespan_picture.proofs.FileSlots.{file_slots, lines_sum, rich_sum}
@@ -100,20 +100,20 @@ none_here {Id = Id} k n (suc j) (y ∷ ys) at h =
 abbrev pub IsPlain : {Id : Type 0} → List (InFile Id) → Type 0
 IsPlain {Id} xs =
     (j : ℕ) (x : InFile Id) → slice_get xs j ≡ Some x
-    → x.label.message ≡ bytes (text_of x.label.message)
+    → x.label.message ≡ byte_stream (text_of x.label.message)
 
 plain : {Id : Type 0} (d : Diagnostic Id) → IsPlain (labels_of d)
 plain {Id = Id} d j x h =
     by_label (slice_get d.labels.items j) (sym (slice_get-map label_of d.labels.items j) ∙ h)
   where
     by_label : (o : Option (Label Id)) → option_map label_of o ≡ Some x
-        → x.label.message ≡ bytes (text_of x.label.message)
+        → x.label.message ≡ byte_stream (text_of x.label.message)
     by_label None e = cc
     by_label (Some y) e =
         let is : label_of y ≡ x = cc in
         sym (ap (λ (z : InFile Id). z.label.message) is)
-        ∙ ap bytes
-        (sym (text_of-bytes (string_bytes y.message))
+        ∙ ap byte_stream
+        (sym (text_of-byte_stream (string_bytes y.message))
         ∙ ap (λ (z : InFile Id). text_of z.label.message) is)
 
 -- a text, or another instead of an empty one
@@ -132,11 +132,11 @@ full xs k = by_text (message_text xs k)
     by_text [] = refl
     by_text (b ∷ bs) = refl
 
-no_text : (x : LabelModel) → x.message ≡ bytes (text_of x.message) → text_of x.message ≡ []
+no_text : (x : LabelModel) → x.message ≡ byte_stream (text_of x.message) → text_of x.message ≡ []
     → ◌≡◌ {A = ℕ} (if has_message x then 1 else 0) 0
-unfolding bytes
+unfolding byte_stream
 no_text x is none =
-    let e : x.message ≡ [] = is ∙ ap bytes none in
+    let e : x.message ≡ [] = is ∙ ap byte_stream none in
     ap {B = ℕ} (λ s. if not (is_empty_stream s) then 1 else 0) e
 
 unnamed : {Id : Type 0} (xs : List (InFile Id)) → IsPlain xs → (k : ℕ) → message_text xs k ≡ []
@@ -149,10 +149,10 @@ unnamed {Id = Id} xs plain k none = by_label (slice_get xs k) refl none
     by_label None at e = none_here k 0 k xs (omega arith) at
     by_label (Some x) at e = one_here k 0 k xs x (omega arith) at ∙ no_text x.label (plain k x at) e
 
-refill_one : (m : ℕ → List ℕ) (k : ℕ) (t : List ℕ) (message : Stream) → message ≡ bytes t
+refill_one : (m : ℕ → List ℕ) (k : ℕ) (t : List ℕ) (message : Stream) → message ≡ byte_stream t
     → m k ≡ nonempty t
     → fill m (if is_empty_stream message then [] else Slot k ∷ []) ≡ message
-unfolding fill bytes
+unfolding fill byte_stream
 refill_one m k [] message is at =
     ap (λ (s : Stream). with_messages m (if is_empty_stream s then [] else Slot k ∷ [])) is ∙ sym is
 refill_one m k (b ∷ bs) message is at =

@@ -28,7 +28,7 @@ use Rattle.codespan_picture.specs.TextLaws.{AreCharacters, IsText, OutputIsText,
 use Rattle.codespan_picture.proofs.LaneLineLemmas.{each_all, each_map}
 use Rattle.codespan_picture.proofs.Rightmost.{Around, others, around_trails, around_rightmost, hanging_of, around_is, hanging_is}
 use Rattle.codespan_picture.proofs.Loci.{each_start, stated_texts}
-use Rattle.codespan_picture.proofs.StreamTexts.{text-bytes}
+use Rattle.codespan_picture.proofs.StreamTexts.{text-byte_stream}
 use Rattle.codespan_picture.proofs.LaneTexts.{IsTextLine, IsTextMultiLabel, IsTextRow}
 use Rattle.codespan_picture.proofs.RowTexts.{text-rows}
 use Rattle.codespan_picture.proofs.ListElements.{all-append, all-filter}
@@ -207,7 +207,7 @@ module _ {Id : Type 0} (files : FileDatabase Id) (d : Diagnostic Id) (lawful : (
       → AllByRecursion (λ (x : InFile Id). HasTextMessage x.label) (map label_of ls)
   text_message-labels ls = each_map (λ (x : InFile Id). HasTextMessage x.label) label_of ls
       (each_all (λ (x : Label Id). HasTextMessage (label_of x).label) ls
-      (λ x. text-bytes (string_bytes x.message) (IsUtf8-string_bytes x.message)))
+      (λ x. text-byte_stream (string_bytes x.message) (IsUtf8-string_bytes x.message)))
 
   text-file : (id : Id) → IsTextFile (labeled_file_model files.same files.file (labels_of d) id)
   text-file id = record {

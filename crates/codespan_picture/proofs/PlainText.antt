@@ -11,8 +11,8 @@ use Rattle.std.proofs.lemmas.List.{drop-drop, take-append-drop}
 use Rattle.std.proofs.lemmas.Str.{encodes-chars, length-encode, len_utf8_bounds}
 use lib.Utf8.{encodes}
 use Rattle.codespan_core.specs.Labels.{LabelModel, LaneMark, is_primary, is_primary_style}
-use Rattle.codespan_core.specs.Streams.{bytes, glyph}
-use Rattle.codespan_core.proofs.Writes.{bytes-append}
+use Rattle.codespan_core.specs.Streams.{byte_stream, glyph}
+use Rattle.codespan_core.proofs.Writes.{byte_stream-append}
 use Rattle.codespan_picture.specs.declared.char_metrics.Metrics.{Metrics}
 use Rattle.codespan_picture.specs.Carets.{covers, max_label_end}
 use Rattle.codespan_picture.specs.Types.{LabelStyle, Primary}
@@ -82,8 +82,8 @@ as_is c h = rw (ne_eqb c.ch 9 h) refl
 plain-left : (context : RowContext) (line : Line) (tab byte_index column : ℕ) (cs : List ℕ)
     → ((c : Metrics) → source_style line c ≡ None) → list_any (λ b. b == 9) (encodes cs) ≡ false
     → styled context.severity (source_style line) source_glyph None
-    (metrics_then (λ _ _. []) tab byte_index column cs) ≡ bytes (encodes cs)
-unfolding style_change bytes
+    (metrics_then (λ _ _. []) tab byte_index column cs) ≡ byte_stream (encodes cs)
+unfolding style_change byte_stream
 plain-left context line tab byte_index column [] none e = refl
 plain-left context line tab byte_index column (c ∷ cs) none e =
     let here : Metrics = record {
@@ -96,19 +96,19 @@ plain-left context line tab byte_index column (c ∷ cs) none e =
     } in
     let parts = no-tab c cs e in
     rw (none here, as_is here parts.0, plain-left context line tab (byte_index + len_utf8 c) (column + width_at tab column c) cs none parts.1)
-    (sym (bytes-append (encode_utf8 c) (encodes cs)))
+    (sym (byte_stream-append (encode_utf8 c) (encodes cs)))
 
 -- a text without a tab, in a line without a primary label
 colored-plain : (context : RowContext) (line : Line) → list_any is_primary line.labels ≡ false
     → list_any (λ (m : LaneMark). is_primary_style m.style) line.lanes.lane_marks ≡ false
     → list_any (λ b. b == 9) line.text ≡ false → IsUtf8 line.text
-    → colored_text context line ≡ bytes line.text
+    → colored_text context line ≡ byte_stream line.text
 unfolding colored_text
 colored-plain context line labels lane_marks tab u =
     let is = encodes-chars line.text u in
     plain-left context line context.tab_width 0 0 (chars line.text)
     (λ c. no-style line c labels lane_marks) (ap (list_any (λ b. b == 9)) is ∙ tab)
-    ∙ ap bytes is
+    ∙ ap byte_stream is
 
 -- a test that failed
 pub not_true : (b : Bool) → not b ≡ true → b ≡ false
@@ -121,7 +121,7 @@ pub colored-seen : (context : RowContext) (line : Line) (labels lane_marks tab :
     → lane_marks ≡ list_any (λ (m : LaneMark). is_primary_style m.style) line.lanes.lane_marks
     → tab ≡ list_any (λ b. b == 9) line.text → IsUtf8 line.text
     → labels ≡ false → not lane_marks ≡ true → not tab ≡ true
-    → colored_text context line ≡ bytes line.text
+    → colored_text context line ≡ byte_stream line.text
 colored-seen context line labels lane_marks tab l m t u no_label no_lane_mark no_tab =
     colored-plain context line (sym l ∙ no_label) (sym m ∙ not_true lane_marks no_lane_mark)
     (sym t ∙ not_true tab no_tab) u
@@ -171,8 +171,8 @@ plain-past : (context : RowContext) (line : Line) (tab byte_index column from to
     → list_any (λ b. b == 9) (encodes cs) ≡ false
     → styled context.severity (source_style line) source_glyph previous
     (metrics_then (λ _ _. []) tab byte_index column cs) ≡ style_change context.severity previous None
-    ++ bytes (encodes cs)
-unfolding bytes
+    ++ byte_stream (encodes cs)
+unfolding byte_stream
 plain-past context line tab byte_index column from top previous [] low high none e =
     sym (append-nil (style_change context.severity previous None))
 plain-past context line tab byte_index column from top previous (c ∷ cs) low high none e =
@@ -192,9 +192,9 @@ plain-past context line tab byte_index column from top previous (c ∷ cs) low h
     plain-past context line tab (byte_index + len_utf8 c) (column + width_at tab column c) from
     top None cs (omega arith) (omega (arith, high, size, length-encode c)) none parts.1 in
     rw (bare, as_is here parts.0, rest, style_change-same context.severity None)
-    (append_assoc (style_change context.severity previous None) (glyph c) (bytes (encodes cs))
+    (append_assoc (style_change context.severity previous None) (glyph c) (byte_stream (encodes cs))
     ∙ ap (λ l. style_change context.severity previous None ++ l)
-    (sym (bytes-append (encode_utf8 c) (encodes cs))))
+    (sym (byte_stream-append (encode_utf8 c) (encodes cs))))
 
 -- what is left of a text after a run
 pub text-past : (context : RowContext) (line : Line) (previous : Option LabelStyle) (run : List ℕ)
@@ -204,7 +204,7 @@ pub text-past : (context : RowContext) (line : Line) (previous : Option LabelSty
     → ((c : Metrics) → from ≤ c.byte_index → c.byte_index < length line.text → 1 ≤ c.bytes
     → source_style line c ≡ None)
     → list_any (λ b. b == 9) (drop from line.text) ≡ false
-    → (bytes run ++ style_change context.severity previous None) ++ bytes
+    → (byte_stream run ++ style_change context.severity previous None) ++ byte_stream
     (drop byte_index line.text) ≡ text_rest context line previous run left
 text-past context line previous run from byte_index left over low none tab =
     let rest =
@@ -213,30 +213,30 @@ text-past context line previous run from byte_index left over low none tab =
     (omega (arith, ap length over.text_left, length-drop byte_index line.text, over.within)) none
     (ap (list_any (λ b. b == 9)) (sym over.text_left)
     ∙ no-tab-later from byte_index line.text low tab) in
-    append_assoc (bytes run) (style_change context.severity previous None)
-    (bytes (drop byte_index line.text))
-    ∙ ap (λ l. bytes run ++ (style_change context.severity previous None ++ bytes l)) over.text_left
-    ∙ ap (λ l. bytes run ++ l) (sym rest)
-    ∙ ap (λ cs. bytes run ++ styled context.severity (source_style line) source_glyph previous cs)
+    append_assoc (byte_stream run) (style_change context.severity previous None)
+    (byte_stream (drop byte_index line.text))
+    ∙ ap (λ l. byte_stream run ++ (style_change context.severity previous None ++ byte_stream l)) over.text_left
+    ∙ ap (λ l. byte_stream run ++ l) (sym rest)
+    ∙ ap (λ cs. byte_stream run ++ styled context.severity (source_style line) source_glyph previous cs)
     (sym over.char_metrics)
 
 -- nothing is left
 pub text-over : (context : RowContext) (line : Line) (previous : Option LabelStyle) (run : List ℕ)
     (byte_index : ℕ) (left : List Metrics)
     → IsOver context.tab_width line.text byte_index left → left ≡ []
-    → (bytes run ++ style_change context.severity previous None) ++ bytes
+    → (byte_stream run ++ style_change context.severity previous None) ++ byte_stream
     (drop byte_index line.text) ≡ text_rest context line previous run left
-unfolding bytes
+unfolding byte_stream
 text-over context line previous run byte_index left over ends =
     by_codes over.codes (sym over.char_metrics ∙ ends) over.text_left
   where
     by_codes : (codes : List ℕ)
         → metrics_then (λ _ _. []) context.tab_width byte_index over.column codes ≡ []
         → drop byte_index line.text ≡ encodes codes
-        → (bytes run ++ style_change context.severity previous None) ++ bytes
+        → (byte_stream run ++ style_change context.severity previous None) ++ byte_stream
         (drop byte_index line.text) ≡ text_rest context line previous run left
     by_codes [] none rest =
-        rw rest (append-nil (bytes run ++ style_change context.severity previous None))
+        rw rest (append-nil (byte_stream run ++ style_change context.severity previous None))
         ∙ text-end context line previous run left ends
     by_codes (c ∷ cs) none rest = absurd (omega (arith, ap length none))
 

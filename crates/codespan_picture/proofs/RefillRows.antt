@@ -122,7 +122,7 @@ module _ (m : ℕ → List ℕ) (full : (k : ℕ) → is_empty_stream (map Byte 
   one-style_mark a = without_slots (style_mark a) (λ k. slot.slots-style_mark k a) refl
 
   one-space : fill m space ≡ space
-  one-space = without_slots space (λ k. slot.slots-bytes k (32 ∷ [])) refl
+  one-space = without_slots space (λ k. slot.slots-byte_stream k (32 ∷ [])) refl
 
   message-refilled : (severity : Severity) (style : LabelStyle) (message : Stream)
       → fill m (label_message severity style message) ≡ label_message severity style
@@ -161,14 +161,14 @@ module _ (m : ℕ → List ℕ) (full : (k : ℕ) → is_empty_stream (map Byte 
       (repeated (width_of (filter (λ (c : Metrics). nat_le c.byte_index start) cs))
       chars.multi_top)
       (λ k. slot.slots-repeated k _ _) refl)
-      (without_slots (glyph _) (λ k. slot.slots-bytes k _) refl)
+      (without_slots (glyph _) (λ k. slot.slots-byte_stream k _) refl)
   underline-refilled chars style cs Left = without_slots [] (λ k. slot.slots-nil k) refl
   underline-refilled chars style cs (Bottom end message) =
       join _ _
       (join _ _
       (without_slots (repeated (width_of (metrics_before end cs)) chars.multi_bottom)
       (λ k. slot.slots-repeated k _ _) refl)
-      (without_slots (glyph (end_caret chars style)) (λ k. slot.slots-bytes k _) refl))
+      (without_slots (glyph (end_caret chars style)) (λ k. slot.slots-byte_stream k _) refl))
       (underline-message-refilled message)
 
   pub fill-row : (context : RowContext) (row : Row)
@@ -239,5 +239,5 @@ module _ (m : ℕ → List ℕ) (full : (k : ℕ) → is_empty_stream (map Byte 
   fill-rows context (row ∷ rows) =
       join _ _
       (join _ _ (fill-row context row)
-      (without_slots newline (λ k. slot.slots-bytes k (10 ∷ [])) refl))
+      (without_slots newline (λ k. slot.slots-byte_stream k (10 ∷ [])) refl))
       (fill-rows context rows)

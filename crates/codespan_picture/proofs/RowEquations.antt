@@ -5,8 +5,8 @@ use Rattle.std.proofs.lemmas.List.{replicate-append-replicate}
 use Rattle.codespan_core.specs.declared.diagnostic.LabelStyle.{LabelStyle}
 use Rattle.codespan_core.specs.declared.diagnostic.LabelStyle.TheVariants.{Primary, Secondary}
 use Rattle.codespan_core.specs.declared.diagnostic.Severity.{Severity}
-use Rattle.codespan_core.specs.Streams.{Stream, bytes, spaces, repeated, glyph, newline}
-use Rattle.codespan_core.proofs.Writes.{bytes-append}
+use Rattle.codespan_core.specs.Streams.{Stream, byte_stream, spaces, repeated, glyph, newline}
+use Rattle.codespan_core.proofs.Writes.{byte_stream-append}
 use Rattle.std.proofs.lemmas.Grind.{flat_map-append}
 use Rattle.codespan_core.proofs.Repeats.{repeat-add}
 use Rattle.codespan_picture.specs.declared.rows.lanes.LaneRow.TheVariants.{Source, EmptyOrBreak, SingleLabels}
@@ -48,7 +48,7 @@ pub ruleset lanes_are = (source_lanes_are, plain_lanes_are, below_lanes_are)
 
 -- a code that is not empty is in brackets
 pub bracketed-some : (code : List ℕ) → (length code == 0) ≡ false
-    → bracketed (Some code) ≡ bytes (codes "[") ++ bytes code ++ bytes (codes "]")
+    → bracketed (Some code) ≡ byte_stream (codes "[") ++ byte_stream code ++ byte_stream (codes "]")
 unfolding bracketed
 bracketed-some [] h = let clash : true ≡ false = h in cc
 bracketed-some (b ∷ bs) h = refl
@@ -59,8 +59,8 @@ bracketed-some (b ∷ bs) h = refl
 pub spaces-add : (k n : ℕ) → spaces (k + n) ≡ spaces k ++ spaces n
 unfolding spaces
 spaces-add k n =
-    ap bytes (sym (replicate-append-replicate k n 32))
-    ∙ bytes-append (replicate k 32) (replicate n 32)
+    ap byte_stream (sym (replicate-append-replicate k n 32))
+    ∙ byte_stream-append (replicate k 32) (replicate n 32)
 
 pub spaces-past : (k n : ℕ) → k ≤ n → spaces n ≡ spaces k ++ spaces (n - k)
 spaces-past k n h = let e : n ≡ k + (n - k) = omega arith in ap spaces e ∙ spaces-add k (n - k)

@@ -10,7 +10,7 @@ use Rattle.codespan_core.specs.declared.diagnostic.LabelStyle.{LabelStyle}
 use Rattle.codespan_core.specs.declared.diagnostic.Severity.{Severity}
 use Rattle.codespan_core.specs.SnippetStarts.{start_text}
 use Rattle.codespan_core.specs.Labels.{LabelModel, LaneMark, MultiLabel, Top, Left, Bottom}
-use Rattle.codespan_core.specs.Streams.{Stream, Header, HeaderMessage, NoteBullet, SourceBorder, LabelStyleMark, Reset, bytes, spaces, space, newline}
+use Rattle.codespan_core.specs.Streams.{Stream, Header, HeaderMessage, NoteBullet, SourceBorder, LabelStyleMark, Reset, byte_stream, spaces, space, newline}
 use Rattle.codespan_picture.specs.declared.char_metrics.Metrics.{Metrics}
 use Rattle.codespan_picture.specs.declared.lane_shapes.Shape.{Shape}
 use Rattle.codespan_picture.specs.Carets.{caret_for, max_label_end, style_under}
@@ -23,7 +23,7 @@ use Rattle.codespan_picture.specs.TextLaws.{IsText, AreCharacters}
 use Rattle.codespan_picture.proofs.LaneLineLemmas.{each_all}
 use Rattle.codespan_picture.proofs.Rightmost.{Around, around_trails, around_rightmost, trailing_of, around_is, trailing_is}
 use Rattle.codespan_picture.proofs.ListElements.{all-weaker}
-use Rattle.codespan_picture.proofs.StreamTexts.{text-none, text-both, followed, text-bytes, text-style_mark, text-glyph, text-space, text-newline, text-colon_space, text-open, text-close, text-spaces, text-repeated, text-each, text-severity, text-locus, text-outer_gutter, text-outer_gutter_number, text-border_left, text-border_left_break, text-styled, text-label_message}
+use Rattle.codespan_picture.proofs.StreamTexts.{text-none, text-both, followed, text-byte_stream, text-style_mark, text-glyph, text-space, text-newline, text-colon_space, text-open, text-close, text-spaces, text-repeated, text-each, text-severity, text-locus, text-outer_gutter, text-outer_gutter_number, text-border_left, text-border_left_break, text-styled, text-label_message}
 use Rattle.codespan_picture.proofs.LaneTexts.{text-label_glyph, text-lane_characters, scalar-caret_for, scalar-start_caret, scalar-end_caret, scalar-char_metrics, text-source_glyph, IsTextMultiLabel, IsTextRow}
 
 -- ---- rows
@@ -33,15 +33,15 @@ text-leading_locus : (at : Option Locus) → IfSome at (λ p. IsUtf8 p.name)
 unfolding leading_locus
 text-leading_locus None h = text-none
 text-leading_locus (Some p) h =
-    text-both (locus p) (bytes (codes ": ")) (text-locus p h) text-colon_space
+    text-both (locus p) (byte_stream (codes ": ")) (text-locus p h) text-colon_space
 
 text-bracketed : (code : Option (List ℕ)) → IfSome code IsUtf8 → IsText (bracketed code)
 unfolding bracketed
 text-bracketed None h = text-none
 text-bracketed (Some []) h = text-none
 text-bracketed (Some (c ∷ cs)) h =
-    text-both (bytes (codes "[") ++ bytes (c ∷ cs)) (bytes (codes "]"))
-    (text-both (bytes (codes "[")) (bytes (c ∷ cs)) text-open (text-bytes (c ∷ cs) h)) text-close
+    text-both (byte_stream (codes "[") ++ byte_stream (c ∷ cs)) (byte_stream (codes "]"))
+    (text-both (byte_stream (codes "[")) (byte_stream (c ∷ cs)) text-open (text-byte_stream (c ∷ cs) h)) text-close
 
 -- the trailing message is a text where the labels' messages are
 text-trailing_label : (severity : Severity) (labels : List LabelModel)
@@ -203,14 +203,14 @@ module _ (context : RowContext) (ok : AreCharacters context.chars) where
       (text-bracketed header_text.code h.1))
       (text-style_mark HeaderMessage))
       text-colon_space)
-      (text-bytes header_text.message h.2))
+      (text-byte_stream header_text.message h.2))
       (text-style_mark Reset)
   text-row (SnippetStartRow at) h =
       followed
       (followed
       (followed
       (followed (followed (text-outer_gutter context.padding) (text-style_mark SourceBorder))
-      (text-bytes (start_text context.chars.snippet_start) ok.snippet_start))
+      (text-byte_stream (start_text context.chars.snippet_start) ok.snippet_start))
       (text-style_mark Reset))
       text-space)
       (text-locus at h)
@@ -260,10 +260,10 @@ module _ (context : RowContext) (ok : AreCharacters context.chars) where
       (text-glyph context.chars.note_bullet ok.note_bullet))
       (text-style_mark Reset))
       text-space)
-      (text-bytes note_line h)
+      (text-byte_stream note_line h)
   text-row (LaterNoteRow note_line) h =
       followed (followed (followed (text-outer_gutter context.padding) text-space) text-space)
-      (text-bytes note_line h)
+      (text-byte_stream note_line h)
   text-row FinalRow h = text-none
 
   -- and so are those of many rows

@@ -7,7 +7,7 @@ use Rattle.codespan_core.specs.declared.diagnostic.Severity.{Severity}
 use Rattle.codespan_core.specs.declared.diagnostic.LabelStyle.{LabelStyle}
 use Rattle.codespan_core.specs.declared.diagnostic.LabelStyle.TheVariants.{Primary, Secondary}
 use Rattle.codespan_core.specs.declared.term.config.chars.Chars.{Chars}
-use Rattle.codespan_core.specs.Streams.{Stream, StyleMark, Byte, style_mark, bytes, spaces, space, glyph, repeated, newline}
+use Rattle.codespan_core.specs.Streams.{Stream, StyleMark, Byte, style_mark, byte_stream, spaces, space, glyph, repeated, newline}
 use Rattle.codespan_core.specs.Labels.{LabelModel, LaneMark, MultiLabel, Top, Left, Bottom}
 use Rattle.codespan_picture.specs.declared.char_metrics.Metrics.{Metrics}
 use Rattle.codespan_picture.specs.Carets.{style_under, max_label_end}
@@ -36,10 +36,10 @@ pub slots-nil : (k : ℕ) → slots k [] ≡ 0
 unfolding slots
 slots-nil k = refl
 
-pub slots-bytes : (k : ℕ) (bs : List ℕ) → slots k (bytes bs) ≡ 0
-unfolding slots bytes
-slots-bytes k [] = refl
-slots-bytes k (b ∷ bs) = omega (arith, sum_by-cons (λ x. cond (is_slot k x) 1 0) (Byte b) (bytes bs), slots-bytes k bs)
+pub slots-byte_stream : (k : ℕ) (bs : List ℕ) → slots k (byte_stream bs) ≡ 0
+unfolding slots byte_stream
+slots-byte_stream k [] = refl
+slots-byte_stream k (b ∷ bs) = omega (arith, sum_by-cons (λ x. cond (is_slot k x) 1 0) (Byte b) (byte_stream bs), slots-byte_stream k bs)
 
 pub slots-style_mark : (k : ℕ) (m : StyleMark) → slots k (style_mark m) ≡ 0
 unfolding slots style_mark
@@ -47,7 +47,7 @@ slots-style_mark k m = refl
 
 pub slots-spaces : (k n : ℕ) → slots k (spaces n) ≡ 0
 unfolding spaces
-slots-spaces k n = slots-bytes k (replicate n 32)
+slots-spaces k n = slots-byte_stream k (replicate n 32)
 
 pub slots-repeat : (k n : ℕ) (s : Stream) → slots k s ≡ 0 → slots k (repeat n s) ≡ 0
 slots-repeat k zero s h = slots-nil k
@@ -55,14 +55,14 @@ slots-repeat k (suc n) s h = slots-append k s (repeat n s) ∙ ap₂ (λ a b. a 
 
 pub slots-repeated : (k n c : ℕ) → slots k (repeated n c) ≡ 0
 unfolding repeated
-slots-repeated k n c = slots-repeat k n (glyph c) (slots-bytes k _)
+slots-repeated k n c = slots-repeat k n (glyph c) (slots-byte_stream k _)
 
 pub slots-flat_map : {X : Type 0} (k : ℕ) (f : X → Stream) (xs : List X)
     → ((x : X) → slots k (f x) ≡ 0) → slots k (flat_map f xs) ≡ 0
 slots-flat_map k f [] h = slots-nil k
 slots-flat_map k f (x ∷ xs) h = slots-append k (f x) (flat_map f xs) ∙ ap₂ (λ a b. a + b) (h x) (slots-flat_map k f xs h)
 
-ruleset slots_of_parts = (slots-append, slots-nil, slots-bytes, slots-style_mark, slots-spaces, slots-repeated)
+ruleset slots_of_parts = (slots-append, slots-nil, slots-byte_stream, slots-style_mark, slots-spaces, slots-repeated)
 
 pub slots-label_glyph : (k : ℕ) (severity : Severity) (style : LabelStyle) (c : ℕ)
     → slots k (label_glyph severity style c) ≡ 0
@@ -152,7 +152,7 @@ slots-source_glyph k c = by_test (c.ch == 9)
   where
     by_test : (b : Bool) → slots k (if b then spaces c.unicode_width else glyph c.ch) ≡ 0
     by_test true = slots-spaces k c.unicode_width
-    by_test false = slots-bytes k _
+    by_test false = slots-byte_stream k _
 
 pub slots-colored_text : (k : ℕ) (context : RowContext) (line : Line)
     → slots k (colored_text context line) ≡ 0
@@ -222,7 +222,7 @@ pub slots-underline_message : (k : ℕ) (message : Stream)
     → slots k (underline_message message) ≡ slots k message
 unfolding underline_message
 slots-underline_message k [] = refl
-slots-underline_message k (p ∷ ps) = omega (arith, slots-append k space (p ∷ ps), slots-bytes k (32 ∷ []))
+slots-underline_message k (p ∷ ps) = omega (arith, slots-append k space (p ∷ ps), slots-byte_stream k (32 ∷ []))
 
 -- the slots of a multi-line label mark, by its message
 abbrev pub multi_label_slots : ℕ → MultiLabel → ℕ
@@ -281,4 +281,4 @@ pub slots-rows : (k : ℕ) (context : RowContext) (rows : List Row)
 slots-rows k context [] = slots-nil k
 slots-rows k context (row ∷ rows) =
     slots-append k (stream_of context row ++ newline) (stream_of_rows context rows)
-    ∙ omega (arith, slots-append k (stream_of context row) newline, slots-bytes k (10 ∷ []), slots-stream_of k context row, slots-rows k context rows, sum_by-cons (row_slots k) row rows)
+    ∙ omega (arith, slots-append k (stream_of context row) newline, slots-byte_stream k (10 ∷ []), slots-stream_of k context row, slots-rows k context rows, sum_by-cons (row_slots k) row rows)

@@ -14,12 +14,12 @@ use Rattle.codespan_core.specs.declared.diagnostic.LabelStyle.TheVariants.{Prima
 use Rattle.codespan_core.specs.declared.diagnostic.Severity.{Severity}
 use Rattle.codespan_core.specs.declared.diagnostic.Severity.TheVariants.{Bug, Error, Warning, Note, Help}
 use Rattle.codespan_core.specs.declared.term.config.chars.Chars.{Chars}
-use Rattle.codespan_core.specs.Streams.{Stream, Byte, Mark, Slot, StyleMark, LabelStyleMark, Reset, style_mark, glyph, bytes, spaces, space, repeated, newline, text_of}
+use Rattle.codespan_core.specs.Streams.{Stream, Byte, Mark, Slot, StyleMark, LabelStyleMark, Reset, style_mark, glyph, byte_stream, spaces, space, repeated, newline, text_of}
 use Rattle.codespan_picture.specs.declared.char_metrics.Metrics.{Metrics}
 use Rattle.codespan_picture.specs.Rows.{Locus}
 use Rattle.codespan_picture.specs.RowParts.{severity_name, locus, outer_gutter, outer_gutter_number, border_left, border_left_break, style_change, styled, label_message}
 use Rattle.codespan_picture.specs.TextLaws.{AreTextsAfter, IsText, AreCharacters}
-use Rattle.codespan_picture.proofs.Texts.{text_of-append, text_of-bytes, text_of-style_mark}
+use Rattle.codespan_picture.proofs.Texts.{text_of-append, text_of-byte_stream, text_of-style_mark}
 
 -- ---- streams
 
@@ -65,10 +65,10 @@ pub followed : {s t : Stream} → IsText s → IsText t → IsText (s ++ t)
 followed {s} {t} a b = text-both s t a b
 
 -- bytes that are UTF-8
-pub text-bytes : (bs : List ℕ) → IsUtf8 bs → IsText (bytes bs)
-unfolding bytes
-text-bytes bs u =
-    record { utf8 = subst IsUtf8 (sym (text_of-bytes bs)) u; between_style_marks = after-bytes [] bs u }
+pub text-byte_stream : (bs : List ℕ) → IsUtf8 bs → IsText (byte_stream bs)
+unfolding byte_stream
+text-byte_stream bs u =
+    record { utf8 = subst IsUtf8 (sym (text_of-byte_stream bs)) u; between_style_marks = after-bytes [] bs u }
 
 -- a style mark
 pub text-style_mark : (m : StyleMark) → IsText (style_mark m)
@@ -82,7 +82,7 @@ text-style_mark m =
 
 -- a character
 pub text-glyph : (c : ℕ) → IsScalar c → IsText (glyph c)
-text-glyph c s = text-bytes (encode_utf8 c) (IsUtf8-encode c s)
+text-glyph c s = text-byte_stream (encode_utf8 c) (IsUtf8-encode c s)
 
 -- bytes of ASCII
 is_ascii : List ℕ → Bool
@@ -95,8 +95,8 @@ ascii-bytes [] e = IsAscii-nil
 ascii-bytes (b ∷ bs) e =
     IsAscii-cons b bs (grind (arith, nat_tests)) (ascii-bytes bs (grind (arith, nat_tests)))
 
-text-ascii : (bs : List ℕ) → is_ascii bs ≡ true → IsText (bytes bs)
-text-ascii bs e = text-bytes bs (IsUtf8-from_ascii bs (ascii-bytes bs e))
+text-ascii : (bs : List ℕ) → is_ascii bs ≡ true → IsText (byte_stream bs)
+text-ascii bs e = text-byte_stream bs (IsUtf8-from_ascii bs (ascii-bytes bs e))
 
 -- some literals
 pub text-space : IsText space
@@ -107,19 +107,19 @@ pub text-newline : IsText newline
 unfolding is_ascii
 text-newline = text-ascii (10 ∷ []) refl
 
-pub text-colon : IsText (bytes (codes ":"))
+pub text-colon : IsText (byte_stream (codes ":"))
 unfolding is_ascii
 text-colon = text-ascii (codes ":") refl
 
-pub text-colon_space : IsText (bytes (codes ": "))
+pub text-colon_space : IsText (byte_stream (codes ": "))
 unfolding is_ascii
 text-colon_space = text-ascii (codes ": ") refl
 
-pub text-open : IsText (bytes (codes "["))
+pub text-open : IsText (byte_stream (codes "["))
 unfolding is_ascii
 text-open = text-ascii (codes "[") refl
 
-pub text-close : IsText (bytes (codes "]"))
+pub text-close : IsText (byte_stream (codes "]"))
 unfolding is_ascii
 text-close = text-ascii (codes "]") refl
 
@@ -130,7 +130,7 @@ ascii-spaces (suc n) = IsAscii-cons 32 (replicate n 32) (omega arith) (ascii-spa
 
 pub text-spaces : (n : ℕ) → IsText (spaces n)
 unfolding spaces
-text-spaces n = text-bytes (replicate n 32) (IsUtf8-from_ascii (replicate n 32) (ascii-spaces n))
+text-spaces n = text-byte_stream (replicate n 32) (IsUtf8-from_ascii (replicate n 32) (ascii-spaces n))
 
 -- a character many times
 pub text-repeated : (n c : ℕ) → IsScalar c → IsText (repeated n c)
@@ -158,15 +158,15 @@ ascii-digits (suc k) n acc a =
     (digits_onto k 10 false (n / 10) (digit_glyph false (n % 10) ∷ acc)) IsAscii
     (λ _. one) (λ _. ascii-digits k (n / 10) (digit_glyph false (n % 10) ∷ acc) one)
 
-pub text-decimal : (n : ℕ) → IsText (bytes (decimal n))
+pub text-decimal : (n : ℕ) → IsText (byte_stream (decimal n))
 unfolding digits
 text-decimal n =
-    text-bytes (decimal n) (IsUtf8-from_ascii (decimal n) (ascii-digits 64 n [] IsAscii-nil))
+    text-byte_stream (decimal n) (IsUtf8-from_ascii (decimal n) (ascii-digits 64 n [] IsAscii-nil))
 
 pub ruleset pieces = (
   text-none,
   text-both,
-  text-bytes,
+  text-byte_stream,
   text-style_mark,
   text-glyph,
   text-space,
@@ -182,7 +182,7 @@ pub ruleset pieces = (
 
 -- ---- parts of rows
 
-pub text-severity : (severity : Severity) → IsText (bytes (severity_name severity))
+pub text-severity : (severity : Severity) → IsText (byte_stream (severity_name severity))
 unfolding is_ascii
 text-severity Bug = text-ascii (codes "bug") refl
 text-severity Error = text-ascii (codes "error") refl

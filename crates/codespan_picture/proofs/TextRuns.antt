@@ -8,8 +8,8 @@ use Rattle.std.proofs.lemmas.Str.{encodes-chars, drop_past_char}
 use Rattle.std.proofs.lemmas.Bool.{ne_eqb, eq-eqb}
 use lib.Utf8.{encodes}
 use Rattle.codespan_core.specs.declared.diagnostic.LabelStyle.{LabelStyle}
-use Rattle.codespan_core.specs.Streams.{Stream, bytes, spaces, glyph}
-use Rattle.codespan_core.proofs.Writes.{bytes-append}
+use Rattle.codespan_core.specs.Streams.{Stream, byte_stream, spaces, glyph}
+use Rattle.codespan_core.proofs.Writes.{byte_stream-append}
 use Rattle.codespan_picture.specs.declared.char_metrics.Metrics.{Metrics}
 use Rattle.codespan_picture.proofs.CharSteps.{bytes_left}
 use Rattle.codespan_picture.proofs.RowEquations.{style_change-same, regroup}
@@ -116,13 +116,13 @@ piece-grows text start end ch n h t e =
 -- the text of a run that has begun, and of the remaining characters
 abbrev pub text_rest : RowContext → Line → Option LabelStyle → List ℕ → List Metrics → Stream
 text_rest context line previous run cs =
-    bytes run ++ styled context.severity (source_style line) source_glyph previous cs
+    byte_stream run ++ styled context.severity (source_style line) source_glyph previous cs
 
 -- no run has begun
 pub text-start : (context : RowContext) (line : Line)
     → text_rest context line None [] (char_metrics context.tab_width line.text) ≡ colored_text
     context line
-unfolding colored_text bytes
+unfolding colored_text byte_stream
 text-start context line = refl
 
 shown : (c : Metrics) → (c.ch ≡ 9 → ⊥) → source_glyph c ≡ glyph c.ch
@@ -137,14 +137,14 @@ tab_shown c h = rw (eq-eqb c.ch 9 h) refl
 pub text-turn : (context : RowContext) (line : Line) (previous style : Option LabelStyle)
     (run : List ℕ) (c : Metrics) (left cs : List Metrics)
     → left ≡ c ∷ cs → style ≡ source_style line c → (c.ch ≡ 9 → ⊥)
-    → text_rest context line previous run left ≡ bytes run ++ style_change context.severity previous
+    → text_rest context line previous run left ≡ byte_stream run ++ style_change context.severity previous
     style ++ text_rest context line style (encode_utf8 c.ch) cs
 text-turn context line previous style run c left cs l s h =
     rw (l, s)
-    (regroup (bytes run) (style_change context.severity previous (source_style line c)) (source_glyph c)
+    (regroup (byte_stream run) (style_change context.severity previous (source_style line c)) (source_glyph c)
     (styled context.severity (source_style line) source_glyph (source_style line c) cs)
     ∙ ap
-    (λ (g : Stream). bytes run ++ style_change context.severity previous (source_style line c)
+    (λ (g : Stream). byte_stream run ++ style_change context.severity previous (source_style line c)
     ++ (g ++ styled context.severity (source_style line) source_glyph (source_style line c) cs))
     (shown c h))
 
@@ -158,35 +158,35 @@ text-same context line previous style run c left cs l s h e =
     let st = styled context.severity (source_style line) source_glyph style cs in
     text-turn context line previous style run c left cs l s h
     ∙ ap (λ (g : Stream). g ++ text_rest context line style (encode_utf8 c.ch) cs)
-    (ap (λ (g : Stream). bytes run ++ g)
+    (ap (λ (g : Stream). byte_stream run ++ g)
     (ap (λ o. style_change context.severity o style) e ∙ style_change-same context.severity style)
-    ∙ append-nil (bytes run))
-    ∙ sym (append_assoc (bytes run) (glyph c.ch) st)
-    ∙ ap (λ (g : Stream). g ++ st) (sym (bytes-append run (encode_utf8 c.ch)))
+    ∙ append-nil (byte_stream run))
+    ∙ sym (append_assoc (byte_stream run) (glyph c.ch) st)
+    ∙ ap (λ (g : Stream). g ++ st) (sym (byte_stream-append run (encode_utf8 c.ch)))
 
 -- it is a tab
 pub text-tab : (context : RowContext) (line : Line) (previous style : Option LabelStyle)
     (run : List ℕ) (c : Metrics) (left cs : List Metrics)
     → left ≡ c ∷ cs → style ≡ source_style line c → c.ch ≡ 9
-    → text_rest context line previous run left ≡ bytes run ++ style_change context.severity previous
+    → text_rest context line previous run left ≡ byte_stream run ++ style_change context.severity previous
     style ++ spaces c.unicode_width ++ text_rest context line style [] cs
-unfolding bytes
+unfolding byte_stream
 text-tab context line previous style run c left cs l s h =
     let st = styled context.severity (source_style line) source_glyph (source_style line c) cs in
     rw (l, s)
-    (regroup (bytes run) (style_change context.severity previous (source_style line c)) (source_glyph
+    (regroup (byte_stream run) (style_change context.severity previous (source_style line c)) (source_glyph
     c) st
     ∙ ap
-    (λ (g : Stream). bytes run ++ style_change context.severity previous (source_style line c)
+    (λ (g : Stream). byte_stream run ++ style_change context.severity previous (source_style line c)
     ++ (g ++ st))
     (tab_shown c h)
     ∙ sym
-    (append_assoc (bytes run ++ style_change context.severity previous (source_style line c))
+    (append_assoc (byte_stream run ++ style_change context.severity previous (source_style line c))
     (spaces c.unicode_width) st))
 
 -- none remains
 pub text-end : (context : RowContext) (line : Line) (previous : Option LabelStyle) (run : List ℕ)
     (left : List Metrics)
     → left ≡ []
-    → bytes run ++ style_change context.severity previous None ≡ text_rest context line previous run left
+    → byte_stream run ++ style_change context.severity previous None ≡ text_rest context line previous run left
 text-end context line previous run left e = rw e refl

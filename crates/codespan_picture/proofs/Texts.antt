@@ -4,7 +4,7 @@ use Rattle.std.specs.List.{repeat}
 use Rattle.std.specs.Char.{encode_utf8}
 use Rattle.std.proofs.lemmas.Bool.Decides.{nat_tests}
 use Rattle.std.proofs.lemmas.List.Sums.{sum_by-append}
-use Rattle.codespan_core.specs.Streams.{Stream, StyleMark, Byte, Mark, Slot, bytes, style_mark, spaces, repeated, glyph, text_of}
+use Rattle.codespan_core.specs.Streams.{Stream, StyleMark, Byte, Mark, Slot, byte_stream, style_mark, spaces, repeated, glyph, text_of}
 use Rattle.codespan_picture.specs.RowLaws.{is_continuation, character_count, row_length}
 
 -- ---- texts of streams
@@ -15,10 +15,10 @@ text_of-append (Byte b ∷ s) t = ap (λ bs. b ∷ bs) (text_of-append s t)
 text_of-append (Mark m ∷ s) t = text_of-append s t
 text_of-append (Slot k ∷ s) t = text_of-append s t
 
-pub text_of-bytes : (bs : List ℕ) → text_of (bytes bs) ≡ bs
-unfolding bytes
-text_of-bytes [] = refl
-text_of-bytes (b ∷ bs) = ap (λ s. b ∷ s) (text_of-bytes bs)
+pub text_of-byte_stream : (bs : List ℕ) → text_of (byte_stream bs) ≡ bs
+unfolding byte_stream
+text_of-byte_stream [] = refl
+text_of-byte_stream (b ∷ bs) = ap (λ s. b ∷ s) (text_of-byte_stream bs)
 
 pub encode_utf8_all-append : (cs ds : List ℕ)
     → encode_utf8_all (cs ++ ds) ≡ encode_utf8_all cs ++ encode_utf8_all ds
@@ -35,14 +35,14 @@ encode_utf8_all-spaces (suc n) = ap (λ bs. 32 ∷ bs) (encode_utf8_all-spaces n
 
 pub text_of-spaces : (n : ℕ) → text_of (spaces n) ≡ replicate n 32
 unfolding spaces
-text_of-spaces n = text_of-bytes (replicate n 32)
+text_of-spaces n = text_of-byte_stream (replicate n 32)
 
 pub text_of-style_mark : (m : StyleMark) → text_of (style_mark m) ≡ []
 unfolding style_mark
 text_of-style_mark m = refl
 
 pub text_of-glyph : (c : ℕ) → text_of (glyph c) ≡ encode_utf8 c
-text_of-glyph c = text_of-bytes (encode_utf8 c)
+text_of-glyph c = text_of-byte_stream (encode_utf8 c)
 
 pub text_of-repeated : (n c : ℕ) → text_of (repeated n c) ≡ encode_utf8_all (replicate n c)
 unfolding repeated
@@ -68,7 +68,7 @@ character_count-encode_utf8 c = grind (arith, nat_tests)
 
 pub row_length-glyph : (c : ℕ) → row_length (glyph c) ≡ 1
 row_length-glyph c =
-    ap character_count (text_of-bytes (encode_utf8 c)) ∙ character_count-encode_utf8 c
+    ap character_count (text_of-byte_stream (encode_utf8 c)) ∙ character_count-encode_utf8 c
 
 pub row_length-style_mark : (m : StyleMark) → row_length (style_mark m) ≡ 0
 row_length-style_mark m = ap character_count (text_of-style_mark m)
@@ -81,7 +81,7 @@ row_length-repeated (suc n) c =
     ∙ omega (arith, row_length-glyph c, row_length-repeated n c)
 
 pub row_length-spaces : (n : ℕ) → row_length (spaces n) ≡ n
-unfolding spaces bytes
+unfolding spaces byte_stream
 row_length-spaces zero = refl
 row_length-spaces (suc n) =
-    row_length-append (bytes (32 ∷ [])) (spaces n) ∙ omega (arith, row_length-spaces n)
+    row_length-append (byte_stream (32 ∷ [])) (spaces n) ∙ omega (arith, row_length-spaces n)

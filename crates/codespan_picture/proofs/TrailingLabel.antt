@@ -7,14 +7,14 @@ use Rattle.std.proofs.lemmas.Bool.{eq-eqb, ne_eqb}
 use Rattle.std.proofs.lemmas.Option.{slice_get-get_or}
 use Rattle.std.proofs.lemmas.List.Folds.{list_any-append}
 use Rattle.codespan_core.specs.Labels.{LabelModel, has_message, is_empty_stream}
-use Rattle.codespan_core.specs.Streams.{bytes}
+use Rattle.codespan_core.specs.Streams.{byte_stream}
 use Rattle.codespan_picture.specs.Arguments.{SingleLabelTuple, single_label_view, single_label_views}
 use Rattle.codespan_picture.specs.Rows.{last_with_end, overlaps_any, does_trail}
 use Rattle.codespan_picture.specs.Private.Runs.{label_entry_view}
 
 -- a text is empty as a stream where it is empty
-pub is_empty_bytes : (text : List ℕ) → is_empty_stream (bytes text) ≡ (length text == 0)
-unfolding bytes
+pub is_empty_bytes : (text : List ℕ) → is_empty_stream (byte_stream text) ≡ (length text == 0)
+unfolding byte_stream
 is_empty_bytes [] = refl
 is_empty_bytes (b ∷ bs) = sym (ne_eqb (length (b ∷ bs)) 0 (λ e. omega arith))
 

@@ -9,7 +9,7 @@ use Rattle.std.specs.Str.Iter.{lines_steps}
 use Rattle.std.proofs.lemmas.Iterator.{YieldsList}
 use Rattle.codespan_core.specs.Labels.{LaneMark, MultiLabel, Top, Left, Bottom}
 use Rattle.codespan_core.specs.declared.term.config.chars.Chars.{Chars}
-use Rattle.codespan_core.specs.Streams.{Stream, bytes, newline, space}
+use Rattle.codespan_core.specs.Streams.{Stream, byte_stream, newline, space}
 use Rattle.codespan_core.specs.WriterLaw.{Sink}
 use Rattle.codespan_core.proofs.Loops.{StillToWrite}
 use Rattle.codespan_picture.specs.declared.char_metrics.Metrics.{Metrics}
@@ -38,15 +38,15 @@ underline_lanes_are context leading lane style multi_label lanes = refl
 -- ---- the message of an underline
 
 -- no message
-pub underline_message-none : (bs : List ℕ) → length bs ≡ 0 → underline_message (bytes bs) ≡ []
-unfolding underline_message bytes
+pub underline_message-none : (bs : List ℕ) → length bs ≡ 0 → underline_message (byte_stream bs) ≡ []
+unfolding underline_message byte_stream
 underline_message-none [] e = refl
 underline_message-none (b ∷ bs) e = absurd (omega arith)
 
 -- a space and the message
 pub underline_message-some : (bs : List ℕ) → 0 < length bs
-    → underline_message (bytes bs) ≡ space ++ bytes bs
-unfolding underline_message bytes
+    → underline_message (byte_stream bs) ≡ space ++ byte_stream bs
+unfolding underline_message byte_stream
 underline_message-some [] e = absurd (omega arith)
 underline_message-some (b ∷ bs) e = refl
 

@@ -4,7 +4,7 @@ use Rattle.std.specs.Borrow.{Bor}
 use Rattle.std.specs.declared.ops.Range.{Range}
 use Rattle.codespan_picture.specs.Types.{LabelStyle}
 use Rattle.codespan_core.specs.Labels.{LabelModel, LaneMark, MultiLabel, Top, Left, Bottom}
-use Rattle.codespan_core.specs.Streams.{bytes}
+use Rattle.codespan_core.specs.Streams.{byte_stream}
 use Rattle.codespan_picture.specs.declared.arguments.Locus as rust_locus
 use Rattle.codespan_picture.specs.declared.arguments.MultiLabel as rust_multi_label
 use Rattle.codespan_picture.specs.declared.arguments.MultiLabel.TheVariants as rust_variant
@@ -21,7 +21,7 @@ LaneMarkTuple = ℕ × LabelStyle × rust_multi_label.MultiLabel
 -- a single-line label, from the argument
 abbrev pub single_label_view : SingleLabelTuple → LabelModel
 single_label_view x =
-    record { style = x.0; start = x.1.start; end = x.1.end; message = bytes x.2.now }
+    record { style = x.0; start = x.1.start; end = x.1.end; message = byte_stream x.2.now }
 
 -- single-line labels, from the arguments
 abbrev pub single_label_views : List SingleLabelTuple → List LabelModel
@@ -40,7 +40,7 @@ starts_in_order xs = starts_from 0 xs
 abbrev pub multi_label_view : rust_multi_label.MultiLabel → MultiLabel
 multi_label_view (rust_variant.Top start) = Top start
 multi_label_view rust_variant.Left = Left
-multi_label_view (rust_variant.Bottom end message) = Bottom end (bytes message.now)
+multi_label_view (rust_variant.Bottom end message) = Bottom end (byte_stream message.now)
 
 -- a lane mark, from the argument
 abbrev pub lane_mark_view : LaneMarkTuple → LaneMark

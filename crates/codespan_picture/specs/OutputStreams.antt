@@ -5,7 +5,7 @@ use Rattle.std.specs.Option.{option_map}
 use Rattle.std.specs.Str.{IsUtf8}
 use Rattle.codespan_picture.specs.Types.{Config, DisplayStyle, Rich, Medium, Short, Diagnostic, Label, Severity}
 use Rattle.codespan_core.specs.FileModel.{FileDatabase, FileModel}
-use Rattle.codespan_core.specs.Streams.{Stream, bytes}
+use Rattle.codespan_core.specs.Streams.{Stream, byte_stream}
 use Rattle.codespan_picture.specs.Padding.{padding_of}
 use Rattle.codespan_picture.specs.Rows.{HeaderText, Locus, RowContext}
 use Rattle.codespan_picture.specs.RowStreams.{stream_of_rows}
@@ -21,7 +21,7 @@ label_of x = record {
     style = x.style;
     start = x.range.start;
     end = x.range.end;
-    message = bytes (string_bytes x.message);
+    message = byte_stream (string_bytes x.message);
   };
 }
 

@@ -4,7 +4,7 @@ use Rattle.std.specs.Prelude.{ℕ, ◌+◌, ◌-◌, Bool, true, ◌||◌, ◌&&
 use Rattle.std.specs.List.{list_any, range_with_len}
 use Rattle.codespan_picture.specs.Types.{Severity, LabelStyle, Primary, Secondary, Chars}
 use Rattle.codespan_core.specs.declared.diagnostic.Severity.TheVariants.{Bug, Error, Warning, Note, Help}
-use Rattle.codespan_core.specs.Streams.{Stream, LineNumber, SourceBorder, LabelStyleMark, Reset, style_mark, glyph, bytes, spaces, space, repeated}
+use Rattle.codespan_core.specs.Streams.{Stream, LineNumber, SourceBorder, LabelStyleMark, Reset, style_mark, glyph, byte_stream, spaces, space, repeated}
 use Rattle.codespan_core.specs.Labels.{LabelModel, is_primary, is_primary_style, LaneMark, MultiLabel, Top, Left, Bottom}
 use Rattle.codespan_picture.specs.declared.char_metrics.Metrics.{Metrics}
 use Rattle.codespan_picture.specs.CharMetrics.{char_metrics, char_metrics_to_end, width_of, leading_whitespace}
@@ -26,8 +26,9 @@ severity_name Help = codes "help"
 -- the locus: name, line number and column number
 unfoldable pub locus : Locus → Stream
 locus p =
-    bytes p.name ++ bytes (codes ":") ++ bytes (decimal p.location.line_number) ++ bytes (codes ":")
-    ++ bytes (decimal p.location.column_number)
+    byte_stream p.name ++ byte_stream (codes ":")
+    ++ byte_stream (decimal p.location.line_number) ++ byte_stream (codes ":")
+    ++ byte_stream (decimal p.location.column_number)
 
 -- the outer gutter without a line number: the padding, and one space more
 unfoldable pub outer_gutter : ℕ → Stream
@@ -36,7 +37,7 @@ outer_gutter padding = spaces (padding + 1)
 -- the outer gutter with a line number, right-aligned in the padding
 unfoldable pub outer_gutter_number : ℕ → ℕ → Stream
 outer_gutter_number padding n =
-    style_mark LineNumber ++ spaces (padding - length (decimal n)) ++ bytes (decimal n)
+    style_mark LineNumber ++ spaces (padding - length (decimal n)) ++ byte_stream (decimal n)
     ++ style_mark Reset ++ space
 
 -- the left border

@@ -2,7 +2,7 @@
 -- opens them: a chain of calls then matches their parts from left to right.
 use Rattle.std.specs.Prelude.{ℕ, List, [], ◌∷◌, ◌++◌, flat_map, Option, Some, None, codes}
 use Rattle.codespan_picture.specs.Types.{Severity, Chars}
-use Rattle.codespan_core.specs.Streams.{Stream, Header, HeaderMessage, NoteBullet, SourceBorder, LabelStyleMark, Reset, style_mark, glyph, bytes, space, newline}
+use Rattle.codespan_core.specs.Streams.{Stream, Header, HeaderMessage, NoteBullet, SourceBorder, LabelStyleMark, Reset, style_mark, glyph, byte_stream, space, newline}
 use Rattle.codespan_core.specs.Labels.{LabelModel, LaneMark}
 use Rattle.codespan_core.specs.SnippetStarts.{start_text}
 use Rattle.codespan_picture.specs.Lanes.{Source, EmptyOrBreak, SingleLabels, Underline}
@@ -15,25 +15,26 @@ use Rattle.codespan_picture.specs.RowParts.{severity_name, locus, outer_gutter, 
 unfoldable pub bracketed : Option (List ℕ) → Stream
 bracketed None = []
 bracketed (Some []) = []
-bracketed (Some (c ∷ cs)) = bytes (codes "[") ++ bytes (c ∷ cs) ++ bytes (codes "]")
+bracketed (Some (c ∷ cs)) =
+    byte_stream (codes "[") ++ byte_stream (c ∷ cs) ++ byte_stream (codes "]")
 
 -- the locus before a header, where there is one
 unfoldable pub leading_locus : Option Locus → Stream
 leading_locus None = []
-leading_locus (Some p) = locus p ++ bytes (codes ": ")
+leading_locus (Some p) = locus p ++ byte_stream (codes ": ")
 
 -- the header: the locus, the severity, the code and the message
 unfoldable pub header_row : Severity → Option Locus → HeaderText → Stream
 header_row severity at header_text =
-    leading_locus at ++ style_mark (Header severity) ++ bytes (severity_name severity)
+    leading_locus at ++ style_mark (Header severity) ++ byte_stream (severity_name severity)
     ++ bracketed header_text.code
-    ++ style_mark HeaderMessage ++ bytes (codes ": ") ++ bytes header_text.message
+    ++ style_mark HeaderMessage ++ byte_stream (codes ": ") ++ byte_stream header_text.message
     ++ style_mark Reset
 
 -- the start of a file's snippet
 unfoldable pub snippet_start_row : Chars → ℕ → Locus → Stream
 snippet_start_row chars padding at =
-    outer_gutter padding ++ style_mark SourceBorder ++ bytes (start_text chars.snippet_start)
+    outer_gutter padding ++ style_mark SourceBorder ++ byte_stream (start_text chars.snippet_start)
     ++ style_mark Reset ++ space ++ locus at
 
 -- an empty row of a snippet
@@ -91,11 +92,11 @@ underline_row context line m =
 unfoldable pub first_note_row : Chars → ℕ → List ℕ → Stream
 first_note_row chars padding note_line =
     outer_gutter padding ++ style_mark NoteBullet ++ glyph chars.note_bullet ++ style_mark Reset
-    ++ space ++ bytes note_line
+    ++ space ++ byte_stream note_line
 
 -- a later row of a note
 unfoldable pub later_note_row : ℕ → List ℕ → Stream
-later_note_row padding note_line = outer_gutter padding ++ space ++ space ++ bytes note_line
+later_note_row padding note_line = outer_gutter padding ++ space ++ space ++ byte_stream note_line
 
 -- the stream of a row
 abbrev pub stream_of : RowContext → Row → Stream

@@ -3,7 +3,7 @@ use Rattle.std.specs.Prelude.{Bool, List, map}
 use Rattle.codespan_picture.specs.Types.{Config}
 use Rattle.codespan_core.specs.Diagnostics.{DiagnosticView, LabelView}
 use Rattle.codespan_core.specs.FileModel.{FileModel}
-use Rattle.codespan_core.specs.Streams.{Stream, bytes}
+use Rattle.codespan_core.specs.Streams.{Stream, byte_stream}
 use Rattle.codespan_picture.specs.Rows.{HeaderText}
 use Rattle.codespan_picture.specs.Snippets.{InFile, labeled_file_models}
 use Rattle.codespan_picture.specs.OutputStreams.{locus_starts, rendered}
@@ -17,7 +17,7 @@ label_of_view x = record {
     style = x.style;
     start = x.range.start;
     end = x.range.end;
-    message = bytes x.message;
+    message = byte_stream x.message;
   };
 }
 

@@ -9,7 +9,7 @@ use Rattle.std.proofs.lemmas.List.Sums.{fold-append}
 use Rattle.codespan_core.specs.declared.diagnostic.LabelStyle.{LabelStyle}
 use Rattle.codespan_core.specs.declared.diagnostic.LabelStyle.TheVariants.{Primary, Secondary}
 use Rattle.codespan_core.specs.Labels.{LabelModel, has_message, is_primary, is_primary_style}
-use Rattle.codespan_core.specs.Streams.{Stream, bytes, spaces}
+use Rattle.codespan_core.specs.Streams.{Stream, byte_stream, spaces}
 use Rattle.codespan_picture.specs.declared.char_metrics.Metrics.{Metrics}
 use Rattle.codespan_picture.specs.Arguments.{SingleLabelTuple, single_label_view, single_label_views}
 use Rattle.codespan_picture.specs.Lanes.{label_glyph}
@@ -120,7 +120,7 @@ preferred-step c found best xs i d empty h is e =
 
 -- no space is pending
 pub spaces_none : (s : Stream) → spaces 0 ++ s ≡ s
-unfolding spaces bytes
+unfolding spaces byte_stream
 spaces_none s = refl
 
 -- the first character, before the byte index, and then the others

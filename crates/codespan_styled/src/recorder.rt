@@ -1,7 +1,7 @@
 //! A writer of styles that keeps what it receives as runs of text, each in one style.
 
 ghost use Rattle.std.specs.Prelude.{◌≡◌, ◌∷◌, [], MatchResult, OnOk, Some};
-ghost use Rattle.codespan_base.specs.Streams.{bytes};
+ghost use Rattle.codespan_base.specs.Streams.{byte_stream};
 ghost use Rattle.codespan_base.specs.WriterLaw.{Writes, AppendsBytes};
 ghost use Rattle.codespan_base.specs.Writers.{fresh_sink};
 ghost use Rattle.codespan_documents.specs.declared.style.Style.TheVariants.{Plain};
@@ -78,7 +78,7 @@ impl Recorder {
     ///
     /// Those of [`push_run`](Self::push_run). The writer has then failed.
     fn start(&mut self, style: Style) -> io::Result<()>
-        ensures { Writes (recorder_sink self.old) (bytes (style_number style ∷ [])) result
+        ensures { Writes (recorder_sink self.old) (byte_stream (style_number style ∷ [])) result
             (recorder_sink self.new) }
     {
         match self.push_run(style) {

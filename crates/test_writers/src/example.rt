@@ -1,7 +1,7 @@
 //! Custom writers, which docs/WRITERS.md explains.
 
 ghost use Rattle.std.specs.Prelude.{◌≡◌, false, codes, refl};
-ghost use Rattle.codespan_base.specs.Streams.{bytes};
+ghost use Rattle.codespan_base.specs.Streams.{byte_stream};
 ghost use Rattle.test_writers.specs.Tags.{tag_sink, color_tag};
 ghost use Rattle.codespan_base.specs.WriterLaw.{Writes};
 
@@ -32,8 +32,9 @@ impl<W: Write> TagWriter<W> {
 
     /// Writes a tag, or a prefix of it where it fails.
     fn write_tag(&mut self, tag: &[u8]) -> io::Result<()>
-        ensures { Writes (tag_sink self.old.failed (W.contents self.old.inner)) (bytes tag.now)
-            result (tag_sink self.new.failed (W.contents self.new.inner)) }
+        ensures { Writes (tag_sink self.old.failed (W.contents self.old.inner))
+            (byte_stream tag.now) result
+            (tag_sink self.new.failed (W.contents self.new.inner)) }
     {
         forward_all(&mut self.inner, &mut self.failed, tag)
     }

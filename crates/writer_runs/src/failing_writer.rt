@@ -1,7 +1,7 @@
 //! A writer of styles that stops at a style mark.
 
 ghost use Rattle.std.specs.Prelude.{◌≡◌, false, refl};
-ghost use Rattle.codespan_base.specs.Streams.{bytes};
+ghost use Rattle.codespan_base.specs.Streams.{byte_stream};
 ghost use Rattle.codespan_base.specs.WriterLaw.{Writes};
 ghost use Rattle.writer_runs.specs.Spellings.{spelling_sink};
 
@@ -50,7 +50,7 @@ impl<W: Write> FailingWriter<W> {
     /// Writes the spelling of a style mark, or only its first byte and fails.
     fn write_style_mark(&mut self, text: &[u8]) -> io::Result<()>
         ensures { Writes (spelling_sink self.old.failed (W.contents self.old.inner))
-            (bytes text.now) result
+            (byte_stream text.now) result
             (spelling_sink self.new.failed (W.contents self.new.inner)) }
     {
         self.calls_after = counted(self.calls_after, self.failed);
@@ -65,7 +65,7 @@ impl<W: Write> FailingWriter<W> {
     /// Writes the first byte and fails.
     fn fail_at_style_mark(&mut self, text: &[u8]) -> io::Result<()>
         ensures { Writes (spelling_sink self.old.failed (W.contents self.old.inner))
-            (bytes text.now) result
+            (byte_stream text.now) result
             (spelling_sink self.new.failed (W.contents self.new.inner)) }
     {
         self.failed = true;

@@ -4,7 +4,7 @@ use Rattle.std.specs.Option.{option_map}
 use Rattle.std.specs.Borrow.{Bor}
 use Rattle.codespan_picture.specs.Types.{LabelStyle, Severity}
 use Rattle.codespan_core.specs.Labels.{has_message}
-use Rattle.codespan_core.specs.Streams.{Stream, Header, bytes, newline, style_mark, space}
+use Rattle.codespan_core.specs.Streams.{Stream, Header, byte_stream, newline, style_mark, space}
 use Rattle.codespan_picture.specs.declared.char_metrics.Metrics.{Metrics}
 use Rattle.codespan_picture.specs.CharMetrics.{char_metrics, char_metrics_to_end}
 use Rattle.codespan_picture.specs.Arguments.{SingleLabelTuple, LaneMarkTuple, single_label_view, single_label_views, lane_mark_view, locus_view, text_now}
@@ -26,7 +26,7 @@ abbrev pub header_start_view : Option (Bor rust_locus.Locus) → Severity → Op
     → Stream
 header_start_view locus severity code =
     leading_locus (option_map (λ (at : Bor rust_locus.Locus). locus_view at.now) locus)
-    ++ style_mark (Header severity) ++ bytes (severity_name severity)
+    ++ style_mark (Header severity) ++ byte_stream (severity_name severity)
     ++ bracketed (option_map text_now code)
 
 -- ---- the starts of rows

@@ -1,7 +1,7 @@
 //! The source row of a line.
 
 ghost use Rattle.std.specs.Prelude.{◌≡◌, ◌++◌};
-ghost use Rattle.codespan_core.specs.Streams.{bytes, newline};
+ghost use Rattle.codespan_core.specs.Streams.{byte_stream, newline};
 ghost use Rattle.codespan_core.specs.WriterLaw.{Writes};
 ghost use Rattle.codespan_picture.specs.CharMetrics.{char_metrics};
 ghost use Rattle.codespan_picture.specs.Private.LineViews.{context_view, line_view};
@@ -94,7 +94,7 @@ fn end_text_run<W: PutStyle>(
     style: Option<LabelStyle>,
 ) -> Result<(), W::Error>
     ensures { Writes (W.sink w.old)
-        (bytes text.now ++ style_change context.entry.severity previous style)
+        (byte_stream text.now ++ style_change context.entry.severity previous style)
         result (W.sink w.new) }
 {
     put_all(w, text)?;

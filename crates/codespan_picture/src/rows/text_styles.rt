@@ -4,7 +4,7 @@
 ghost use Rattle.std.specs.Prelude.{◌≡◌, ◌<◌, ◌≤◌, ◌==◌, None, drop, false, length, map, true};
 ghost use Rattle.std.specs.List.{list_any};
 ghost use Rattle.codespan_core.specs.Labels.{LaneMark, is_primary, is_primary_style};
-ghost use Rattle.codespan_core.specs.Streams.{bytes};
+ghost use Rattle.codespan_core.specs.Streams.{byte_stream};
 ghost use Rattle.codespan_picture.specs.declared.char_metrics.Metrics as metrics;
 ghost use Rattle.codespan_picture.specs.Arguments.{single_label_views, lane_mark_view};
 ghost use Rattle.codespan_picture.specs.Private.LineViews.{line_view};
@@ -87,7 +87,7 @@ fn has_tab(text: &str) -> bool
 #[inline(always)]
 pub fn is_plain(line: Line<'_, '_>) -> bool
     ensures { result ≡ true → (context : RowContextSpec)
-        → colored_text context (line_view line.entry) ≡ bytes line.entry.text.now }
+        → colored_text context (line_view line.entry) ≡ byte_stream line.entry.text.now }
 {
     !has_primary_label(line.labels)
         && !has_primary_lane_mark(line.lanes.lane_marks)

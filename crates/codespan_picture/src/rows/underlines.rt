@@ -1,7 +1,7 @@
 //! The underlines of multi-line labels.
 
 ghost use Rattle.std.specs.Prelude.{◌≡◌, ◌++◌};
-ghost use Rattle.codespan_core.specs.Streams.{newline, bytes};
+ghost use Rattle.codespan_core.specs.Streams.{newline, byte_stream};
 ghost use Rattle.codespan_core.specs.WriterLaw.{Writes};
 ghost use Rattle.codespan_picture.specs.CharMetrics.{char_metrics};
 ghost use Rattle.codespan_picture.specs.Arguments.{lane_mark_view, multi_label_view};
@@ -47,7 +47,8 @@ fn end_caret(chars: &Chars<'_>, style: LabelStyle) -> char
 /// Writes a space and the message, or nothing where the message is empty.
 #[tactic(auto, using(codespan_core::proofs::Writes::write_chains, crate::proofs::UnderlineRows::underline_messages))]
 fn write_underline_message<W: PutStyle>(w: &mut W, message: &str) -> Result<(), W::Error>
-    ensures { Writes (W.sink w.old) (underline_message (bytes message.now)) result (W.sink w.new) }
+    ensures { Writes (W.sink w.old) (underline_message (byte_stream message.now)) result
+        (W.sink w.new) }
 {
     if message.is_empty() {
         return Ok(());

@@ -1,7 +1,7 @@
 //! Text with styles.
 
 ghost use Rattle.std.specs.Prelude.{◌≡◌, refl};
-ghost use Rattle.codespan_core.specs.Streams.{bytes};
+ghost use Rattle.codespan_core.specs.Streams.{byte_stream};
 ghost use Rattle.codespan_core.specs.WriterLaw.{Writes};
 
 use crate::term::config::color::{ColorSpec, WriteColor};
@@ -63,7 +63,7 @@ impl<'a, W: WriteColor> StylesWriter<'a, W> {
     /// Writes the bytes of a style, and sets the flag where that fails.
     fn set_color(&mut self, spec: &ColorSpec) -> io::Result<()>
         ensures { Writes (styles_sink W.contents W.style_bytes W.reset_bytes self.old)
-            (bytes (W.style_bytes spec.now)) result
+            (byte_stream (W.style_bytes spec.now)) result
             (styles_sink W.contents W.style_bytes W.reset_bytes self.new) }
     {
         forward_result(self.inner.set_color(spec), &mut self.failed)
@@ -72,7 +72,7 @@ impl<'a, W: WriteColor> StylesWriter<'a, W> {
     /// Writes the bytes of the reset, and sets the flag where that fails.
     fn reset_color(&mut self) -> io::Result<()>
         ensures { Writes (styles_sink W.contents W.style_bytes W.reset_bytes self.old)
-            (bytes W.reset_bytes) result
+            (byte_stream W.reset_bytes) result
             (styles_sink W.contents W.style_bytes W.reset_bytes self.new) }
     {
         forward_result(self.inner.reset(), &mut self.failed)

@@ -6,7 +6,7 @@
 ghost use Rattle.std.specs.Prelude.{◌≡◌, ◌≤◌, ◌*◌, [], true, length, take, drop, decimal, MatchResult};
 ghost use Rattle.std.specs.List.{repeat};
 ghost use Rattle.std.specs.Io.{WritesAtMost};
-ghost use Rattle.codespan_core.specs.Streams.{bytes, glyph, spaces, repeated};
+ghost use Rattle.codespan_core.specs.Streams.{byte_stream, glyph, spaces, repeated};
 ghost use Rattle.codespan_core.specs.WriterLaw.{Frame, Puts, Writes, with_failed, AppendsBytes};
 ghost use Rattle.codespan_core.specs.Writers.{WritesNothing};
 
@@ -32,7 +32,7 @@ const DIGITS: usize = 20;
 /// That of a `put` that fails, and `ErrorKind::WriteZero` where a `put` takes none of some bytes.
 /// A prefix has then been written. An interrupted `put` is an error too.
 pub fn put_all<W: PutStyle>(w: &mut W, text: &[u8]) -> Result<(), W::Error>
-    ensures { Writes (W.sink w.old) (bytes text.now) result (W.sink w.new) }
+    ensures { Writes (W.sink w.old) (byte_stream text.now) result (W.sink w.new) }
 {
     let mut rest = text;
     while !rest.is_empty() {
@@ -63,7 +63,7 @@ pub fn put_char<W: PutStyle>(w: &mut W, c: char) -> Result<(), W::Error>
 /// written as an array: a `put` of a known number of bytes needs no call to copy them.
 #[inline(always)]
 fn put_glyph<W: PutStyle>(w: &mut W, text: &[u8]) -> Result<(), W::Error>
-    ensures { Writes (W.sink w.old) (bytes text.now) result (W.sink w.new) }
+    ensures { Writes (W.sink w.old) (byte_stream text.now) result (W.sink w.new) }
 {
     match *text {
         [first, second, third] => put_all(w, &[first, second, third]),
@@ -158,7 +158,7 @@ fn fill(run: &mut [u8], bytes: &[u8], copies: usize)
 ///
 /// Those of [`put_all`].
 pub fn put_number<W: PutStyle>(w: &mut W, number: usize) -> Result<(), W::Error>
-    ensures { Writes (W.sink w.old) (bytes (decimal number)) result (W.sink w.new) }
+    ensures { Writes (W.sink w.old) (byte_stream (decimal number)) result (W.sink w.new) }
 {
     let mut digits = [0u8; DIGITS];
     let start = write_digits(&mut digits, number);
@@ -234,7 +234,7 @@ pub fn forward_put<W: Write>(writer: &mut W, failed: &mut bool, bytes: &[u8]) ->
 /// Those of [`write_all`]; each sets the flag.
 pub fn forward_all<W: Write>(writer: &mut W, failed: &mut bool, text: &[u8]) -> io::Result<()>
     ensures { (f : Frame) → Writes (with_failed f failed.old (W.contents writer.old))
-        (bytes text.now) result (with_failed f failed.new (W.contents writer.new)) }
+        (byte_stream text.now) result (with_failed f failed.new (W.contents writer.new)) }
 {
     forward_result(write_all(writer, text), failed)
 }

@@ -2,7 +2,7 @@ use Rattle.std.proofs.Common.{rules, None, drop, ◌≡◌, ◌+◌, ◌-◌, �
 use Rattle.std.specs.Char.{encode_utf8}
 use Rattle.std.proofs.lemmas.Result.{err_from_is_err_and}
 use Rattle.std.proofs.lemmas.Str.{IsUtf8-had, length-encode, len_utf8_bounds}
-use Rattle.codespan_core.specs.Streams.{bytes}
+use Rattle.codespan_core.specs.Streams.{byte_stream}
 use Rattle.codespan_core.proofs.Chains.{failed-before, failed-then, written-then}
 use Rattle.codespan_core.proofs.Loops.{StillToWrite-start, StillToWrite-more, StillToWrite-failed, StillToWrite-last}
 use Rattle.codespan_picture.specs.Private.LineViews.{context_view, line_view}
@@ -155,8 +155,8 @@ returns g c =
     let context = context_view c.args.context in
     let line = line_view c.args.line in
     let run = piece c.as_bytes-text.result.now at.start at.end in
-    let rest : (bytes run ++ style_change context.severity at.previous None)
-    ++ bytes (drop at.end line.text)
+    let rest : (byte_stream run ++ style_change context.severity at.previous None)
+    ++ byte_stream (drop at.end line.text)
     ≡ text_rest context line at.previous run (g.C.CharCursor.left at.characters) =
     elim c.match-next_metrics.branch [
       | in_default w ↦ text-over context line at.previous run at.end _ at.invariant.over
@@ -168,7 +168,7 @@ returns g c =
     let taken =
     tail-taken at.end line.text c.as_bytes-text.result.now c.as_bytes-text.ensures.value in
     let last =
-    ap (λ l. (bytes run ++ style_change context.severity at.previous None) ++ bytes l) taken ∙ rest in
+    ap (λ l. (byte_stream run ++ style_change context.severity at.previous None) ++ byte_stream l) taken ∙ rest in
     StillToWrite-last _ _ _ _ _ _
     (StillToWrite-more _ _ _ _ _ _ _ at.invariant.written_so_far c.in_ok-end_text_run-3.ensures
     (sym last))
@@ -180,8 +180,8 @@ returns-in_err-end_text_run-3 g c =
     let context = context_view c.args.context in
     let line = line_view c.args.line in
     let run = piece c.as_bytes-text.result.now at.start at.end in
-    let rest : (bytes run ++ style_change context.severity at.previous None)
-    ++ bytes (drop at.end line.text)
+    let rest : (byte_stream run ++ style_change context.severity at.previous None)
+    ++ byte_stream (drop at.end line.text)
     ≡ text_rest context line at.previous run (g.C.CharCursor.left at.characters) =
     elim c.match-next_metrics.branch [
       | in_default w ↦ text-over context line at.previous run at.end _ at.invariant.over

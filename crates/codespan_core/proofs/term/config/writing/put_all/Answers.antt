@@ -2,8 +2,8 @@ use Rattle.std.proofs.Common.{arith, refl, sym, ◌≡◌, ◌-◌, ◌<◌, len
 use Rattle.std.proofs.lemmas.Result.{err_from_is_err_and}
 use Rattle.std.proofs.lemmas.Grind.{common_steps}
 use Rattle.std.proofs.lemmas.Bool.Decides.{nat_tests}
-use Rattle.codespan_core.specs.Streams.{bytes}
-use Rattle.codespan_core.proofs.Put.{put-with_written, put-none, put-failed, bytes-take}
+use Rattle.codespan_core.specs.Streams.{byte_stream}
+use Rattle.codespan_core.proofs.Put.{put-with_written, put-none, put-failed, byte_stream-take}
 use Rattle.codespan_core.proofs.Loops.{StillToWrite-start, StillToWrite-more, StillToWrite-failed, StillToWrite-end}
 use Rattle.codespan_core.proofs.term.config.writing.put_all.Goals as goal
 
@@ -14,13 +14,13 @@ pub returns-in_err-n : goal.returns-in_err-n
 returns-in_err-n g c =
     let p = err_from_is_err_and c.from_residual.result c.from_residual.ensures.1 in
     rw p.1
-    (StillToWrite-failed _ _ _ _ _ (bytes c.loop-rest.rest.now) [] c.loop-rest.invariant
+    (StillToWrite-failed _ _ _ _ _ (byte_stream c.loop-rest.rest.now) [] c.loop-rest.invariant
     (put-failed _ _ _ c.in_err-n.ensures.took) (sym (append-nil _)))
 
 pub returns-then-n-eq0 : goal.returns-then-n-eq0
 returns-then-n-eq0 g c =
     let some : 0 < length c.loop-rest.rest.now = grind (arith, nat_tests) in
-    StillToWrite-failed _ _ _ _ _ (bytes c.loop-rest.rest.now) [] c.loop-rest.invariant
+    StillToWrite-failed _ _ _ _ _ (byte_stream c.loop-rest.rest.now) [] c.loop-rest.invariant
     (put-none _ _ _ _ c.if-n-eq0.true some c.in_ok-n.ensures.took) (sym (append-nil _))
 
 pub loop-rest-preserved : goal.loop-rest-preserved
@@ -32,10 +32,10 @@ loop-rest-preserved g c =
     rw e
     (StillToWrite-more _ _ _ _ _ _ _ c.loop-rest.invariant
     (put-with_written _ _ _ _ c.if-n-eq0.false c.in_ok-n.ensures.took)
-    (bytes-take c.in_ok-n.n c.loop-rest.rest.now))
+    (byte_stream-take c.in_ok-n.n c.loop-rest.rest.now))
 
 pub returns : goal.returns
-unfolding bytes
+unfolding byte_stream
 returns g c =
     StillToWrite-end _ _ _ _ c.loop-rest.invariant
     (let e : c.loop-rest.rest.now ≡ [] = grind (arith, common_steps) in rw e refl)
