@@ -36,7 +36,7 @@ prefix_style_mark s m t p = record {
 }
 
 -- a call that writes the bytes of a style mark
-pub ruleset marking = (written_style_mark, prefix_style_mark)
+pub ruleset spelled_style_marks = (written_style_mark, prefix_style_mark)
 
 -- a call that writes the bytes that spell a style mark writes the style mark
 pub Writes-style_mark : {E : Type 0} (s : Sink) (m : StyleMark) (r : Result (Unit {0}) E) (t : Sink)

@@ -111,7 +111,7 @@ impl<W: Write> Write for StyleMarkWriter<W> {
     }
 }
 
-#[tactic(auto, using(codespan_base::proofs::StyleMarks::marking))]
+#[tactic(auto, using(codespan_base::proofs::StyleMarks::spelled_style_marks))]
 impl<W: Write> WriteStyle for StyleMarkWriter<W> {
     ghost use Rattle.codespan_native.specs.StyleMarkWriters.{style_mark_writer_sink};
 

@@ -132,7 +132,7 @@ impl Write for Recorder {
     }
 }
 
-#[tactic(auto, using(codespan_base::proofs::StyleMarks::marking))]
+#[tactic(auto, using(codespan_base::proofs::StyleMarks::spelled_style_marks))]
 impl WriteStyle for Recorder {
     ghost use Rattle.std.specs.Prelude.{refl};
     ghost use Rattle.codespan_styled.specs.Private.Recorded.{recorder_sink};

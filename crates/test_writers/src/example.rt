@@ -52,7 +52,7 @@ impl<W: Write> Write for TagWriter<W> {
     }
 }
 
-#[tactic(auto, using(codespan_base::proofs::StyleMarks::marking))]
+#[tactic(auto, using(codespan_base::proofs::StyleMarks::spelled_style_marks))]
 impl<W: Write> WriteStyle for TagWriter<W> {
     ghost sink = { λ t. tag_sink t.failed (W.contents t.inner) };
 

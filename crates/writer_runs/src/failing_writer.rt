@@ -89,7 +89,7 @@ impl<W: Write> Write for FailingWriter<W> {
     }
 }
 
-#[tactic(auto, using(codespan_base::proofs::StyleMarks::marking))]
+#[tactic(auto, using(codespan_base::proofs::StyleMarks::spelled_style_marks))]
 impl<W: Write> WriteStyle for FailingWriter<W> {
     ghost sink = { λ t. spelling_sink t.failed (W.contents t.inner) };
 

@@ -94,7 +94,7 @@ impl<W: WriteColor> Write for StylesWriter<'_, W> {
     }
 }
 
-#[tactic(auto, using(codespan_core::proofs::StyleMarks::marking))]
+#[tactic(auto, using(codespan_core::proofs::StyleMarks::spelled_style_marks))]
 impl<W: WriteColor> WriteStyle for StylesWriter<'_, W> {
     ghost use Rattle.codespan_base.specs.StyleWriters.{styles_sink};
 

@@ -26,7 +26,7 @@ pub type GeneralWriteResult = io::Result<()>;
 /// A writer of tags in brackets:
 ///
 /// ```rust
-/// #[tactic(auto, using(codespan_base::proofs::StyleMarks::marking))]
+/// #[tactic(auto, using(codespan_base::proofs::StyleMarks::spelled_style_marks))]
 /// impl<W: Write> WriteStyle for TagWriter<W> {
 ///     ghost sink = { λ t. tag_sink t.failed (W.contents t.inner) };
 ///
