@@ -102,5 +102,5 @@ module _ {FileId : Type 0} (encoding : PositionEncoding) (database : FileDatabas
   abbrev pub lsp_views : Diagnostic FileId → List (LspView FileId)
   lsp_views d = map (lsp_view_for d) (primary_labels d.labels.items)
 
-  abbrev pub views_failure : Diagnostic FileId → Option Error
-  views_failure d = first_failure (map (lsp_failure d) (primary_labels d.labels.items))
+  abbrev pub lsp_views_failure : Diagnostic FileId → Option Error
+  lsp_views_failure d = first_failure (map (lsp_failure d) (primary_labels d.labels.items))

@@ -3,7 +3,7 @@
 ghost use Rattle.std.specs.Prelude.{◌≡◌, IfOk, map};
 ghost use Rattle.codespan_base.specs.LawfulFiles.{FailsBy};
 ghost use Rattle.codespan_base.specs.Labels.{is_primary_style};
-ghost use Rattle.codespan_lsp.specs.LspDiagnostics.{lsp_view, lsp_views, lsp_view_for, lsp_failure, views_failure, related_view, related_views, related_failure};
+ghost use Rattle.codespan_lsp.specs.LspDiagnostics.{lsp_view, lsp_views, lsp_view_for, lsp_failure, lsp_views_failure, related_view, related_views, related_failure};
 ghost use Rattle.codespan_lsp.specs.declared.encoding.PositionEncoding.TheVariants.{Utf16};
 
 use crate::encoding::PositionEncoding;
@@ -55,7 +55,7 @@ impl PositionEncoding {
     ) -> Result<Vec<LspDiagnostic<F::FileId>>, Error>
         ensures value { IfOk result (λ found.
             map lsp_view found.items ≡ lsp_views self (F.database files.now) diagnostic.now) }
-        ensures failed { FailsBy (views_failure self (F.database files.now) diagnostic.now)
+        ensures failed { FailsBy (lsp_views_failure self (F.database files.now) diagnostic.now)
             result }
     {
         let mut found = Vec::new(*diagnostic.message.allocator());
@@ -153,7 +153,8 @@ pub fn to_lsp_diagnostics<'files, F: Files<'files>>(
 ) -> Result<Vec<LspDiagnostic<F::FileId>>, Error>
     ensures value { IfOk result (λ found.
         map lsp_view found.items ≡ lsp_views Utf16 (F.database files.now) diagnostic.now) }
-    ensures failed { FailsBy (views_failure Utf16 (F.database files.now) diagnostic.now) result }
+    ensures failed { FailsBy (lsp_views_failure Utf16 (F.database files.now) diagnostic.now)
+        result }
 {
     PositionEncoding::Utf16.to_lsp_diagnostics(files, diagnostic)
 }
