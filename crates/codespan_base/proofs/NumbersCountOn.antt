@@ -1,7 +1,7 @@
 -- For the law `set_numbers_count_on`: what setting a line's number does to all lines' numbers.
 use Rattle.std.proofs.Common.{◌≡◌, ℕ, suc, ◌<◌, List, [], ◌∷◌, length, Option, Some, None, refl, arith}
 use Rattle.std.proofs.lemmas.Bool.Decides.{nat_tests}
-use Rattle.codespan_base.specs.SetLineNumbers.{set_index_at, IsStrictlySorted}
+use Rattle.codespan_base.specs.SetLineNumbers.{line_index_at, IsStrictlySorted}
 use Rattle.codespan_base.specs.MappedModel.{nearest_set, with_set_number}
 use Rattle.codespan_base.specs.FileLaws.{nearest_set_after}
 
@@ -16,7 +16,7 @@ found_step b x l i t first None same later found = grind (arith, nat_tests)
 
 -- where all line indices are above b, so is that of the set number that a line counts from
 found_above : (b : ℕ) (l : List (ℕ × ℕ)) (i : ℕ) (t : ℕ × ℕ)
-    → ((j : ℕ) → j < length l → b < set_index_at l j) → nearest_set l i ≡ Some t → b < t.0
+    → ((j : ℕ) → j < length l → b < line_index_at l j) → nearest_set l i ≡ Some t → b < t.0
 found_above b [] i t above found = absurd (cc)
 found_above b (x ∷ l) i t above found =
     found_step b x l i t (above 0 (omega arith)) (nearest_set l i) refl

@@ -9,7 +9,7 @@ use Rattle.std.proofs.lemmas.List.Sorted.{IsNonDecreasingBy-from_default}
 use Rattle.std.proofs.lemmas.List.Edits.{length-insert, get_or-insert_below, get_or-insert_at, get_or-insert_above}
 use Rattle.std.proofs.lemmas.Bool.Decides.{nat_tests}
 use Rattle.std.proofs.lemmas.List.{length-map}
-use Rattle.codespan_base.specs.SetLineNumbers.{set_pair, set_pairs, set_index_at, IsStrictlySorted, IsSetAt, IsInsertionPoint}
+use Rattle.codespan_base.specs.SetLineNumbers.{set_number_view, set_number_views, line_index_at, IsStrictlySorted, IsSetAt, IsInsertionPoint}
 use Rattle.codespan_base.specs.declared.files.mapped.SetNumber.{SetNumber}
 use Rattle.codespan_base.specs.MappedModel.{nearest_set, with_set_number}
 
@@ -19,21 +19,21 @@ none_there = record { line_index = 0; number = 0 }
 
 -- a line index of the pairs
 index_at : (l : List SetNumber) (i : ℕ)
-    → set_index_at (set_pairs l) i ≡ (get_or l i none_there).line_index
+    → line_index_at (set_number_views l) i ≡ (get_or l i none_there).line_index
 unfolding none_there
 index_at [] i = refl
 index_at (x ∷ l) zero = refl
 index_at (x ∷ l) (suc i) = index_at l i
 
-module _ (l : List SetNumber) (sorted : IsStrictlySorted (set_pairs l)) (k : ℕ) where
+module _ (l : List SetNumber) (sorted : IsStrictlySorted (set_number_views l)) (k : ℕ) where
   -- the comparisons with k ascend along the list, as a binary search requires
   comparisons_rise : IsNonDecreasingBy (λ s. ordering_index (nat_cmp s.line_index k)) l
   comparisons_rise =
       IsNonDecreasingBy-from_default (λ s. ordering_index (nat_cmp s.line_index k)) l none_there
       (λ i j le in_range.
-      let count = length-map l set_pair in
-      let keys_rise : set_index_at (set_pairs l) i ≤ set_index_at (set_pairs l) j =
-      grind (arith, sorted i j, λ (same : i ≡ j). ap (set_index_at (set_pairs l)) same) in
+      let count = length-map l set_number_view in
+      let keys_rise : line_index_at (set_number_views l) i ≤ line_index_at (set_number_views l) j =
+      grind (arith, sorted i j, λ (same : i ≡ j). ap (line_index_at (set_number_views l)) same) in
       let first = index_at l i in
       let second = index_at l j in
       grind (arith, nat_tests))
@@ -42,21 +42,21 @@ module _ (l : List SetNumber) (sorted : IsStrictlySorted (set_pairs l)) (k : ℕ
   pub searched : (r : Result ℕ ℕ) → IsSearchInRange r (length l)
       → IsBinarySearchResult (λ s. nat_cmp s.line_index k) l r
       → record {
-        found : IfOk r (IsSetAt (set_pairs l) k);
-        absent : IfErr r (IsInsertionPoint (set_pairs l) k);
+        found : IfOk r (IsSetAt (set_number_views l) k);
+        absent : IfErr r (IsInsertionPoint (set_number_views l) k);
       }
   searched (Ok at) in_range equal =
       let here = ranked _ k _ (sym (equal none_there)) in
       record {
         found = record {
-          in_range = omega (arith, length-map l set_pair);
+          in_range = omega (arith, length-map l set_number_view);
           has_index = rw (index_at l at) here;
         };
         absent = tt;
       }
   searched (Err at) in_range parted =
       let parts = parted comparisons_rise in
-      let count = length-map l set_pair in
+      let count = length-map l set_number_view in
       record {
         found = tt;
         absent = record {
@@ -71,7 +71,7 @@ module _ (l : List SetNumber) (sorted : IsStrictlySorted (set_pairs l)) (k : ℕ
 
 -- writing over the set number of an index
 replaced : (l : List (ℕ × ℕ)) (k v at : ℕ) → at < length l
-    → ((j : ℕ) → j < at → set_index_at l j < k) → set_index_at l at ≡ k
+    → ((j : ℕ) → j < at → line_index_at l j < k) → line_index_at l at ≡ k
     → set l at (k, v) ≡ with_set_number k v l
 replaced [] k v at low below here = absurd (omega arith)
 replaced (x ∷ l) k v zero low below here = grind (arith, nat_tests)
@@ -82,8 +82,8 @@ replaced (x ∷ l) k v (suc at) low below here =
     grind (arith, nat_tests)
 
 -- which changes no line index
-kept : (l : List (ℕ × ℕ)) (at k v : ℕ) → at < length l → set_index_at l at ≡ k → (q : ℕ)
-    → set_index_at (set l at (k, v)) q ≡ set_index_at l q
+kept : (l : List (ℕ × ℕ)) (at k v : ℕ) → at < length l → line_index_at l at ≡ k → (q : ℕ)
+    → line_index_at (set l at (k, v)) q ≡ line_index_at l q
 kept [] at k v low here q = absurd (omega arith)
 kept (x ∷ l) zero k v low here zero = sym here
 kept (x ∷ l) zero k v low here (suc q) = refl
@@ -92,7 +92,7 @@ kept (x ∷ l) (suc at) k v low here (suc q) = kept l at k v (omega arith) here 
 
 -- inserting a set number of a new line index
 inserted : (l : List (ℕ × ℕ)) (k v at : ℕ) → at ≤ length l
-    → ((j : ℕ) → j < at → set_index_at l j < k) → (at < length l → k < set_index_at l at)
+    → ((j : ℕ) → j < at → line_index_at l j < k) → (at < length l → k < line_index_at l at)
     → insert l at (k, v) ≡ with_set_number k v l
 inserted [] k v zero low below above = refl
 inserted [] k v (suc at) low below above = absurd (omega arith)
@@ -107,7 +107,7 @@ inserted (x ∷ l) k v (suc at) low below above =
     grind (arith, nat_tests)
 
 -- where all line indices are greater, the line counts from no set number
-none_set : (l : List (ℕ × ℕ)) (k : ℕ) → ((j : ℕ) → j < length l → k < set_index_at l j)
+none_set : (l : List (ℕ × ℕ)) (k : ℕ) → ((j : ℕ) → j < length l → k < line_index_at l j)
     → nearest_set l k ≡ None
 none_set [] k above = refl
 none_set (x ∷ l) k above =
@@ -116,8 +116,8 @@ none_set (x ∷ l) k above =
     grind (arith, nat_tests)
 
 -- the line counts from the last set number whose line index is not greater
-last_set : (l : List (ℕ × ℕ)) (k at : ℕ) → at < length l → set_index_at l at ≤ k
-    → ((j : ℕ) → at < j → j < length l → k < set_index_at l j)
+last_set : (l : List (ℕ × ℕ)) (k at : ℕ) → at < length l → line_index_at l at ≤ k
+    → ((j : ℕ) → at < j → j < length l → k < line_index_at l j)
     → nearest_set l k ≡ Some (get_or l at (0, 0))
 last_set [] k at low here above = absurd (omega arith)
 last_set (x ∷ l) k zero low here above =
@@ -173,12 +173,12 @@ module _ (l : List (ℕ × ℕ)) (k at : ℕ) (point : IsInsertionPoint l k at) 
       let new = insert l at (k, v) in
       let key = λ (x : ℕ × ℕ). x.0 in
       let length_new = length-insert l at (k, v) point.in_range in
-      let key_below : (i : ℕ) → i < at → set_index_at new i ≡ set_index_at l i =
+      let key_below : (i : ℕ) → i < at → line_index_at new i ≡ line_index_at l i =
       λ i below. ap key (get_or-insert_below l at (k, v) (0, 0) i below point.in_range) in
-      let key_here : (i : ℕ) → i ≡ at → set_index_at new i ≡ k =
+      let key_here : (i : ℕ) → i ≡ at → line_index_at new i ≡ k =
       λ i here. rw here (ap key (get_or-insert_at l at (k, v) (0, 0) point.in_range)) in
-      let key_above : (i : ℕ) → at < i → set_index_at new i ≡ set_index_at l (i - 1) =
-      λ i above. subst (λ q. set_index_at new q ≡ set_index_at l (i - 1)) {x = i - 1 + 1}
+      let key_above : (i : ℕ) → at < i → line_index_at new i ≡ line_index_at l (i - 1) =
+      λ i above. subst (λ q. line_index_at new q ≡ line_index_at l (i - 1)) {x = i - 1 + 1}
       (omega arith)
       (ap key (get_or-insert_above l at (k, v) (0, 0) (i - 1) (omega arith) point.in_range)) in
       grind (
@@ -198,19 +198,19 @@ module _ (l : List (ℕ × ℕ)) (k at : ℕ) (point : IsInsertionPoint l k at) 
 
 -- inserting among set numbers is inserting among their pairs
 pub pairs-insert : (l : List SetNumber) (at : ℕ) (s : SetNumber)
-    → set_pairs (insert l at s) ≡ insert (set_pairs l) at (set_pair s)
+    → set_number_views (insert l at s) ≡ insert (set_number_views l) at (set_number_view s)
 pairs-insert l zero s = refl
 pairs-insert [] (suc at) s = refl
-pairs-insert (x ∷ l) (suc at) s = ap (λ (ps : List (ℕ × ℕ)). set_pair x ∷ ps) (pairs-insert l at s)
+pairs-insert (x ∷ l) (suc at) s = ap (λ (ps : List (ℕ × ℕ)). set_number_view x ∷ ps) (pairs-insert l at s)
 
 -- whether the insert succeeds or fails, the order is kept
 pub sorted_either : (l : List SetNumber) (at : ℕ) (s : SetNumber)
-    → IsInsertionPoint (set_pairs l) s.line_index at → IsStrictlySorted (set_pairs l) → (b : Bool)
+    → IsInsertionPoint (set_number_views l) s.line_index at → IsStrictlySorted (set_number_views l) → (b : Bool)
     (xs : List SetNumber) → xs ≡ (if b then insert l at s else l)
-    → IsStrictlySorted (set_pairs xs)
+    → IsStrictlySorted (set_number_views xs)
 sorted_either l at s point sorted true xs e =
     rw (e, pairs-insert l at s)
-    (sorted_insert (set_pairs l) s.line_index at point s.number sorted)
+    (sorted_insert (set_number_views l) s.line_index at point s.number sorted)
 sorted_either l at s point sorted false xs e = rw e sorted
 
 -- an empty list is sorted

@@ -6,7 +6,7 @@ use Rattle.codespan_core.specs.declared.files.error.Error.{Error}
 use Rattle.codespan_base.specs.declared.files.mapped.MappedFile.{MappedFile}
 use Rattle.codespan_core.specs.FileModel.{FileModel, Lookup}
 use Rattle.codespan_core.specs.DatabaseViews.{name_of, source_of, file_text_of}
-use Rattle.codespan_base.specs.SetLineNumbers.{set_pairs}
+use Rattle.codespan_base.specs.SetLineNumbers.{set_number_views}
 use Rattle.codespan_base.specs.MappedModel.{mapped_file, mapped_failure}
 
 module _ {Name Source : Type 0} {texts : Ghosts Source} where
@@ -24,7 +24,7 @@ module _ {Name Source : Type 0} {texts : Ghosts Source} where
 
   -- the line indices whose numbers are set in a `MappedFile`, ascending, each with its number
   abbrev pub set_numbers_of : MappedFile Name Source texts → List (ℕ × ℕ)
-  set_numbers_of file = set_pairs file.numbers.items
+  set_numbers_of file = set_number_views file.numbers.items
 
   -- the file that the lookups of a `MappedFile` describe, where `output` is what names display
   abbrev pub mapped_file_of : (Name → Option (List ℕ)) → MappedFile Name Source texts → FileModel

@@ -2,7 +2,7 @@
 
 ghost use Rattle.std.specs.Prelude.{◌≡◌, ◌≤◌, [], refl, IfOk, IsOk, IfErr, IfSome, OnOk, OnErr, IsErrOf, None, option_map};
 ghost use Rattle.codespan_core.specs.Lines.{line_starts_of};
-ghost use Rattle.codespan_base.specs.SetLineNumbers.{set_pair, set_pairs, IsStrictlySorted, IsSetAt, IsInsertionPoint};
+ghost use Rattle.codespan_base.specs.SetLineNumbers.{set_number_view, set_number_views, IsStrictlySorted, IsSetAt, IsInsertionPoint};
 
 use codespan_core::files::{Error, Files, Location, SimpleFile, column_index, default_line_number};
 use std::alloc::Global;
@@ -32,7 +32,7 @@ pub struct MappedFile<Name, Source: AsStr> {
     file: SimpleFile<Name, Source>,
     // In the order of their line indices.
     numbers: Vec<SetNumber>,
-    ghost sorted: { IsStrictlySorted (set_pairs numbers.items) },
+    ghost sorted: { IsStrictlySorted (set_number_views numbers.items) },
 }
 
 /// A set line number.
@@ -113,7 +113,7 @@ impl<Name, Source: AsStr> MappedFile<Name, Source> {
     /// Returns the set number that this line counts from; `None` where no number is set at the line
     /// or above it.
     fn nearest(&self, line_index: usize) -> Option<SetNumber>
-        ensures value { option_map set_pair result
+        ensures value { option_map set_number_view result
             ≡ nearest_set (set_numbers_of self.now) line_index }
         ensures below { IfSome result (λ set_number. set_number.line_index ≤ line_index) }
     {
