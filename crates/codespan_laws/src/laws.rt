@@ -97,7 +97,7 @@ pub fn bars_are_labels()
 /// States that each lane is one line, a top corner, bars, and a bottom corner below it, where no
 /// label of the file starts after its end. In the classic layout rows of the first line may leave
 /// the lane out below a corner in the source row.
-pub fn lanes_are_lines()
+pub fn lanes_join_corners()
     ensures { (config : Config) (layout : Layout) (s : LabeledFileModel)
         → NoneReversed s.labels → LanesJoinCorners config layout s }
 {}

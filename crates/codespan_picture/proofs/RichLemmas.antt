@@ -37,7 +37,7 @@ snippet_means_labels view_config context s = record {
   pointers = λ l wide. pointers.pointers_are_cells context (line_at s l) wide;
   bars = λ ordered. ranges.bars_are_labels context.layout s ordered;
   break_bars = λ ordered. ranges.breaks_have_bars view_config context.layout s ordered;
-  lanes = λ ordered. runs.lanes_are_lines view_config context.layout s ordered;
+  lanes = λ ordered. runs.lanes_join_corners view_config context.layout s ordered;
 }
 
 -- the output means the labels of the diagnostic
