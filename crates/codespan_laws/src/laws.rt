@@ -19,7 +19,7 @@ ghost use Rattle.codespan_laws.specs.ColorLaws.{ColorsChangeNoText, NoColorIsPla
 ghost use Rattle.codespan_picture.specs.CaretLaws.{CaretsAreCells, PointersAreCells, StartsHaveCells};
 ghost use Rattle.codespan_picture.specs.RichLaws.{MeansLabels, NoneReversed};
 ghost use Rattle.codespan_picture.specs.LaneLaws.{BarsAreLabels, LanesJoinCorners, LanesAreShown};
-ghost use Rattle.codespan_picture.specs.LineLaws.{BreaksHaveBars, BreaksAreGaps, RowsOfShown, PaddingFits, SourceRowsAreFew};
+ghost use Rattle.codespan_picture.specs.LineLaws.{BreaksHaveBars, BreaksAreGaps, RowsAreOfShownLines, PaddingFits, SourceRowsAreFew};
 ghost use Rattle.codespan_picture.specs.MessageLaws.{MessagesAppearOnce};
 ghost use Rattle.codespan_picture.specs.TrailingLaws.{EachTrailsOrHangs};
 ghost use Rattle.codespan_laws.specs.OrderLaws.{OrderIsFree};
@@ -47,7 +47,7 @@ pub fn outputs_mean_labels<Id>()
 /// States that the drawn lines and the breaks follow from the shown lines: between two consecutive
 /// shown lines a single line is filled in, and two or more are replaced by a break.
 pub fn rows_are_of_shown_lines()
-    ensures { (config : Config) (s : LabeledFileModel) → RowsOfShown config s }
+    ensures { (config : Config) (s : LabeledFileModel) → RowsAreOfShownLines config s }
 {}
 
 /// States that a snippet has one break row for each two consecutive shown lines that are three or

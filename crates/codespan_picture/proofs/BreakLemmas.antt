@@ -8,7 +8,7 @@ use Rattle.codespan_picture.specs.CharMetrics.{leading_whitespace}
 use Rattle.codespan_picture.specs.Rows.{Row, Lanes, Line, SourceRow, HangingRow, UnderlineRow, BreakRow, caret_rows, pointer_and_hanging_rows, underline_rows, rows_of, hanging_labels, has_underline}
 use Rattle.codespan_picture.specs.Sequences.{gap_between}
 use Rattle.codespan_picture.specs.Snippets.{LabeledFileModel, line_at, line_rows, break_rows, rows_of_shown}
-use Rattle.codespan_picture.specs.LineLaws.{break_lanes, broken_before, shown_lines, BreaksAreGaps, RowsOfShown}
+use Rattle.codespan_picture.specs.LineLaws.{break_lanes, broken_before, shown_lines, BreaksAreGaps, RowsAreOfShownLines}
 
 -- ---- rows that are not breaks
 
@@ -86,7 +86,7 @@ breaks_from_start line (d ∷ more) =
     breaks-append (rows_of (line d)) (rows_of_shown line (Some d) more)
     ∙ ap₂ (λ s t. s ++ t) (no_break_line (line d)) (breaks_of line d more)
 
-pub breaks_are_gaps : (config : Config) (s : LabeledFileModel) → RowsOfShown config s
+pub breaks_are_gaps : (config : Config) (s : LabeledFileModel) → RowsAreOfShownLines config s
     → BreaksAreGaps config s
 breaks_are_gaps config s drawn =
     λ locus. ap (filter_map break_lanes) drawn

@@ -18,8 +18,8 @@ shown_lines config s =
     filter (is_shown config s.file s.labels) (range_with_len 0 (line_count s.file))
 
 -- the rows of drawn lines with their breaks follow from the shown lines
-abbrev pub RowsOfShown : Config → LabeledFileModel → Type 0
-RowsOfShown config s =
+abbrev pub RowsAreOfShownLines : Config → LabeledFileModel → Type 0
+RowsAreOfShownLines config s =
     rows_of_drawn s None (drawn_lines config s.file s.labels)
     ≡ rows_of_shown (line_at s) None (shown_lines config s)
 
