@@ -19,7 +19,7 @@ ghost use Rattle.codespan_laws.specs.ColorLaws.{ColorsChangeNoText, NoColorIsPla
 ghost use Rattle.codespan_picture.specs.CaretLaws.{CaretsAreCells, PointersAreCells, StartsHaveCells};
 ghost use Rattle.codespan_picture.specs.RichLaws.{MeansLabels, NoneReversed};
 ghost use Rattle.codespan_picture.specs.LaneLaws.{BarsAreLabels, LanesJoinCorners, LanesAreShown};
-ghost use Rattle.codespan_picture.specs.LineLaws.{BreaksHaveBars, BreaksAreGaps, RowsAreOfShownLines, PaddingFits, SourceRowsAreFew};
+ghost use Rattle.codespan_picture.specs.LineLaws.{BreaksHaveBars, BreaksReplaceLines, RowsAreOfShownLines, PaddingFits, SourceRowsAreFew};
 ghost use Rattle.codespan_picture.specs.MessageLaws.{MessagesAppearOnce};
 ghost use Rattle.codespan_picture.specs.TrailingLaws.{EachTrailsOrHangs};
 ghost use Rattle.codespan_laws.specs.OrderLaws.{OrderIsFree};
@@ -52,8 +52,8 @@ pub fn rows_are_of_shown_lines()
 
 /// States that a snippet has one break row for each two consecutive shown lines that are three or
 /// more apart, in their order, with the lanes of the later line.
-pub fn breaks_are_gaps()
-    ensures { (config : Config) (s : LabeledFileModel) → BreaksAreGaps config s }
+pub fn breaks_replace_lines()
+    ensures { (config : Config) (s : LabeledFileModel) → BreaksReplaceLines config s }
 {}
 
 /// States that a lane has a bar in a break row exactly where its label covers every line that is

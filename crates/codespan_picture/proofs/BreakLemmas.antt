@@ -1,4 +1,4 @@
--- For `breaks_are_gaps`: there are break rows where shown lines are three or more apart.
+-- For `breaks_replace_lines`: there are break rows where shown lines are three or more apart.
 use Rattle.std.proofs.Common.{◌≡◌, ℕ, ◌+◌, Bool, true, false, cond, ◌==◌, nat_le, List, [], ◌∷◌, ◌++◌, map, filter, filter_map, reverse, Some, None, refl, ap, ap₂, ◌∙◌, arith}
 use Rattle.std.proofs.lemmas.List.Elements.{filter_map-append}
 use Rattle.std.proofs.lemmas.Bool.Decides.{nat_tests}
@@ -8,7 +8,7 @@ use Rattle.codespan_picture.specs.CharMetrics.{leading_whitespace}
 use Rattle.codespan_picture.specs.Rows.{Row, Lanes, Line, SourceRow, HangingRow, UnderlineRow, BreakRow, caret_rows, pointer_and_hanging_rows, underline_rows, rows_of, hanging_labels, has_underline}
 use Rattle.codespan_picture.specs.Sequences.{gap_between}
 use Rattle.codespan_picture.specs.Snippets.{LabeledFileModel, line_at, line_rows, break_rows, rows_of_shown}
-use Rattle.codespan_picture.specs.LineLaws.{break_lanes, broken_before, shown_lines, BreaksAreGaps, RowsAreOfShownLines}
+use Rattle.codespan_picture.specs.LineLaws.{break_lanes, broken_before, shown_lines, BreaksReplaceLines, RowsAreOfShownLines}
 
 -- ---- rows that are not breaks
 
@@ -86,8 +86,8 @@ breaks_from_start line (d ∷ more) =
     breaks-append (rows_of (line d)) (rows_of_shown line (Some d) more)
     ∙ ap₂ (λ s t. s ++ t) (no_break_line (line d)) (breaks_of line d more)
 
-pub breaks_are_gaps : (config : Config) (s : LabeledFileModel) → RowsAreOfShownLines config s
-    → BreaksAreGaps config s
-breaks_are_gaps config s drawn =
+pub breaks_replace_lines : (config : Config) (s : LabeledFileModel) → RowsAreOfShownLines config s
+    → BreaksReplaceLines config s
+breaks_replace_lines config s drawn =
     λ locus. ap (filter_map break_lanes) drawn
     ∙ breaks_from_start (line_at s) (shown_lines config s)

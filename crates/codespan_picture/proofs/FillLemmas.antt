@@ -1,4 +1,4 @@
--- For `rows_are_of_shown_lines` and `breaks_are_gaps`: drawn lines with their breaks, from the
+-- For `rows_are_of_shown_lines` and `breaks_replace_lines`: drawn lines with their breaks, from the
 -- shown lines alone. Between two consecutive ones there is nothing, one filled line, or a break.
 use Rattle.std.proofs.Common.{◌≡◌, ℕ, ◌≤◌, Bool, true, false, cond, nat_lt, List, Option, refl, arith}
 use Rattle.std.proofs.lemmas.Bool.Decides.{nat_tests}

@@ -38,8 +38,8 @@ break_lanes (BreakRow lanes) = Some lanes
 break_lanes _ = None
 
 -- the snippet has one break row for each line of `broken_before`, in order, with that line's lanes
-abbrev pub BreaksAreGaps : Config → LabeledFileModel → Type 0
-BreaksAreGaps config s = (locus : Locus)
+abbrev pub BreaksReplaceLines : Config → LabeledFileModel → Type 0
+BreaksReplaceLines config s = (locus : Locus)
     → filter_map break_lanes (snippet config locus s)
     ≡ map (λ l. (line_at s l).lanes) (broken_before (shown_lines config s))
 
