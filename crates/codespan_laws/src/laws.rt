@@ -21,7 +21,7 @@ ghost use Rattle.codespan_picture.specs.RichLaws.{MeansLabels, NoneReversed};
 ghost use Rattle.codespan_picture.specs.LaneLaws.{BarsAreLabels, LanesJoinCorners, LanesAreShown};
 ghost use Rattle.codespan_picture.specs.LineLaws.{BreaksHaveBars, BreaksReplaceLines, RowsAreOfShownLines, PaddingFits, SourceRowsAreFew};
 ghost use Rattle.codespan_picture.specs.MessageLaws.{MessagesAppearOnce};
-ghost use Rattle.codespan_picture.specs.TrailingLaws.{EachTrailsOrHangs};
+ghost use Rattle.codespan_picture.specs.TrailingLaws.{EachMessageTrailsOrHangs};
 ghost use Rattle.codespan_laws.specs.OrderLaws.{OrderIsFree};
 ghost use Rattle.codespan_picture.specs.SortLaws.{SortsLabels};
 ghost use Rattle.codespan_picture.specs.StatedNames.{HeadersAreBeforeFailure, OutputIsPicture};
@@ -127,7 +127,7 @@ pub fn messages_appear_once<Id>()
 
 /// States that of a line's labels with a message at most one trails, and each other one hangs.
 pub fn each_message_trails_or_hangs()
-    ensures { EachTrailsOrHangs }
+    ensures { EachMessageTrailsOrHangs }
 {}
 
 // ---- the order of labels
