@@ -1,4 +1,4 @@
--- For `order_is_free`: two orders of a file's labels that its snippet shows alike have the same
+-- For `reordering_changes_nothing`: two orders of a file's labels that its snippet shows alike have the same
 -- labels.
 use Rattle.std.proofs.Common.{◌≡◌, ℕ, min, Bool, true, false, not, ◌==◌, ◌&&◌, ◌||◌, nat_le, cond, List, [], ◌∷◌, map, filter, fold, reverse, ⊎_elim, refl, sym, ap, ◌∙◌, arith}
 use Rattle.std.specs.List.{list_any}

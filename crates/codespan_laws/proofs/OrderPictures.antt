@@ -1,4 +1,4 @@
--- For `order_is_free`: a reordering of labels that keeps the orders that a rich output shows
+-- For `reordering_changes_nothing`: a reordering of labels that keeps the orders that a rich output shows
 -- changes nothing in it.
 use Rattle.std.proofs.Common.{◌≡◌, ℕ, ◌+◌, ◌-◌, max, Bool, true, ◌&&◌, ◌||◌, nat_lt, List, [], ◌∷◌, ◌++◌, map, filter, fold, flat_map, length, None, refl, sym, ap, ap₂, ◌∙◌, true, false}
 use mathlib.Core.Path.{fun_ext}
@@ -15,7 +15,7 @@ use Rattle.codespan_base.specs.Labels.{LabelModel, first_line, last_line, first_
 use Rattle.codespan_picture.specs.CharMetrics.{text_without_line_end}
 use Rattle.codespan_picture.specs.LineLaws.{shown_lines}
 use Rattle.codespan_picture.specs.Lines.{shows, is_shown, drawn_lines}
-use Rattle.codespan_laws.specs.OrderLaws.{OrderIsFree}
+use Rattle.codespan_laws.specs.OrderLaws.{ReorderingChangesNothing}
 use Rattle.codespan_picture.specs.Padding.{spans, spanned_lines, numbered_lines, digits_of}
 use Rattle.codespan_picture.specs.OutputStreams.{context_of, rendered, snippet_locus_start}
 use Rattle.codespan_picture.specs.RowStreams.{stream_of_rows}
@@ -198,9 +198,9 @@ module _ {Id : Type 0} (same : Id → Id → Bool) (file : Id → FileModel) (o 
 
 -- a reordering that keeps these orders changes nothing in a rich output, where equal ids have one
 -- file
-pub order_is_free : {Id : Type 0} (same : Id → Id → Bool) (file : Id → FileModel)
-    → OrderIsFree same file
-order_is_free {Id} same file xs ys o one_file orders = record {
+pub reordering_changes_nothing : {Id : Type 0} (same : Id → Id → Bool) (file : Id → FileModel)
+    → ReorderingChangesNothing same file
+reordering_changes_nothing {Id} same file xs ys o one_file orders = record {
   same_starts = starts-same ids ∙ ap (map snippet_locus_start) others;
   same_stream = λ renderer_config view_config severity header_text loci notes.
       rich-same view_config (labeled_file_model same file xs) (labeled_file_model same file ys)

@@ -51,7 +51,7 @@ pub record RenderSame {Id : Type 0} (same : Id → Id → Bool) (file : Id → F
 
 -- where `same` is an equivalence, and equal ids have one file, a reordering that keeps these orders
 -- changes nothing in a rich output
-abbrev pub OrderIsFree : {Id : Type 0} → (Id → Id → Bool) → (Id → FileModel) → Type 0
-OrderIsFree {Id} same file = (xs ys : List (InFile Id))
+abbrev pub ReorderingChangesNothing : {Id : Type 0} → (Id → Id → Bool) → (Id → FileModel) → Type 0
+ReorderingChangesNothing {Id} same file = (xs ys : List (InFile Id))
     → IsEquivalence same → ((i j : Id) → same i j ≡ true → file i ≡ file j)
     → SameOrders same file xs ys → RenderSame same file xs ys

@@ -22,7 +22,7 @@ ghost use Rattle.codespan_picture.specs.LaneLaws.{BarsAreLabels, LanesJoinCorner
 ghost use Rattle.codespan_picture.specs.LineLaws.{BreaksHaveBars, BreaksReplaceLines, RowsAreOfShownLines, PaddingFits, SourceRowsAreFew};
 ghost use Rattle.codespan_picture.specs.MessageLaws.{MessagesAppearOnce};
 ghost use Rattle.codespan_picture.specs.TrailingLaws.{EachMessageTrailsOrHangs};
-ghost use Rattle.codespan_laws.specs.OrderLaws.{OrderIsFree};
+ghost use Rattle.codespan_laws.specs.OrderLaws.{ReorderingChangesNothing};
 ghost use Rattle.codespan_picture.specs.SortLaws.{SortsLabels};
 ghost use Rattle.codespan_picture.specs.StatedNames.{HeadersAreBeforeFailure, OutputIsPicture};
 ghost use Rattle.codespan_picture.specs.TextLaws.{OutputIsText, PictureIsText};
@@ -137,8 +137,8 @@ pub fn each_message_trails_or_hangs()
 /// the single-line labels of one line and one drawn range, where ids are compared by an equivalence
 /// and equal ids have one file. The two orders may have different ids of a file, if these are
 /// equal.
-pub fn order_is_free<Id>()
-    ensures { (same : Id → Id → Bool) (file : Id → FileModel) → OrderIsFree same file }
+pub fn reordering_changes_nothing<Id>()
+    ensures { (same : Id → Id → Bool) (file : Id → FileModel) → ReorderingChangesNothing same file }
 {}
 
 /// States that `sorted` returns the one stable sort of its argument by ranges. The labels of a line

@@ -1,4 +1,4 @@
--- For `labels_are_sorted` and `order_is_free`: the order of a line's labels. Only the order of the
+-- For `labels_are_sorted` and `reordering_changes_nothing`: the order of a line's labels. Only the order of the
 -- labels of each range counts, and is kept.
 use mathlib.Core.Path.{fun_ext}
 use Rattle.std.proofs.Common.{◌≡◌, ℕ, Bool, true, false, ◌==◌, ◌&&◌, cond, List, [], ◌∷◌, filter, ⊎_elim, refl, sym, ap, subst, ◌∙◌, arith}
