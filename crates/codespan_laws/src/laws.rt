@@ -23,7 +23,7 @@ ghost use Rattle.codespan_picture.specs.LineLaws.{BreaksHaveBars, BreaksReplaceL
 ghost use Rattle.codespan_picture.specs.MessageLaws.{MessagesAppearOnce};
 ghost use Rattle.codespan_picture.specs.TrailingLaws.{EachMessageTrailsOrHangs};
 ghost use Rattle.codespan_laws.specs.OrderLaws.{ReorderingChangesNothing};
-ghost use Rattle.codespan_picture.specs.SortLaws.{SortsLabels};
+ghost use Rattle.codespan_picture.specs.SortLaws.{SortedIsStableSort};
 ghost use Rattle.codespan_picture.specs.StatedNames.{HeadersAreBeforeFailure, OutputIsPicture};
 ghost use Rattle.codespan_picture.specs.TextLaws.{OutputIsText, PictureIsText};
 ghost use Rattle.codespan_picture.specs.Lanes.{LaneRow};
@@ -143,8 +143,8 @@ pub fn reordering_changes_nothing<Id>()
 
 /// States that `sorted` returns the one stable sort of its argument by ranges. The labels of a line
 /// are sorted from their reverse, so of labels with equal ranges the last one comes first.
-pub fn labels_are_sorted()
-    ensures { (labels : List LabelModel) → SortsLabels labels }
+pub fn sorted_is_stable_sort()
+    ensures { (labels : List LabelModel) → SortedIsStableSort labels }
 {}
 
 // ---- padding, and every row
