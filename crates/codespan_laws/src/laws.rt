@@ -178,13 +178,13 @@ pub fn stated_loci_are_loci<Id>()
 
 /// States that the output is the picture of the diagnostic, where the names of the labels' files
 /// are stated.
-pub fn stated_names_make_the_picture<Id>()
+pub fn output_is_picture<Id>()
     ensures { (files : FileDatabase Id) (d : Diagnostic Id) → OutputIsPicture files d }
 {}
 
 /// States that the headers that a failed lookup leaves written are those of the primary labels
 /// before the first one for which a lookup fails, where the names of the labels' files are stated.
-pub fn stated_names_make_the_headers<Id>()
+pub fn headers_are_before_failure<Id>()
     ensures { (files : FileDatabase Id) (d : Diagnostic Id) → HeadersAreBeforeFailure files d }
 {}
 

@@ -1,4 +1,4 @@
--- For `stated_names_make_the_picture` and `stated_names_make_the_headers`: an output where the
+-- For `output_is_picture` and `headers_are_before_failure`: an output where the
 -- names of files are stated.
 use Rattle.std.proofs.Common.{◌≡◌, Bool, true, false, cond, ◌&&◌, List, [], ◌∷◌, ◌++◌, length, map, take, flat_map, Option, None, Some, refl, sym, ap, ◌∙◌, arith}
 use Rattle.std.specs.Prelude.{IsSome, is_none, take_while}
