@@ -1,4 +1,4 @@
--- For `characters_are_free`: the length of rows does not depend on the characters that they are
+-- For `chars_change_no_row_length`: the length of rows does not depend on the characters that they are
 -- rendered with.
 use Rattle.std.proofs.Common.{◌≡◌, ℕ, ◌-◌, Bool, true, false, List, [], ◌∷◌, ◌++◌, flat_map, Option, Some, None, if◌then◌else◌, refl, sym, ap, ◌∙◌, arith}
 use Rattle.std.specs.List.{list_any}
@@ -7,7 +7,7 @@ use Rattle.codespan_base.specs.declared.diagnostic.LabelStyle.{LabelStyle}
 use Rattle.codespan_base.specs.declared.term.config.chars.Chars.{Chars}
 use Rattle.codespan_base.specs.Labels.{LabelModel, LaneMark, MultiLabel, Top, Left, Bottom}
 use Rattle.codespan_base.specs.Streams.{Stream, StyleMark, Reset, LabelStyleMark, SourceBorder, NoteBullet, style_mark, bytes, glyph, repeated, space}
-use Rattle.codespan_picture.specs.RowLaws.{row_length, character_count, CharactersAreFree}
+use Rattle.codespan_picture.specs.RowLaws.{row_length, character_count, CharsChangeNoRowLength}
 use Rattle.codespan_base.specs.SnippetStarts.{start_text}
 use Rattle.codespan_picture.specs.declared.char_metrics.Metrics.{Metrics}
 use Rattle.codespan_picture.specs.Carets.{style_under, max_label_end}
@@ -225,5 +225,5 @@ module _ (context : RowContext) (chars : Chars) where
   rows_as_long e FinalRow = as_long []
 
 -- with other characters each row is as long
-pub characters_are_free : CharactersAreFree
-characters_are_free context chars row e = (rows_as_long context chars e row).same
+pub chars_change_no_row_length : CharsChangeNoRowLength
+chars_change_no_row_length context chars row e = (rows_as_long context chars e row).same

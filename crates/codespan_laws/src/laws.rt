@@ -14,7 +14,7 @@ ghost use Rattle.codespan_base.specs.FileModel.{FileDatabase, FileModel, line_co
 ghost use Rattle.codespan_base.specs.Labels.{LabelModel};
 ghost use Rattle.codespan_base.specs.declared.term.config.styles.Styles.{Styles};
 ghost use Rattle.codespan_base.specs.Streams.{Spelling};
-ghost use Rattle.codespan_picture.specs.RowLaws.{row_length, CharactersAreFree, RowsEndReset};
+ghost use Rattle.codespan_picture.specs.RowLaws.{row_length, CharsChangeNoRowLength, RowsEndReset};
 ghost use Rattle.codespan_laws.specs.ColorLaws.{ColorsChangeNoText, NoColorIsPlain};
 ghost use Rattle.codespan_picture.specs.CaretLaws.{CaretsAreCells, PointersAreCells, StartsHaveCells};
 ghost use Rattle.codespan_picture.specs.RichLaws.{MeansLabels, NoneReversed};
@@ -158,8 +158,8 @@ pub fn padding_fits()
 
 /// States that a configuration with other characters, whose text before a locus has as many
 /// characters, changes no row's number of characters.
-pub fn characters_are_free()
-    ensures { CharactersAreFree }
+pub fn chars_change_no_row_length()
+    ensures { CharsChangeNoRowLength }
 {}
 
 /// States that the last style mark of a row, if it has one, is a reset.
