@@ -109,7 +109,7 @@ pub fn lanes_are_shown()
 {}
 
 /// States that each lane takes two characters.
-pub fn lanes_take_two()
+pub fn lanes_take_two_characters()
     ensures { (context : RowContext) (leading : ℕ) (row : LaneRow) (lanes : Lanes)
         → row_length (inner_gutter context leading row lanes) ≡ 2 * lanes.count }
 {}

@@ -1,7 +1,7 @@
 use Rattle.codespan_picture.specs.Lanes.{row_crossing, row_shape}
 use Rattle.codespan_picture.specs.RowParts.{inner_gutter}
 use Rattle.codespan_laws.proofs.LaneWidths.{row_length-lanes_in}
-use Rattle.codespan_laws.proofs.laws.lanes_take_two.Goals as goal
+use Rattle.codespan_laws.proofs.laws.lanes_take_two_characters.Goals as goal
 
 pub returns : goal.returns
 unfolding inner_gutter
