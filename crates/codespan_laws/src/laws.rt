@@ -25,7 +25,7 @@ ghost use Rattle.codespan_picture.specs.TrailingLaws.{EachMessageTrailsOrHangs};
 ghost use Rattle.codespan_laws.specs.OrderLaws.{ReorderingChangesNothing};
 ghost use Rattle.codespan_picture.specs.SortLaws.{SortedIsStableSort};
 ghost use Rattle.codespan_picture.specs.StatedNames.{HeadersAreBeforeFailure, OutputIsPicture};
-ghost use Rattle.codespan_picture.specs.TextLaws.{OutputIsText, PictureIsText};
+ghost use Rattle.codespan_picture.specs.Utf8Laws.{OutputIsUtf8, PictureIsUtf8};
 ghost use Rattle.codespan_picture.specs.Lanes.{LaneRow};
 ghost use Rattle.codespan_picture.specs.RowParts.{line_metrics, inner_gutter};
 ghost use Rattle.codespan_picture.specs.OutputStreams.{AreLoci, output};
@@ -192,13 +192,13 @@ pub fn headers_are_before_failure<Id>()
 /// character, where the characters of the configuration are Unicode scalar values, the files are
 /// lawful, and the names of the loci are UTF-8. The same holds of the picture where the stated
 /// names are UTF-8.
-pub fn outputs_are_texts<Id>()
+pub fn outputs_are_utf8<Id>()
     ensures output { (style : DisplayStyle) (renderer_config view_config : Config)
         (files : FileDatabase Id) (d : Diagnostic Id)
-        → OutputIsText style renderer_config view_config files d }
+        → OutputIsUtf8 style renderer_config view_config files d }
     ensures picture { (style : DisplayStyle) (renderer_config view_config : Config)
         (files : FileDatabase Id) (d : Diagnostic Id)
-        → PictureIsText style renderer_config view_config files d }
+        → PictureIsUtf8 style renderer_config view_config files d }
 {}
 
 /// States that colors change no text: however a writer spells style marks, what it writes of an

@@ -10,7 +10,7 @@ use Rattle.codespan_core.specs.declared.term.config.DisplayStyle.TheVariants.{Ri
 use Rattle.codespan_core.specs.declared.diagnostic.Diagnostic.{Diagnostic}
 use Rattle.codespan_core.specs.FileModel.{FileDatabase, FileModel}
 use Rattle.codespan_core.specs.Labels.{first_seen, is_primary}
-use Rattle.codespan_picture.specs.OutputStreams.{AreLoci, IsLocus, NamesAreTexts, label_locus_start, labels_of, snippet_locus_start, locus_starts}
+use Rattle.codespan_picture.specs.OutputStreams.{AreLoci, IsLocus, NamesAreUtf8, label_locus_start, labels_of, snippet_locus_start, locus_starts}
 use Rattle.codespan_picture.specs.Picture.{stated_loci, stated_locus}
 use Rattle.codespan_picture.specs.Rows.{Locus}
 use Rattle.codespan_picture.specs.Snippets.{InFile, LabeledFileModel, file_ids, labeled_file_model, labeled_file_models, primary_of}
@@ -82,7 +82,7 @@ module _ {X : Type 0} where
 
   -- the names of the loci are texts
   pub zip_texts : (R : X → Locus → Type 0) → ((x : X) (p : Locus) → R x p → IsUtf8 p.name)
-      → (xs : List X) (ps : List Locus) → AllZip R xs ps → NamesAreTexts ps
+      → (xs : List X) (ps : List Locus) → AllZip R xs ps → NamesAreUtf8 ps
   zip_texts R text [] [] h = tt
   zip_texts R text [] (p ∷ ps) h = absurd h
   zip_texts R text (x ∷ xs) [] h = absurd h
@@ -103,7 +103,7 @@ zip_stated (at ∷ ats) (p ∷ ps) h k =
 -- the names of these are texts where the stated names are
 pub stated_texts : (ats : List (FileModel × ℕ))
     → AllByRecursion (λ (at : FileModel × ℕ). IfSome at.0.name IsUtf8) ats
-    → NamesAreTexts (map stated_locus ats)
+    → NamesAreUtf8 (map stated_locus ats)
 stated_texts [] h = tt
 stated_texts (at ∷ ats) h = (shown_is_text at.0.name h.0, stated_texts ats h.1)
 

@@ -67,9 +67,9 @@ module _ {Id : Type 0} (same : Id → Id → Bool) (file : Id → FileModel) (xs
   locus_starts Rich = map snippet_locus_start (labeled_file_models same file xs)
   locus_starts _ = map (label_locus_start file) (primary_of xs)
 
--- the names of these loci are texts
-abbrev pub NamesAreTexts : List Locus → Type 0
-NamesAreTexts loci = AllByRecursion (λ (locus : Locus). IsUtf8 locus.name) loci
+-- the names of these loci are UTF-8
+abbrev pub NamesAreUtf8 : List Locus → Type 0
+NamesAreUtf8 loci = AllByRecursion (λ (locus : Locus). IsUtf8 locus.name) loci
 
 module _ {Id : Type 0} (files : FileDatabase Id) (d : Diagnostic Id) (style : DisplayStyle) where
   -- these are the loci of an output, one for each byte of `locus_starts`

@@ -6,7 +6,7 @@
 ghost use Rattle.std.specs.Char.{IsScalar};
 ghost use Rattle.std.specs.Str.{IsUtf8};
 ghost use Rattle.codespan_core.specs.SnippetStarts.{start_text};
-ghost use Rattle.codespan_picture.specs.TextLaws.{AreCharacters};
+ghost use Rattle.codespan_picture.specs.Utf8Laws.{AreCharacters};
 
 use codespan_core::term::{Chars, SnippetStart};
 
@@ -14,7 +14,7 @@ use codespan_core::term::{Chars, SnippetStart};
 pub fn are_characters(chars: &Chars<'_>)
     ensures { AreCharacters chars.now }
 {
-    start_is_text(&chars.snippet_start);
+    start_is_utf8(&chars.snippet_start);
     is_character(chars.source_border_left);
     is_character(chars.source_border_left_break);
     is_character(chars.note_bullet);
@@ -33,7 +33,7 @@ pub fn are_characters(chars: &Chars<'_>)
 }
 
 /// Shows that the text before a locus is UTF-8.
-fn start_is_text(start: &SnippetStart<'_>)
+fn start_is_utf8(start: &SnippetStart<'_>)
     ensures { IsUtf8 (start_text start.now) }
 {
     match start {

@@ -11,7 +11,7 @@ use Rattle.codespan_base.specs.LawfulFiles.{IsLawful}
 use Rattle.codespan_base.specs.Streams.{Stream, Byte, Mark, Slot, Spelling, spelled}
 use Rattle.codespan_base.specs.WriterLaw.{Frame, Sink, are_known, extended, is_known, with_written}
 use Rattle.codespan_base.specs.Writers.{fresh_sink}
-use Rattle.codespan_picture.specs.TextLaws.{AreCharacters, AreTextsAfter}
+use Rattle.codespan_picture.specs.Utf8Laws.{AreCharacters, AreUtf8After}
 use Rattle.codespan_picture.proofs.PictureTexts.{text-output}
 use Rattle.codespan_views.specs.Output.{IsEmitError}
 use Rattle.codespan_views.specs.WriteCalls.{WritesStyled}
@@ -83,7 +83,7 @@ module _ {Id : Type 0} {config : Config} {files : FileDatabase Id} {d : Diagnost
 -- ---- texts
 
 -- the runs of a text are texts
-runs-texts : (style : Style) (text : List ℕ) (s : Stream) → AreTextsAfter text s
+runs-texts : (style : Style) (text : List ℕ) (s : Stream) → AreUtf8After text s
     → AreTexts (runs_from style text s)
 runs-texts style text [] h = (h, tt)
 runs-texts style text (Byte b ∷ s) h = runs-texts style (text ++ b ∷ []) s h

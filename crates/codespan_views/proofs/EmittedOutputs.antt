@@ -16,7 +16,7 @@ use Rattle.codespan_core.specs.WriterLaw.{Frame, Sink, with_written, is_known, a
 use Rattle.codespan_core.specs.declared.term.config.plain_ref.PlainWriterRef.{PlainWriterRef}
 use Rattle.codespan_core.specs.Writers.{fresh_plain_ref, fresh_sink, borrow_name, plain_ref_sink, borrowed_writer}
 use Rattle.codespan_picture.specs.Rows.{Locus}
-use Rattle.codespan_picture.specs.TextLaws.{AreCharacters}
+use Rattle.codespan_picture.specs.Utf8Laws.{AreCharacters}
 use Rattle.codespan_picture.proofs.PictureTexts.{text-output}
 use Rattle.codespan_views.specs.Failures.{WrittenBefore}
 use Rattle.codespan_views.specs.Output.{IsEmitError, IsRendered}

@@ -4,7 +4,7 @@ use Rattle.std.proofs.Common.{List}
 use Rattle.std.specs.List.{AllZip}
 use Rattle.codespan_core.specs.declared.term.config.DisplayStyle.TheVariants.{Rich, Short}
 use Rattle.codespan_core.specs.declared.diagnostic.Diagnostic.{Diagnostic}
-use Rattle.codespan_picture.specs.OutputStreams.{AreLoci, IsLocus, NamesAreTexts, files_of, label_locus_start, labels_of, snippet_locus_start}
+use Rattle.codespan_picture.specs.OutputStreams.{AreLoci, IsLocus, NamesAreUtf8, files_of, label_locus_start, labels_of, snippet_locus_start}
 use Rattle.codespan_picture.specs.Rows.{Locus}
 use Rattle.codespan_picture.specs.Snippets.{InFile, LabeledFileModel, primary_of}
 use Rattle.codespan_picture.proofs.Loci.{zip_map, zip_texts, zip_weaker}
@@ -28,7 +28,7 @@ module _ {Id : Type 0} (files : FileDatabase Id) (d : Diagnostic Id) (loci : Lis
       loci are)
 
   -- and their names are UTF-8
-  pub file_texts : AllZip IsLocusOfFile own loci → NamesAreTexts loci
+  pub file_texts : AllZip IsLocusOfFile own loci → NamesAreUtf8 loci
   file_texts are = zip_texts IsLocusOfFile (λ s p h. h.is_utf8) own loci are
 
   -- those of the labels' headers are loci of a short output
@@ -40,6 +40,6 @@ module _ {Id : Type 0} (files : FileDatabase Id) (d : Diagnostic Id) (loci : Lis
       (λ x p h. h.is_locus) primary_labels loci are)
 
   -- and their names are UTF-8
-  pub label_texts : AllZip (IsLocusOfLabel files.file) primary_labels loci → NamesAreTexts loci
+  pub label_texts : AllZip (IsLocusOfLabel files.file) primary_labels loci → NamesAreUtf8 loci
   label_texts are =
       zip_texts (IsLocusOfLabel files.file) (λ x p h. h.is_utf8) primary_labels loci are

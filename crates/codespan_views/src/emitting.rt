@@ -73,7 +73,7 @@ pub fn emit_into_string<'files, F: Files<'files>>(
     match rendered {
         // SAFETY: an output is UTF-8: its characters are Unicode scalar values, its texts are
         // UTF-8, and a line is cut at character boundaries only. The condition of the call is
-        // proved from `OutputIsText`, the law that `codespan_laws::laws::outputs_are_texts` states.
+        // proved from `OutputIsUtf8`, the law that `codespan_laws::laws::outputs_are_utf8` states.
         Ok(()) => Ok(unsafe { String::from_utf8_unchecked(plain.into_inner()) }),
         Err(error) => Err(string_error(plain.has_failed(), error)),
     }

@@ -7,22 +7,22 @@ use Rattle.codespan_core.specs.SnippetStarts.{start_text}
 use Rattle.codespan_core.specs.FileModel.{FileDatabase}
 use Rattle.codespan_core.specs.LawfulFiles.{IsLawful}
 use Rattle.codespan_core.specs.Streams.{Stream, Byte, Mark, Slot, text_of}
-use Rattle.codespan_picture.specs.OutputStreams.{NamesAreTexts, output}
+use Rattle.codespan_picture.specs.OutputStreams.{NamesAreUtf8, output}
 use Rattle.codespan_picture.specs.Picture.{picture}
 use Rattle.codespan_picture.specs.Rows.{Locus}
 
 -- the stream, with these bytes before it, is UTF-8 up to its first style mark, between each two,
 -- and after its last one
-abbrev pub AreTextsAfter : List ℕ → Stream → Type 0
-AreTextsAfter text [] = IsUtf8 text
-AreTextsAfter text (Byte b ∷ s) = AreTextsAfter (text ++ b ∷ []) s
-AreTextsAfter text (Mark m ∷ s) = IsUtf8 text × AreTextsAfter [] s
-AreTextsAfter text (Slot k ∷ s) = AreTextsAfter text s
+abbrev pub AreUtf8After : List ℕ → Stream → Type 0
+AreUtf8After text [] = IsUtf8 text
+AreUtf8After text (Byte b ∷ s) = AreUtf8After (text ++ b ∷ []) s
+AreUtf8After text (Mark m ∷ s) = IsUtf8 text × AreUtf8After [] s
+AreUtf8After text (Slot k ∷ s) = AreUtf8After text s
 
 -- the bytes of the stream are UTF-8, and no style mark is inside a character
-pub record IsText (s : Stream) : Type 0 where
+pub record StreamIsUtf8 (s : Stream) : Type 0 where
   pub utf8 : IsUtf8 (text_of s)
-  pub between_style_marks : AreTextsAfter [] s
+  pub between_style_marks : AreUtf8After [] s
 
 -- each character is a Unicode scalar value, and the text before a locus is UTF-8
 pub record AreCharacters (chars : Chars) : Type 0 where
@@ -46,14 +46,14 @@ pub record AreCharacters (chars : Chars) : Type 0 where
 module _ {Id : Type 0} (style : DisplayStyle) (renderer_config view_config : Config)
     (files : FileDatabase Id) (d : Diagnostic Id) where
   -- the output with any loci is a text where the characters of the configuration are Unicode
-  -- scalar values, its files are lawful, and the names of the loci are texts
-  abbrev pub OutputIsText : Type 0
-  OutputIsText = AreCharacters renderer_config.chars → ((id : Id) → IsLawful (files.file id))
-      → (loci : List Locus) → NamesAreTexts loci
-      → IsText (output style renderer_config view_config files d loci)
+  -- scalar values, its files are lawful, and the names of the loci are UTF-8
+  abbrev pub OutputIsUtf8 : Type 0
+  OutputIsUtf8 = AreCharacters renderer_config.chars → ((id : Id) → IsLawful (files.file id))
+      → (loci : List Locus) → NamesAreUtf8 loci
+      → StreamIsUtf8 (output style renderer_config view_config files d loci)
 
   -- so is the picture, where the stated names are UTF-8
-  abbrev pub PictureIsText : Type 0
-  PictureIsText = AreCharacters renderer_config.chars → ((id : Id) → IsLawful (files.file id))
+  abbrev pub PictureIsUtf8 : Type 0
+  PictureIsUtf8 = AreCharacters renderer_config.chars → ((id : Id) → IsLawful (files.file id))
       → ((id : Id) → IfSome (files.file id).name IsUtf8)
-      → IsText (picture style renderer_config view_config files d)
+      → StreamIsUtf8 (picture style renderer_config view_config files d)
