@@ -20,7 +20,7 @@ use Rattle.codespan_picture.specs.Padding.{spans, spanned_lines, numbered_lines,
 use Rattle.codespan_picture.specs.OutputStreams.{context_of, rendered, snippet_locus_start}
 use Rattle.codespan_picture.specs.RowStreams.{stream_of_rows}
 use Rattle.codespan_picture.specs.Rows.{Locus, HeaderText, Lanes, Line, HeaderRow, SnippetStartRow, EmptyRow, FinalRow}
-use Rattle.codespan_picture.specs.Snippets.{LabeledFileModel, InFile, labeled_file_model, empty_lanes, line_at, rows_of_drawn, rows_of_shown, labeled_file_models, snippet, has_any, empty_row_after, snippets, note_rows}
+use Rattle.codespan_picture.specs.Snippets.{LabeledFileModel, LabelInFile, labeled_file_model, empty_lanes, line_at, rows_of_drawn, rows_of_shown, labeled_file_models, snippet, has_any, empty_row_after, snippets, note_rows}
 use Rattle.codespan_picture.proofs.FillLemmas.{rows_of_shown_lines}
 use Rattle.codespan_laws.proofs.OrderMembers.{AreEqual, SameTests, same-tests, locus-same, singles-same}
 
@@ -178,13 +178,13 @@ module _ {Id : Type 0} (view_config : Config) (g h : Id → LabeledFileModel)
 -- ---- equal ids
 
 module _ {Id : Type 0} (same : Id → Id → Bool) (file : Id → FileModel) (o : IsEquivalence same)
-    (one_file : (i j : Id) → same i j ≡ true → file i ≡ file j) (xs : List (InFile Id)) where
+    (one_file : (i j : Id) → same i j ≡ true → file i ≡ file j) (xs : List (LabelInFile Id)) where
   -- equal ids have one file with one list of labels
   file-equal : (i j : Id) → same i j ≡ true
       → labeled_file_model same file xs i ≡ labeled_file_model same file xs j
-  file-equal i j t = ap₂ {C = LabeledFileModel} (λ f (named : InFile Id → Bool).
-      record { file = f; labels = map (λ (x : InFile Id). x.label) (filter named xs) })
-      (one_file i j t) (fun_ext (λ (x : InFile Id). o.congr i j x.file_id t))
+  file-equal i j t = ap₂ {C = LabeledFileModel} (λ f (named : LabelInFile Id → Bool).
+      record { file = f; labels = map (λ (x : LabelInFile Id). x.label) (filter named xs) })
+      (one_file i j t) (fun_ext (λ (x : LabelInFile Id). o.congr i j x.file_id t))
 
   -- ids that are equal one by one have the same files
   files-equal : (is js : List Id) → pointwise same is js ≡ true
@@ -210,7 +210,7 @@ reordering_changes_nothing {Id} same file xs ys o one_file orders = record {
 }
   where
     ids : List Id
-    ids = first_seen same (map (λ (x : InFile Id). x.file_id) xs)
+    ids = first_seen same (map (λ (x : LabelInFile Id). x.file_id) xs)
 
     others : map (labeled_file_model same file ys) ids ≡ labeled_file_models same file ys
     others = files-equal same file o one_file ys _ _ orders.files

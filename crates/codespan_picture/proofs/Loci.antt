@@ -13,7 +13,7 @@ use Rattle.codespan_core.specs.Labels.{first_seen, is_primary}
 use Rattle.codespan_picture.specs.OutputStreams.{AreLoci, IsLocus, NamesAreUtf8, label_locus_start, labels_of, snippet_locus_start, locus_starts}
 use Rattle.codespan_picture.specs.Picture.{stated_loci, stated_locus}
 use Rattle.codespan_picture.specs.Rows.{Locus}
-use Rattle.codespan_picture.specs.Snippets.{InFile, LabeledFileModel, file_ids, labeled_file_model, labeled_file_models, primary_of}
+use Rattle.codespan_picture.specs.Snippets.{LabelInFile, LabeledFileModel, file_ids, labeled_file_model, labeled_file_models, primary_of}
 use Rattle.codespan_picture.proofs.LaneLineLemmas.{each_map}
 use Rattle.codespan_picture.proofs.ListElements.{all-filter}
 
@@ -121,20 +121,20 @@ seen-each P same [] h = tt
 seen-each P same (j ∷ js) h =
     (h.0, all-filter P (λ other. not (same j other)) (first_seen same js) (seen-each P same js h.1))
 
-module _ {Id : Type 0} (same : Id → Id → Bool) (file : Id → FileModel) (xs : List (InFile Id))
+module _ {Id : Type 0} (same : Id → Id → Bool) (file : Id → FileModel) (xs : List (LabelInFile Id))
     (P : FileModel → Type 0)
-    (each : AllByRecursion (λ (x : InFile Id). P (file x.file_id)) xs) where
-  each_primary : AllByRecursion (λ (x : InFile Id). P (file x.file_id)) (primary_of xs)
+    (each : AllByRecursion (λ (x : LabelInFile Id). P (file x.file_id)) xs) where
+  each_primary : AllByRecursion (λ (x : LabelInFile Id). P (file x.file_id)) (primary_of xs)
   each_primary =
-      all-filter (λ (x : InFile Id). P (file x.file_id)) (λ (x : InFile Id). is_primary x.label) xs
+      all-filter (λ (x : LabelInFile Id). P (file x.file_id)) (λ (x : LabelInFile Id). is_primary x.label) xs
       each
 
   each_file : AllByRecursion (λ (s : LabeledFileModel). P s.file) (labeled_file_models same file xs)
   each_file =
       each_map (λ (s : LabeledFileModel). P s.file) (labeled_file_model same file xs)
       (file_ids same xs)
-      (seen-each (λ id. P (file id)) same (map (λ (x : InFile Id). x.file_id) xs)
-      (each_map (λ id. P (file id)) (λ (x : InFile Id). x.file_id) xs each))
+      (seen-each (λ id. P (file id)) same (map (λ (x : LabelInFile Id). x.file_id) xs)
+      (each_map (λ id. P (file id)) (λ (x : LabelInFile Id). x.file_id) xs each))
 
   pub each_start : (style : DisplayStyle)
       → AllByRecursion (λ (at : FileModel × ℕ). P at.0) (locus_starts same file xs style)

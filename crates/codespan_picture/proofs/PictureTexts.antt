@@ -22,7 +22,7 @@ use Rattle.codespan_picture.specs.Rows.{Line, Locus, Row, HeaderRow, EmptyRow, S
 use Rattle.codespan_picture.specs.CharMetrics.{leading_whitespace}
 use Rattle.codespan_picture.specs.Carets.{max_label_end}
 use Rattle.codespan_picture.specs.Sequences.{break_between}
-use Rattle.codespan_picture.specs.Snippets.{InFile, LabeledFileModel, empty_lanes, break_rows, has_any, header_rows, labeled_file_model, line_at, line_rows, note_rows, rich_rows, empty_row_after, rows_of_drawn, snippet, snippets}
+use Rattle.codespan_picture.specs.Snippets.{LabelInFile, LabeledFileModel, empty_lanes, break_rows, has_any, header_rows, labeled_file_model, line_at, line_rows, note_rows, rich_rows, empty_row_after, rows_of_drawn, snippet, snippets}
 use Rattle.codespan_picture.proofs.Sequences.{all-break, all-sequence}
 use Rattle.codespan_picture.specs.Utf8Laws.{AreCharacters, StreamIsUtf8, OutputIsUtf8, PictureIsUtf8}
 use Rattle.codespan_picture.proofs.LaneLineLemmas.{each_all, each_map}
@@ -204,17 +204,17 @@ code-utf8 (Some s) = IsUtf8-string_bytes s
 
 module _ {Id : Type 0} (files : FileDatabase Id) (d : Diagnostic Id) (lawful : (id : Id) → IsLawful (files.file id)) where
   text_message-labels : (ls : List (Label Id))
-      → AllByRecursion (λ (x : InFile Id). HasTextMessage x.label) (map label_of ls)
-  text_message-labels ls = each_map (λ (x : InFile Id). HasTextMessage x.label) label_of ls
+      → AllByRecursion (λ (x : LabelInFile Id). HasTextMessage x.label) (map label_of ls)
+  text_message-labels ls = each_map (λ (x : LabelInFile Id). HasTextMessage x.label) label_of ls
       (each_all (λ (x : Label Id). HasTextMessage (label_of x).label) ls
       (λ x. text-bytes (string_bytes x.message) (IsUtf8-string_bytes x.message)))
 
   text-file : (id : Id) → FileIsUtf8 (labeled_file_model files.same files.file (labels_of d) id)
   text-file id = record {
     lawful = lawful id;
-    labels = each_map HasTextMessage (λ (x : InFile Id). x.label) (filter (λ (x : InFile Id). files.same id x.file_id) (labels_of d))
-        (all-filter (λ (x : InFile Id). HasTextMessage x.label)
-        (λ (x : InFile Id). files.same id x.file_id) (labels_of d)
+    labels = each_map HasTextMessage (λ (x : LabelInFile Id). x.label) (filter (λ (x : LabelInFile Id). files.same id x.file_id) (labels_of d))
+        (all-filter (λ (x : LabelInFile Id). HasTextMessage x.label)
+        (λ (x : LabelInFile Id). files.same id x.file_id) (labels_of d)
         (text_message-labels d.labels.items));
   }
 
@@ -282,4 +282,4 @@ module _ {Id : Type 0} (style : DisplayStyle) (renderer_config view_config : Con
       text-output files d lawful style renderer_config view_config ok (stated_loci files d style)
       (stated_texts (locus_starts files.same files.file (labels_of d) style)
       (each_start files.same files.file (labels_of d) (λ (f : FileModel). IfSome f.name IsUtf8)
-      (each_all (λ (x : InFile Id). IfSome (files.file x.file_id).name IsUtf8) (labels_of d) (λ x. named x.file_id)) style))
+      (each_all (λ (x : LabelInFile Id). IfSome (files.file x.file_id).name IsUtf8) (labels_of d) (λ x. named x.file_id)) style))

@@ -11,7 +11,7 @@ use Rattle.codespan_core.specs.FileModel.{FileDatabase}
 use Rattle.codespan_core.specs.Streams.{Stream}
 use Rattle.codespan_picture.specs.OutputStreams.{header_text_of, label_of, labels_of, locus_starts, notes_of, rendered}
 use Rattle.codespan_picture.specs.Picture.{picture, stated_locus}
-use Rattle.codespan_picture.specs.Snippets.{InFile, labeled_file_models}
+use Rattle.codespan_picture.specs.Snippets.{LabelInFile, labeled_file_models}
 use Rattle.codespan_picture.specs.ViewPictures.{label_of_view, picture_of_view}
 use Rattle.codespan_picture.proofs.EqualConfigs.{rendered_equal}
 
@@ -24,7 +24,7 @@ labels-of_view (x ∷ xs) = ap (λ rest. label_of x ∷ rest) (labels-of_view xs
 module _ {Id : Type 0} (expected config : Config) (files : FileDatabase Id) (d : Diagnostic Id)
   where
     -- what is rendered in a style, by a configuration, with these labels
-    abbrev rendered_with : DisplayStyle → Config → List (InFile Id) → Stream
+    abbrev rendered_with : DisplayStyle → Config → List (LabelInFile Id) → Stream
     rendered_with style by xs =
         rendered style by by d.severity (header_text_of d)
         (map stated_locus (locus_starts files.same files.file xs style))

@@ -9,12 +9,12 @@ use Rattle.codespan_core.specs.Streams.{Stream, bytes}
 use Rattle.codespan_picture.specs.Padding.{padding_of}
 use Rattle.codespan_picture.specs.Rows.{HeaderText, Locus, RowContext}
 use Rattle.codespan_picture.specs.RowStreams.{stream_of_rows}
-use Rattle.codespan_picture.specs.Snippets.{InFile, LabeledFileModel, header_rows, labeled_file_models, locus_start, note_rows, primary_of, rich_rows}
+use Rattle.codespan_picture.specs.Snippets.{LabelInFile, LabeledFileModel, header_rows, labeled_file_models, locus_start, note_rows, primary_of, rich_rows}
 
 -- ---- a diagnostic, as its output reads it
 
 -- a label
-abbrev pub label_of : {Id : Type 0} → Label Id → InFile Id
+abbrev pub label_of : {Id : Type 0} → Label Id → LabelInFile Id
 label_of x = record {
   file_id = x.file_id;
   label = record {
@@ -26,7 +26,7 @@ label_of x = record {
 }
 
 -- the labels in the order given
-abbrev pub labels_of : {Id : Type 0} → Diagnostic Id → List (InFile Id)
+abbrev pub labels_of : {Id : Type 0} → Diagnostic Id → List (LabelInFile Id)
 labels_of d = map label_of d.labels.items
 
 -- its files with their labels
@@ -57,10 +57,10 @@ abbrev pub snippet_locus_start : LabeledFileModel → FileModel × ℕ
 snippet_locus_start s = (s.file, locus_start s.labels)
 
 -- the byte of a file at which a label starts
-abbrev pub label_locus_start : {Id : Type 0} → (Id → FileModel) → InFile Id → FileModel × ℕ
+abbrev pub label_locus_start : {Id : Type 0} → (Id → FileModel) → LabelInFile Id → FileModel × ℕ
 label_locus_start file x = (file x.file_id, x.label.start)
 
-module _ {Id : Type 0} (same : Id → Id → Bool) (file : Id → FileModel) (xs : List (InFile Id)) where
+module _ {Id : Type 0} (same : Id → Id → Bool) (file : Id → FileModel) (xs : List (LabelInFile Id)) where
   -- the bytes of files whose loci the output shows: in rich style that of each file's snippet, in
   -- medium and short style the start of each primary label
   abbrev pub locus_starts : DisplayStyle → List (FileModel × ℕ)

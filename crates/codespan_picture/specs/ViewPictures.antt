@@ -5,12 +5,12 @@ use Rattle.codespan_core.specs.Diagnostics.{DiagnosticView, LabelView}
 use Rattle.codespan_core.specs.FileModel.{FileModel}
 use Rattle.codespan_core.specs.Streams.{Stream, bytes}
 use Rattle.codespan_picture.specs.Rows.{HeaderText}
-use Rattle.codespan_picture.specs.Snippets.{InFile, labeled_file_models}
+use Rattle.codespan_picture.specs.Snippets.{LabelInFile, labeled_file_models}
 use Rattle.codespan_picture.specs.OutputStreams.{locus_starts, rendered}
 use Rattle.codespan_picture.specs.Picture.{stated_locus}
 
 -- a label
-abbrev pub label_of_view : {Id : Type 0} → LabelView Id → InFile Id
+abbrev pub label_of_view : {Id : Type 0} → LabelView Id → LabelInFile Id
 label_of_view x = record {
   file_id = x.file_id;
   label = record {
@@ -22,7 +22,7 @@ label_of_view x = record {
 }
 
 -- the labels in the order given
-abbrev pub labels_of_view : {Id : Type 0} → DiagnosticView Id → List (InFile Id)
+abbrev pub labels_of_view : {Id : Type 0} → DiagnosticView Id → List (LabelInFile Id)
 labels_of_view d = map label_of_view d.labels
 
 -- the code and the message

@@ -20,7 +20,7 @@ use Rattle.codespan_picture.specs.OutputStreams.{AreLoci, IsLocus, header_text_o
 use Rattle.codespan_views.specs.Private.TextLoci.{IsLocusOfLabel}
 use Rattle.codespan_picture.specs.Rows.{Locus, Row}
 use Rattle.codespan_picture.specs.RowStreams.{stream_of_rows}
-use Rattle.codespan_picture.specs.Snippets.{InFile, has_any, header_rows, note_rows}
+use Rattle.codespan_picture.specs.Snippets.{LabelInFile, has_any, header_rows, note_rows}
 use Rattle.codespan_views.specs.Output.{Succeeds}
 use Rattle.codespan_views.specs.WriteCalls.{WritesOutput}
 use Rattle.codespan_views.proofs.OutputLoci.{label_loci, label_texts}
@@ -55,12 +55,12 @@ module _ {Id : Type 0} {config : Config} (files : FileDatabase Id) {d : Diagnost
   loci_with here = w.written.loci ++ here ∷ others
 
   -- they are loci
-  abbrev IsLocusOf : InFile Id → Locus → Type 0
+  abbrev IsLocusOf : LabelInFile Id → Locus → Type 0
   IsLocusOf x p = IsLocus (label_locus_start files.file x) p
 
   loci_with-are : (here : Locus) → IsLocusOf w.here here → AreLoci files d Short (loci_with here)
   loci_with-are here is =
-      subst (λ (xs : List (InFile Id)). AllZip IsLocus (map (label_locus_start files.file) xs) (loci_with here)) w.whole
+      subst (λ (xs : List (LabelInFile Id)). AllZip IsLocus (map (label_locus_start files.file) xs) (loci_with here)) w.whole
       (zip_map IsLocus (label_locus_start files.file) (w.before ++ w.here ∷ w.after) (loci_with here)
       (zip_append IsLocusOf w.before (w.here ∷ w.after) w.written.loci (here ∷ others)
       (zip_weaker (IsLocusOfLabel files.file) IsLocusOf (λ x p h. h.is_locus) w.before w.written.loci w.written.are)

@@ -6,7 +6,7 @@ use Rattle.codespan_core.specs.declared.term.config.DisplayStyle.TheVariants.{Ri
 use Rattle.codespan_core.specs.declared.diagnostic.Diagnostic.{Diagnostic}
 use Rattle.codespan_picture.specs.OutputStreams.{AreLoci, IsLocus, NamesAreUtf8, files_of, label_locus_start, labels_of, snippet_locus_start}
 use Rattle.codespan_picture.specs.Rows.{Locus}
-use Rattle.codespan_picture.specs.Snippets.{InFile, LabeledFileModel, primary_of}
+use Rattle.codespan_picture.specs.Snippets.{LabelInFile, LabeledFileModel, primary_of}
 use Rattle.codespan_picture.proofs.Loci.{zip_map, zip_texts, zip_weaker}
 use Rattle.codespan_views.specs.Private.TextLoci.{IsLocusOfFile, IsLocusOfLabel}
 use Rattle.codespan_core.specs.FileModel.{FileDatabase}
@@ -17,7 +17,7 @@ module _ {Id : Type 0} (files : FileDatabase Id) (d : Diagnostic Id) (loci : Lis
   own = files_of files d
 
   -- the labels that have headers
-  abbrev primary_labels : List (InFile Id)
+  abbrev primary_labels : List (LabelInFile Id)
   primary_labels = primary_of (labels_of d)
 
   -- those of the files' snippets are loci of a rich output
