@@ -17,7 +17,7 @@ use Rattle.codespan_picture.specs.LineLaws.{shown_lines}
 use Rattle.codespan_picture.specs.Lines.{shows, is_shown, drawn_lines}
 use Rattle.codespan_laws.specs.OrderLaws.{ReorderingChangesNothing}
 use Rattle.codespan_picture.specs.Padding.{spans, spanned_lines, numbered_lines, digits_of}
-use Rattle.codespan_picture.specs.OutputStreams.{context_of, rendered, snippet_locus_start}
+use Rattle.codespan_picture.specs.OutputStreams.{context_of, rendered, snippet_locus_byte}
 use Rattle.codespan_picture.specs.RowStreams.{stream_of_rows}
 use Rattle.codespan_picture.specs.Rows.{Locus, HeaderText, Lanes, Line, HeaderRow, SnippetStartRow, EmptyRow, FinalRow}
 use Rattle.codespan_picture.specs.Snippets.{LabeledFileModel, LabelInFile, labeled_file_model, empty_lanes, line_at, rows_of_drawn, rows_of_shown, labeled_file_models, snippet, has_any, empty_row_after, snippets, note_rows}
@@ -88,7 +88,7 @@ module _ (f : FileModel) (xs ys : List LabelModel) (equal : AreEqual f xs ys) wh
   drawn-same view_config =
       ap (λ (shown : ℕ → Bool). filter (λ l. shown l || (nat_lt 0 l && shown (l - 1) && shown (l + 1))) (range_with_len 0 (line_count f))) (fun_ext (shown-same view_config))
 
-  start-same : snippet_locus_start s ≡ snippet_locus_start t
+  start-same : snippet_locus_byte s ≡ snippet_locus_byte t
   start-same = ap {B = FileModel × ℕ} (λ n. (f, n)) (locus-same xs ys tests)
 
   -- the rows follow from the shown lines
@@ -201,7 +201,7 @@ module _ {Id : Type 0} (same : Id → Id → Bool) (file : Id → FileModel) (o 
 pub reordering_changes_nothing : {Id : Type 0} (same : Id → Id → Bool) (file : Id → FileModel)
     → ReorderingChangesNothing same file
 reordering_changes_nothing {Id} same file xs ys o one_file orders = record {
-  same_starts = starts-same ids ∙ ap (map snippet_locus_start) others;
+  same_locus_bytes = starts-same ids ∙ ap (map snippet_locus_byte) others;
   same_stream = λ renderer_config view_config severity header_text loci notes.
       rich-same view_config (labeled_file_model same file xs) (labeled_file_model same file ys)
       (have_same_rows view_config) renderer_config severity header_text loci notes ids
@@ -228,8 +228,8 @@ reordering_changes_nothing {Id} same file xs ys o one_file orders = record {
         (labeled_file_model same file ys id).labels (equal id) view_config
 
     starts-same : (ids : List Id)
-        → map snippet_locus_start (map (labeled_file_model same file xs) ids) ≡ map
-        snippet_locus_start (map (labeled_file_model same file ys) ids)
+        → map snippet_locus_byte (map (labeled_file_model same file xs) ids) ≡ map
+        snippet_locus_byte (map (labeled_file_model same file ys) ids)
     starts-same [] = refl
     starts-same (i ∷ ids) =
         ap₂ (λ a b. a ∷ b)

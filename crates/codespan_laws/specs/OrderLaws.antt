@@ -7,7 +7,7 @@ use Rattle.codespan_base.specs.FileModel.{FileModel}
 use Rattle.codespan_base.specs.Labels.{LabelModel, is_single, first_line, drawn_label, multi_line_labels}
 use Rattle.codespan_picture.specs.Rows.{HeaderText, Locus}
 use Rattle.codespan_picture.specs.Snippets.{LabelInFile, file_ids, labeled_file_model, labeled_file_models}
-use Rattle.codespan_picture.specs.OutputStreams.{rendered, locus_starts}
+use Rattle.codespan_picture.specs.OutputStreams.{rendered, locus_bytes}
 
 -- the label has this drawn range
 abbrev pub is_drawn_at : FileModel → ℕ → ℕ → LabelModel → Bool
@@ -41,7 +41,7 @@ pub record SameOrders {Id : Type 0} (same : Id → Id → Bool) (file : Id → F
 -- both orders have the same bytes of loci, and with any loci they render the same
 pub record RenderSame {Id : Type 0} (same : Id → Id → Bool) (file : Id → FileModel)
     (xs ys : List (LabelInFile Id)) : Type 0 where
-  pub same_starts : locus_starts same file xs Rich ≡ locus_starts same file ys Rich
+  pub same_locus_bytes : locus_bytes same file xs Rich ≡ locus_bytes same file ys Rich
   pub same_stream : (renderer_config view_config : Config) (severity : Severity)
       (header_text : HeaderText) (loci : List Locus) (notes : List (List ℕ))
       → rendered Rich renderer_config view_config severity header_text loci

@@ -13,7 +13,7 @@ use Rattle.codespan_base.specs.SimpleModel.{missing_file}
 use Rattle.codespan_picture.specs.OutputStreams.{labels_of}
 use Rattle.codespan_picture.specs.Types.{Config, Diagnostic, Error, DisplayStyle, Rich, Medium, Short, Layout, Classic, Unbroken}
 use Rattle.codespan_picture.specs.Lookups.{AllSucceed, looked_up_lines, lookups_of_file, early_lookups, ends_context_lines, file_at, filled_lines, header_lookups_of, is_looked_up, label_lookups, late_lookups, locus_lookups, lookup_past_end, lookups_in, numbers_for_padding, filled_line_lookups, label_line_lookups, line_lookups, snippet_lookups}
-use Rattle.codespan_picture.specs.Snippets.{LabelInFile, file_ids, locus_start, primary_of}
+use Rattle.codespan_picture.specs.Snippets.{LabelInFile, file_ids, locus_byte_of, primary_of}
 use Rattle.codespan_base.specs.Diagnostics.{DiagnosticView, LabelView}
 use Rattle.codespan_structs.specs.declared.error.Argument.TheVariants.{LabelFile}
 use Rattle.codespan_structs.specs.declared.raw.RawConfig.{RawConfig}
@@ -234,7 +234,7 @@ module _ (ss : List NativeFileView) where
         (of_ids (locus_lookups files xs)
         (λ id h. (
           (lookups_succeed_at id h).name,
-          ((lookups_succeed_at id h).location (locus_start (file_at files xs id).labels), tt),
+          ((lookups_succeed_at id h).location (locus_byte_of (file_at files xs id).labels), tt),
         ))))
         (of_ids (snippet_lookups files xs config) snippets_found)
 

@@ -10,7 +10,7 @@ use Rattle.codespan_core.specs.declared.term.config.DisplayStyle.TheVariants.{Ri
 use Rattle.codespan_core.specs.declared.diagnostic.Diagnostic.{Diagnostic}
 use Rattle.codespan_core.specs.FileModel.{FileDatabase, FileModel}
 use Rattle.codespan_core.specs.Labels.{first_seen, is_primary}
-use Rattle.codespan_picture.specs.OutputStreams.{AreLoci, IsLocus, NamesAreUtf8, label_locus_start, labels_of, snippet_locus_start, locus_starts}
+use Rattle.codespan_picture.specs.OutputStreams.{AreLoci, IsLocus, NamesAreUtf8, label_locus_byte, labels_of, snippet_locus_byte, locus_bytes}
 use Rattle.codespan_picture.specs.Picture.{stated_loci, stated_locus}
 use Rattle.codespan_picture.specs.Rows.{Locus}
 use Rattle.codespan_picture.specs.Snippets.{LabelInFile, LabeledFileModel, file_ids, labeled_file_model, labeled_file_models, primary_of}
@@ -137,15 +137,15 @@ module _ {Id : Type 0} (same : Id → Id → Bool) (file : Id → FileModel) (xs
       (each_map (λ id. P (file id)) (λ (x : LabelInFile Id). x.file_id) xs each))
 
   pub each_start : (style : DisplayStyle)
-      → AllByRecursion (λ (at : FileModel × ℕ). P at.0) (locus_starts same file xs style)
+      → AllByRecursion (λ (at : FileModel × ℕ). P at.0) (locus_bytes same file xs style)
   each_start Rich =
-      each_map (λ (at : FileModel × ℕ). P at.0) snippet_locus_start
+      each_map (λ (at : FileModel × ℕ). P at.0) snippet_locus_byte
       (labeled_file_models same file xs) each_file
   each_start Medium =
-      each_map (λ (at : FileModel × ℕ). P at.0) (label_locus_start file) (primary_of xs)
+      each_map (λ (at : FileModel × ℕ). P at.0) (label_locus_byte file) (primary_of xs)
       each_primary
   each_start Short =
-      each_map (λ (at : FileModel × ℕ). P at.0) (label_locus_start file) (primary_of xs)
+      each_map (λ (at : FileModel × ℕ). P at.0) (label_locus_byte file) (primary_of xs)
       each_primary
 
 -- ---- the loci of an output
@@ -156,4 +156,4 @@ pub stated_are_loci : {Id : Type 0} (files : FileDatabase Id) (d : Diagnostic Id
     → AreLoci files d style (stated_loci files d style)
 stated_are_loci files d style =
     zip_each IsLocus stated_locus locus_there
-    (locus_starts files.same files.file (labels_of d) style)
+    (locus_bytes files.same files.file (labels_of d) style)

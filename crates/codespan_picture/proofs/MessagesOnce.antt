@@ -21,7 +21,7 @@ use Rattle.codespan_picture.specs.Lines.{drawn_lines}
 use Rattle.codespan_picture.specs.Rows.{HeaderText, Locus, RowContext}
 use Rattle.codespan_picture.specs.RowStreams.{stream_of_rows}
 use Rattle.codespan_picture.specs.Snippets.{LabeledFileModel, LabelInFile, file_ids, labeled_file_model, labeled_file_models, rich_rows}
-use Rattle.codespan_picture.specs.OutputStreams.{AreLoci, IsLocus, header_text_of, label_of, labels_of, context_of, notes_of, rendered, snippet_locus_start}
+use Rattle.codespan_picture.specs.OutputStreams.{AreLoci, IsLocus, header_text_of, label_of, labels_of, context_of, notes_of, rendered, snippet_locus_byte}
 use Rattle.codespan_picture.specs.Padding.{padding_of}
 use Rattle.codespan_picture.specs.MessageLaws.{slotted, all_slotted, message_text, slotted_output, MessagesAppearOnce}
 use Rattle.codespan_picture.proofs.Loci.{zip_length}
@@ -181,11 +181,11 @@ ids_kept k n (x ∷ xs) = ap (λ ids. x.file_id ∷ ids) (ids_kept k (n + 1) xs)
 -- there are as many loci as files of labels with slots
 as_many : {Id : Type 0} (same : Id → Id → Bool) (file : Id → FileModel) (xs : List (LabelInFile Id))
     (loci : List Locus)
-    → AllZip IsLocus (map snippet_locus_start (labeled_file_models same file xs)) loci
+    → AllZip IsLocus (map snippet_locus_byte (labeled_file_models same file xs)) loci
     → length loci ≡ length (labeled_file_models same file (all_slotted xs))
 as_many {Id} same file xs loci are =
-    sym (zip_length IsLocus (map snippet_locus_start (labeled_file_models same file xs)) loci are)
-    ∙ length-map (labeled_file_models same file xs) snippet_locus_start
+    sym (zip_length IsLocus (map snippet_locus_byte (labeled_file_models same file xs)) loci are)
+    ∙ length-map (labeled_file_models same file xs) snippet_locus_byte
     ∙ length-map (file_ids same xs) (labeled_file_model same file xs)
     ∙ ap (λ ids. length (first_seen same ids)) (sym (ids_kept 0 0 xs))
     ∙ sym

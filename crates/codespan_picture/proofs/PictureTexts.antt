@@ -16,7 +16,7 @@ use Rattle.codespan_core.specs.LawfulFiles.{IsLawful}
 use Rattle.codespan_core.specs.Labels.{LabelModel, LaneMark, Top, Left, Bottom, drawn_label, first_line, has_message, is_single, lane_mark_of, multi_line_labels, multi_label_at, multi_label_on, insert_sorted, single_labels, sorted, range_precedes}
 use Rattle.codespan_picture.specs.Lines.{drawn_lines}
 use Rattle.codespan_picture.specs.Padding.{padding_of}
-use Rattle.codespan_picture.specs.OutputStreams.{NamesAreUtf8, files_of, header_text_of, label_of, labels_of, context_of, notes_of, output, locus_starts}
+use Rattle.codespan_picture.specs.OutputStreams.{NamesAreUtf8, files_of, header_text_of, label_of, labels_of, context_of, notes_of, output, locus_bytes}
 use Rattle.codespan_picture.specs.Picture.{stated_loci, headers}
 use Rattle.codespan_picture.specs.Rows.{Line, Locus, Row, HeaderRow, EmptyRow, SourceRow, HangingRow, UnderlineRow, FinalRow, caret_rows, hanging_labels, pointer_and_hanging_rows, has_underline, rows_of, underline_rows}
 use Rattle.codespan_picture.specs.CharMetrics.{leading_whitespace}
@@ -280,6 +280,6 @@ module _ {Id : Type 0} (style : DisplayStyle) (renderer_config view_config : Con
   pub picture_is_utf8 : PictureIsUtf8 style renderer_config view_config files d
   picture_is_utf8 ok lawful named =
       text-output files d lawful style renderer_config view_config ok (stated_loci files d style)
-      (stated_texts (locus_starts files.same files.file (labels_of d) style)
+      (stated_texts (locus_bytes files.same files.file (labels_of d) style)
       (each_start files.same files.file (labels_of d) (λ (f : FileModel). IfSome f.name IsUtf8)
       (each_all (λ (x : LabelInFile Id). IfSome (files.file x.file_id).name IsUtf8) (labels_of d) (λ x. named x.file_id)) style))

@@ -14,7 +14,7 @@ use Rattle.codespan_core.specs.declared.term.config.DisplayStyle.TheVariants.{Sh
 use Rattle.codespan_core.specs.FileModel.{FileDatabase, FileModel, Lookup, or_failure}
 use Rattle.codespan_core.specs.FileModel.Lookup.{Name, LocationAt}
 use Rattle.codespan_picture.specs.Lookups.{AllSucceed, Failures, first_error, header_lookups_of}
-use Rattle.codespan_picture.specs.OutputStreams.{AreLoci, label_locus_start, labels_of, output, locus_starts}
+use Rattle.codespan_picture.specs.OutputStreams.{AreLoci, label_locus_byte, labels_of, output, locus_bytes}
 use Rattle.codespan_picture.specs.Picture.{headers_at, stated_loci, stated_locus}
 use Rattle.codespan_picture.specs.Rows.{Locus}
 use Rattle.codespan_picture.specs.Snippets.{LabelInFile, primary_of}
@@ -88,7 +88,7 @@ module _ {Id : Type 0} (files : FileDatabase Id) (d : Diagnostic Id)
   pub loci_stated : (style : DisplayStyle) (loci : List Locus) → AreLoci files d style loci
       → loci ≡ stated_loci files d style
   loci_stated style loci are =
-      zip_stated (locus_starts files.same files.file (labels_of d) style) loci are
+      zip_stated (locus_bytes files.same files.file (labels_of d) style) loci are
       (each_start files.same files.file (labels_of d) (λ (f : FileModel). IsSome f.name)
       (each_of (λ (x : LabelInFile Id). IsSome (files.file x.file_id).name) (labels_of d) named)
       style)
@@ -111,13 +111,13 @@ module _ {Id : Type 0} (files : FileDatabase Id) (d : Diagnostic Id)
       → first_error files.failure (header_lookups_of here) ≡ Some e
       → headers_at config d (take (length before) loci)
       ≡ headers_at config d
-      (map (λ (x : LabelInFile Id). stated_locus (label_locus_start files.file x))
+      (map (λ (x : LabelInFile Id). stated_locus (label_locus_byte files.file x))
       (take_while (lookup_succeeds files.failure) (primary_of (labels_of d))))
   headers_stated config loci are before here after whole succeeded e failed =
       let primaries = primary_of (labels_of d) in
-      let to_locus : LabelInFile Id → Locus = λ x. stated_locus (label_locus_start files.file x) in
+      let to_locus : LabelInFile Id → Locus = λ x. stated_locus (label_locus_byte files.file x) in
       let split : loci ≡ map to_locus before ++ map to_locus (here ∷ after) =
-      loci_stated Short loci are ∙ map_twice stated_locus (label_locus_start files.file) primaries
+      loci_stated Short loci are ∙ map_twice stated_locus (label_locus_byte files.file) primaries
       ∙ ap (map to_locus) (sym whole) ∙ map-append to_locus before (here ∷ after) in
       let taken : take (length before) loci ≡ map to_locus before =
       ap (λ n. take n loci) (sym (length-map before to_locus))

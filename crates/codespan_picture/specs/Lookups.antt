@@ -6,7 +6,7 @@ use Rattle.codespan_core.specs.FileModel.{FileDatabase, FileModel, Lookup, line_
 use Rattle.codespan_core.specs.FileModel.Lookup.{Name, Source, LineIndex, LineNumber, LocationAt, LineRange}
 use Rattle.codespan_core.specs.Labels.{LabelModel, first_line, last_line}
 use Rattle.codespan_picture.specs.Lines.{is_shown, is_drawn}
-use Rattle.codespan_picture.specs.Snippets.{LabeledFileModel, LabelInFile, file_ids, labeled_file_model, locus_start, primary_of}
+use Rattle.codespan_picture.specs.Snippets.{LabeledFileModel, LabelInFile, file_ids, labeled_file_model, locus_byte_of, primary_of}
 use Rattle.codespan_picture.specs.Padding.{spans}
 use Rattle.codespan_picture.specs.OutputStreams.{labels_of}
 
@@ -87,7 +87,7 @@ module _ {Id : Type 0} (files : FileDatabase Id) (xs : List (LabelInFile Id)) wh
 
   -- those of the locus of a file's snippet: the file's name, and the location of a byte
   abbrev pub locus_lookups : Id → List Lookup
-  locus_lookups id = Name ∷ LocationAt (locus_start (file_at id).labels) ∷ []
+  locus_lookups id = Name ∷ LocationAt (locus_byte_of (file_at id).labels) ∷ []
 
   module _ (config : Config) where
     -- the numbers of filled lines that the padding needs

@@ -9,7 +9,7 @@ use Rattle.codespan_core.specs.Streams.{Stream, bytes}
 use Rattle.codespan_picture.specs.Padding.{padding_of}
 use Rattle.codespan_picture.specs.Rows.{HeaderText, Locus, RowContext}
 use Rattle.codespan_picture.specs.RowStreams.{stream_of_rows}
-use Rattle.codespan_picture.specs.Snippets.{LabelInFile, LabeledFileModel, header_rows, labeled_file_models, locus_start, note_rows, primary_of, rich_rows}
+use Rattle.codespan_picture.specs.Snippets.{LabelInFile, LabeledFileModel, header_rows, labeled_file_models, locus_byte_of, note_rows, primary_of, rich_rows}
 
 -- ---- a diagnostic, as its output reads it
 
@@ -53,28 +53,28 @@ pub record IsLocus (at : FileModel × ℕ) (locus : Locus) : Type 0 where
   pub name : IfSome at.0.name (λ name. locus.name ≡ name)
 
 -- the byte of a file whose locus its snippet shows
-abbrev pub snippet_locus_start : LabeledFileModel → FileModel × ℕ
-snippet_locus_start s = (s.file, locus_start s.labels)
+abbrev pub snippet_locus_byte : LabeledFileModel → FileModel × ℕ
+snippet_locus_byte s = (s.file, locus_byte_of s.labels)
 
 -- the byte of a file at which a label starts
-abbrev pub label_locus_start : {Id : Type 0} → (Id → FileModel) → LabelInFile Id → FileModel × ℕ
-label_locus_start file x = (file x.file_id, x.label.start)
+abbrev pub label_locus_byte : {Id : Type 0} → (Id → FileModel) → LabelInFile Id → FileModel × ℕ
+label_locus_byte file x = (file x.file_id, x.label.start)
 
 module _ {Id : Type 0} (same : Id → Id → Bool) (file : Id → FileModel) (xs : List (LabelInFile Id)) where
   -- the bytes of files whose loci the output shows: in rich style that of each file's snippet, in
   -- medium and short style the start of each primary label
-  abbrev pub locus_starts : DisplayStyle → List (FileModel × ℕ)
-  locus_starts Rich = map snippet_locus_start (labeled_file_models same file xs)
-  locus_starts _ = map (label_locus_start file) (primary_of xs)
+  abbrev pub locus_bytes : DisplayStyle → List (FileModel × ℕ)
+  locus_bytes Rich = map snippet_locus_byte (labeled_file_models same file xs)
+  locus_bytes _ = map (label_locus_byte file) (primary_of xs)
 
 -- the names of these loci are UTF-8
 abbrev pub NamesAreUtf8 : List Locus → Type 0
 NamesAreUtf8 loci = AllByRecursion (λ (locus : Locus). IsUtf8 locus.name) loci
 
 module _ {Id : Type 0} (files : FileDatabase Id) (d : Diagnostic Id) (style : DisplayStyle) where
-  -- these are the loci of an output, one for each byte of `locus_starts`
+  -- these are the loci of an output, one for each byte of `locus_bytes`
   abbrev pub AreLoci : List Locus → Type 0
-  AreLoci loci = AllZip IsLocus (locus_starts files.same files.file (labels_of d) style) loci
+  AreLoci loci = AllZip IsLocus (locus_bytes files.same files.file (labels_of d) style) loci
 
 -- ---- the output
 

@@ -5,7 +5,7 @@ use Rattle.codespan_core.specs.FileModel.{FileDatabase, FileModel, name_text}
 use Rattle.codespan_core.specs.Streams.{Stream}
 use Rattle.codespan_picture.specs.Rows.{HeaderText, HeaderRow, Locus, Row}
 use Rattle.codespan_picture.specs.RowStreams.{stream_of_rows}
-use Rattle.codespan_picture.specs.OutputStreams.{header_text_of, labels_of, context_of, output, locus_starts}
+use Rattle.codespan_picture.specs.OutputStreams.{header_text_of, labels_of, context_of, output, locus_bytes}
 
 -- the locus of a byte of a file with the name that the file states, and with an empty name where it
 -- states none
@@ -15,7 +15,7 @@ stated_locus at = record { name = name_text at.0; location = at.0.location at.1 
 module _ {Id : Type 0} (files : FileDatabase Id) (d : Diagnostic Id) (style : DisplayStyle) where
   -- the loci of an output with the names that the files state
   abbrev pub stated_loci : List Locus
-  stated_loci = map stated_locus (locus_starts files.same files.file (labels_of d) style)
+  stated_loci = map stated_locus (locus_bytes files.same files.file (labels_of d) style)
 
 module _ {Id : Type 0} (style : DisplayStyle) (renderer_config view_config : Config)
     (files : FileDatabase Id) (d : Diagnostic Id) where

@@ -88,8 +88,8 @@ if_any (x ∷ xs) others = x ∷ xs
 
 -- the byte of a file's locus: the least start of a primary label, or of any label where none is
 -- primary
-abbrev pub locus_start : List LabelModel → ℕ
-locus_start labels =
+abbrev pub locus_byte_of : List LabelModel → ℕ
+locus_byte_of labels =
     least (map (λ (x : LabelModel). x.start) (if_any (filter is_primary labels) labels))
 
 -- the rows of a file's snippet, which starts with this locus

@@ -3,7 +3,7 @@ use Rattle.std.specs.Prelude.{◌≡◌, List, ◌∷◌, ◌++◌, flat_map, Co
 use Rattle.codespan_picture.specs.Types.{Diagnostic, Error, Config, DisplayStyle, Short}
 use Rattle.codespan_core.specs.FileModel.{FileDatabase}
 use Rattle.codespan_picture.specs.Lookups.{AllSucceed, first_error, header_lookups_of, Failures}
-use Rattle.codespan_picture.specs.OutputStreams.{AreLoci, labels_of, output, label_locus_start}
+use Rattle.codespan_picture.specs.OutputStreams.{AreLoci, labels_of, output, label_locus_byte}
 use Rattle.codespan_picture.specs.Picture.{headers_at, picture, stated_locus}
 use Rattle.codespan_picture.specs.Rows.{Locus}
 use Rattle.codespan_picture.specs.Snippets.{LabelInFile, primary_of}
@@ -35,7 +35,7 @@ module _ {Id : Type 0} (files : FileDatabase Id) (d : Diagnostic Id) where
   -- and medium style have written when it fails
   abbrev pub headers_before_failure : Config → Stream
   headers_before_failure config =
-      headers_at config d (map (λ (x : LabelInFile Id). stated_locus (label_locus_start files.file x))
+      headers_at config d (map (λ (x : LabelInFile Id). stated_locus (label_locus_byte files.file x))
       (labels_before_failure files.failure (labels_of d)))
 
   -- where a lookup of a primary label fails, and none of those of the primary labels before it, the

@@ -6,7 +6,7 @@ use Rattle.codespan_core.specs.FileModel.{FileModel}
 use Rattle.codespan_core.specs.Streams.{Stream, bytes}
 use Rattle.codespan_picture.specs.Rows.{HeaderText}
 use Rattle.codespan_picture.specs.Snippets.{LabelInFile, labeled_file_models}
-use Rattle.codespan_picture.specs.OutputStreams.{locus_starts, rendered}
+use Rattle.codespan_picture.specs.OutputStreams.{locus_bytes, rendered}
 use Rattle.codespan_picture.specs.Picture.{stated_locus}
 
 -- a label
@@ -34,5 +34,5 @@ abbrev pub picture_of_view : {Id : Type 0}
     → Config → (Id → Id → Bool) → (Id → FileModel) → DiagnosticView Id → Stream
 picture_of_view config same file d =
     rendered config.display_style config config d.severity (header_text_of_view d)
-    (map stated_locus (locus_starts same file (labels_of_view d) config.display_style))
+    (map stated_locus (locus_bytes same file (labels_of_view d) config.display_style))
     (labeled_file_models same file (labels_of_view d)) d.notes

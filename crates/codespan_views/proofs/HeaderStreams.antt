@@ -12,7 +12,7 @@ use Rattle.codespan_core.specs.declared.term.config.Config.{Config}
 use Rattle.codespan_core.specs.FileModel.{FileModel}
 use Rattle.codespan_core.specs.Labels.{is_primary}
 use Rattle.codespan_core.specs.Streams.{Stream, newline}
-use Rattle.codespan_picture.specs.OutputStreams.{header_text_of, label_of, label_locus_start, labels_of, context_of, notes_of}
+use Rattle.codespan_picture.specs.OutputStreams.{header_text_of, label_of, label_locus_byte, labels_of, context_of, notes_of}
 use Rattle.codespan_picture.specs.Picture.{stated_locus, headers}
 use Rattle.codespan_picture.specs.Rows.{HeaderRow, HeaderText, RowContext, Locus, Row}
 use Rattle.codespan_picture.specs.RowStreams.{header_row, stream_of, stream_of_rows}
@@ -104,7 +104,7 @@ some_headers R header_text (x ∷ xs) (p ∷ ps) some h = refl
 
 -- the locus of a label, with the name that its file states
 abbrev pub stated_of : {Id : Type 0} → (Id → FileModel) → LabelInFile Id → Locus
-stated_of file x = stated_locus (label_locus_start file x)
+stated_of file x = stated_locus (label_locus_byte file x)
 
 -- the labels that have headers
 abbrev pub primary_labels : {Id : Type 0} → Diagnostic Id → List (LabelInFile Id)

@@ -4,7 +4,7 @@ use Rattle.std.proofs.Common.{List}
 use Rattle.std.specs.List.{AllZip}
 use Rattle.codespan_core.specs.declared.term.config.DisplayStyle.TheVariants.{Rich, Short}
 use Rattle.codespan_core.specs.declared.diagnostic.Diagnostic.{Diagnostic}
-use Rattle.codespan_picture.specs.OutputStreams.{AreLoci, IsLocus, NamesAreUtf8, files_of, label_locus_start, labels_of, snippet_locus_start}
+use Rattle.codespan_picture.specs.OutputStreams.{AreLoci, IsLocus, NamesAreUtf8, files_of, label_locus_byte, labels_of, snippet_locus_byte}
 use Rattle.codespan_picture.specs.Rows.{Locus}
 use Rattle.codespan_picture.specs.Snippets.{LabelInFile, LabeledFileModel, primary_of}
 use Rattle.codespan_picture.proofs.Loci.{zip_map, zip_texts, zip_weaker}
@@ -23,8 +23,8 @@ module _ {Id : Type 0} (files : FileDatabase Id) (d : Diagnostic Id) (loci : Lis
   -- those of the files' snippets are loci of a rich output
   pub file_loci : AllZip IsLocusOfFile own loci → AreLoci files d Rich loci
   file_loci are =
-      zip_map IsLocus snippet_locus_start own loci
-      (zip_weaker IsLocusOfFile (λ s p. IsLocus (snippet_locus_start s) p) (λ s p h. h.is_locus) own
+      zip_map IsLocus snippet_locus_byte own loci
+      (zip_weaker IsLocusOfFile (λ s p. IsLocus (snippet_locus_byte s) p) (λ s p h. h.is_locus) own
       loci are)
 
   -- and their names are UTF-8
@@ -35,8 +35,8 @@ module _ {Id : Type 0} (files : FileDatabase Id) (d : Diagnostic Id) (loci : Lis
   pub label_loci : AllZip (IsLocusOfLabel files.file) primary_labels loci
       → AreLoci files d Short loci
   label_loci are =
-      zip_map IsLocus (label_locus_start files.file) primary_labels loci
-      (zip_weaker (IsLocusOfLabel files.file) (λ x p. IsLocus (label_locus_start files.file x) p)
+      zip_map IsLocus (label_locus_byte files.file) primary_labels loci
+      (zip_weaker (IsLocusOfLabel files.file) (λ x p. IsLocus (label_locus_byte files.file x) p)
       (λ x p h. h.is_locus) primary_labels loci are)
 
   -- and their names are UTF-8

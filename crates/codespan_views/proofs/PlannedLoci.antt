@@ -4,7 +4,7 @@ use Rattle.std.proofs.Common.{◌≡◌, ℕ, Bool, true, false, cond, ◌&&◌,
 use Rattle.std.specs.Prelude.{unwrap_or}
 use Rattle.codespan_core.specs.FileModel.{FileModel}
 use Rattle.codespan_core.specs.Labels.{LabelModel, is_primary}
-use Rattle.codespan_picture.specs.Snippets.{LabelInFile, if_any, labeled_file_model, least, locus_start}
+use Rattle.codespan_picture.specs.Snippets.{LabelInFile, if_any, labeled_file_model, least, locus_byte_of}
 use Rattle.codespan_views.specs.Private.LocusBytes.{file_least_starts, is_locus_label, least_if_any, locus_byte, label_starts}
 
 -- the least of some numbers is that of those that there are
@@ -69,7 +69,7 @@ module _ {Id : Type 0} (same : Id → Id → Bool) (file : Id → FileModel) (id
   -- the least start of a primary label, where there is one
   locus-primary : (xs : List (LabelInFile Id)) (n : ℕ)
       → least_if_any (label_starts same id true xs) ≡ Some n
-      → n ≡ locus_start (labeled_file_model same file xs id).labels
+      → n ≡ locus_byte_of (labeled_file_model same file xs id).labels
   locus-primary xs n is =
       by (filter is_primary labels) (ap least_if_any (sym (primary-starts xs)) ∙ is)
     where
@@ -84,7 +84,7 @@ module _ {Id : Type 0} (same : Id → Id → Bool) (file : Id → FileModel) (id
   -- or that of any label
   locus-any : (xs : List (LabelInFile Id)) (n : ℕ) → least_if_any (label_starts same id true xs) ≡ None
       → n ≡ unwrap_or (least_if_any (label_starts same id false xs)) 0
-      → n ≡ locus_start (labeled_file_model same file xs id).labels
+      → n ≡ locus_byte_of (labeled_file_model same file xs id).labels
   locus-any xs n none is =
       is ∙ ap (λ (ns : List ℕ). unwrap_or (least_if_any ns) 0) (all-starts xs)
       ∙ least-unwrap (map (λ (x : LabelModel). x.start) labels)
@@ -101,12 +101,12 @@ module _ {Id : Type 0} (same : Id → Id → Bool) (file : Id → FileModel) (id
 
   -- the start by the labels is where the snippet starts
   pub start-is : (xs : List (LabelInFile Id))
-      → locus_byte (file_least_starts same xs id) ≡ locus_start
+      → locus_byte (file_least_starts same xs id) ≡ locus_byte_of
       (labeled_file_model same file xs id).labels
   start-is xs = by (least_if_any (label_starts same id true xs)) refl
     where
       by : (o : Option ℕ) → least_if_any (label_starts same id true xs) ≡ o
           → unwrap_or o (unwrap_or (least_if_any (label_starts same id false xs)) 0)
-          ≡ locus_start (labeled_file_model same file xs id).labels
+          ≡ locus_byte_of (labeled_file_model same file xs id).labels
       by (Some n) is = locus-primary xs n is
       by None is = locus-any xs _ is refl

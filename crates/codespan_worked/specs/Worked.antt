@@ -17,7 +17,7 @@ use Rattle.codespan_picture.specs.Arguments.{LaneMarkTuple}
 use Rattle.codespan_picture.specs.Rows.{Line}
 use Rattle.codespan_picture.specs.RowDefinitions.{row_definitions}
 use Rattle.codespan_picture.specs.Snippets.{LabelInFile, labeled_file_models}
-use Rattle.codespan_picture.specs.OutputStreams.{rendered, locus_starts}
+use Rattle.codespan_picture.specs.OutputStreams.{rendered, locus_bytes}
 use Rattle.codespan_picture.specs.Picture.{stated_locus}
 
 -- opens all definitions of an output, so that it computes
@@ -91,7 +91,7 @@ abbrev pub worked_output_of : DisplayStyle → Config → DiagnosticText → Lis
 worked_output_of style config diagnostic files labels =
     rendered style config config diagnostic.severity
     (record { code = diagnostic.code; message = diagnostic.message })
-    (map stated_locus (locus_starts ◌==◌ (numbered files) labels style))
+    (map stated_locus (locus_bytes ◌==◌ (numbered files) labels style))
     (labeled_file_models ◌==◌ (numbered files) labels) diagnostic.notes
 
 -- in rich style
