@@ -18,7 +18,7 @@ use Rattle.codespan_picture.specs.CharMetrics.{width_of}
 use Rattle.codespan_picture.specs.Lanes.{LaneRow, Source, EmptyOrBreak, SingleLabels, Underline, label_glyph, lane_mark_in, row_crossing, row_shape, shape_of, style_of_lane_mark}
 use Rattle.codespan_picture.specs.Rows.{Locus, RowContext, Lanes, Line, Row, HeaderRow, SnippetStartRow, EmptyRow, BreakRow, SourceRow, CaretRow, PointerRow, HangingRow, UnderlineRow, FirstNoteRow, LaterNoteRow, FinalRow, hanging_labels, trailing_label}
 use Rattle.codespan_picture.specs.RowParts.{locus, label_message, inner_gutter_column, inner_gutter, leading_of, line_metrics, line_metrics_to_end, source_style, source_glyph, colored_text, caret_glyphs, carets, trailing_message, starts_in, max_label_start, spaces_up_to, pointer_style, pointer_at, pointers, metrics_before, metrics_up_to, start_caret, end_caret, underline_message, underline}
-use Rattle.codespan_picture.specs.RowStreams.{bracketed, leading_locus, header_row, snippet_start_row, empty_row, break_row, source_row, row_start, caret_row, pointer_row, hanging_row, underline_row, first_note_row, later_note_row, stream_of, stream_of_rows}
+use Rattle.codespan_picture.specs.RowStreams.{bracketed, header_locus, header_row, snippet_start_row, empty_row, break_row, source_row, row_start, caret_row, pointer_row, hanging_row, underline_row, first_note_row, later_note_row, stream_of, stream_of_rows}
 use Rattle.codespan_picture.specs.Utf8Laws.{StreamIsUtf8, AreCharacters}
 use Rattle.codespan_picture.proofs.LaneLineLemmas.{each_all}
 use Rattle.codespan_picture.proofs.Rightmost.{Around, around_trails, around_rightmost, trailing_of, around_is, trailing_is}
@@ -28,11 +28,11 @@ use Rattle.codespan_picture.proofs.LaneTexts.{text-label_glyph, text-lane_charac
 
 -- ---- rows
 
-text-leading_locus : (at : Option Locus) → IfSome at (λ p. IsUtf8 p.name)
-    → StreamIsUtf8 (leading_locus at)
-unfolding leading_locus
-text-leading_locus None h = text-none
-text-leading_locus (Some p) h =
+text-header_locus : (at : Option Locus) → IfSome at (λ p. IsUtf8 p.name)
+    → StreamIsUtf8 (header_locus at)
+unfolding header_locus
+text-header_locus None h = text-none
+text-header_locus (Some p) h =
     text-both (locus p) (bytes (codes ": ")) (text-locus p h) text-colon_space
 
 text-bracketed : (code : Option (List ℕ)) → IfSome code IsUtf8 → StreamIsUtf8 (bracketed code)
@@ -198,7 +198,7 @@ module _ (context : RowContext) (ok : AreCharacters context.chars) where
       (followed
       (followed
       (followed
-      (followed (text-leading_locus at h.0) (text-style_mark (Header context.severity)))
+      (followed (text-header_locus at h.0) (text-style_mark (Header context.severity)))
       (text-severity context.severity))
       (text-bracketed header_text.code h.1))
       (text-style_mark HeaderMessage))

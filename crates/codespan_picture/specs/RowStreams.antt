@@ -18,14 +18,14 @@ bracketed (Some []) = []
 bracketed (Some (c ∷ cs)) = bytes (codes "[") ++ bytes (c ∷ cs) ++ bytes (codes "]")
 
 -- the locus before a header, where there is one
-unfoldable pub leading_locus : Option Locus → Stream
-leading_locus None = []
-leading_locus (Some p) = locus p ++ bytes (codes ": ")
+unfoldable pub header_locus : Option Locus → Stream
+header_locus None = []
+header_locus (Some p) = locus p ++ bytes (codes ": ")
 
 -- the header: the locus, the severity, the code and the message
 unfoldable pub header_row : Severity → Option Locus → HeaderText → Stream
 header_row severity at header_text =
-    leading_locus at ++ style_mark (Header severity) ++ bytes (severity_name severity)
+    header_locus at ++ style_mark (Header severity) ++ bytes (severity_name severity)
     ++ bracketed header_text.code
     ++ style_mark HeaderMessage ++ bytes (codes ": ") ++ bytes header_text.message
     ++ style_mark Reset

@@ -11,7 +11,7 @@ use Rattle.codespan_picture.specs.Arguments.{SingleLabelTuple, LaneMarkTuple, si
 use Rattle.codespan_picture.specs.Lanes.{Source, Underline, crossing_characters, label_glyph}
 use Rattle.codespan_picture.specs.Rows.{caret_rows, hanging_labels, pointer_and_hanging_rows}
 use Rattle.codespan_picture.specs.RowParts.{border_left, carets, metrics_before, outer_gutter, label_message, leading_of, outer_gutter_number, pointers, inner_gutter, severity_name}
-use Rattle.codespan_picture.specs.RowStreams.{bracketed, leading_locus, pointer_row, stream_of_rows}
+use Rattle.codespan_picture.specs.RowStreams.{bracketed, header_locus, pointer_row, stream_of_rows}
 use Rattle.codespan_picture.specs.declared.arguments.Locus as rust_locus
 use Rattle.codespan_picture.specs.declared.rows.line.RowContext as context
 use Rattle.codespan_picture.specs.declared.rows.line.Line as rust_line
@@ -25,7 +25,7 @@ use Rattle.codespan_picture.specs.Private.Runs.{hanging_stream}
 abbrev pub header_start_view : Option (Bor rust_locus.Locus) → Severity → Option (Bor (List ℕ))
     → Stream
 header_start_view locus severity code =
-    leading_locus (option_map (λ (at : Bor rust_locus.Locus). locus_view at.now) locus)
+    header_locus (option_map (λ (at : Bor rust_locus.Locus). locus_view at.now) locus)
     ++ style_mark (Header severity) ++ bytes (severity_name severity)
     ++ bracketed (option_map text_now code)
 

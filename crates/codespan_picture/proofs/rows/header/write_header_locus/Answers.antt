@@ -1,15 +1,15 @@
 use Rattle.codespan_core.proofs.Chains.{failed-before, failed-then, failed}
-use Rattle.codespan_picture.specs.RowStreams.{leading_locus}
-use Rattle.codespan_picture.proofs.rows.header.write_leading_locus.Goals as goal
+use Rattle.codespan_picture.specs.RowStreams.{header_locus}
+use Rattle.codespan_picture.proofs.rows.header.write_header_locus.Goals as goal
 
 pub returns-in_err-snippet_locus : goal.returns-in_err-snippet_locus
-unfolding leading_locus
+unfolding header_locus
 returns-in_err-snippet_locus g c =
     rw c.in-Some.is
     (failed _ _ _ _ _ c.from_residual.ensures.1 (failed-before _ c.in_err-snippet_locus.ensures))
 
 pub returns-in_err-put_all : goal.returns-in_err-put_all
-unfolding leading_locus
+unfolding header_locus
 returns-in_err-put_all g c =
     rw c.in-Some.is
     (failed _ _ _ _ _ c.from_residual-in_err-put_all.ensures.1
