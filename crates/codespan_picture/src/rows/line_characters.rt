@@ -101,7 +101,7 @@ pub trait LineCharacters {
         requires input { input self.now ≡ char_input context line }
         requires hanging_labels { AreHanging line.labels.now messages.before.now
             messages.after.now }
-        requires within_starts { before ≤ max_label_start (single_label_views line.labels.now) }
+        requires within_max_start { before ≤ max_label_start (single_label_views line.labels.now) }
         ensures { Writes (W.sink w.old) (pointers_before_view context.entry line.entry before)
             result (W.sink w.new) };
 }

@@ -95,7 +95,7 @@ fn write_hanging_row<W: PutStyle, S: LineCharacters>(
     requires input { S.input rows.now.characters.now ≡ char_input rows.now.context rows.now.line }
     requires hanging_labels { AreHanging rows.now.line.labels.now
         rows.now.messages.before.now rows.now.messages.after.now }
-    requires near { (single_label_view label.now).start
+    requires within_max_start { (single_label_view label.now).start
         ≤ max_label_start (single_label_views rows.now.line.labels.now) }
     ensures { Writes (W.sink w.old)
         (hanging_row (context_view rows.now.context) (line_view rows.now.line)
@@ -118,7 +118,7 @@ fn write_hanging_rows<W: PutStyle, S: LineCharacters>(
     requires input { S.input rows.now.characters.now ≡ char_input rows.now.context rows.now.line }
     requires hanging_labels { AreHanging rows.now.line.labels.now
         rows.now.messages.before.now rows.now.messages.after.now }
-    requires near { max_label_start (single_label_views labels.now)
+    requires within_max_start { max_label_start (single_label_views labels.now)
         ≤ max_label_start (single_label_views rows.now.line.labels.now) }
     ensures { Writes (W.sink w.old) (hanging_stream_view rows.now.context rows.now.line labels.now)
         result (W.sink w.new) }
