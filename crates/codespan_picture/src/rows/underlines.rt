@@ -14,7 +14,7 @@ ghost use Rattle.codespan_picture.specs.RowParts.{underline_message, start_caret
 ghost use Rattle.codespan_picture.specs.RowStreams.{underline_row, stream_of_rows};
 
 use crate::arguments::MultiLabel;
-use crate::rows::lanes::{LaneRow, inner_gutter};
+use crate::rows::lanes::{RowKind, inner_gutter};
 use crate::rows::line::{Line, RowContext};
 use crate::rows::line_characters::LineCharacters;
 use crate::rows::parts::{border_left, outer_gutter, write_newline, write_space};
@@ -113,7 +113,7 @@ fn write_underline_lanes<W: PutStyle>(
         w,
         context,
         line.leading,
-        LaneRow::Underline(lane, style, multi_label),
+        RowKind::Underline(lane, style, multi_label),
         line.lanes,
     )
 }
