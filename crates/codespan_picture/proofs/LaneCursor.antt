@@ -10,7 +10,7 @@ use Rattle.std.proofs.lemmas.List.{append_assoc}
 use Rattle.codespan_core.specs.Streams.{Stream, spaces, bytes}
 use Rattle.codespan_picture.specs.declared.rows.lanes.RowKind.{RowKind as RustRowKind}
 use Rattle.codespan_picture.specs.Arguments.{LaneMarkTuple, lane_mark_view, lanes_of, lanes_in_order, ascend_from}
-use Rattle.codespan_picture.specs.Private.LineViews.{row_lane_view, row_lanes_view, row_kind_view}
+use Rattle.codespan_picture.specs.Private.LineViews.{row_lane_stream, row_lanes_stream, row_kind_view}
 use Rattle.codespan_picture.specs.Private.LaneMarksLeft.{lane_mark_here, lane_marks_after}
 use Rattle.codespan_picture.specs.Lanes.{crossing_characters, lane_characters, lane_mark_in, row_shape, row_crossing}
 use Rattle.codespan_picture.specs.Rows.{RowContext, Lanes}
@@ -156,13 +156,13 @@ order count lane (m ∷ ms) h = order-cons count lane m ms _ refl h
 abbrev pub cursor : RowContext → ℕ → RustRowKind → ℕ → ℕ → List LaneMarkTuple → Stream
 cursor context leading row lane zero lane_marks = []
 cursor context leading row lane (suc n) lane_marks =
-    row_lane_view context leading row lane (lane_mark_here lane_marks lane)
+    row_lane_stream context leading row lane (lane_mark_here lane_marks lane)
     ++ cursor context leading row (lane + 1) n (lane_marks_after lane_marks lane)
 
 pub cursor-next : (context : RowContext) (leading : ℕ) (row : RustRowKind) (i n : ℕ)
     (lane_marks : List LaneMarkTuple)
     → i < n
-    → cursor context leading row i (n - i) lane_marks ≡ row_lane_view context leading row i
+    → cursor context leading row i (n - i) lane_marks ≡ row_lane_stream context leading row i
     (lane_mark_here lane_marks i)
     ++ cursor context leading row (i + 1) (n - (i + 1)) (lane_marks_after lane_marks i)
 cursor-next context leading row i n lane_marks h =
@@ -177,8 +177,8 @@ cursor-end context leading row i n lane_marks h = let e : n - i ≡ 0 = omega ar
 -- a lane without a lane mark, and without a line through it, is spaces
 empty-lane : (context : RowContext) (leading : ℕ) (row : RustRowKind) (lane : ℕ)
     → row_crossing (row_kind_view row) lane ≡ None
-    → row_lane_view context leading row lane None ≡ spaces 2
-unfolding row_lane_view inner_gutter_column lane_characters crossing_characters
+    → row_lane_stream context leading row lane None ≡ spaces 2
+unfolding row_lane_stream inner_gutter_column lane_characters crossing_characters
 empty-lane context leading row lane clear = rw clear refl
 
 -- where no lane mark is taken all remain
@@ -214,7 +214,7 @@ cursor-past context leading row lane_marks (suc n) lane rest clear bare =
     let two : 2 + (n + n) ≡ suc n + suc n = omega arith in
     let none : lane_mark_here lane_marks lane ≡ None = bare lane (omega arith) (omega arith) in
     ap (λ k. cursor context leading row lane k lane_marks) a
-    ∙ (λ i. row_lane_view context leading row lane (none i)
+    ∙ (λ i. row_lane_stream context leading row lane (none i)
     ++ cursor context leading row (lane + 1) (n + rest) (left-all lane_marks lane none i))
     ∙ (λ i. empty-lane context leading row lane (clear lane (omega arith) (omega arith)) i
     ++ cursor-past context leading row lane_marks n (lane + 1) rest
@@ -250,7 +250,7 @@ cursor_is : (context : RowContext) (leading : ℕ) (row : RustRowKind) (count : 
     (λ k. inner_gutter_column context (row_crossing (row_kind_view row) k)
     (row_shape context.layout leading (row_kind_view row) k) (lane_mark_in whole.lane_marks k))
     (range_with_len lane n)
-unfolding row_lane_view
+unfolding row_lane_stream
 cursor_is context leading row count whole lane zero lane_marks a h = refl
 cursor_is context leading row count whole lane (suc n) lane_marks a h =
     let e : option_map lane_mark_view (lane_mark_here lane_marks lane)
@@ -270,9 +270,9 @@ cursor_is context leading row count whole lane (suc n) lane_marks a h =
 pub cursor-lanes : (context : RowContext) (leading : ℕ) (kind : RustRowKind) (count : ℕ)
     (lane_marks : List LaneMarkTuple)
     → IsTrue (lanes_in_order count lane_marks)
-    → cursor context leading kind 0 (count - 0) lane_marks ≡ row_lanes_view context leading kind
+    → cursor context leading kind 0 (count - 0) lane_marks ≡ row_lanes_stream context leading kind
     (lanes_of count lane_marks)
-unfolding row_lanes_view inner_gutter
+unfolding row_lanes_stream inner_gutter
 cursor-lanes context leading kind count lane_marks h =
     let e : count - 0 ≡ count = omega arith in
     rw e

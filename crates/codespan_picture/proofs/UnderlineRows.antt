@@ -17,7 +17,7 @@ use Rattle.codespan_picture.specs.declared.arguments.MultiLabel as rust_multi_la
 use Rattle.codespan_picture.specs.declared.rows.lanes.RowKind.TheVariants.{Underline}
 use Rattle.codespan_picture.specs.CharMetrics.{leading_whitespace}
 use Rattle.codespan_picture.specs.Arguments.{LaneMarkTuple, lane_mark_view, multi_label_view}
-use Rattle.codespan_picture.specs.Private.LineViews.{row_lanes_view}
+use Rattle.codespan_picture.specs.Private.LineViews.{row_lanes_stream}
 use Rattle.codespan_picture.specs.Rows.{RowContext, Lanes, Line, UnderlineRow, has_underline}
 use Rattle.codespan_picture.specs.Lanes as kind
 use Rattle.codespan_picture.specs.RowParts.{inner_gutter, underline, underline_message}
@@ -30,9 +30,9 @@ use Rattle.codespan_picture.specs.RenderedRows.{later_note_lines_stream}
 -- the lanes of the row of a lane mark are those of that kind of row
 pub underline_lanes_are : (context : RowContext) (leading : ℕ) (lane : ℕ) (style : LabelStyle)
     (multi_label : rust_multi_label.MultiLabel) (lanes : Lanes)
-    → row_lanes_view context leading (Underline lane style multi_label) lanes ≡ inner_gutter context
+    → row_lanes_stream context leading (Underline lane style multi_label) lanes ≡ inner_gutter context
     leading (kind.Underline (lane_mark_view (lane, style, multi_label))) lanes
-unfolding row_lanes_view inner_gutter
+unfolding row_lanes_stream inner_gutter
 underline_lanes_are context leading lane style multi_label lanes = refl
 
 -- ---- the message of an underline

@@ -44,12 +44,12 @@ row_kind_view (rust_variant.Underline corner_lane style multi_label) =
     Underline (lane_mark_view (corner_lane, style, multi_label))
 
 -- one lane of a kind of row, from the lane mark in it
-unfoldable pub row_lane_view : RowContext → ℕ → RustRowKind → ℕ → Option LaneMarkTuple → Stream
-row_lane_view context leading row lane lane_mark =
+unfoldable pub row_lane_stream : RowContext → ℕ → RustRowKind → ℕ → Option LaneMarkTuple → Stream
+row_lane_stream context leading row lane lane_mark =
     inner_gutter_column context (row_crossing (row_kind_view row) lane)
     (row_shape context.layout leading (row_kind_view row) lane)
     (option_map lane_mark_view lane_mark)
 
 -- the lanes of a kind of row
-unfoldable pub row_lanes_view : RowContext → ℕ → RustRowKind → Lanes → Stream
-row_lanes_view context leading row lanes = inner_gutter context leading (row_kind_view row) lanes
+unfoldable pub row_lanes_stream : RowContext → ℕ → RustRowKind → Lanes → Stream
+row_lanes_stream context leading row lanes = inner_gutter context leading (row_kind_view row) lanes

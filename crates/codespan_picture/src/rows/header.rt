@@ -8,7 +8,7 @@ ghost use Rattle.codespan_core.specs.SnippetStarts.{start_text};
 ghost use Rattle.codespan_picture.specs.Arguments.{locus_view, text_now};
 ghost use Rattle.codespan_picture.specs.RowParts.{severity_name};
 ghost use Rattle.codespan_picture.specs.RowStreams.{bracketed, header_locus, snippet_start_row};
-ghost use Rattle.codespan_picture.specs.Private.RowViews.{header_start_view};
+ghost use Rattle.codespan_picture.specs.Private.WrittenParts.{header_start_stream};
 ghost use Rattle.codespan_picture.specs.RenderedRows.{rendered_header};
 
 use crate::arguments::Locus;
@@ -67,7 +67,7 @@ fn write_header_start<W: PutStyle>(
     severity: Severity,
     code: Option<&str>,
 ) -> Result<(), W::Error>
-    ensures { Writes (W.sink w.old) (header_start_view locus.entry severity code.entry)
+    ensures { Writes (W.sink w.old) (header_start_stream locus.entry severity code.entry)
         result (W.sink w.new) }
 {
     write_header_locus(w, locus)?;

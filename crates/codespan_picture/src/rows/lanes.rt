@@ -4,8 +4,8 @@ ghost use Rattle.std.specs.Prelude.{◌≡◌, ◌+◌, ◌<◌, ◌≤◌, ℕ,
 ghost use Rattle.std.specs.Option.{option_map};
 ghost use Rattle.codespan_core.specs.WriterLaw.{Writes};
 ghost use Rattle.codespan_picture.specs.Arguments.{lane_mark_view, multi_label_view};
-ghost use Rattle.codespan_picture.specs.Private.LineViews.{context_view, lanes_view, row_kind_view, row_lane_view, row_lanes_view};
-ghost use Rattle.codespan_picture.specs.Private.RowViews.{lane_glyph_view};
+ghost use Rattle.codespan_picture.specs.Private.LineViews.{context_view, lanes_view, row_kind_view, row_lane_stream, row_lanes_stream};
+ghost use Rattle.codespan_picture.specs.Private.WrittenParts.{lane_glyph_stream};
 ghost use Rattle.codespan_picture.specs.Private.LaneMarksLeft.{lane_mark_here, lane_marks_after};
 ghost use Rattle.codespan_picture.specs.Lanes.{crossing_characters, lane_characters, underline_char, row_crossing};
 
@@ -105,7 +105,7 @@ fn write_lane_glyph<W: PutStyle>(
     style: LabelStyle,
     own: char,
 ) -> Result<(), W::Error>
-    ensures { Writes (W.sink w.old) (lane_glyph_view context.entry crossing.entry style own)
+    ensures { Writes (W.sink w.old) (lane_glyph_stream context.entry crossing.entry style own)
         result (W.sink w.new) }
 {
     write_crossing_characters(w, context, crossing, 1)?;
@@ -148,7 +148,7 @@ fn write_lane_characters<W: PutStyle>(
 }
 
 /// Writes the two characters of a lane, by the kind of the row and the lane mark in the lane.
-#[tactic(auto, unfolding(crate::specs::RowParts::inner_gutter_column, crate::specs::Private::LineViews::row_lane_view))]
+#[tactic(auto, unfolding(crate::specs::RowParts::inner_gutter_column, crate::specs::Private::LineViews::row_lane_stream))]
 fn inner_gutter_column<W: PutStyle>(
     w: &mut W,
     context: RowContext<'_>,
@@ -157,7 +157,7 @@ fn inner_gutter_column<W: PutStyle>(
     lane: Lane<'_>,
 ) -> Result<(), W::Error>
     ensures { Writes (W.sink w.old)
-        (row_lane_view (context_view context.entry) leading row.entry lane.entry.index
+        (row_lane_stream (context_view context.entry) leading row.entry lane.entry.index
         lane.entry.lane_mark)
         result (W.sink w.new) }
 {
@@ -240,7 +240,7 @@ pub fn inner_gutter<W: PutStyle>(
     lanes: Lanes<'_, '_>,
 ) -> Result<(), W::Error>
     ensures { Writes (W.sink w.old)
-        (row_lanes_view (context_view context.entry) leading row.entry (lanes_view lanes.entry))
+        (row_lanes_stream (context_view context.entry) leading row.entry (lanes_view lanes.entry))
         result (W.sink w.new) }
 {
     if lanes.count == 0 {
@@ -259,7 +259,7 @@ fn inner_gutter_columns<W: PutStyle>(
     lanes: Lanes<'_, '_>,
 ) -> Result<(), W::Error>
     ensures { Writes (W.sink w.old)
-        (row_lanes_view (context_view context.entry) leading row.entry (lanes_view lanes.entry))
+        (row_lanes_stream (context_view context.entry) leading row.entry (lanes_view lanes.entry))
         result (W.sink w.new) }
 {
     let mut next = 0;

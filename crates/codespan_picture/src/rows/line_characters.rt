@@ -5,7 +5,7 @@ ghost use Rattle.codespan_core.specs.WriterLaw.{Writes};
 ghost use Rattle.codespan_picture.specs.CharMetrics.{width_of};
 ghost use Rattle.codespan_picture.specs.Arguments.{single_label_views};
 ghost use Rattle.codespan_picture.specs.RowParts.{metrics_before, metrics_up_to, max_label_start};
-ghost use Rattle.codespan_picture.specs.Private.RowViews.{line_metrics_view, pointers_view, pointers_before_view};
+ghost use Rattle.codespan_picture.specs.Private.WrittenParts.{line_metrics_view, pointers_stream, pointers_before_stream};
 ghost use Rattle.codespan_picture.specs.Private.Runs.{AreHanging, least_start};
 ghost use Rattle.codespan_picture.specs.Private.LineCharacters.{LeavesOut, CharInput, char_input, characters_of, characters_to_end_of};
 
@@ -75,7 +75,7 @@ pub trait LineCharacters {
         requires hanging_labels { AreHanging line.labels.now messages.before.now
             messages.after.now }
         ensures { Writes (W.sink w.old)
-            (pointers_view context.entry line.entry (line_metrics_view context.entry line.entry))
+            (pointers_stream context.entry line.entry (line_metrics_view context.entry line.entry))
             result (W.sink w.new) };
 
     /// Writes the pointers under the characters that begin before the byte index `before`.
@@ -102,6 +102,6 @@ pub trait LineCharacters {
         requires hanging_labels { AreHanging line.labels.now messages.before.now
             messages.after.now }
         requires within_max_start { before ≤ max_label_start (single_label_views line.labels.now) }
-        ensures { Writes (W.sink w.old) (pointers_before_view context.entry line.entry before)
+        ensures { Writes (W.sink w.old) (pointers_before_stream context.entry line.entry before)
             result (W.sink w.new) };
 }

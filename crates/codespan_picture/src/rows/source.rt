@@ -5,7 +5,7 @@ ghost use Rattle.codespan_core.specs.Streams.{bytes, newline};
 ghost use Rattle.codespan_core.specs.WriterLaw.{Writes};
 ghost use Rattle.codespan_picture.specs.CharMetrics.{char_metrics};
 ghost use Rattle.codespan_picture.specs.Private.LineViews.{context_view, line_view};
-ghost use Rattle.codespan_picture.specs.Private.RowViews.{source_lanes_view};
+ghost use Rattle.codespan_picture.specs.Private.WrittenParts.{source_lanes_stream};
 ghost use Rattle.codespan_picture.specs.Private.LineCharacters.{char_input};
 ghost use Rattle.codespan_picture.specs.RowParts.{style_change, colored_text};
 ghost use Rattle.codespan_picture.specs.RowStreams.{source_row};
@@ -109,7 +109,7 @@ fn write_source_lanes<W: PutStyle>(
     context: RowContext<'_>,
     line: Line<'_, '_>,
 ) -> Result<(), W::Error>
-    ensures { Writes (W.sink w.old) (source_lanes_view context.entry line.entry)
+    ensures { Writes (W.sink w.old) (source_lanes_stream context.entry line.entry)
         result (W.sink w.new) }
 {
     outer_gutter_number(w, context.padding, line.number)?;

@@ -6,7 +6,7 @@ ghost use Rattle.codespan_core.specs.WriterLaw.{Writes};
 ghost use Rattle.codespan_picture.specs.CharMetrics.{char_metrics};
 ghost use Rattle.codespan_picture.specs.Arguments.{lane_mark_view, multi_label_view};
 ghost use Rattle.codespan_picture.specs.Private.LineViews.{context_view, line_view};
-ghost use Rattle.codespan_picture.specs.Private.RowViews.{underline_lanes_view};
+ghost use Rattle.codespan_picture.specs.Private.WrittenParts.{underline_lanes_stream};
 ghost use Rattle.codespan_picture.specs.Private.Underlines.{underline_by_width, underline_width};
 ghost use Rattle.codespan_picture.specs.Private.LineCharacters.{char_input, characters_of};
 ghost use Rattle.codespan_picture.specs.Rows.{has_underline, underline_rows};
@@ -103,7 +103,7 @@ fn write_underline_lanes<W: PutStyle>(
     line: Line<'_, '_>,
     lane_mark: (usize, LabelStyle, MultiLabel<'_>),
 ) -> Result<(), W::Error>
-    ensures { Writes (W.sink w.old) (underline_lanes_view context.entry line.entry lane_mark.entry)
+    ensures { Writes (W.sink w.old) (underline_lanes_stream context.entry line.entry lane_mark.entry)
         result (W.sink w.new) }
 {
     let (lane, style, multi_label) = lane_mark;
