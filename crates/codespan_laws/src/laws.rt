@@ -172,8 +172,8 @@ pub fn rows_end_reset()
 /// States that every output has loci: those with the names that the files state, or an empty name
 /// where a file states none.
 pub fn stated_loci_are_loci<Id>()
-    ensures { (files : FileDatabase Id) (d : Diagnostic Id) (style : DisplayStyle)
-        → AreLoci files d style (stated_loci files d style) }
+    ensures { (files : FileDatabase Id) (d : Diagnostic Id) (display_style : DisplayStyle)
+        → AreLoci files d display_style (stated_loci files d display_style) }
 {}
 
 /// States that the output is the picture of the diagnostic, where the names of the labels' files
@@ -193,24 +193,24 @@ pub fn headers_are_before_failure<Id>()
 /// lawful, and the names of the loci are UTF-8. The same holds of the picture where the stated
 /// names are UTF-8.
 pub fn outputs_are_utf8<Id>()
-    ensures output { (style : DisplayStyle) (renderer_config view_config : Config)
+    ensures output { (display_style : DisplayStyle) (renderer_config view_config : Config)
         (files : FileDatabase Id) (d : Diagnostic Id)
-        → OutputIsUtf8 style renderer_config view_config files d }
-    ensures picture { (style : DisplayStyle) (renderer_config view_config : Config)
+        → OutputIsUtf8 display_style renderer_config view_config files d }
+    ensures picture { (display_style : DisplayStyle) (renderer_config view_config : Config)
         (files : FileDatabase Id) (d : Diagnostic Id)
-        → PictureIsUtf8 style renderer_config view_config files d }
+        → PictureIsUtf8 display_style renderer_config view_config files d }
 {}
 
 /// States that colors change no text: however a writer spells style marks, what it writes of an
 /// output is the plain text with the bytes of style marks between. Over `NoColor` a style mark has
 /// no bytes, whatever the styles.
 pub fn colors_change_no_text<Id>()
-    ensures spelled { (spelling : Spelling) (style : DisplayStyle)
+    ensures spelled { (spelling : Spelling) (display_style : DisplayStyle)
         (renderer_config view_config : Config) (files : FileDatabase Id) (d : Diagnostic Id)
         (loci : List Locus)
-        → ColorsChangeNoText spelling (output style renderer_config view_config files d loci) }
-    ensures colorless { (styles : Styles) (style : DisplayStyle)
+        → ColorsChangeNoText spelling (output display_style renderer_config view_config files d loci) }
+    ensures colorless { (styles : Styles) (display_style : DisplayStyle)
         (renderer_config view_config : Config) (files : FileDatabase Id) (d : Diagnostic Id)
         (loci : List Locus)
-        → NoColorIsPlain styles (output style renderer_config view_config files d loci) }
+        → NoColorIsPlain styles (output display_style renderer_config view_config files d loci) }
 {}

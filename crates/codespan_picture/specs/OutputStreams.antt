@@ -71,10 +71,10 @@ module _ {Id : Type 0} (same : Id → Id → Bool) (file : Id → FileModel) (xs
 abbrev pub NamesAreUtf8 : List Locus → Type 0
 NamesAreUtf8 loci = AllByRecursion (λ (locus : Locus). IsUtf8 locus.name) loci
 
-module _ {Id : Type 0} (files : FileDatabase Id) (d : Diagnostic Id) (style : DisplayStyle) where
+module _ {Id : Type 0} (files : FileDatabase Id) (d : Diagnostic Id) (display_style : DisplayStyle) where
   -- these are the loci of an output, one for each byte of `locus_bytes`
   abbrev pub AreLoci : List Locus → Type 0
-  AreLoci loci = AllZip IsLocus (locus_bytes files.same files.file (labels_of d) style) loci
+  AreLoci loci = AllZip IsLocus (locus_bytes files.same files.file (labels_of d) display_style) loci
 
 -- ---- the output
 
@@ -101,10 +101,10 @@ rendered Medium renderer_config view_config severity header_text loci ss notes =
 rendered Short renderer_config view_config severity header_text loci ss notes =
     stream_of_rows (context_of renderer_config severity 0) (header_rows header_text loci)
 
-module _ {Id : Type 0} (style : DisplayStyle) (renderer_config view_config : Config)
+module _ {Id : Type 0} (display_style : DisplayStyle) (renderer_config view_config : Config)
     (files : FileDatabase Id) (d : Diagnostic Id) where
   -- the output of a diagnostic with these loci
   abbrev pub output : List Locus → Stream
   output loci =
-      rendered style renderer_config view_config d.severity (header_text_of d) loci
+      rendered display_style renderer_config view_config d.severity (header_text_of d) loci
       (files_of files d) (notes_of d)

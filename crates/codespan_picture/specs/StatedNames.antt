@@ -26,10 +26,10 @@ module _ {Id : Type 0} (files : FileDatabase Id) (d : Diagnostic Id) where
   -- the output with any loci is the picture
   abbrev pub OutputIsPicture : Type 0
   OutputIsPicture = NamesAreStated
-      → (style : DisplayStyle) (renderer_config view_config : Config) (loci : List Locus)
-      → AreLoci files d style loci
-      → output style renderer_config view_config files d loci
-      ≡ picture style renderer_config view_config files d
+      → (display_style : DisplayStyle) (renderer_config view_config : Config) (loci : List Locus)
+      → AreLoci files d display_style loci
+      → output display_style renderer_config view_config files d loci
+      ≡ picture display_style renderer_config view_config files d
 
   -- the headers of the primary labels before the first one for which a lookup fails: what short
   -- and medium style have written when it fails

@@ -43,17 +43,17 @@ pub record AreCharacters (chars : Chars) : Type 0 where
   pub multi_left : IsScalar chars.multi_left
   pub pointer_left : IsScalar chars.pointer_left
 
-module _ {Id : Type 0} (style : DisplayStyle) (renderer_config view_config : Config)
+module _ {Id : Type 0} (display_style : DisplayStyle) (renderer_config view_config : Config)
     (files : FileDatabase Id) (d : Diagnostic Id) where
   -- the output with any loci is a text where the characters of the configuration are Unicode
   -- scalar values, its files are lawful, and the names of the loci are UTF-8
   abbrev pub OutputIsUtf8 : Type 0
   OutputIsUtf8 = AreCharacters renderer_config.chars → ((id : Id) → IsLawful (files.file id))
       → (loci : List Locus) → NamesAreUtf8 loci
-      → StreamIsUtf8 (output style renderer_config view_config files d loci)
+      → StreamIsUtf8 (output display_style renderer_config view_config files d loci)
 
   -- so is the picture, where the stated names are UTF-8
   abbrev pub PictureIsUtf8 : Type 0
   PictureIsUtf8 = AreCharacters renderer_config.chars → ((id : Id) → IsLawful (files.file id))
       → ((id : Id) → IfSome (files.file id).name IsUtf8)
-      → StreamIsUtf8 (picture style renderer_config view_config files d)
+      → StreamIsUtf8 (picture display_style renderer_config view_config files d)

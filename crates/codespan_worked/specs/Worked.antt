@@ -88,10 +88,10 @@ numbered files id = option_map_or (λ f. f) (slice_get files id) missing_file
 -- what is rendered in a style, with the names that the files state
 abbrev pub worked_output_of : DisplayStyle → Config → DiagnosticText → List FileModel
     → List (LabelInFile ℕ) → Stream
-worked_output_of style config diagnostic files labels =
-    rendered style config config diagnostic.severity
+worked_output_of display_style config diagnostic files labels =
+    rendered display_style config config diagnostic.severity
     (record { code = diagnostic.code; message = diagnostic.message })
-    (map stated_locus (locus_bytes ◌==◌ (numbered files) labels style))
+    (map stated_locus (locus_bytes ◌==◌ (numbered files) labels display_style))
     (labeled_file_models ◌==◌ (numbered files) labels) diagnostic.notes
 
 -- in rich style
