@@ -20,7 +20,7 @@ use Rattle.codespan_picture.specs.CharMetrics.{char_metrics, metrics_then, width
 use Rattle.codespan_picture.specs.Lanes.{underline_char, crossing_characters, label_glyph, lane_characters}
 use Rattle.codespan_picture.specs.Rows.{Line, Row, HeaderRow, SnippetStartRow, SourceRow, CaretRow, HangingRow, UnderlineRow, FirstNoteRow, LaterNoteRow}
 use Rattle.codespan_picture.specs.RowParts.{source_glyph, start_caret, end_caret}
-use Rattle.codespan_picture.specs.Utf8Laws.{StreamIsUtf8, AreCharacters}
+use Rattle.codespan_picture.specs.Utf8Laws.{StreamIsUtf8, CharsAreScalars}
 use Rattle.codespan_picture.proofs.StreamTexts.{pieces, text-both, text-glyph, text-spaces}
 
 -- ---- lanes
@@ -30,7 +30,7 @@ pub text-label_glyph : (severity : Severity) (style : LabelStyle) (c : ℕ) → 
 unfolding label_glyph
 text-label_glyph severity style c s = search (pieces, s)
 
-module _ (chars : Chars) (ok : AreCharacters chars) where
+module _ (chars : Chars) (ok : CharsAreScalars chars) where
   scalar-underline_char : (multi_label : MultiLabel) → IsScalar (underline_char chars multi_label)
   scalar-underline_char (Top start) = ok.multi_top
   scalar-underline_char Left = ok.multi_bottom

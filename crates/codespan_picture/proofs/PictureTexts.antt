@@ -24,7 +24,7 @@ use Rattle.codespan_picture.specs.Carets.{max_label_end}
 use Rattle.codespan_picture.specs.Sequences.{break_between}
 use Rattle.codespan_picture.specs.Snippets.{LabelInFile, LabeledFileModel, empty_lanes, break_rows, has_any, header_rows, labeled_file_model, line_at, line_rows, note_rows, rich_rows, empty_row_after, rows_of_drawn, snippet, snippets}
 use Rattle.codespan_picture.proofs.Sequences.{all-break, all-sequence}
-use Rattle.codespan_picture.specs.Utf8Laws.{AreCharacters, StreamIsUtf8, OutputIsUtf8, PictureIsUtf8}
+use Rattle.codespan_picture.specs.Utf8Laws.{CharsAreScalars, StreamIsUtf8, OutputIsUtf8, PictureIsUtf8}
 use Rattle.codespan_picture.proofs.LaneLineLemmas.{each_all, each_map}
 use Rattle.codespan_picture.proofs.Rightmost.{Around, others, around_trails, around_rightmost, hanging_of, around_is, hanging_is}
 use Rattle.codespan_picture.proofs.Loci.{each_start, stated_texts}
@@ -258,7 +258,7 @@ module _ {Id : Type 0} (files : FileDatabase Id) (d : Diagnostic Id) (lawful : (
 
   -- the output with any loci is a text
   pub text-output : (style : DisplayStyle) (renderer_config view_config : Config)
-      → AreCharacters renderer_config.chars
+      → CharsAreScalars renderer_config.chars
       → (loci : List Locus) → NamesAreUtf8 loci
       → StreamIsUtf8 (output style renderer_config view_config files d loci)
   text-output Rich renderer_config view_config ok loci named =

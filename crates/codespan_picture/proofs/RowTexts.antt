@@ -19,7 +19,7 @@ use Rattle.codespan_picture.specs.Lanes.{RowKind, Source, EmptyOrBreak, SingleLa
 use Rattle.codespan_picture.specs.Rows.{Locus, RowContext, Lanes, Line, Row, HeaderRow, SnippetStartRow, EmptyRow, BreakRow, SourceRow, CaretRow, PointerRow, HangingRow, UnderlineRow, FirstNoteRow, LaterNoteRow, FinalRow, hanging_labels, trailing_label}
 use Rattle.codespan_picture.specs.RowParts.{locus, label_message, inner_gutter_column, inner_gutter, leading_of, line_metrics, line_metrics_to_end, source_style, source_glyph, colored_text, caret_glyphs, carets, trailing_message, starts_in, max_label_start, spaces_up_to, pointer_style, pointer_at, pointers, metrics_before, metrics_up_to, start_caret, end_caret, underline_message, underline}
 use Rattle.codespan_picture.specs.RowStreams.{bracketed, header_locus, header_row, snippet_start_row, empty_row, break_row, source_row, row_start, caret_row, pointer_row, hanging_row, underline_row, first_note_row, later_note_row, stream_of, stream_of_rows}
-use Rattle.codespan_picture.specs.Utf8Laws.{StreamIsUtf8, AreCharacters}
+use Rattle.codespan_picture.specs.Utf8Laws.{StreamIsUtf8, CharsAreScalars}
 use Rattle.codespan_picture.proofs.LaneLineLemmas.{each_all}
 use Rattle.codespan_picture.proofs.Rightmost.{Around, around_trails, around_rightmost, trailing_of, around_is, trailing_is}
 use Rattle.codespan_picture.proofs.ListElements.{all-weaker}
@@ -76,7 +76,7 @@ text-trailing_label severity (x ∷ xs) h =
     by (Some a) is =
         tested a (here a (around_is (max_label_end (x ∷ xs)) (x ∷ xs) a is)) (around_trails a)
 
-module _ (context : RowContext) (ok : AreCharacters context.chars) where
+module _ (context : RowContext) (ok : CharsAreScalars context.chars) where
   text-inner_gutter_column : (crossing : Option LaneMark) (shape : MultiLabel → Shape)
       (lane_mark : Option LaneMark)
       → StreamIsUtf8 (inner_gutter_column context crossing shape lane_mark)

@@ -18,7 +18,7 @@ use Rattle.codespan_core.specs.Streams.{Stream, Byte, Mark, Slot, StyleMark, Lab
 use Rattle.codespan_picture.specs.declared.char_metrics.Metrics.{Metrics}
 use Rattle.codespan_picture.specs.Rows.{Locus}
 use Rattle.codespan_picture.specs.RowParts.{severity_name, locus, outer_gutter, outer_gutter_number, border_left, border_left_break, style_change, styled, label_message}
-use Rattle.codespan_picture.specs.Utf8Laws.{AreUtf8After, StreamIsUtf8, AreCharacters}
+use Rattle.codespan_picture.specs.Utf8Laws.{AreUtf8After, StreamIsUtf8, CharsAreScalars}
 use Rattle.codespan_picture.proofs.Texts.{text_of-append, text_of-bytes, text_of-style_mark}
 
 -- ---- streams
@@ -202,11 +202,11 @@ pub text-outer_gutter_number : (padding n : ℕ) → StreamIsUtf8 (outer_gutter_
 unfolding outer_gutter_number
 text-outer_gutter_number padding n = search pieces
 
-pub text-border_left : (chars : Chars) → AreCharacters chars → StreamIsUtf8 (border_left chars)
+pub text-border_left : (chars : Chars) → CharsAreScalars chars → StreamIsUtf8 (border_left chars)
 unfolding border_left
 text-border_left chars ok = search (pieces, ok.source_border_left)
 
-pub text-border_left_break : (chars : Chars) → AreCharacters chars
+pub text-border_left_break : (chars : Chars) → CharsAreScalars chars
     → StreamIsUtf8 (border_left_break chars)
 unfolding border_left_break
 text-border_left_break chars ok = search (pieces, ok.source_border_left_break)

@@ -25,7 +25,7 @@ pub record StreamIsUtf8 (s : Stream) : Type 0 where
   pub between_style_marks : AreUtf8After [] s
 
 -- each character is a Unicode scalar value, and the text before a locus is UTF-8
-pub record AreCharacters (chars : Chars) : Type 0 where
+pub record CharsAreScalars (chars : Chars) : Type 0 where
   pub snippet_start : IsUtf8 (start_text chars.snippet_start)
   pub source_border_left : IsScalar chars.source_border_left
   pub source_border_left_break : IsScalar chars.source_border_left_break
@@ -48,12 +48,12 @@ module _ {Id : Type 0} (display_style : DisplayStyle) (renderer_config view_conf
   -- the output with any loci is a text where the characters of the configuration are Unicode
   -- scalar values, its files are lawful, and the names of the loci are UTF-8
   abbrev pub OutputIsUtf8 : Type 0
-  OutputIsUtf8 = AreCharacters renderer_config.chars → ((id : Id) → IsLawful (files.file id))
+  OutputIsUtf8 = CharsAreScalars renderer_config.chars → ((id : Id) → IsLawful (files.file id))
       → (loci : List Locus) → NamesAreUtf8 loci
       → StreamIsUtf8 (output display_style renderer_config view_config files d loci)
 
   -- so is the picture, where the stated names are UTF-8
   abbrev pub PictureIsUtf8 : Type 0
-  PictureIsUtf8 = AreCharacters renderer_config.chars → ((id : Id) → IsLawful (files.file id))
+  PictureIsUtf8 = CharsAreScalars renderer_config.chars → ((id : Id) → IsLawful (files.file id))
       → ((id : Id) → IfSome (files.file id).name IsUtf8)
       → StreamIsUtf8 (picture display_style renderer_config view_config files d)
