@@ -200,7 +200,7 @@ unfoldable pub underline_message : Stream → Stream
 underline_message [] = []
 underline_message (p ∷ ps) = space ++ (p ∷ ps)
 
--- an underline from its corner on: a line up to the last character that begins at or before the
+-- an underline from its corner on: a run up to the last character that begins at or before the
 -- start, or before the end, and the caret; after an end the message
 unfoldable pub underline : Chars → LabelStyle → List Metrics → MultiLabel → Stream
 underline chars style cs (Top start) =

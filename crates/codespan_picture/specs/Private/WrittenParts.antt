@@ -46,7 +46,7 @@ underline_lanes_stream x line lane_mark =
     (Underline (lane_mark_view lane_mark))
     (lanes_view line.lanes)
 
--- the two characters of a lane that is not empty: the line that crosses it, if one does, or a
+-- the two characters of a lane that is not empty: the underline that crosses it, if one does, or a
 -- space, and its own character
 abbrev pub lane_glyph_stream : context.RowContext → Option LaneMarkTuple → LabelStyle → ℕ → Stream
 lane_glyph_stream x crossing style own =

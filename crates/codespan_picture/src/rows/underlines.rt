@@ -69,7 +69,7 @@ fn underline_width<S: LineCharacters>(characters: &S, multi_label: MultiLabel<'_
     }
 }
 
-/// Writes an underline right of the lanes: a line of `width` cells, the caret, and the message.
+/// Writes an underline right of the lanes: a run of `width` cells, the caret, and the message.
 #[tactic(auto, using(codespan_core::proofs::Writes::write_chains), unfolding(crate::specs::Private::Underlines::underline_by_width))]
 fn label_multi_caret<W: PutStyle>(
     w: &mut W,
