@@ -96,8 +96,8 @@ crossing_characters severity chars (Some m) n =
     style_mark (LabelStyleMark severity m.style) ++ repeated n (underline_char chars m.multi_label)
     ++ style_mark Reset
 
--- the two characters of a lane: a space, or one character of the underline that crosses it, and then its
--- own; if it shows nothing, two such
+-- the two characters of a lane: a space, or one character of the underline that crosses it, and
+-- then its own; if it shows nothing, two such
 unfoldable pub lane_characters : Severity → Chars → Option LaneMark → LabelStyle → Shape → Stream
 lane_characters severity chars crossing style Space = crossing_characters severity chars crossing 2
 lane_characters severity chars crossing style Bar =
