@@ -11,7 +11,7 @@ use Rattle.codespan_core.specs.Streams.{Stream, spaces, bytes}
 use Rattle.codespan_picture.specs.declared.rows.lanes.RowKind.{RowKind as RustRowKind}
 use Rattle.codespan_picture.specs.Arguments.{LaneMarkTuple, lane_mark_view, lanes_of, lanes_in_order, ascend_from}
 use Rattle.codespan_picture.specs.Private.LineViews.{row_lane_stream, row_lanes_stream, row_kind_view}
-use Rattle.codespan_picture.specs.Private.LaneMarksLeft.{lane_mark_here, lane_marks_after}
+use Rattle.codespan_picture.specs.Private.RemainingLaneMarks.{lane_mark_here, lane_marks_after}
 use Rattle.codespan_picture.specs.Lanes.{crossing_characters, lane_characters, lane_mark_in, row_shape, row_crossing}
 use Rattle.codespan_picture.specs.Rows.{RowContext, Lanes}
 use Rattle.codespan_picture.specs.RowParts.{inner_gutter_column, inner_gutter}

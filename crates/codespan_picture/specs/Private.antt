@@ -4,7 +4,7 @@ pub mod LineViews
 pub mod WrittenParts
 pub mod CharCursors
 pub mod LineCharacters
-pub mod LaneMarksLeft
+pub mod RemainingLaneMarks
 pub mod PrimaryCover
 pub mod Runs
 -- the underlines of multi-line labels

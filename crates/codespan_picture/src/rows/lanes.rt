@@ -6,7 +6,7 @@ ghost use Rattle.codespan_core.specs.WriterLaw.{Writes};
 ghost use Rattle.codespan_picture.specs.Arguments.{lane_mark_view, multi_label_view};
 ghost use Rattle.codespan_picture.specs.Private.LineViews.{context_view, lanes_view, row_kind_view, row_lane_stream, row_lanes_stream};
 ghost use Rattle.codespan_picture.specs.Private.WrittenParts.{lane_glyph_stream};
-ghost use Rattle.codespan_picture.specs.Private.LaneMarksLeft.{lane_mark_here, lane_marks_after};
+ghost use Rattle.codespan_picture.specs.Private.RemainingLaneMarks.{lane_mark_here, lane_marks_after};
 ghost use Rattle.codespan_picture.specs.Lanes.{crossing_characters, lane_characters, underline_char, row_crossing};
 
 use crate::arguments::MultiLabel;
