@@ -8,7 +8,7 @@ ghost use Rattle.codespan_picture.specs.Arguments.{lane_mark_view, multi_label_v
 ghost use Rattle.codespan_picture.specs.Private.LineViews.{context_view, line_view};
 ghost use Rattle.codespan_picture.specs.Private.WrittenParts.{underline_lanes_stream};
 ghost use Rattle.codespan_picture.specs.Private.Underlines.{underline_by_width, underline_width};
-ghost use Rattle.codespan_picture.specs.Private.LineCharacters.{char_input, characters_of};
+ghost use Rattle.codespan_picture.specs.Private.LineCharacters.{char_input, metrics_of};
 ghost use Rattle.codespan_picture.specs.Rows.{has_underline, underline_rows};
 ghost use Rattle.codespan_picture.specs.RowParts.{underline_message, start_caret, end_caret, metrics_before, metrics_up_to};
 ghost use Rattle.codespan_picture.specs.RowStreams.{underline_row, stream_of_rows};
@@ -59,7 +59,7 @@ fn write_underline_message<W: PutStyle>(w: &mut W, message: &str) -> Result<(), 
 /// Returns how many cells an underline has between its lanes and its caret.
 fn underline_width<S: LineCharacters>(characters: &S, multi_label: MultiLabel<'_>) -> u128
     ensures { result
-        ≡ underline_width (characters_of (S.input characters.now))
+        ≡ underline_width (metrics_of (S.input characters.now))
         (multi_label_view multi_label.entry) }
 {
     match multi_label {
