@@ -43,8 +43,8 @@ label style id start end message = record {
 }
 
 -- a file of a name and a text, with set line numbers
-abbrev pub mapped_text : List ℕ → List ℕ → List (ℕ × ℕ) → FileModel
-mapped_text name text set_numbers =
+abbrev pub mapped_text_file : List ℕ → List ℕ → List (ℕ × ℕ) → FileModel
+mapped_text_file name text set_numbers =
     mapped_file (Some (encode_utf8_all name)) (encode_utf8_all text) set_numbers
 
 -- the file with lines that are numbered by their indices
@@ -82,8 +82,8 @@ abbrev pub with_note : List ℕ → DiagnosticText → DiagnosticText
 with_note note diagnostic = record diagnostic { notes = encode_utf8_all note ∷ [] }
 
 -- the file of a number
-abbrev pub numbered : List FileModel → ℕ → FileModel
-numbered files id = option_map_or (λ f. f) (slice_get files id) missing_file
+abbrev pub file_by_id : List FileModel → ℕ → FileModel
+file_by_id files id = option_map_or (λ f. f) (slice_get files id) missing_file
 
 -- what is rendered in a style, with the names that the files state
 abbrev pub worked_output_of : DisplayStyle → Config → DiagnosticText → List FileModel
@@ -91,8 +91,8 @@ abbrev pub worked_output_of : DisplayStyle → Config → DiagnosticText → Lis
 worked_output_of display_style config diagnostic files labels =
     rendered display_style config config diagnostic.severity
     (record { code = diagnostic.code; message = diagnostic.message })
-    (map stated_locus (locus_bytes ◌==◌ (numbered files) labels display_style))
-    (labeled_file_models ◌==◌ (numbered files) labels) diagnostic.notes
+    (map stated_locus (locus_bytes ◌==◌ (file_by_id files) labels display_style))
+    (labeled_file_models ◌==◌ (file_by_id files) labels) diagnostic.notes
 
 -- in rich style
 abbrev pub rich : Config → DiagnosticText → List FileModel → List (LabelInFile ℕ) → Stream
