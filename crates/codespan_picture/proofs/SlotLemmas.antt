@@ -15,7 +15,7 @@ use Rattle.codespan_picture.specs.declared.lane_shapes.Shape.{Shape}
 use Rattle.codespan_picture.specs.declared.lane_shapes.Shape.TheVariants.{Space, Bar, TopCorner, BottomCorner}
 use Rattle.codespan_picture.specs.Lanes.{lane_mark_in, label_glyph, crossing_characters, lane_characters, RowKind}
 use Rattle.codespan_picture.specs.Rows.{Locus, RowContext, Lanes, Line, Row, HeaderRow, SnippetStartRow, EmptyRow, BreakRow, SourceRow, CaretRow, PointerRow, HangingRow, UnderlineRow, FirstNoteRow, LaterNoteRow, FinalRow, trailing_label, hanging_labels}
-use Rattle.codespan_picture.specs.RowParts.{locus, outer_gutter, outer_gutter_number, border_left, border_left_break, style_change, styled, label_message, inner_gutter_column, lanes_in, inner_gutter, line_metrics, source_style, source_glyph, colored_text, caret_glyphs, carets, trailing_message, spaces_up_to, pointer_at, pointers, pointer_style, starts_in, max_label_start, underline_message, underline}
+use Rattle.codespan_picture.specs.RowParts.{snippet_locus, outer_gutter, outer_gutter_number, border_left, border_left_break, style_change, styled, label_message, inner_gutter_column, lanes_in, inner_gutter, line_metrics, source_style, source_glyph, colored_text, caret_glyphs, carets, trailing_message, spaces_up_to, pointer_at, pointers, pointer_style, starts_in, max_label_start, underline_message, underline}
 use Rattle.codespan_picture.specs.RowStreams.{bracketed, header_locus, header_row, snippet_start_row, empty_row, break_row, source_row, row_start, caret_row, pointer_row, hanging_row, underline_row, first_note_row, later_note_row, stream_of, stream_of_rows}
 use Rattle.codespan_picture.specs.MessageLaws.{is_slot}
 use Rattle.codespan_picture.proofs.MessageLemmas.{weight_of}
@@ -105,8 +105,8 @@ pub slots-inner_gutter : (k : ℕ) (context : RowContext) (leading : ℕ) (row :
 unfolding inner_gutter
 slots-inner_gutter k context leading row lanes = slots-lanes_in k context _ _ lanes
 
-pub slots-locus : (k : ℕ) (p : Locus) → slots k (locus p) ≡ 0
-unfolding locus
+pub slots-locus : (k : ℕ) (p : Locus) → slots k (snippet_locus p) ≡ 0
+unfolding snippet_locus
 slots-locus k p = simp slots_of_parts
 
 pub slots-outer_gutter : (k n : ℕ) → slots k (outer_gutter n) ≡ 0

@@ -17,7 +17,7 @@ use Rattle.codespan_core.specs.declared.term.config.chars.Chars.{Chars}
 use Rattle.codespan_core.specs.Streams.{Stream, Byte, Mark, Slot, StyleMark, LabelStyleMark, Reset, style_mark, glyph, bytes, spaces, space, repeated, newline, text_of}
 use Rattle.codespan_picture.specs.declared.char_metrics.Metrics.{Metrics}
 use Rattle.codespan_picture.specs.Rows.{Locus}
-use Rattle.codespan_picture.specs.RowParts.{severity_name, locus, outer_gutter, outer_gutter_number, border_left, border_left_break, style_change, styled, label_message}
+use Rattle.codespan_picture.specs.RowParts.{severity_name, snippet_locus, outer_gutter, outer_gutter_number, border_left, border_left_break, style_change, styled, label_message}
 use Rattle.codespan_picture.specs.Utf8Laws.{AreUtf8After, StreamIsUtf8, CharsAreScalars}
 use Rattle.codespan_picture.proofs.Texts.{text_of-append, text_of-bytes, text_of-style_mark}
 
@@ -190,8 +190,8 @@ text-severity Warning = text-ascii (codes "warning") refl
 text-severity Note = text-ascii (codes "note") refl
 text-severity Help = text-ascii (codes "help") refl
 
-pub text-locus : (p : Locus) → IsUtf8 p.name → StreamIsUtf8 (locus p)
-unfolding locus
+pub text-locus : (p : Locus) → IsUtf8 p.name → StreamIsUtf8 (snippet_locus p)
+unfolding snippet_locus
 text-locus p u = search pieces
 
 pub text-outer_gutter : (padding : ℕ) → StreamIsUtf8 (outer_gutter padding)

@@ -24,8 +24,8 @@ severity_name Note = codes "note"
 severity_name Help = codes "help"
 
 -- the locus: name, line number and column number
-unfoldable pub locus : Locus → Stream
-locus p =
+unfoldable pub snippet_locus : Locus → Stream
+snippet_locus p =
     bytes p.name ++ bytes (codes ":") ++ bytes (decimal p.location.line_number) ++ bytes (codes ":")
     ++ bytes (decimal p.location.column_number)
 
