@@ -23,7 +23,7 @@ use Rattle.codespan_picture.specs.Lanes as kind
 use Rattle.codespan_picture.specs.RowParts.{inner_gutter, underline, underline_message}
 use Rattle.codespan_picture.specs.Private.Underlines.{underline_by_width, underline_width}
 use Rattle.codespan_picture.specs.RowStreams.{underline_row, stream_of_rows}
-use Rattle.codespan_picture.specs.RenderedRows.{later_note_lines_stream}
+use Rattle.codespan_picture.specs.RenderedRows.{later_note_rows_stream}
 
 -- ---- the lanes of an underline row
 
@@ -116,7 +116,7 @@ pub record NotesToWrite (s : Sink) (whole : Stream) (padding : ℕ) (left : Text
     (t : Sink) : Type 0 where
   pub note_lines : List (List ℕ)
   pub yields : HasLines left note_lines
-  pub written_so_far : StillToWrite s whole (later_note_lines_stream padding note_lines) t
+  pub written_so_far : StillToWrite s whole (later_note_rows_stream padding note_lines) t
 
 -- one line is the next
 pub record Next (x : List ℕ) (t : TextLines) (note_lines : List (List ℕ)) : Type 0 where

@@ -58,7 +58,7 @@ pub fn write_break<W: PutStyle>(
 }
 
 /// Writes the first row of a note, which has the bullet.
-fn write_first_note_line<W: PutStyle>(
+fn write_first_note_row<W: PutStyle>(
     w: &mut W,
     chars: &Chars<'_>,
     padding: usize,
@@ -77,7 +77,7 @@ fn write_first_note_line<W: PutStyle>(
 }
 
 /// Writes a later row of a note, which has a space instead of the bullet.
-fn write_later_note_line<W: PutStyle>(
+fn write_later_note_row<W: PutStyle>(
     w: &mut W,
     padding: usize,
     note_line: &str,
@@ -110,9 +110,9 @@ pub fn write_note<W: PutStyle>(
     let Some(first) = note_lines.next() else {
         return Ok(());
     };
-    write_first_note_line(w, chars, padding, first)?;
+    write_first_note_row(w, chars, padding, first)?;
     for note_line in note_lines {
-        write_later_note_line(w, padding, note_line)?;
+        write_later_note_row(w, padding, note_line)?;
     }
     Ok(())
 }

@@ -1,6 +1,6 @@
 use Rattle.codespan_core.proofs.Chains.{written-then, failed-then, failed-before, failed, writes-last}
 use Rattle.codespan_picture.specs.RowStreams.{first_note_row}
-use Rattle.codespan_picture.proofs.rows.notes.write_first_note_line.Goals as goal
+use Rattle.codespan_picture.proofs.rows.notes.write_first_note_row.Goals as goal
 
 pub returns-in_err-outer_gutter : goal.returns-in_err-outer_gutter
 unfolding first_note_row
