@@ -134,7 +134,7 @@ pub fn write_message<W: PutStyle>(
 /// Writes a space and the trailing message, where a message trails.
 #[tactic(auto, using(codespan_core::proofs::Writes::write_chains), unfolding(crate::specs::RowParts::trailing_message))]
 #[inline(always)]
-fn write_trailing<W: PutStyle>(
+fn write_trailing_message<W: PutStyle>(
     w: &mut W,
     severity: Severity,
     trailing_label: Option<&SingleLabel<'_>>,
@@ -178,6 +178,6 @@ pub fn write_caret_row<W: PutStyle, S: LineCharacters>(
 {
     write_row_start(w, context, line)?;
     write_carets(w, context, line, characters)?;
-    write_trailing(w, context.severity, messages.trailing_label)?;
+    write_trailing_message(w, context.severity, messages.trailing_label)?;
     write_newline(w)
 }

@@ -1,6 +1,6 @@
 use Rattle.codespan_core.proofs.Chains.{failed-before, failed, writes-last}
 use Rattle.codespan_picture.specs.RowParts.{trailing_message}
-use Rattle.codespan_picture.proofs.rows.carets.write_trailing.Goals as goal
+use Rattle.codespan_picture.proofs.rows.carets.write_trailing_message.Goals as goal
 
 pub returns-in_err-write_space-in-Some : goal.returns-in_err-write_space-in-Some
 unfolding trailing_message
