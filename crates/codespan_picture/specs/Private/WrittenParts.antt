@@ -32,15 +32,15 @@ header_start_stream locus severity code =
 -- ---- the starts of rows
 
 -- the start of a source row: up to its text
-abbrev pub source_lanes_stream : context.RowContext → rust_line.Line → Stream
-source_lanes_stream x line =
+abbrev pub source_row_start_stream : context.RowContext → rust_line.Line → Stream
+source_row_start_stream x line =
     outer_gutter_number x.padding line.number ++ border_left x.chars.now
     ++ inner_gutter (context_view x) (leading_of (line_view line)) Source (lanes_view line.lanes)
     ++ space
 
 -- the start of an underline row: up to the end of its lanes
-abbrev pub underline_lanes_stream : context.RowContext → rust_line.Line → LaneMarkTuple → Stream
-underline_lanes_stream x line lane_mark =
+abbrev pub underline_row_start_stream : context.RowContext → rust_line.Line → LaneMarkTuple → Stream
+underline_row_start_stream x line lane_mark =
     outer_gutter x.padding ++ border_left x.chars.now
     ++ inner_gutter (context_view x) (leading_of (line_view line))
     (Underline (lane_mark_view lane_mark))

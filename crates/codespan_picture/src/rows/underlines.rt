@@ -6,7 +6,7 @@ ghost use Rattle.codespan_core.specs.WriterLaw.{Writes};
 ghost use Rattle.codespan_picture.specs.CharMetrics.{char_metrics};
 ghost use Rattle.codespan_picture.specs.Arguments.{lane_mark_view, multi_label_view};
 ghost use Rattle.codespan_picture.specs.Private.LineViews.{context_view, line_view};
-ghost use Rattle.codespan_picture.specs.Private.WrittenParts.{underline_lanes_stream};
+ghost use Rattle.codespan_picture.specs.Private.WrittenParts.{underline_row_start_stream};
 ghost use Rattle.codespan_picture.specs.Private.Underlines.{underline_by_width, underline_width};
 ghost use Rattle.codespan_picture.specs.Private.LineCharacters.{char_input, metrics_of};
 ghost use Rattle.codespan_picture.specs.Rows.{has_underline, underline_rows};
@@ -97,13 +97,13 @@ fn label_multi_caret<W: PutStyle>(
 }
 
 /// Writes the start of an underline row: outer gutter, left border and inner gutter.
-fn write_underline_lanes<W: PutStyle>(
+fn write_underline_row_start<W: PutStyle>(
     w: &mut W,
     context: RowContext<'_>,
     line: Line<'_, '_>,
     lane_mark: (usize, LabelStyle, MultiLabel<'_>),
 ) -> Result<(), W::Error>
-    ensures { Writes (W.sink w.old) (underline_lanes_stream context.entry line.entry lane_mark.entry)
+    ensures { Writes (W.sink w.old) (underline_row_start_stream context.entry line.entry lane_mark.entry)
         result (W.sink w.new) }
 {
     let (lane, style, multi_label) = lane_mark;
@@ -134,7 +134,7 @@ fn write_underline_row<W: PutStyle>(
         ++ newline) result (W.sink w.new) }
 {
     let (_, style, multi_label) = lane_mark;
-    write_underline_lanes(w, context, line, lane_mark)?;
+    write_underline_row_start(w, context, line, lane_mark)?;
     w.set_label(context.severity, style)?;
     label_multi_caret(w, context.chars, style, multi_label, width)?;
     w.reset()?;

@@ -1,6 +1,6 @@
 use Rattle.codespan_picture.proofs.UnderlineRows.{underline_lanes_are}
 use Rattle.codespan_core.proofs.Chains.{written-then, failed-then, failed-before, failed, writes-last}
-use Rattle.codespan_picture.proofs.rows.underlines.write_underline_lanes.Goals as goal
+use Rattle.codespan_picture.proofs.rows.underlines.write_underline_row_start.Goals as goal
 
 pub returns-in_err-outer_gutter : goal.returns-in_err-outer_gutter
 returns-in_err-outer_gutter g c =

@@ -1,6 +1,6 @@
 use Rattle.codespan_picture.proofs.RowEquations.{source_lanes_are}
 use Rattle.codespan_core.proofs.Chains.{written-then, failed-then, failed-before, failed, writes-last}
-use Rattle.codespan_picture.proofs.rows.source.write_source_lanes.Goals as goal
+use Rattle.codespan_picture.proofs.rows.source.write_source_row_start.Goals as goal
 
 pub returns-in_err-outer_gutter_number : goal.returns-in_err-outer_gutter_number
 returns-in_err-outer_gutter_number g c =
