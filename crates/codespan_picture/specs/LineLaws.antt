@@ -37,7 +37,7 @@ abbrev pub break_lanes : Row → Option Lanes
 break_lanes (BreakRow lanes) = Some lanes
 break_lanes _ = None
 
--- the snippet has one break row for each line of `lines_after_breaks`, in order, with that line's lanes
+-- the snippet has one break row for each of `lines_after_breaks`, in order, with that line's lanes
 abbrev pub BreaksReplaceLines : Config → LabeledFileModel → Type 0
 BreaksReplaceLines config s = (locus : Locus)
     → filter_map break_lanes (snippet config locus s)
