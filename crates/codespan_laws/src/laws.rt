@@ -208,7 +208,8 @@ pub fn colors_change_no_text<Id>()
     ensures spelled { (spelling : Spelling) (display_style : DisplayStyle)
         (renderer_config view_config : Config) (files : FileDatabase Id) (d : Diagnostic Id)
         (loci : List Locus)
-        → ColorsChangeNoText spelling (output display_style renderer_config view_config files d loci) }
+        → ColorsChangeNoText spelling
+        (output display_style renderer_config view_config files d loci) }
     ensures colorless { (styles : Styles) (display_style : DisplayStyle)
         (renderer_config view_config : Config) (files : FileDatabase Id) (d : Diagnostic Id)
         (loci : List Locus)

@@ -30,7 +30,8 @@ abbrev pub lines_after_breaks : List ℕ → List ℕ
 lines_after_breaks [] = []
 lines_after_breaks (c ∷ []) = []
 lines_after_breaks (c ∷ d ∷ more) =
-    if has_break_between c d then d ∷ lines_after_breaks (d ∷ more) else lines_after_breaks (d ∷ more)
+    if has_break_between c d then d ∷ lines_after_breaks (d ∷ more)
+    else lines_after_breaks (d ∷ more)
 
 -- the lanes of a break row
 abbrev pub break_lanes : Row → Option Lanes

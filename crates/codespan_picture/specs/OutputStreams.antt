@@ -60,7 +60,8 @@ snippet_locus_byte s = (s.file, locus_byte_of s.labels)
 abbrev pub label_locus_byte : {Id : Type 0} → (Id → FileModel) → LabelInFile Id → FileModel × ℕ
 label_locus_byte file x = (file x.file_id, x.label.start)
 
-module _ {Id : Type 0} (same : Id → Id → Bool) (file : Id → FileModel) (xs : List (LabelInFile Id)) where
+module _ {Id : Type 0} (same : Id → Id → Bool) (file : Id → FileModel)
+    (xs : List (LabelInFile Id)) where
   -- the bytes of files whose loci the output shows: in rich style that of each file's snippet, in
   -- medium and short style the start of each primary label
   abbrev pub locus_bytes : DisplayStyle → List (FileModel × ℕ)
@@ -71,7 +72,8 @@ module _ {Id : Type 0} (same : Id → Id → Bool) (file : Id → FileModel) (xs
 abbrev pub NamesAreUtf8 : List Locus → Type 0
 NamesAreUtf8 loci = AllByRecursion (λ (locus : Locus). IsUtf8 locus.name) loci
 
-module _ {Id : Type 0} (files : FileDatabase Id) (d : Diagnostic Id) (display_style : DisplayStyle) where
+module _ {Id : Type 0} (files : FileDatabase Id) (d : Diagnostic Id)
+    (display_style : DisplayStyle) where
   -- these are the loci of an output, one for each byte of `locus_bytes`
   abbrev pub AreLoci : List Locus → Type 0
   AreLoci loci = AllZip IsLocus (locus_bytes files.same files.file (labels_of d) display_style) loci

@@ -12,7 +12,8 @@ use Rattle.codespan_picture.specs.OutputStreams.{header_text_of, labels_of, cont
 abbrev pub stated_locus : FileModel × ℕ → Locus
 stated_locus at = record { name = name_text at.0; location = at.0.location at.1 }
 
-module _ {Id : Type 0} (files : FileDatabase Id) (d : Diagnostic Id) (display_style : DisplayStyle) where
+module _ {Id : Type 0} (files : FileDatabase Id) (d : Diagnostic Id)
+    (display_style : DisplayStyle) where
   -- the loci of an output with the names that the files state
   abbrev pub stated_loci : List Locus
   stated_loci = map stated_locus (locus_bytes files.same files.file (labels_of d) display_style)
@@ -21,7 +22,8 @@ module _ {Id : Type 0} (display_style : DisplayStyle) (renderer_config view_conf
     (files : FileDatabase Id) (d : Diagnostic Id) where
   -- the picture of a diagnostic: its output with the names that the files state
   abbrev pub picture : Stream
-  picture = output display_style renderer_config view_config files d (stated_loci files d display_style)
+  picture =
+      output display_style renderer_config view_config files d (stated_loci files d display_style)
 
 -- headers with these loci
 abbrev pub headers : HeaderText → List Locus → List Row

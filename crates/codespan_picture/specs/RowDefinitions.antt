@@ -6,10 +6,10 @@ use Rattle.codespan_picture.specs.RowStreams.{bracketed, header_locus, header_ro
 
 -- opens all definitions of rows at once, as `unfolding row_definitions`
 unfoldable pub row_definitions : Unit {0}
-unfolding bytes style_mark spaces repeated label_glyph crossing_characters lane_characters snippet_locus
-    outer_gutter outer_gutter_number border_left border_left_break style_change label_message
-    inner_gutter_column inner_gutter source_glyph colored_text caret_glyphs carets trailing_message
-    spaces_up_to pointer_at pointers underline_message underline bracketed header_locus header_row
-    snippet_start_row empty_row break_row source_row row_start caret_row pointer_row hanging_row
-    underline_row first_note_row later_note_row
+unfolding bytes style_mark spaces repeated label_glyph crossing_characters lane_characters
+    snippet_locus outer_gutter outer_gutter_number border_left border_left_break style_change
+    label_message inner_gutter_column inner_gutter source_glyph colored_text caret_glyphs carets
+    trailing_message spaces_up_to pointer_at pointers underline_message underline bracketed
+    header_locus header_row snippet_start_row empty_row break_row source_row row_start caret_row
+    pointer_row hanging_row underline_row first_note_row later_note_row
 row_definitions = tt

@@ -81,7 +81,8 @@ trailing_label labels = option_map (λ (e : ℕ × LabelModel). e.1) (indexed_tr
 -- the labels that hang: all others with a message
 abbrev pub hanging_labels : List LabelModel → List LabelModel
 hanging_labels labels =
-    filter has_message (option_map_or (λ e. remove labels e.0) (indexed_trailing_label labels) labels)
+    filter has_message
+    (option_map_or (λ e. remove labels e.0) (indexed_trailing_label labels) labels)
 
 -- ---- underlines
 

@@ -24,7 +24,9 @@ abbrev pub labeled_file_model : {Id : Type 0}
     → (Id → Id → Bool) → (Id → FileModel) → List (LabelInFile Id) → Id → LabeledFileModel
 labeled_file_model {Id} same file labels id = record {
   file = file id;
-  labels = map (λ (x : LabelInFile Id). x.label) (filter (λ (x : LabelInFile Id). same id x.file_id) labels);
+  labels =
+      map (λ (x : LabelInFile Id). x.label)
+      (filter (λ (x : LabelInFile Id). same id x.file_id) labels);
 }
 
 -- the ids of the labels' files, in the order of their first label

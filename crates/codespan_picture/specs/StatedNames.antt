@@ -11,7 +11,8 @@ use Rattle.codespan_core.specs.FileModel.Lookup.{Name, LocationAt}
 use Rattle.codespan_core.specs.Streams.{Stream}
 
 -- the primary labels before the first one for which a lookup fails
-abbrev pub labels_before_failure : {Id : Type 0} → Failures Id → List (LabelInFile Id) → List (LabelInFile Id)
+abbrev pub labels_before_failure : {Id : Type 0} → Failures Id → List (LabelInFile Id)
+    → List (LabelInFile Id)
 labels_before_failure {Id} failure xs = take_while lookup_succeeds (primary_of xs)
   where
     lookup_succeeds : LabelInFile Id → Bool
@@ -21,7 +22,8 @@ labels_before_failure {Id} failure xs = take_while lookup_succeeds (primary_of x
 module _ {Id : Type 0} (files : FileDatabase Id) (d : Diagnostic Id) where
   -- the names of the labels' files are stated
   abbrev pub NamesAreStated : Type 0
-  NamesAreStated = (x : LabelInFile Id) → Contains (labels_of d) x → IsSome (files.file x.file_id).name
+  NamesAreStated = (x : LabelInFile Id) → Contains (labels_of d) x
+      → IsSome (files.file x.file_id).name
 
   -- the output with any loci is the picture
   abbrev pub OutputIsPicture : Type 0
@@ -35,7 +37,8 @@ module _ {Id : Type 0} (files : FileDatabase Id) (d : Diagnostic Id) where
   -- and medium style have written when it fails
   abbrev pub headers_before_failure : Config → Stream
   headers_before_failure config =
-      headers_at config d (map (λ (x : LabelInFile Id). stated_locus (label_locus_byte files.file x))
+      headers_at config d
+      (map (λ (x : LabelInFile Id). stated_locus (label_locus_byte files.file x))
       (labels_before_failure files.failure (labels_of d)))
 
   -- where a lookup of a primary label fails, and none of those of the primary labels before it, the

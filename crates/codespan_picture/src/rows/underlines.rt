@@ -103,7 +103,8 @@ fn write_underline_row_start<W: PutStyle>(
     line: Line<'_, '_>,
     lane_mark: (usize, LabelStyle, MultiLabel<'_>),
 ) -> Result<(), W::Error>
-    ensures { Writes (W.sink w.old) (underline_row_start_stream context.entry line.entry lane_mark.entry)
+    ensures { Writes (W.sink w.old)
+        (underline_row_start_stream context.entry line.entry lane_mark.entry)
         result (W.sink w.new) }
 {
     let (lane, style, multi_label) = lane_mark;

@@ -14,7 +14,8 @@ use Rattle.codespan_views.specs.Private.SpannedDigits.{all_digits}
 
 module _ {Id : Type 0} (database : FileDatabase Id) where
   -- the files of these labels were collected, and the padding width of the classic layout
-  pub record AreFilesCollected (xs : List (LabelInFile Id)) (collected : Collected Id) : Type 0 where
+  pub record AreFilesCollected (xs : List (LabelInFile Id)) (collected : Collected Id)
+      : Type 0 where
     pub ids_are : ids_view collected.files.items ≡ file_ids database.same xs
     pub labels_are : AllByRecursion (HasLabels database.same database.file xs) collected.files.items
     pub padding_is : collected.spanned_padding ≡ fold max 0 (all_digits database.file xs)
@@ -27,8 +28,8 @@ module _ {Id : Type 0} (database : FileDatabase Id) where
         collected.annotations.items (all_annotations database.same database.file config xs)
 
   -- this was collected of these labels, and is in order
-  pub record IsCollected (config : Config) (xs : List (LabelInFile Id)) (collected : Collected Id) : Type
-      0 where
+  pub record IsCollected (config : Config) (xs : List (LabelInFile Id)) (collected : Collected Id)
+      : Type 0 where
     pub files : AreFilesCollected xs collected
     pub sorted : IsSortedBy is_before (map annotation_view collected.annotations.items)
     pub permutation : IsPermutation (all_annotations database.same database.file config xs)

@@ -40,8 +40,8 @@ module _ {Id : Type 0} (config : Config) (file : Id → FileModel) (failure : Fa
         ≡ Some error
 
   -- rendering failed at one of these labels
-  pub record HeadersFailed (old : Sink) (xs : List (LabelInFile Id)) (error : Error) (new : Sink) : Type
-      0 where
+  pub record HeadersFailed (old : Sink) (xs : List (LabelInFile Id)) (error : Error) (new : Sink)
+      : Type 0 where
     pub before : List (LabelInFile Id)
     pub here : LabelInFile Id
     pub after : List (LabelInFile Id)

@@ -15,7 +15,8 @@ is_locus_label same id only_primary x =
     same id x.file_id && (not only_primary || is_primary x.label)
 
 -- the starts of the labels of a file, or of its primary ones alone
-abbrev pub label_starts : {Id : Type 0} → (Id → Id → Bool) → Id → Bool → List (LabelInFile Id) → List ℕ
+abbrev pub label_starts : {Id : Type 0}
+    → (Id → Id → Bool) → Id → Bool → List (LabelInFile Id) → List ℕ
 label_starts {Id} same id only_primary xs =
     map (λ (x : LabelInFile Id). x.label.start) (filter (is_locus_label same id only_primary) xs)
 

@@ -54,8 +54,8 @@ module _ {Id : Type 0} (database : FileDatabase Id) where
       × ArePlansOfLabels config xs snippet_plans (drop snippet_plan.line_total snippet_lines)
 
   -- the plan is that of these labels
-  pub record IsOutputPlan (config : Config) (xs : List (LabelInFile Id)) (output_plan : OutputPlan Id)
-      : Type 0 where
+  pub record IsOutputPlan (config : Config) (xs : List (LabelInFile Id))
+      (output_plan : OutputPlan Id) : Type 0 where
     pub ids_are : ids_of output_plan.snippet_plans.items ≡ file_ids database.same xs
     pub snippet_plans_are : ArePlansOfLabels config xs output_plan.snippet_plans.items
         output_plan.snippet_lines.items

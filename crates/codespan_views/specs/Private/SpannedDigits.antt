@@ -17,4 +17,5 @@ label_digits f x = flat_map (digits_on f x) (range_with_len 0 (line_count f))
 
 -- those of all labels
 abbrev pub all_digits : {Id : Type 0} → (Id → FileModel) → List (LabelInFile Id) → List ℕ
-all_digits {Id} file xs = flat_map (λ (x : LabelInFile Id). label_digits (file x.file_id) x.label) xs
+all_digits {Id} file xs =
+    flat_map (λ (x : LabelInFile Id). label_digits (file x.file_id) x.label) xs
