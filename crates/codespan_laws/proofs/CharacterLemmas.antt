@@ -1,5 +1,5 @@
--- For `chars_change_no_row_length`: the length of rows does not depend on the characters that they are
--- rendered with.
+-- For `chars_change_no_row_length`: the length of rows does not depend on the characters that they
+-- are rendered with.
 use Rattle.std.proofs.Common.{◌≡◌, ℕ, ◌-◌, Bool, true, false, List, [], ◌∷◌, ◌++◌, flat_map, Option, Some, None, if◌then◌else◌, refl, sym, ap, ◌∙◌, arith}
 use Rattle.std.specs.List.{list_any}
 use Rattle.codespan_base.specs.declared.diagnostic.Severity.{Severity}

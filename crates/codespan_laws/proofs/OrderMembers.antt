@@ -1,5 +1,5 @@
--- For `reordering_changes_nothing`: two orders of a file's labels that its snippet shows alike have the same
--- labels.
+-- For `reordering_changes_nothing`: two orders of a file's labels that its snippet shows alike have
+-- the same labels.
 use Rattle.std.proofs.Common.{◌≡◌, ℕ, min, Bool, true, false, not, ◌==◌, ◌&&◌, ◌||◌, nat_le, cond, List, [], ◌∷◌, map, filter, fold, reverse, ⊎_elim, refl, sym, ap, ◌∙◌, arith}
 use Rattle.std.specs.List.{list_any}
 use Rattle.std.proofs.Math.Bool.{or-false, or_assoc}

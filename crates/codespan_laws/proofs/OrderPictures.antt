@@ -1,5 +1,5 @@
--- For `reordering_changes_nothing`: a reordering of labels that keeps the orders that a rich output shows
--- changes nothing in it.
+-- For `reordering_changes_nothing`: a reordering of labels that keeps the orders that a rich output
+-- shows changes nothing in it.
 use Rattle.std.proofs.Common.{◌≡◌, ℕ, ◌+◌, ◌-◌, max, Bool, true, ◌&&◌, ◌||◌, nat_lt, List, [], ◌∷◌, ◌++◌, map, filter, fold, flat_map, length, None, refl, sym, ap, ap₂, ◌∙◌, true, false}
 use mathlib.Core.Path.{fun_ext}
 use Rattle.std.specs.Cmp.{IsEquivalence, first_so, second_so}

@@ -1,5 +1,5 @@
--- For `sorted_is_stable_sort` and `reordering_changes_nothing`: the order of a line's labels. Only the order of the
--- labels of each range counts, and is kept.
+-- For `sorted_is_stable_sort` and `reordering_changes_nothing`: the order of a line's labels. Only
+-- the order of the labels of each range counts, and is kept.
 use mathlib.Core.Path.{fun_ext}
 use Rattle.std.proofs.Common.{◌≡◌, ℕ, Bool, true, false, ◌==◌, ◌&&◌, cond, List, [], ◌∷◌, filter, ⊎_elim, refl, sym, ap, subst, ◌∙◌, arith}
 use Rattle.std.proofs.lemmas.Bool.{both_ways, cases_Bool, cond_both, eq-eqb, false_from_ne_true}
