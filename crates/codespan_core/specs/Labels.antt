@@ -87,7 +87,7 @@ sorted (x ∷ xs) = insert_sorted x (sorted xs)
 
 -- the single-line labels of a line by their drawn ranges; of equal ranges the last given is first.
 -- `sorted xs` is the only permutation of `xs` that is sorted by `range_precedes` and stable: the
--- law `labels_are_sorted`
+-- law `sorted_is_stable_sort`
 abbrev pub single_labels : FileModel → List LabelModel → ℕ → List LabelModel
 single_labels f labels l =
     sorted (reverse (map (drawn_label f)

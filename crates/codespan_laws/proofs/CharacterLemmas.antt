@@ -1,5 +1,5 @@
--- For `characters_are_free`: the length of rows does not depend on the characters that they are
--- rendered with.
+-- For `chars_change_no_row_length`: the length of rows does not depend on the characters that they
+-- are rendered with.
 use Rattle.std.proofs.Common.{◌≡◌, ℕ, ◌-◌, Bool, true, false, List, [], ◌∷◌, ◌++◌, flat_map, Option, Some, None, if◌then◌else◌, refl, sym, ap, ◌∙◌, arith}
 use Rattle.std.specs.List.{list_any}
 use Rattle.codespan_base.specs.declared.diagnostic.Severity.{Severity}
@@ -7,13 +7,13 @@ use Rattle.codespan_base.specs.declared.diagnostic.LabelStyle.{LabelStyle}
 use Rattle.codespan_base.specs.declared.term.config.chars.Chars.{Chars}
 use Rattle.codespan_base.specs.Labels.{LabelModel, LaneMark, MultiLabel, Top, Left, Bottom}
 use Rattle.codespan_base.specs.Streams.{Stream, StyleMark, Reset, LabelStyleMark, SourceBorder, NoteBullet, style_mark, byte_stream, glyph, repeated, space}
-use Rattle.codespan_picture.specs.RowLaws.{row_length, character_count, CharactersAreFree}
+use Rattle.codespan_picture.specs.RowLaws.{row_length, character_count, CharsChangeNoRowLength}
 use Rattle.codespan_base.specs.SnippetStarts.{start_text}
 use Rattle.codespan_picture.specs.declared.char_metrics.Metrics.{Metrics}
 use Rattle.codespan_picture.specs.Carets.{style_under, max_label_end}
 use Rattle.codespan_picture.specs.Lanes.{label_glyph}
 use Rattle.codespan_picture.specs.Rows.{RowContext, Locus, Lanes, Line, Row, HeaderRow, SnippetStartRow, EmptyRow, BreakRow, SourceRow, CaretRow, PointerRow, HangingRow, UnderlineRow, FirstNoteRow, LaterNoteRow, FinalRow, hanging_labels, trailing_label}
-use Rattle.codespan_picture.specs.RowParts.{outer_gutter, outer_gutter_number, border_left, border_left_break, style_change, styled, lanes_in, locus, line_metrics, line_metrics_to_end, inner_gutter, colored_text, caret_glyphs, carets, trailing_message, label_message, starts_in, max_label_start, spaces_up_to, pointer_style, pointer_at, pointers, metrics_before, underline, underline_message}
+use Rattle.codespan_picture.specs.RowParts.{outer_gutter, outer_gutter_number, border_left, border_left_break, style_change, styled, lanes_in, snippet_locus, line_metrics, line_metrics_to_end, inner_gutter, colored_text, caret_glyphs, carets, trailing_message, label_message, starts_in, max_label_start, spaces_up_to, pointer_style, pointer_at, pointers, metrics_before, underline, underline_message}
 use Rattle.codespan_picture.specs.RowStreams.{stream_of, snippet_start_row, empty_row, break_row, source_row, row_start, caret_row, pointer_row, hanging_row, underline_row, first_note_row}
 use Rattle.codespan_picture.proofs.Texts.{row_length-append, row_length-glyph, row_length-repeated, text_of-byte_stream}
 use Rattle.codespan_laws.proofs.LaneWidths.{row_length-lanes_in, row_length-label_glyph}
@@ -170,7 +170,7 @@ module _ (context : RowContext) (chars : Chars) where
       (snippet_start_row context.chars context.padding at)
   unfolding snippet_start_row
   start_as_long e at =
-      same_before _ _ (locus at) (same_before _ _ space (same_before _ _ (style_mark Reset)
+      same_before _ _ (snippet_locus at) (same_before _ _ space (same_before _ _ (style_mark Reset)
       (same_after (outer_gutter context.padding ++ style_mark SourceBorder) _ _
       (texts (start_text chars.snippet_start) (start_text context.chars.snippet_start) e))))
 
@@ -225,5 +225,5 @@ module _ (context : RowContext) (chars : Chars) where
   rows_as_long e FinalRow = as_long []
 
 -- with other characters each row is as long
-pub characters_are_free : CharactersAreFree
-characters_are_free context chars row e = (rows_as_long context chars e row).same
+pub chars_change_no_row_length : CharsChangeNoRowLength
+chars_change_no_row_length context chars row e = (rows_as_long context chars e row).same

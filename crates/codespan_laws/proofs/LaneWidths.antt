@@ -1,4 +1,4 @@
--- For `lanes_take_two`: each lane takes two characters.
+-- For `lanes_take_two_characters`: each lane takes two characters.
 use Rattle.std.proofs.Common.{◌≡◌, ℕ, zero, suc, ◌+◌, ◌*◌, ◌++◌, flat_map, Option, Some, None, refl, ◌∙◌, arith}
 use Rattle.codespan_base.specs.declared.diagnostic.Severity.{Severity}
 use Rattle.codespan_base.specs.declared.diagnostic.LabelStyle.{LabelStyle}

@@ -1,5 +1,5 @@
--- For `order_is_free`: two orders of a file's labels that its snippet shows alike have the same
--- labels.
+-- For `reordering_changes_nothing`: two orders of a file's labels that its snippet shows alike have
+-- the same labels.
 use Rattle.std.proofs.Common.{◌≡◌, ℕ, min, Bool, true, false, not, ◌==◌, ◌&&◌, ◌||◌, nat_le, cond, List, [], ◌∷◌, map, filter, fold, reverse, ⊎_elim, refl, sym, ap, ◌∙◌, arith}
 use Rattle.std.specs.List.{list_any}
 use Rattle.std.proofs.Math.Bool.{or-false, or_assoc}
@@ -8,7 +8,7 @@ use Rattle.std.proofs.lemmas.Bool.Decides.{nat_tests}
 use Rattle.codespan_base.specs.FileModel.{FileModel}
 use Rattle.codespan_base.specs.Labels.{LabelModel, is_primary, is_single, first_line, drawn_label, multi_line_labels, single_labels}
 use Rattle.codespan_laws.specs.OrderLaws.{is_drawn_at}
-use Rattle.codespan_picture.specs.Snippets.{least, if_any, locus_start}
+use Rattle.codespan_picture.specs.Snippets.{least, if_any, locus_byte_of}
 use Rattle.codespan_picture.proofs.OrderSorts.{has_range, sorted-same}
 use Rattle.codespan_picture.proofs.HangingStarts.{any-filter}
 use Rattle.codespan_picture.proofs.RefillLemmas.{any-map, filter-map}
@@ -164,7 +164,7 @@ least-same (x ∷ xs) (y ∷ ys) same =
         (any-map (λ n. nat_le n k) (λ (w : LabelModel). w.start) zs)
 
 -- the byte of a file's locus depends only on which labels there are
-pub locus-same : (xs ys : List LabelModel) → SameTests xs ys → locus_start xs ≡ locus_start ys
+pub locus-same : (xs ys : List LabelModel) → SameTests xs ys → locus_byte_of xs ≡ locus_byte_of ys
 locus-same xs ys same =
     least-same (if_any (filter is_primary xs) xs) (if_any (filter is_primary ys) ys)
     (if_any-tests (filter is_primary xs) (filter is_primary ys) xs ys

@@ -1,5 +1,5 @@
--- For `order_is_free`: a reordering of labels that keeps the orders that a rich output shows
--- changes nothing in it.
+-- For `reordering_changes_nothing`: a reordering of labels that keeps the orders that a rich output
+-- shows changes nothing in it.
 use Rattle.std.proofs.Common.{◌≡◌, ℕ, ◌+◌, ◌-◌, max, Bool, true, ◌&&◌, ◌||◌, nat_lt, List, [], ◌∷◌, ◌++◌, map, filter, fold, flat_map, length, None, refl, sym, ap, ap₂, ◌∙◌, true, false}
 use mathlib.Core.Path.{fun_ext}
 use Rattle.std.specs.Cmp.{IsEquivalence, first_so, second_so}
@@ -15,12 +15,12 @@ use Rattle.codespan_base.specs.Labels.{LabelModel, first_line, last_line, first_
 use Rattle.codespan_picture.specs.CharMetrics.{text_without_line_end}
 use Rattle.codespan_picture.specs.LineLaws.{shown_lines}
 use Rattle.codespan_picture.specs.Lines.{shows, is_shown, drawn_lines}
-use Rattle.codespan_laws.specs.OrderLaws.{OrderIsFree}
+use Rattle.codespan_laws.specs.OrderLaws.{ReorderingChangesNothing}
 use Rattle.codespan_picture.specs.Padding.{spans, spanned_lines, numbered_lines, digits_of}
-use Rattle.codespan_picture.specs.OutputStreams.{context_of, rendered, snippet_locus_start}
+use Rattle.codespan_picture.specs.OutputStreams.{context_of, rendered, snippet_locus_byte}
 use Rattle.codespan_picture.specs.RowStreams.{stream_of_rows}
 use Rattle.codespan_picture.specs.Rows.{Locus, HeaderText, Lanes, Line, HeaderRow, SnippetStartRow, EmptyRow, FinalRow}
-use Rattle.codespan_picture.specs.Snippets.{LabeledFileModel, InFile, labeled_file_model, empty_lanes, line_at, rows_of_drawn, rows_of_shown, labeled_file_models, snippet, has_any, empty_row_after, snippets, note_rows}
+use Rattle.codespan_picture.specs.Snippets.{LabeledFileModel, LabelInFile, labeled_file_model, empty_lanes, line_at, rows_of_drawn, rows_of_shown, labeled_file_models, snippet, has_any, empty_row_after, snippets, note_rows}
 use Rattle.codespan_picture.proofs.FillLemmas.{rows_of_shown_lines}
 use Rattle.codespan_laws.proofs.OrderMembers.{AreEqual, SameTests, same-tests, locus-same, singles-same}
 
@@ -88,7 +88,7 @@ module _ (f : FileModel) (xs ys : List LabelModel) (equal : AreEqual f xs ys) wh
   drawn-same view_config =
       ap (λ (shown : ℕ → Bool). filter (λ l. shown l || (nat_lt 0 l && shown (l - 1) && shown (l + 1))) (range_with_len 0 (line_count f))) (fun_ext (shown-same view_config))
 
-  start-same : snippet_locus_start s ≡ snippet_locus_start t
+  start-same : snippet_locus_byte s ≡ snippet_locus_byte t
   start-same = ap {B = FileModel × ℕ} (λ n. (f, n)) (locus-same xs ys tests)
 
   -- the rows follow from the shown lines
@@ -178,13 +178,13 @@ module _ {Id : Type 0} (view_config : Config) (g h : Id → LabeledFileModel)
 -- ---- equal ids
 
 module _ {Id : Type 0} (same : Id → Id → Bool) (file : Id → FileModel) (o : IsEquivalence same)
-    (one_file : (i j : Id) → same i j ≡ true → file i ≡ file j) (xs : List (InFile Id)) where
+    (one_file : (i j : Id) → same i j ≡ true → file i ≡ file j) (xs : List (LabelInFile Id)) where
   -- equal ids have one file with one list of labels
   file-equal : (i j : Id) → same i j ≡ true
       → labeled_file_model same file xs i ≡ labeled_file_model same file xs j
-  file-equal i j t = ap₂ {C = LabeledFileModel} (λ f (named : InFile Id → Bool).
-      record { file = f; labels = map (λ (x : InFile Id). x.label) (filter named xs) })
-      (one_file i j t) (fun_ext (λ (x : InFile Id). o.congr i j x.file_id t))
+  file-equal i j t = ap₂ {C = LabeledFileModel} (λ f (named : LabelInFile Id → Bool).
+      record { file = f; labels = map (λ (x : LabelInFile Id). x.label) (filter named xs) })
+      (one_file i j t) (fun_ext (λ (x : LabelInFile Id). o.congr i j x.file_id t))
 
   -- ids that are equal one by one have the same files
   files-equal : (is js : List Id) → pointwise same is js ≡ true
@@ -198,10 +198,10 @@ module _ {Id : Type 0} (same : Id → Id → Bool) (file : Id → FileModel) (o 
 
 -- a reordering that keeps these orders changes nothing in a rich output, where equal ids have one
 -- file
-pub order_is_free : {Id : Type 0} (same : Id → Id → Bool) (file : Id → FileModel)
-    → OrderIsFree same file
-order_is_free {Id} same file xs ys o one_file orders = record {
-  same_starts = starts-same ids ∙ ap (map snippet_locus_start) others;
+pub reordering_changes_nothing : {Id : Type 0} (same : Id → Id → Bool) (file : Id → FileModel)
+    → ReorderingChangesNothing same file
+reordering_changes_nothing {Id} same file xs ys o one_file orders = record {
+  same_locus_bytes = starts-same ids ∙ ap (map snippet_locus_byte) others;
   same_stream = λ renderer_config view_config severity header_text loci notes.
       rich-same view_config (labeled_file_model same file xs) (labeled_file_model same file ys)
       (have_same_rows view_config) renderer_config severity header_text loci notes ids
@@ -210,7 +210,7 @@ order_is_free {Id} same file xs ys o one_file orders = record {
 }
   where
     ids : List Id
-    ids = first_seen same (map (λ (x : InFile Id). x.file_id) xs)
+    ids = first_seen same (map (λ (x : LabelInFile Id). x.file_id) xs)
 
     others : map (labeled_file_model same file ys) ids ≡ labeled_file_models same file ys
     others = files-equal same file o one_file ys _ _ orders.files
@@ -228,8 +228,8 @@ order_is_free {Id} same file xs ys o one_file orders = record {
         (labeled_file_model same file ys id).labels (equal id) view_config
 
     starts-same : (ids : List Id)
-        → map snippet_locus_start (map (labeled_file_model same file xs) ids) ≡ map
-        snippet_locus_start (map (labeled_file_model same file ys) ids)
+        → map snippet_locus_byte (map (labeled_file_model same file xs) ids) ≡ map
+        snippet_locus_byte (map (labeled_file_model same file ys) ids)
     starts-same [] = refl
     starts-same (i ∷ ids) =
         ap₂ (λ a b. a ∷ b)

@@ -11,7 +11,7 @@ use Rattle.codespan_picture.specs.declared.char_metrics.Metrics.{Metrics}
 use Rattle.codespan_picture.specs.Carets.{style_under, max_label_end}
 use Rattle.codespan_picture.specs.Lanes.{label_glyph}
 use Rattle.codespan_picture.specs.Rows.{Locus, RowContext, Line, Row, HeaderRow, SnippetStartRow, EmptyRow, BreakRow, SourceRow, CaretRow, PointerRow, HangingRow, UnderlineRow, FirstNoteRow, LaterNoteRow, FinalRow, hanging_labels}
-use Rattle.codespan_picture.specs.RowParts.{inner_gutter, source_glyph, source_style, colored_text, caret_glyphs, carets, trailing_message, label_message, spaces_up_to, pointer_at, pointer_style, pointers, starts_in, max_label_start, outer_gutter, outer_gutter_number, border_left, border_left_break, locus, line_metrics}
+use Rattle.codespan_picture.specs.RowParts.{inner_gutter, source_glyph, source_style, colored_text, caret_glyphs, carets, trailing_message, label_message, spaces_up_to, pointer_at, pointer_style, pointers, starts_in, max_label_start, outer_gutter, outer_gutter_number, border_left, border_left_break, snippet_locus, line_metrics}
 use Rattle.codespan_picture.specs.RowStreams.{stream_of, header_row, snippet_start_row, empty_row, break_row, source_row, row_start, caret_row, pointer_row, hanging_row, underline_row, first_note_row, later_note_row}
 use Rattle.codespan_picture.specs.RowLaws.{ends_reset, RowsEndReset}
 use Rattle.codespan_laws.proofs.ResetLemmas.{Closes, closes-append, closes-reset, ends_reset-byte_stream, ends_reset-spaces, ends_reset-repeated, closes-in_style, closes-label_glyph, closes-flat_map, closes-lanes_in, ends_reset-styled}
@@ -126,8 +126,8 @@ closes-border_left_break : (chars : Chars) → Closes (border_left_break chars)
 unfolding border_left_break
 closes-border_left_break chars = closes-reset _
 
-closes-locus : (p : Locus) → Closes (locus p)
-unfolding locus
+closes-locus : (p : Locus) → Closes (snippet_locus p)
+unfolding snippet_locus
 closes-locus p =
     closes-append _ _
     (closes-append _ _
@@ -148,7 +148,7 @@ unfolding header_row snippet_start_row empty_row break_row source_row caret_row 
     hanging_row underline_row first_note_row later_note_row inner_gutter
 closes-row context (HeaderRow at header_text) = closes-reset _
 closes-row context (SnippetStartRow at) =
-    closes-append _ (locus at) (closes-append _ space (closes-reset _) (closes-byte_stream _))
+    closes-append _ (snippet_locus at) (closes-append _ space (closes-reset _) (closes-byte_stream _))
     (closes-locus at)
 closes-row context (EmptyRow lanes) =
     closes-append _ _ (closes-append _ _ (closes-outer_gutter _) (closes-border_left _))

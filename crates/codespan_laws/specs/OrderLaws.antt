@@ -6,8 +6,8 @@ use Rattle.codespan_picture.specs.Types.{Config, Rich, Severity}
 use Rattle.codespan_base.specs.FileModel.{FileModel}
 use Rattle.codespan_base.specs.Labels.{LabelModel, is_single, first_line, drawn_label, multi_line_labels}
 use Rattle.codespan_picture.specs.Rows.{HeaderText, Locus}
-use Rattle.codespan_picture.specs.Snippets.{InFile, file_ids, labeled_file_model, labeled_file_models}
-use Rattle.codespan_picture.specs.OutputStreams.{rendered, locus_starts}
+use Rattle.codespan_picture.specs.Snippets.{LabelInFile, file_ids, labeled_file_model, labeled_file_models}
+use Rattle.codespan_picture.specs.OutputStreams.{rendered, locus_bytes}
 
 -- the label has this drawn range
 abbrev pub is_drawn_at : FileModel → ℕ → ℕ → LabelModel → Bool
@@ -16,13 +16,13 @@ is_drawn_at f start end x =
 
 -- the multi-line labels of a file, in the order of the list
 abbrev pub multi_line_labels_of : {Id : Type 0}
-    → (Id → Id → Bool) → (Id → FileModel) → List (InFile Id) → Id → List LabelModel
+    → (Id → Id → Bool) → (Id → FileModel) → List (LabelInFile Id) → Id → List LabelModel
 multi_line_labels_of same file xs id =
     multi_line_labels (file id) (labeled_file_model same file xs id).labels
 
 -- the single-line labels of a line that have this drawn range, in the order of the list
 abbrev pub one_range_of : {Id : Type 0}
-    → (Id → Id → Bool) → (Id → FileModel) → List (InFile Id) → Id → ℕ → ℕ → ℕ → List LabelModel
+    → (Id → Id → Bool) → (Id → FileModel) → List (LabelInFile Id) → Id → ℕ → ℕ → ℕ → List LabelModel
 one_range_of same file xs id l start end =
     filter (λ x. is_single (file id) x && (first_line (file id) x == l)
     && is_drawn_at (file id) start end x) (labeled_file_model same file xs id).labels
@@ -31,7 +31,7 @@ one_range_of same file xs id l start end =
 -- only be equal, one by one, of each file's multi-line labels, and of the single-line labels of a
 -- line with one drawn range
 pub record SameOrders {Id : Type 0} (same : Id → Id → Bool) (file : Id → FileModel)
-    (xs ys : List (InFile Id)) : Type 0 where
+    (xs ys : List (LabelInFile Id)) : Type 0 where
   pub files : pointwise same (file_ids same xs) (file_ids same ys) ≡ true
   pub multi_line : (id : Id)
       → multi_line_labels_of same file xs id ≡ multi_line_labels_of same file ys id
@@ -40,8 +40,8 @@ pub record SameOrders {Id : Type 0} (same : Id → Id → Bool) (file : Id → F
 
 -- both orders have the same bytes of loci, and with any loci they render the same
 pub record RenderSame {Id : Type 0} (same : Id → Id → Bool) (file : Id → FileModel)
-    (xs ys : List (InFile Id)) : Type 0 where
-  pub same_starts : locus_starts same file xs Rich ≡ locus_starts same file ys Rich
+    (xs ys : List (LabelInFile Id)) : Type 0 where
+  pub same_locus_bytes : locus_bytes same file xs Rich ≡ locus_bytes same file ys Rich
   pub same_stream : (renderer_config view_config : Config) (severity : Severity)
       (header_text : HeaderText) (loci : List Locus) (notes : List (List ℕ))
       → rendered Rich renderer_config view_config severity header_text loci
@@ -51,7 +51,7 @@ pub record RenderSame {Id : Type 0} (same : Id → Id → Bool) (file : Id → F
 
 -- where `same` is an equivalence, and equal ids have one file, a reordering that keeps these orders
 -- changes nothing in a rich output
-abbrev pub OrderIsFree : {Id : Type 0} → (Id → Id → Bool) → (Id → FileModel) → Type 0
-OrderIsFree {Id} same file = (xs ys : List (InFile Id))
+abbrev pub ReorderingChangesNothing : {Id : Type 0} → (Id → Id → Bool) → (Id → FileModel) → Type 0
+ReorderingChangesNothing {Id} same file = (xs ys : List (LabelInFile Id))
     → IsEquivalence same → ((i j : Id) → same i j ≡ true → file i ≡ file j)
     → SameOrders same file xs ys → RenderSame same file xs ys

@@ -14,19 +14,19 @@ ghost use Rattle.codespan_base.specs.FileModel.{FileDatabase, FileModel, line_co
 ghost use Rattle.codespan_base.specs.Labels.{LabelModel};
 ghost use Rattle.codespan_base.specs.declared.term.config.styles.Styles.{Styles};
 ghost use Rattle.codespan_base.specs.Streams.{Spelling};
-ghost use Rattle.codespan_picture.specs.RowLaws.{row_length, CharactersAreFree, RowsEndReset};
+ghost use Rattle.codespan_picture.specs.RowLaws.{row_length, CharsChangeNoRowLength, RowsEndReset};
 ghost use Rattle.codespan_laws.specs.ColorLaws.{ColorsChangeNoText, NoColorIsPlain};
 ghost use Rattle.codespan_picture.specs.CaretLaws.{CaretsAreCells, PointersAreCells, StartsHaveCells};
 ghost use Rattle.codespan_picture.specs.RichLaws.{MeansLabels, NoneReversed};
 ghost use Rattle.codespan_picture.specs.LaneLaws.{BarsAreLabels, LanesJoinCorners, LanesAreShown};
-ghost use Rattle.codespan_picture.specs.LineLaws.{BreaksHaveBars, BreaksAreGaps, RowsOfShown, PaddingFits, SourceRowsAreFew};
+ghost use Rattle.codespan_picture.specs.LineLaws.{BreaksHaveBars, BreaksReplaceLines, RowsAreOfShownLines, PaddingFits, SourceRowsAreFew};
 ghost use Rattle.codespan_picture.specs.MessageLaws.{MessagesAppearOnce};
-ghost use Rattle.codespan_picture.specs.TrailingLaws.{EachTrailsOrHangs};
-ghost use Rattle.codespan_laws.specs.OrderLaws.{OrderIsFree};
-ghost use Rattle.codespan_picture.specs.SortLaws.{SortsLabels};
+ghost use Rattle.codespan_picture.specs.TrailingLaws.{EachMessageTrailsOrHangs};
+ghost use Rattle.codespan_laws.specs.OrderLaws.{ReorderingChangesNothing};
+ghost use Rattle.codespan_picture.specs.SortLaws.{SortedIsStableSort};
 ghost use Rattle.codespan_picture.specs.StatedNames.{HeadersAreBeforeFailure, OutputIsPicture};
-ghost use Rattle.codespan_picture.specs.TextLaws.{OutputIsText, PictureIsText};
-ghost use Rattle.codespan_picture.specs.Lanes.{LaneRow};
+ghost use Rattle.codespan_picture.specs.Utf8Laws.{OutputIsUtf8, PictureIsUtf8};
+ghost use Rattle.codespan_picture.specs.Lanes.{RowKind};
 ghost use Rattle.codespan_picture.specs.RowParts.{line_metrics, inner_gutter};
 ghost use Rattle.codespan_picture.specs.OutputStreams.{AreLoci, output};
 ghost use Rattle.codespan_picture.specs.Picture.{stated_loci};
@@ -47,13 +47,13 @@ pub fn outputs_mean_labels<Id>()
 /// States that the drawn lines and the breaks follow from the shown lines: between two consecutive
 /// shown lines a single line is filled in, and two or more are replaced by a break.
 pub fn rows_are_of_shown_lines()
-    ensures { (config : Config) (s : LabeledFileModel) → RowsOfShown config s }
+    ensures { (config : Config) (s : LabeledFileModel) → RowsAreOfShownLines config s }
 {}
 
 /// States that a snippet has one break row for each two consecutive shown lines that are three or
 /// more apart, in their order, with the lanes of the later line.
-pub fn breaks_are_gaps()
-    ensures { (config : Config) (s : LabeledFileModel) → BreaksAreGaps config s }
+pub fn breaks_replace_lines()
+    ensures { (config : Config) (s : LabeledFileModel) → BreaksReplaceLines config s }
 {}
 
 /// States that a lane has a bar in a break row exactly where its label covers every line that is
@@ -97,7 +97,7 @@ pub fn bars_are_labels()
 /// States that each lane is one line, a top corner, bars, and a bottom corner below it, where no
 /// label of the file starts after its end. In the classic layout rows of the first line may leave
 /// the lane out below a corner in the source row.
-pub fn lanes_are_lines()
+pub fn lanes_join_corners()
     ensures { (config : Config) (layout : Layout) (s : LabeledFileModel)
         → NoneReversed s.labels → LanesJoinCorners config layout s }
 {}
@@ -109,8 +109,8 @@ pub fn lanes_are_shown()
 {}
 
 /// States that each lane takes two characters.
-pub fn lanes_take_two()
-    ensures { (context : RowContext) (leading : ℕ) (row : LaneRow) (lanes : Lanes)
+pub fn lanes_take_two_characters()
+    ensures { (context : RowContext) (leading : ℕ) (row : RowKind) (lanes : Lanes)
         → row_length (inner_gutter context leading row lanes) ≡ 2 * lanes.count }
 {}
 
@@ -127,7 +127,7 @@ pub fn messages_appear_once<Id>()
 
 /// States that of a line's labels with a message at most one trails, and each other one hangs.
 pub fn each_message_trails_or_hangs()
-    ensures { EachTrailsOrHangs }
+    ensures { EachMessageTrailsOrHangs }
 {}
 
 // ---- the order of labels
@@ -137,14 +137,14 @@ pub fn each_message_trails_or_hangs()
 /// the single-line labels of one line and one drawn range, where ids are compared by an equivalence
 /// and equal ids have one file. The two orders may have different ids of a file, if these are
 /// equal.
-pub fn order_is_free<Id>()
-    ensures { (same : Id → Id → Bool) (file : Id → FileModel) → OrderIsFree same file }
+pub fn reordering_changes_nothing<Id>()
+    ensures { (same : Id → Id → Bool) (file : Id → FileModel) → ReorderingChangesNothing same file }
 {}
 
 /// States that `sorted` returns the one stable sort of its argument by ranges. The labels of a line
 /// are sorted from their reverse, so of labels with equal ranges the last one comes first.
-pub fn labels_are_sorted()
-    ensures { (labels : List LabelModel) → SortsLabels labels }
+pub fn sorted_is_stable_sort()
+    ensures { (labels : List LabelModel) → SortedIsStableSort labels }
 {}
 
 // ---- padding, and every row
@@ -158,8 +158,8 @@ pub fn padding_fits()
 
 /// States that a configuration with other characters, whose text before a locus has as many
 /// characters, changes no row's number of characters.
-pub fn characters_are_free()
-    ensures { CharactersAreFree }
+pub fn chars_change_no_row_length()
+    ensures { CharsChangeNoRowLength }
 {}
 
 /// States that the last style mark of a row, if it has one, is a reset.
@@ -172,19 +172,19 @@ pub fn rows_end_reset()
 /// States that every output has loci: those with the names that the files state, or an empty name
 /// where a file states none.
 pub fn stated_loci_are_loci<Id>()
-    ensures { (files : FileDatabase Id) (d : Diagnostic Id) (style : DisplayStyle)
-        → AreLoci files d style (stated_loci files d style) }
+    ensures { (files : FileDatabase Id) (d : Diagnostic Id) (display_style : DisplayStyle)
+        → AreLoci files d display_style (stated_loci files d display_style) }
 {}
 
 /// States that the output is the picture of the diagnostic, where the names of the labels' files
 /// are stated.
-pub fn stated_names_make_the_picture<Id>()
+pub fn output_is_picture<Id>()
     ensures { (files : FileDatabase Id) (d : Diagnostic Id) → OutputIsPicture files d }
 {}
 
 /// States that the headers that a failed lookup leaves written are those of the primary labels
 /// before the first one for which a lookup fails, where the names of the labels' files are stated.
-pub fn stated_names_make_the_headers<Id>()
+pub fn headers_are_before_failure<Id>()
     ensures { (files : FileDatabase Id) (d : Diagnostic Id) → HeadersAreBeforeFailure files d }
 {}
 
@@ -192,25 +192,26 @@ pub fn stated_names_make_the_headers<Id>()
 /// character, where the characters of the configuration are Unicode scalar values, the files are
 /// lawful, and the names of the loci are UTF-8. The same holds of the picture where the stated
 /// names are UTF-8.
-pub fn outputs_are_texts<Id>()
-    ensures output { (style : DisplayStyle) (renderer_config view_config : Config)
+pub fn outputs_are_utf8<Id>()
+    ensures output { (display_style : DisplayStyle) (renderer_config view_config : Config)
         (files : FileDatabase Id) (d : Diagnostic Id)
-        → OutputIsText style renderer_config view_config files d }
-    ensures picture { (style : DisplayStyle) (renderer_config view_config : Config)
+        → OutputIsUtf8 display_style renderer_config view_config files d }
+    ensures picture { (display_style : DisplayStyle) (renderer_config view_config : Config)
         (files : FileDatabase Id) (d : Diagnostic Id)
-        → PictureIsText style renderer_config view_config files d }
+        → PictureIsUtf8 display_style renderer_config view_config files d }
 {}
 
 /// States that colors change no text: however a writer spells style marks, what it writes of an
 /// output is the plain text with the bytes of style marks between. Over `NoColor` a style mark has
 /// no bytes, whatever the styles.
 pub fn colors_change_no_text<Id>()
-    ensures spelled { (spelling : Spelling) (style : DisplayStyle)
+    ensures spelled { (spelling : Spelling) (display_style : DisplayStyle)
         (renderer_config view_config : Config) (files : FileDatabase Id) (d : Diagnostic Id)
         (loci : List Locus)
-        → ColorsChangeNoText spelling (output style renderer_config view_config files d loci) }
-    ensures colorless { (styles : Styles) (style : DisplayStyle)
+        → ColorsChangeNoText spelling
+        (output display_style renderer_config view_config files d loci) }
+    ensures colorless { (styles : Styles) (display_style : DisplayStyle)
         (renderer_config view_config : Config) (files : FileDatabase Id) (d : Diagnostic Id)
         (loci : List Locus)
-        → NoColorIsPlain styles (output style renderer_config view_config files d loci) }
+        → NoColorIsPlain styles (output display_style renderer_config view_config files d loci) }
 {}

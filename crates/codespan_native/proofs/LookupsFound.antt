@@ -13,7 +13,7 @@ use Rattle.codespan_base.specs.SimpleModel.{missing_file}
 use Rattle.codespan_picture.specs.OutputStreams.{labels_of}
 use Rattle.codespan_picture.specs.Types.{Config, Diagnostic, Error, DisplayStyle, Rich, Medium, Short, Layout, Classic, Unbroken}
 use Rattle.codespan_picture.specs.Lookups.{AllSucceed, looked_up_lines, lookups_of_file, early_lookups, ends_context_lines, file_at, filled_lines, header_lookups_of, is_looked_up, label_lookups, late_lookups, locus_lookups, lookup_past_end, lookups_in, numbers_for_padding, filled_line_lookups, label_line_lookups, line_lookups, snippet_lookups}
-use Rattle.codespan_picture.specs.Snippets.{InFile, file_ids, locus_start, primary_of}
+use Rattle.codespan_picture.specs.Snippets.{LabelInFile, file_ids, locus_byte_of, primary_of}
 use Rattle.codespan_base.specs.Diagnostics.{DiagnosticView, LabelView}
 use Rattle.codespan_structs.specs.declared.error.Argument.TheVariants.{LabelFile}
 use Rattle.codespan_structs.specs.declared.raw.RawConfig.{RawConfig}
@@ -170,22 +170,22 @@ module _ (ss : List NativeFileView) where
       → Each IsFound (lookups_of_file id ls)
   lookups_are_found id ls all = each_map (λ l. (id, l)) IsFound (λ l. fails id l ≡ None) ls (λ l e. e) all
 
-  abbrev InKnown : InFile ℕ → Type 0
+  abbrev InKnown : LabelInFile ℕ → Type 0
   InKnown x = IsKnown x.file_id
 
-  module _ (config : Config) (xs : List (InFile ℕ)) (known : Each InKnown xs) where
+  module _ (config : Config) (xs : List (LabelInFile ℕ)) (known : Each InKnown xs) where
     abbrev files : FileDatabase ℕ
     files = native_database ss
 
     ids_known : Each IsKnown (file_ids files.same xs)
     ids_known =
-        each_first_seen files.same IsKnown (map (λ (x : InFile ℕ). x.file_id) xs)
-        (each_map (λ (x : InFile ℕ). x.file_id) IsKnown InKnown xs (λ x h. h) known)
+        each_first_seen files.same IsKnown (map (λ (x : LabelInFile ℕ). x.file_id) xs)
+        (each_map (λ (x : LabelInFile ℕ). x.file_id) IsKnown InKnown xs (λ x h. h) known)
 
     labels_found : Each IsFound (label_lookups config files xs)
     labels_found =
         each_flat_map
-        (λ (x : InFile ℕ). lookups_of_file x.file_id
+        (λ (x : LabelInFile ℕ). lookups_of_file x.file_id
         (label_line_lookups config (files.file x.file_id) (files.failure x.file_id) x.label))
         IsFound InKnown xs
         (λ x h. lookups_are_found x.file_id
@@ -234,7 +234,7 @@ module _ (ss : List NativeFileView) where
         (of_ids (locus_lookups files xs)
         (λ id h. (
           (lookups_succeed_at id h).name,
-          ((lookups_succeed_at id h).location (locus_start (file_at files xs id).labels), tt),
+          ((lookups_succeed_at id h).location (locus_byte_of (file_at files xs id).labels), tt),
         ))))
         (of_ids (snippet_lookups files xs config) snippets_found)
 
@@ -245,7 +245,7 @@ module _ (ss : List NativeFileView) where
           (lookups_succeed_at x.file_id h).name,
           ((lookups_succeed_at x.file_id h).location x.label.start, tt),
         ))
-        (each_filter (λ (x : InFile ℕ). is_primary x.label) InKnown xs known)
+        (each_filter (λ (x : LabelInFile ℕ). is_primary x.label) InKnown xs known)
 
   succeed : (ls : List (ℕ × Lookup)) → Each IsFound ls → AllSucceed fails ls
   succeed ls all = λ id lookup made.

@@ -1,4 +1,4 @@
--- For `breaks_are_gaps`: there are break rows where shown lines are three or more apart.
+-- For `breaks_replace_lines`: there are break rows where shown lines are three or more apart.
 use Rattle.std.proofs.Common.{◌≡◌, ℕ, ◌+◌, Bool, true, false, cond, ◌==◌, nat_le, List, [], ◌∷◌, ◌++◌, map, filter, filter_map, reverse, Some, None, refl, ap, ap₂, ◌∙◌, arith}
 use Rattle.std.proofs.lemmas.List.Elements.{filter_map-append}
 use Rattle.std.proofs.lemmas.Bool.Decides.{nat_tests}
@@ -8,7 +8,7 @@ use Rattle.codespan_picture.specs.CharMetrics.{leading_whitespace}
 use Rattle.codespan_picture.specs.Rows.{Row, Lanes, Line, SourceRow, HangingRow, UnderlineRow, BreakRow, caret_rows, pointer_and_hanging_rows, underline_rows, rows_of, hanging_labels, has_underline}
 use Rattle.codespan_picture.specs.Sequences.{gap_between}
 use Rattle.codespan_picture.specs.Snippets.{LabeledFileModel, line_at, line_rows, break_rows, rows_of_shown}
-use Rattle.codespan_picture.specs.LineLaws.{break_lanes, broken_before, shown_lines, BreaksAreGaps, RowsOfShown}
+use Rattle.codespan_picture.specs.LineLaws.{break_lanes, lines_after_breaks, shown_lines, BreaksReplaceLines, RowsAreOfShownLines}
 
 -- ---- rows that are not breaks
 
@@ -51,7 +51,7 @@ no_break_line line =
 
 breaks_of : (line : ℕ → Line) (c : ℕ) (ls : List ℕ)
     → filter_map break_lanes (rows_of_shown line (Some c) ls) ≡ map (λ l. (line l).lanes)
-    (broken_before (c ∷ ls))
+    (lines_after_breaks (c ∷ ls))
 breaks_of line c [] = refl
 breaks_of line c (d ∷ more) =
     breaks-append (gap c d ++ rows_of (line d)) (rows_of_shown line (Some d) more)
@@ -65,14 +65,14 @@ breaks_of line c (d ∷ more) =
     gap = gap_between (line_rows line) (break_rows line)
 
     rest : List Lanes
-    rest = map (λ l. (line l).lanes) (broken_before (d ∷ more))
+    rest = map (λ l. (line l).lanes) (lines_after_breaks (d ∷ more))
 
     by_tests : (b e : Bool) → (d == c + 2) ≡ b → nat_le (c + 3) d ≡ e
         → (filter_map break_lanes
         (cond b (rows_of (line (c + 1))) (cond e (BreakRow (line d).lanes ∷ []) [])) ++ [])
         ++ rest
         ≡ map (λ l. (line l).lanes)
-        (cond e (d ∷ broken_before (d ∷ more)) (broken_before (d ∷ more)))
+        (cond e (d ∷ lines_after_breaks (d ∷ more)) (lines_after_breaks (d ∷ more)))
     by_tests true true two far = absurd (grind (arith, nat_tests))
     by_tests true false two near = ap (λ s. (s ++ []) ++ rest) (no_break_line (line (c + 1)))
     by_tests false true other far = refl
@@ -80,14 +80,14 @@ breaks_of line c (d ∷ more) =
 
 breaks_from_start : (line : ℕ → Line) (ls : List ℕ)
     → filter_map break_lanes (rows_of_shown line None ls) ≡ map (λ l. (line l).lanes)
-    (broken_before ls)
+    (lines_after_breaks ls)
 breaks_from_start line [] = refl
 breaks_from_start line (d ∷ more) =
     breaks-append (rows_of (line d)) (rows_of_shown line (Some d) more)
     ∙ ap₂ (λ s t. s ++ t) (no_break_line (line d)) (breaks_of line d more)
 
-pub breaks_are_gaps : (config : Config) (s : LabeledFileModel) → RowsOfShown config s
-    → BreaksAreGaps config s
-breaks_are_gaps config s drawn =
+pub breaks_replace_lines : (config : Config) (s : LabeledFileModel) → RowsAreOfShownLines config s
+    → BreaksReplaceLines config s
+breaks_replace_lines config s drawn =
     λ locus. ap (filter_map break_lanes) drawn
     ∙ breaks_from_start (line_at s) (shown_lines config s)

@@ -14,7 +14,7 @@ use Rattle.codespan_core.specs.Streams.{Stream, spaces, text_of}
 use Rattle.codespan_picture.specs.declared.char_metrics.Metrics.{Metrics}
 use Rattle.codespan_picture.specs.CharMetrics.{metrics_then, placeholder, width_of, width_at}
 use Rattle.codespan_picture.proofs.CaretEnds.{style_under-below}
-use Rattle.codespan_picture.specs.Carets.{style_under, caret_for, max_label_end, owns, style_at, caret_cells}
+use Rattle.codespan_picture.specs.Carets.{style_under, caret_for, max_label_end, occupies, style_at, caret_cells}
 use Rattle.codespan_picture.proofs.Texts.{text_of-append, encode_utf8_all-append, encode_utf8_all-spaces, text_of-spaces, text_of-style_mark, text_of-repeated}
 use Rattle.codespan_picture.specs.Rows.{RowContext, Line}
 use Rattle.codespan_picture.specs.RowParts.{line_metrics_to_end, style_change, styled, caret_glyphs, carets}
@@ -112,12 +112,12 @@ encode_utf8_all-flat_map f (c ∷ cs) =
     encode_utf8_all-append (f c) (flat_map f cs)
     ∙ ap (λ s. encode_utf8_all (f c) ++ s) (encode_utf8_all-flat_map f cs)
 
-owns-inside : (k : ℕ) (c : Metrics) → c.column ≤ k → k < c.column + c.unicode_width
-    → owns k c ≡ true
-owns-inside k c low high = grind (arith, nat_tests)
+occupies-inside : (k : ℕ) (c : Metrics) → c.column ≤ k → k < c.column + c.unicode_width
+    → occupies k c ≡ true
+occupies-inside k c low high = grind (arith, nat_tests)
 
-owns-after : (k : ℕ) (c : Metrics) → c.column + c.unicode_width ≤ k → owns k c ≡ false
-owns-after k c high = grind (arith, nat_tests)
+occupies-after : (k : ℕ) (c : Metrics) → c.column + c.unicode_width ≤ k → occupies k c ≡ false
+occupies-after k c high = grind (arith, nat_tests)
 
 -- from the greatest end on nothing is shown
 none-after : (chars : Chars) (labels : List LabelModel) (end byte_index column : ℕ)
@@ -168,11 +168,11 @@ caret_codes chars labels byte_index column (c ∷ cs) adjacent =
         ∙ ap₂ (λ xs ys. xs ++ ys)
         (map-range_with_len at_cell (λ _. caret_for chars (style_under labels c)) column
         c.unicode_width
-        (λ k low high. let same = adjacent.1 in simp (owns-inside k c (omega arith) (omega arith)))
+        (λ k low high. let same = adjacent.1 in simp (occupies-inside k c (omega arith) (omega arith)))
         ∙ map-constant (caret_for chars (style_under labels c)) column c.unicode_width)
         (map-range_with_len at_cell (λ k. caret_for chars (style_at labels cs k))
         (column + c.unicode_width) (width_of later)
-        (λ k low high. let same = adjacent.1 in simp (owns-after k c (omega arith)))
+        (λ k low high. let same = adjacent.1 in simp (occupies-after k c (omega arith)))
         ∙ rest)
     by_test rest false after =
         let none =

@@ -1,4 +1,4 @@
--- For `outputs_are_texts`: the rendered texts of lines, and the lines of notes, are texts.
+-- For `outputs_are_utf8`: the rendered texts of lines, and the lines of notes, are texts.
 use Rattle.std.proofs.Common.{◌≡◌, ℕ, zero, suc, ◌+◌, ◌-◌, ◌<◌, ◌≤◌, Bool, true, false, ◌&&◌, ◌==◌, cond, List, [], ◌∷◌, ◌++◌, length, take, drop, get_or, encode_utf8_all, refl, sym, ap, ◌∙◌, subst, arith, append_assoc, append-nil, ⊎_elim}
 use Rattle.std.specs.Char.{encode_utf8}
 use Rattle.std.specs.List.{AllByRecursion, onto_first, slice_split, suffix_len}
@@ -17,7 +17,7 @@ use Rattle.codespan_picture.specs.CharMetrics.{text_without_line_end, is_line_en
 use Rattle.codespan_picture.specs.Rows.{LaterNoteRow}
 use Rattle.codespan_picture.specs.Snippets.{note_rows, note_line_rows}
 use Rattle.codespan_picture.proofs.LaneLineLemmas.{each_map}
-use Rattle.codespan_picture.proofs.LaneTexts.{IsTextRow}
+use Rattle.codespan_picture.proofs.LaneTexts.{RowIsUtf8}
 use Rattle.codespan_picture.proofs.ListElements.{all-append}
 
 -- ---- the texts of drawn lines
@@ -83,29 +83,29 @@ abbrev is_line_feed : ℕ → Bool
 is_line_feed b = b == 10
 
 -- the parts are texts, the first one after these bytes
-abbrev PartsAreTextsAfter : List ℕ → List (List ℕ) → Type 0
-PartsAreTextsAfter pre [] = IsUtf8 pre
-PartsAreTextsAfter pre (x ∷ parts) = IsUtf8 (pre ++ x) × AllByRecursion IsUtf8 parts
+abbrev PartsAreUtf8After : List ℕ → List (List ℕ) → Type 0
+PartsAreUtf8After pre [] = IsUtf8 pre
+PartsAreUtf8After pre (x ∷ parts) = IsUtf8 (pre ++ x) × AllByRecursion IsUtf8 parts
 
 -- a byte before the first part counts among the bytes before it
 after-onto : (pre : List ℕ) (b : ℕ) (parts : List (List ℕ))
-    → PartsAreTextsAfter (pre ++ b ∷ []) parts → PartsAreTextsAfter pre (onto_first b parts)
+    → PartsAreUtf8After (pre ++ b ∷ []) parts → PartsAreUtf8After pre (onto_first b parts)
 after-onto pre b [] h = (h, tt)
 after-onto pre b (x ∷ parts) h = (subst IsUtf8 (append_assoc pre (b ∷ []) x) h.0, h.1)
 
 -- bytes that are not line feeds
 after-bytes : (pre xs rest : List ℕ) → AllByRecursion (λ b. is_line_feed b ≡ false) xs
-    → PartsAreTextsAfter (pre ++ xs) (slice_split is_line_feed rest)
-    → PartsAreTextsAfter pre (slice_split is_line_feed (xs ++ rest))
+    → PartsAreUtf8After (pre ++ xs) (slice_split is_line_feed rest)
+    → PartsAreUtf8After pre (slice_split is_line_feed (xs ++ rest))
 after-bytes pre [] rest none h =
-    subst (λ p. PartsAreTextsAfter p (slice_split is_line_feed rest)) (append-nil pre) h
+    subst (λ p. PartsAreUtf8After p (slice_split is_line_feed rest)) (append-nil pre) h
 after-bytes pre (b ∷ xs) rest none h =
-    let later : PartsAreTextsAfter (pre ++ b ∷ []) (slice_split is_line_feed (xs ++ rest)) =
+    let later : PartsAreUtf8After (pre ++ b ∷ []) (slice_split is_line_feed (xs ++ rest)) =
     after-bytes (pre ++ b ∷ []) xs rest none.1
-    (subst (λ p. PartsAreTextsAfter p (slice_split is_line_feed rest))
+    (subst (λ p. PartsAreUtf8After p (slice_split is_line_feed rest))
     (sym (append_assoc pre (b ∷ []) xs)) h) in
     subst
-    (λ t. PartsAreTextsAfter pre
+    (λ t. PartsAreUtf8After pre
     (cond t ([] ∷ slice_split is_line_feed (xs ++ rest))
     (onto_first b (slice_split is_line_feed (xs ++ rest)))))
     (sym none.0)
@@ -138,12 +138,12 @@ and_true true b e = (refl, e)
 and_true false b e = absurd (cc)
 
 -- the parts of a text between its line feeds are texts
-all-after : (parts : List (List ℕ)) → PartsAreTextsAfter [] parts → AllByRecursion IsUtf8 parts
+all-after : (parts : List (List ℕ)) → PartsAreUtf8After [] parts → AllByRecursion IsUtf8 parts
 all-after [] h = tt
 all-after (x ∷ parts) h = h
 
 split-after : (cs : List ℕ) → all_scalars cs ≡ true → (pre : List ℕ) → IsUtf8 pre
-    → PartsAreTextsAfter pre (slice_split is_line_feed (encode_utf8_all cs))
+    → PartsAreUtf8After pre (slice_split is_line_feed (encode_utf8_all cs))
 split-after [] e pre u = (subst IsUtf8 (sym (append-nil pre)) u, tt)
 split-after (c ∷ cs) e pre u =
     let both = and_true (scalar c) (all_scalars cs) e in
@@ -151,7 +151,7 @@ split-after (c ∷ cs) e pre u =
     (λ (t : (c == 10) ≡ true).
     let ten : c ≡ 10 = grind (arith, nat_tests, t) in
     let one : encode_utf8 c ≡ 10 ∷ [] = ap encode_utf8 ten ∙ encode_ascii 10 (omega arith) in
-    subst (λ bs. PartsAreTextsAfter pre (slice_split is_line_feed (bs ++ encode_utf8_all cs)))
+    subst (λ bs. PartsAreUtf8After pre (slice_split is_line_feed (bs ++ encode_utf8_all cs)))
     (sym one) (
       subst IsUtf8 (sym (append-nil pre)) u,
       all-after
@@ -192,13 +192,13 @@ lines-utf8 bs u = parts-utf8 (slice_split is_line_feed bs) (split-utf8 bs u)
 -- ---- notes
 
 rows-note_line : (note_lines : List (List ℕ)) → AllByRecursion IsUtf8 note_lines
-    → AllByRecursion IsTextRow (note_line_rows note_lines)
+    → AllByRecursion RowIsUtf8 (note_line_rows note_lines)
 rows-note_line [] h = tt
-rows-note_line (p ∷ ps) h = (h.0, each_map IsTextRow LaterNoteRow ps h.1)
+rows-note_line (p ∷ ps) h = (h.0, each_map RowIsUtf8 LaterNoteRow ps h.1)
 
 pub rows-notes : (notes : List (List ℕ)) → AllByRecursion IsUtf8 notes
-    → AllByRecursion IsTextRow (note_rows notes)
+    → AllByRecursion RowIsUtf8 (note_rows notes)
 rows-notes [] h = tt
 rows-notes (note ∷ notes) h =
-    all-append IsTextRow (note_line_rows (lines note)) (note_rows notes)
+    all-append RowIsUtf8 (note_line_rows (lines note)) (note_rows notes)
     (rows-note_line (lines note) (lines-utf8 note h.0)) (rows-notes notes h.1)

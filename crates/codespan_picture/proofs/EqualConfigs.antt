@@ -10,7 +10,7 @@ use Rattle.codespan_core.specs.declared.term.config.DisplayStyle.TheVariants.{Ri
 use Rattle.codespan_core.specs.ConfigEquality.{IsEqualConfig}
 use Rattle.codespan_core.specs.Streams.{byte_stream, style_mark, Reset, SourceBorder, space}
 use Rattle.codespan_picture.specs.Rows.{HeaderText, Locus, RowContext, Row, HeaderRow, SnippetStartRow, EmptyRow, BreakRow, SourceRow, CaretRow, PointerRow, HangingRow, UnderlineRow, FirstNoteRow, LaterNoteRow, FinalRow}
-use Rattle.codespan_picture.specs.RowParts.{outer_gutter, locus}
+use Rattle.codespan_picture.specs.RowParts.{outer_gutter, snippet_locus}
 use Rattle.codespan_picture.specs.RowStreams.{stream_of, stream_of_rows}
 use Rattle.codespan_picture.specs.RowDefinitions.{row_definitions}
 use Rattle.codespan_picture.specs.Padding.{padding_of}
@@ -38,7 +38,7 @@ module _ (config : Config) (severity : Severity) (padding : ℕ) (start other : 
   unfolding row_definitions
   row_equal (HeaderRow at header_text) = refl
   row_equal (SnippetStartRow at) =
-      ap (λ text. outer_gutter padding ++ style_mark SourceBorder ++ byte_stream text ++ style_mark Reset ++ space ++ locus at) same
+      ap (λ text. outer_gutter padding ++ style_mark SourceBorder ++ byte_stream text ++ style_mark Reset ++ space ++ snippet_locus at) same
   row_equal (EmptyRow lanes) = refl
   row_equal (BreakRow lanes) = refl
   row_equal (SourceRow line) = refl

@@ -1,11 +1,11 @@
--- For `rows_are_of_shown_lines` and `breaks_are_gaps`: drawn lines with their breaks, from the
+-- For `rows_are_of_shown_lines` and `breaks_replace_lines`: drawn lines with their breaks, from the
 -- shown lines alone. Between two consecutive ones there is nothing, one filled line, or a break.
 use Rattle.std.proofs.Common.{◌≡◌, ℕ, ◌≤◌, Bool, true, false, cond, nat_lt, List, Option, refl, arith}
 use Rattle.std.proofs.lemmas.Bool.Decides.{nat_tests}
 use Rattle.codespan_core.specs.declared.term.config.Config.{Config}
 use Rattle.codespan_core.specs.FileModel.{line_count}
 use Rattle.codespan_picture.specs.Lines.{is_shown}
-use Rattle.codespan_picture.specs.LineLaws.{RowsOfShown}
+use Rattle.codespan_picture.specs.LineLaws.{RowsAreOfShownLines}
 use Rattle.codespan_picture.specs.Rows.{Row}
 use Rattle.codespan_picture.specs.Sequences.{before_line, break_between}
 use Rattle.codespan_picture.specs.Snippets.{LabeledFileModel, line_at, line_rows, break_rows}
@@ -23,7 +23,7 @@ none_past config s l h =
     simp past
 
 -- the drawn lines with their breaks are the shown lines with what is between them
-pub rows_of_shown_lines : (config : Config) (s : LabeledFileModel) → RowsOfShown config s
+pub rows_of_shown_lines : (config : Config) (s : LabeledFileModel) → RowsAreOfShownLines config s
 rows_of_shown_lines config s =
     let rows = line_rows (line_at s) in
     let shown = is_shown config s.file s.labels in

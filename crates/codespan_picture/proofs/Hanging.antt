@@ -11,9 +11,9 @@ use Rattle.codespan_core.specs.Labels.{LabelModel, has_message}
 use Rattle.codespan_core.specs.Streams.{Stream, newline}
 use Rattle.codespan_picture.specs.Carets.{max_label_end}
 use Rattle.codespan_picture.specs.Arguments.{SingleLabelTuple, single_label_view, single_label_views}
-use Rattle.codespan_picture.specs.Rows.{RowContext, Line, HangingRow, last_with_end, does_trail, trailing_entry, trailing_label, hanging_labels, pointer_and_hanging_rows}
+use Rattle.codespan_picture.specs.Rows.{RowContext, Line, HangingRow, last_with_end, does_trail, indexed_trailing_label, trailing_label, hanging_labels, pointer_and_hanging_rows}
 use Rattle.codespan_picture.specs.RowStreams.{pointer_row, hanging_row, stream_of, stream_of_rows}
-use Rattle.codespan_picture.specs.Private.Runs.{label_entry_view, AreHanging, hanging_stream}
+use Rattle.codespan_picture.specs.Private.Runs.{indexed_label_view, AreHanging, hanging_stream}
 use Rattle.codespan_picture.proofs.TrailingLabel.{is_empty_bytes, entry_is, without_at}
 
 -- ---- where one trails
@@ -21,15 +21,15 @@ use Rattle.codespan_picture.proofs.TrailingLabel.{is_empty_bytes, entry_is, with
 -- the rightmost label trails
 trails_by : (xs : List LabelModel) (e : ℕ × LabelModel)
     → last_with_end (max_label_end xs) xs ≡ Some e → does_trail xs e ≡ true
-    → trailing_entry xs ≡ Some e
+    → indexed_trailing_label xs ≡ Some e
 trails_by xs e is h = rw (is, h) refl
 
 -- the label at an index trails
 entry_trails : (xs : List SingleLabelTuple) (k end : ℕ) (d : SingleLabelTuple) → k < length xs
     → end ≡ max_label_end (single_label_views xs)
-    → last_with_end end (single_label_views xs) ≡ label_entry_view xs (Some k)
-    → option_map_or (does_trail (single_label_views xs)) (label_entry_view xs (Some k)) false ≡ true
-    → trailing_entry (single_label_views xs) ≡ Some (k, single_label_view (get_or xs k d))
+    → last_with_end end (single_label_views xs) ≡ indexed_label_view xs (Some k)
+    → option_map_or (does_trail (single_label_views xs)) (indexed_label_view xs (Some k)) false ≡ true
+    → indexed_trailing_label (single_label_views xs) ≡ Some (k, single_label_view (get_or xs k d))
 entry_trails xs k end d h greatest last holds =
     let here = entry_is xs k d h in
     trails_by (single_label_views xs) (k, single_label_view (get_or xs k d))
@@ -39,8 +39,8 @@ entry_trails xs k end d h greatest last holds =
 -- its message trails
 pub trailing_here : (xs : List SingleLabelTuple) (k end : ℕ) (d : SingleLabelTuple) → k < length xs
     → end ≡ max_label_end (single_label_views xs)
-    → last_with_end end (single_label_views xs) ≡ label_entry_view xs (Some k)
-    → option_map_or (does_trail (single_label_views xs)) (label_entry_view xs (Some k)) false ≡ true
+    → last_with_end end (single_label_views xs) ≡ indexed_label_view xs (Some k)
+    → option_map_or (does_trail (single_label_views xs)) (indexed_label_view xs (Some k)) false ≡ true
     → Some (single_label_view (get_or xs k d)) ≡ trailing_label (single_label_views xs)
 trailing_here xs k end d h greatest last holds =
     ap (option_map (λ (e : ℕ × LabelModel). e.1))
@@ -53,8 +53,8 @@ all_after n xs = ap (λ k. take k (drop n xs)) (sym (length-drop n xs)) ∙ take
 -- all other labels may hang
 hanging_at : (xs : List SingleLabelTuple) (k end : ℕ) (d : SingleLabelTuple) → k < length xs
     → end ≡ max_label_end (single_label_views xs)
-    → last_with_end end (single_label_views xs) ≡ label_entry_view xs (Some k)
-    → option_map_or (does_trail (single_label_views xs)) (label_entry_view xs (Some k)) false ≡ true
+    → last_with_end end (single_label_views xs) ≡ indexed_label_view xs (Some k)
+    → option_map_or (does_trail (single_label_views xs)) (indexed_label_view xs (Some k)) false ≡ true
     → AreHanging xs (take k xs) (take (length xs - (k + 1)) (drop (k + 1) xs))
 hanging_at xs k end d h greatest last holds =
     subst (AreHanging xs (take k xs)) (sym (all_after (k + 1) xs)) (record {
@@ -69,8 +69,8 @@ hanging_at xs k end d h greatest last holds =
 
 pub hanging_here : (xs : List SingleLabelTuple) (k end : ℕ) → k < length xs
     → end ≡ max_label_end (single_label_views xs)
-    → last_with_end end (single_label_views xs) ≡ label_entry_view xs (Some k)
-    → option_map_or (does_trail (single_label_views xs)) (label_entry_view xs (Some k)) false ≡ true
+    → last_with_end end (single_label_views xs) ≡ indexed_label_view xs (Some k)
+    → option_map_or (does_trail (single_label_views xs)) (indexed_label_view xs (Some k)) false ≡ true
     → AreHanging xs (take k xs) (take (length xs - (k + 1)) (drop (k + 1) xs))
 hanging_here [] k end h greatest last holds = absurd (omega arith)
 hanging_here (x ∷ xs) k end h greatest last holds =
@@ -81,24 +81,24 @@ hanging_here (x ∷ xs) k end h greatest last holds =
 -- no label trails where the rightmost one does not
 none_by : (xs : List LabelModel) (o : Option (ℕ × LabelModel))
     → last_with_end (max_label_end xs) xs ≡ o → option_map_or (does_trail xs) o false ≡ false
-    → trailing_entry xs ≡ None
+    → indexed_trailing_label xs ≡ None
 none_by xs None is h = rw is refl
 none_by xs (Some e) is h = rw (is, h) refl
 
 -- no message trails
 no_entry : (xs : List SingleLabelTuple) (r : Option ℕ) (end : ℕ)
     → end ≡ max_label_end (single_label_views xs)
-    → last_with_end end (single_label_views xs) ≡ label_entry_view xs r
-    → option_map_or (does_trail (single_label_views xs)) (label_entry_view xs r) false ≡ false
-    → trailing_entry (single_label_views xs) ≡ None
+    → last_with_end end (single_label_views xs) ≡ indexed_label_view xs r
+    → option_map_or (does_trail (single_label_views xs)) (indexed_label_view xs r) false ≡ false
+    → indexed_trailing_label (single_label_views xs) ≡ None
 no_entry xs r end greatest last h =
-    none_by (single_label_views xs) (label_entry_view xs r)
+    none_by (single_label_views xs) (indexed_label_view xs r)
     (ap (λ e. last_with_end e (single_label_views xs)) (sym greatest) ∙ last) h
 
 pub nothing_trails : (xs : List SingleLabelTuple) (r : Option ℕ) (end : ℕ)
     → end ≡ max_label_end (single_label_views xs)
-    → last_with_end end (single_label_views xs) ≡ label_entry_view xs r
-    → option_map_or (does_trail (single_label_views xs)) (label_entry_view xs r) false ≡ false
+    → last_with_end end (single_label_views xs) ≡ indexed_label_view xs r
+    → option_map_or (does_trail (single_label_views xs)) (indexed_label_view xs r) false ≡ false
     → None ≡ trailing_label (single_label_views xs)
 nothing_trails xs r end greatest last h =
     ap (option_map (λ (e : ℕ × LabelModel). e.1)) (sym (no_entry xs r end greatest last h))
@@ -106,8 +106,8 @@ nothing_trails xs r end greatest last h =
 -- no message trails, and all labels may hang
 pub none_trails : (xs : List SingleLabelTuple) (r : Option ℕ) (end : ℕ)
     → end ≡ max_label_end (single_label_views xs)
-    → last_with_end end (single_label_views xs) ≡ label_entry_view xs r
-    → option_map_or (does_trail (single_label_views xs)) (label_entry_view xs r) false ≡ false
+    → last_with_end end (single_label_views xs) ≡ indexed_label_view xs r
+    → option_map_or (does_trail (single_label_views xs)) (indexed_label_view xs r) false ≡ false
     → AreHanging xs xs []
 none_trails xs r end greatest last h =
     let none = no_entry xs r end greatest last h in record { are = rw (append-nil, none) refl }

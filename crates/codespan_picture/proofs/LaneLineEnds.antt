@@ -1,4 +1,4 @@
--- For `lanes_are_lines`: what a lane shows in the rows of a line on which its label begins or
+-- For `lanes_join_corners`: what a lane shows in the rows of a line on which its label begins or
 -- ends.
 use Rattle.std.proofs.Common.{◌≡◌, ℕ, ◌<◌, Bool, true, false, not, cond, ◌&&◌, ◌==◌, nat_lt, inl, inr, List, [], ◌∷◌, ◌++◌, map, filter, Some, refl, sym, ap, ◌∙◌, arith, append_assoc}
 use Rattle.std.proofs.lemmas.Bool.Decides.{nat_tests}

@@ -1,4 +1,4 @@
--- For `lanes_are_lines`: lists in parts, and a lane that is one line by the parts of its rows.
+-- For `lanes_join_corners`: lists in parts, and a lane that is one line by the parts of its rows.
 use Rattle.std.proofs.Common.{◌≡◌, ℕ, zero, suc, ◌+◌, ◌-◌, ◌<◌, Bool, true, false, cond, ◌⊎◌, inl, inr, List, [], ◌∷◌, ◌++◌, map, filter, length, Option, Some, slice_get, refl, sym, ap, ap₂, ◌∙◌, arith, append_assoc}
 use Rattle.std.specs.List.{AllByRecursion}
 use Rattle.std.specs.Option.{option_map}

@@ -1,4 +1,4 @@
--- For `lanes_are_lines`: what a lane shows in the rows of one line.
+-- For `lanes_join_corners`: what a lane shows in the rows of one line.
 use Rattle.std.proofs.Common.{◌≡◌, ℕ, Bool, List, [], ◌∷◌, ◌++◌, map, filter, reverse, Some, None, ap}
 use Rattle.std.specs.List.{AllByRecursion}
 use Rattle.codespan_core.specs.declared.term.config.Layout.{Layout}

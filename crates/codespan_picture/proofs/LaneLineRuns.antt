@@ -1,4 +1,4 @@
--- For `lanes_are_lines`: each lane is one line, by the drawn lines of the file.
+-- For `lanes_join_corners`: each lane is one line, by the drawn lines of the file.
 use Rattle.std.proofs.Common.{◌≡◌, ℕ, zero, suc, ◌+◌, ◌-◌, ◌<◌, ◌≤◌, Bool, true, false, not, cond, ◌&&◌, ◌||◌, nat_lt, nat_le, ⊎_elim, List, [], ◌∷◌, ◌++◌, filter, length, Option, Some, None, refl, sym, ap, ◌∙◌, zero-add, append_assoc, arith, if◌then◌else◌}
 use Rattle.std.specs.List.{range_with_len, AllByRecursion}
 use Rattle.std.proofs.lemmas.Bool.{cases_lt}
@@ -243,9 +243,9 @@ has_line starts a b h = omega (arith, count_by-le-length (λ s. nat_le s b) star
 shown_is_drawn : (b d : Bool) → b ≡ true → (b || d) ≡ true
 shown_is_drawn b d h = simp h
 
-pub lanes_are_lines : (config : Config) (layout : Layout) (s : LabeledFileModel)
+pub lanes_join_corners : (config : Config) (layout : Layout) (s : LabeledFileModel)
     → NoneReversed s.labels → LanesJoinCorners config layout s
-lanes_are_lines config layout s ordered = λ locus is_followed lane x has.
+lanes_join_corners config layout s ordered = λ locus is_followed lane x has.
     let several = has_lane-ordered s lane x ordered has in
     let inside = (kept (λ x. not (is_single s.file x)) s.labels lane x has).0 in
     let some : 0 < line_count s.file = has_line s.file.starts x.start x.end several in

@@ -1,4 +1,4 @@
--- For `outputs_are_texts`: the streams of lanes and of their characters are texts.
+-- For `outputs_are_utf8`: the streams of lanes and of their characters are texts.
 use Rattle.std.proofs.Common.{◌≡◌, ℕ, ◌+◌, ◌-◌, Bool, true, false, ◌&&◌, ◌==◌, List, [], ◌∷◌, Option, Some, None, refl}
 use Rattle.std.specs.Prelude.{if◌then◌else◌, IfSome}
 use Rattle.std.specs.Char.{IsScalar, len_utf8}
@@ -20,31 +20,31 @@ use Rattle.codespan_picture.specs.CharMetrics.{char_metrics, metrics_then, width
 use Rattle.codespan_picture.specs.Lanes.{underline_char, crossing_characters, label_glyph, lane_characters}
 use Rattle.codespan_picture.specs.Rows.{Line, Row, HeaderRow, SnippetStartRow, SourceRow, CaretRow, HangingRow, UnderlineRow, FirstNoteRow, LaterNoteRow}
 use Rattle.codespan_picture.specs.RowParts.{source_glyph, start_caret, end_caret}
-use Rattle.codespan_picture.specs.TextLaws.{IsText, AreCharacters}
+use Rattle.codespan_picture.specs.Utf8Laws.{StreamIsUtf8, CharsAreScalars}
 use Rattle.codespan_picture.proofs.StreamTexts.{pieces, text-both, text-glyph, text-spaces}
 
 -- ---- lanes
 
 pub text-label_glyph : (severity : Severity) (style : LabelStyle) (c : ℕ) → IsScalar c
-    → IsText (label_glyph severity style c)
+    → StreamIsUtf8 (label_glyph severity style c)
 unfolding label_glyph
 text-label_glyph severity style c s = search (pieces, s)
 
-module _ (chars : Chars) (ok : AreCharacters chars) where
+module _ (chars : Chars) (ok : CharsAreScalars chars) where
   scalar-underline_char : (multi_label : MultiLabel) → IsScalar (underline_char chars multi_label)
   scalar-underline_char (Top start) = ok.multi_top
   scalar-underline_char Left = ok.multi_bottom
   scalar-underline_char (Bottom end message) = ok.multi_bottom
 
   text-crossing_characters : (severity : Severity) (crossing : Option LaneMark) (n : ℕ)
-      → IsText (crossing_characters severity chars crossing n)
+      → StreamIsUtf8 (crossing_characters severity chars crossing n)
   unfolding crossing_characters
   text-crossing_characters severity None n = text-spaces n
   text-crossing_characters severity (Some m) n = search (pieces, scalar-underline_char m.multi_label)
 
   pub text-lane_characters : (severity : Severity) (crossing : Option LaneMark) (style : LabelStyle)
       (shape : Shape)
-      → IsText (lane_characters severity chars crossing style shape)
+      → StreamIsUtf8 (lane_characters severity chars crossing style shape)
   unfolding lane_characters
   text-lane_characters severity crossing style Space = text-crossing_characters severity crossing 2
   text-lane_characters severity crossing style Bar =
@@ -98,37 +98,37 @@ pub scalar-char_metrics : (tab : ℕ) (text : List ℕ) → IsUtf8 text
 scalar-char_metrics tab text u =
     scalar-metrics_then (λ _ _. []) tab (λ p k. tt) (chars text) (scalars-chars text u) 0 0
 
-pub text-source_glyph : (c : Metrics) → IsScalar c.ch → IsText (source_glyph c)
+pub text-source_glyph : (c : Metrics) → IsScalar c.ch → StreamIsUtf8 (source_glyph c)
 unfolding source_glyph
 text-source_glyph c s = by (c.ch == 9)
   where
-    by : (b : Bool) → IsText (if b then spaces c.unicode_width else glyph c.ch)
+    by : (b : Bool) → StreamIsUtf8 (if b then spaces c.unicode_width else glyph c.ch)
     by true = text-spaces c.unicode_width
     by false = text-glyph c.ch s
 
 -- ---- what a row is rendered from
 
 -- the message of a multi-line label mark
-abbrev pub IsTextMultiLabel : MultiLabel → Type 0
-IsTextMultiLabel (Bottom end message) = IsText message
-IsTextMultiLabel _ = Unit {0}
+abbrev pub MultiLabelIsUtf8 : MultiLabel → Type 0
+MultiLabelIsUtf8 (Bottom end message) = StreamIsUtf8 message
+MultiLabelIsUtf8 _ = Unit {0}
 
 -- the text of a line and the messages of its labels are texts
-pub record IsTextLine (line : Line) : Type 0 where
+pub record LineIsUtf8 (line : Line) : Type 0 where
   pub text : IsUtf8 line.text
-  pub labels : AllByRecursion (λ (x : LabelModel). IsText x.message) line.labels
-  pub lane_marks : AllByRecursion (λ (m : LaneMark). IsTextMultiLabel m.multi_label)
+  pub labels : AllByRecursion (λ (x : LabelModel). StreamIsUtf8 x.message) line.labels
+  pub lane_marks : AllByRecursion (λ (m : LaneMark). MultiLabelIsUtf8 m.multi_label)
       line.lanes.lane_marks
 
 -- what a row is rendered from are texts
-abbrev pub IsTextRow : Row → Type 0
-IsTextRow (HeaderRow at header_text) =
+abbrev pub RowIsUtf8 : Row → Type 0
+RowIsUtf8 (HeaderRow at header_text) =
     IfSome at (λ p. IsUtf8 p.name) × IfSome header_text.code IsUtf8 × IsUtf8 header_text.message
-IsTextRow (SnippetStartRow at) = IsUtf8 at.name
-IsTextRow (SourceRow line) = IsUtf8 line.text
-IsTextRow (CaretRow line) = AllByRecursion (λ (x : LabelModel). IsText x.message) line.labels
-IsTextRow (HangingRow line x) = IsText x.message
-IsTextRow (UnderlineRow line m) = IsTextMultiLabel m.multi_label
-IsTextRow (FirstNoteRow note_line) = IsUtf8 note_line
-IsTextRow (LaterNoteRow note_line) = IsUtf8 note_line
-IsTextRow _ = Unit {0}
+RowIsUtf8 (SnippetStartRow at) = IsUtf8 at.name
+RowIsUtf8 (SourceRow line) = IsUtf8 line.text
+RowIsUtf8 (CaretRow line) = AllByRecursion (λ (x : LabelModel). StreamIsUtf8 x.message) line.labels
+RowIsUtf8 (HangingRow line x) = StreamIsUtf8 x.message
+RowIsUtf8 (UnderlineRow line m) = MultiLabelIsUtf8 m.multi_label
+RowIsUtf8 (FirstNoteRow note_line) = IsUtf8 note_line
+RowIsUtf8 (LaterNoteRow note_line) = IsUtf8 note_line
+RowIsUtf8 _ = Unit {0}

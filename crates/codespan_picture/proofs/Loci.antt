@@ -10,10 +10,10 @@ use Rattle.codespan_core.specs.declared.term.config.DisplayStyle.TheVariants.{Ri
 use Rattle.codespan_core.specs.declared.diagnostic.Diagnostic.{Diagnostic}
 use Rattle.codespan_core.specs.FileModel.{FileDatabase, FileModel}
 use Rattle.codespan_core.specs.Labels.{first_seen, is_primary}
-use Rattle.codespan_picture.specs.OutputStreams.{AreLoci, IsLocus, NamesAreTexts, label_locus_start, labels_of, snippet_locus_start, locus_starts}
+use Rattle.codespan_picture.specs.OutputStreams.{AreLoci, IsLocus, NamesAreUtf8, label_locus_byte, labels_of, snippet_locus_byte, locus_bytes}
 use Rattle.codespan_picture.specs.Picture.{stated_loci, stated_locus}
 use Rattle.codespan_picture.specs.Rows.{Locus}
-use Rattle.codespan_picture.specs.Snippets.{InFile, LabeledFileModel, file_ids, labeled_file_model, labeled_file_models, primary_of}
+use Rattle.codespan_picture.specs.Snippets.{LabelInFile, LabeledFileModel, file_ids, labeled_file_model, labeled_file_models, primary_of}
 use Rattle.codespan_picture.proofs.LaneLineLemmas.{each_map}
 use Rattle.codespan_picture.proofs.ListElements.{all-filter}
 
@@ -82,7 +82,7 @@ module _ {X : Type 0} where
 
   -- the names of the loci are texts
   pub zip_texts : (R : X → Locus → Type 0) → ((x : X) (p : Locus) → R x p → IsUtf8 p.name)
-      → (xs : List X) (ps : List Locus) → AllZip R xs ps → NamesAreTexts ps
+      → (xs : List X) (ps : List Locus) → AllZip R xs ps → NamesAreUtf8 ps
   zip_texts R text [] [] h = tt
   zip_texts R text [] (p ∷ ps) h = absurd h
   zip_texts R text (x ∷ xs) [] h = absurd h
@@ -103,7 +103,7 @@ zip_stated (at ∷ ats) (p ∷ ps) h k =
 -- the names of these are texts where the stated names are
 pub stated_texts : (ats : List (FileModel × ℕ))
     → AllByRecursion (λ (at : FileModel × ℕ). IfSome at.0.name IsUtf8) ats
-    → NamesAreTexts (map stated_locus ats)
+    → NamesAreUtf8 (map stated_locus ats)
 stated_texts [] h = tt
 stated_texts (at ∷ ats) h = (shown_is_text at.0.name h.0, stated_texts ats h.1)
 
@@ -121,31 +121,31 @@ seen-each P same [] h = tt
 seen-each P same (j ∷ js) h =
     (h.0, all-filter P (λ other. not (same j other)) (first_seen same js) (seen-each P same js h.1))
 
-module _ {Id : Type 0} (same : Id → Id → Bool) (file : Id → FileModel) (xs : List (InFile Id))
+module _ {Id : Type 0} (same : Id → Id → Bool) (file : Id → FileModel) (xs : List (LabelInFile Id))
     (P : FileModel → Type 0)
-    (each : AllByRecursion (λ (x : InFile Id). P (file x.file_id)) xs) where
-  each_primary : AllByRecursion (λ (x : InFile Id). P (file x.file_id)) (primary_of xs)
+    (each : AllByRecursion (λ (x : LabelInFile Id). P (file x.file_id)) xs) where
+  each_primary : AllByRecursion (λ (x : LabelInFile Id). P (file x.file_id)) (primary_of xs)
   each_primary =
-      all-filter (λ (x : InFile Id). P (file x.file_id)) (λ (x : InFile Id). is_primary x.label) xs
+      all-filter (λ (x : LabelInFile Id). P (file x.file_id)) (λ (x : LabelInFile Id). is_primary x.label) xs
       each
 
   each_file : AllByRecursion (λ (s : LabeledFileModel). P s.file) (labeled_file_models same file xs)
   each_file =
       each_map (λ (s : LabeledFileModel). P s.file) (labeled_file_model same file xs)
       (file_ids same xs)
-      (seen-each (λ id. P (file id)) same (map (λ (x : InFile Id). x.file_id) xs)
-      (each_map (λ id. P (file id)) (λ (x : InFile Id). x.file_id) xs each))
+      (seen-each (λ id. P (file id)) same (map (λ (x : LabelInFile Id). x.file_id) xs)
+      (each_map (λ id. P (file id)) (λ (x : LabelInFile Id). x.file_id) xs each))
 
   pub each_start : (style : DisplayStyle)
-      → AllByRecursion (λ (at : FileModel × ℕ). P at.0) (locus_starts same file xs style)
+      → AllByRecursion (λ (at : FileModel × ℕ). P at.0) (locus_bytes same file xs style)
   each_start Rich =
-      each_map (λ (at : FileModel × ℕ). P at.0) snippet_locus_start
+      each_map (λ (at : FileModel × ℕ). P at.0) snippet_locus_byte
       (labeled_file_models same file xs) each_file
   each_start Medium =
-      each_map (λ (at : FileModel × ℕ). P at.0) (label_locus_start file) (primary_of xs)
+      each_map (λ (at : FileModel × ℕ). P at.0) (label_locus_byte file) (primary_of xs)
       each_primary
   each_start Short =
-      each_map (λ (at : FileModel × ℕ). P at.0) (label_locus_start file) (primary_of xs)
+      each_map (λ (at : FileModel × ℕ). P at.0) (label_locus_byte file) (primary_of xs)
       each_primary
 
 -- ---- the loci of an output
@@ -156,4 +156,4 @@ pub stated_are_loci : {Id : Type 0} (files : FileDatabase Id) (d : Diagnostic Id
     → AreLoci files d style (stated_loci files d style)
 stated_are_loci files d style =
     zip_each IsLocus stated_locus locus_there
-    (locus_starts files.same files.file (labels_of d) style)
+    (locus_bytes files.same files.file (labels_of d) style)

@@ -20,8 +20,8 @@ use Rattle.codespan_core.specs.Labels.{LabelModel, has_message, is_empty_stream,
 use Rattle.codespan_picture.specs.Lines.{drawn_lines}
 use Rattle.codespan_picture.specs.Rows.{HeaderText, Locus, RowContext}
 use Rattle.codespan_picture.specs.RowStreams.{stream_of_rows}
-use Rattle.codespan_picture.specs.Snippets.{LabeledFileModel, InFile, file_ids, labeled_file_model, labeled_file_models, rich_rows}
-use Rattle.codespan_picture.specs.OutputStreams.{AreLoci, IsLocus, header_text_of, label_of, labels_of, context_of, notes_of, rendered, snippet_locus_start}
+use Rattle.codespan_picture.specs.Snippets.{LabeledFileModel, LabelInFile, file_ids, labeled_file_model, labeled_file_models, rich_rows}
+use Rattle.codespan_picture.specs.OutputStreams.{AreLoci, IsLocus, header_text_of, label_of, labels_of, context_of, notes_of, rendered, snippet_locus_byte}
 use Rattle.codespan_picture.specs.Padding.{padding_of}
 use Rattle.codespan_picture.specs.MessageLaws.{slotted, all_slotted, message_text, slotted_output, MessagesAppearOnce}
 use Rattle.codespan_picture.proofs.Loci.{zip_length}
@@ -56,11 +56,11 @@ snippet_zero k config s none =
     )
 
 files_zero : {Id : Type 0} (k : ℕ) (config : Config) (same : Id → Id → Bool) (file : Id → FileModel)
-    (xs : List (InFile Id))
-    → sum_by (λ (x : InFile Id). label_slots k x.label) xs ≡ 0
+    (xs : List (LabelInFile Id))
+    → sum_by (λ (x : LabelInFile Id). label_slots k x.label) xs ≡ 0
     → sum_by (file_slots k config) (labeled_file_models same file xs) ≡ 0
 files_zero {Id = Id} k config same file xs none =
-    let ids = first_seen same (map (λ (x : InFile Id). x.file_id) xs) in
+    let ids = first_seen same (map (λ (x : LabelInFile Id). x.file_id) xs) in
     sum-map (file_slots k config) (labeled_file_model same file xs) ids
     ∙ sum-zero (λ id. file_slots k config (labeled_file_model same file xs id))
     (λ id. snippet_zero k config (labeled_file_model same file xs id) (one id)) ids
@@ -70,16 +70,16 @@ files_zero {Id = Id} k config same file xs none =
         omega (
           arith,
           none,
-          sum-map (label_slots k) (λ (x : InFile Id). x.label)
-              (filter (λ (x : InFile Id). same id x.file_id) xs),
-          sum-filter (λ (x : InFile Id). label_slots k x.label)
-              (λ (x : InFile Id). same id x.file_id) xs,
-          sum_by-le-sum_by (λ (x : InFile Id). cond (same id x.file_id) (label_slots k x.label) 0)
-              (λ (x : InFile Id). label_slots k x.label) xs
+          sum-map (label_slots k) (λ (x : LabelInFile Id). x.label)
+              (filter (λ (x : LabelInFile Id). same id x.file_id) xs),
+          sum-filter (λ (x : LabelInFile Id). label_slots k x.label)
+              (λ (x : LabelInFile Id). same id x.file_id) xs,
+          sum_by-le-sum_by (λ (x : LabelInFile Id). cond (same id x.file_id) (label_slots k x.label) 0)
+              (λ (x : LabelInFile Id). label_slots k x.label) xs
               (λ x. at_most (same id x.file_id) (label_slots k x.label)),
         )
 
-none_here : {Id : Type 0} (k n j : ℕ) (xs : List (InFile Id)) → n + j ≡ k → slice_get xs j ≡ None
+none_here : {Id : Type 0} (k n j : ℕ) (xs : List (LabelInFile Id)) → n + j ≡ k → slice_get xs j ≡ None
     → slotted_sum k (slotted_from k n xs) ≡ 0
 none_here k n j [] at h = refl
 none_here k n zero (y ∷ ys) at h = cc
@@ -91,15 +91,15 @@ none_here {Id = Id} k n (suc j) (y ∷ ys) at h =
       e,
       slotted_slots k n y,
       none_here k (n + 1) j ys (omega arith) h,
-      sum_by-cons (λ (y : InFile Id). label_slots k y.label) (slotted n y)
+      sum_by-cons (λ (y : LabelInFile Id). label_slots k y.label) (slotted n y)
           (slotted_from k (n + 1) ys),
     )
 
 -- ---- messages that are texts
 
-abbrev pub IsPlain : {Id : Type 0} → List (InFile Id) → Type 0
+abbrev pub IsPlain : {Id : Type 0} → List (LabelInFile Id) → Type 0
 IsPlain {Id} xs =
-    (j : ℕ) (x : InFile Id) → slice_get xs j ≡ Some x
+    (j : ℕ) (x : LabelInFile Id) → slice_get xs j ≡ Some x
     → x.label.message ≡ byte_stream (text_of x.label.message)
 
 plain : {Id : Type 0} (d : Diagnostic Id) → IsPlain (labels_of d)
@@ -111,20 +111,20 @@ plain {Id = Id} d j x h =
     by_label None e = cc
     by_label (Some y) e =
         let is : label_of y ≡ x = cc in
-        sym (ap (λ (z : InFile Id). z.label.message) is)
+        sym (ap (λ (z : LabelInFile Id). z.label.message) is)
         ∙ ap byte_stream
         (sym (text_of-byte_stream (string_bytes y.message))
-        ∙ ap (λ (z : InFile Id). text_of z.label.message) is)
+        ∙ ap (λ (z : LabelInFile Id). text_of z.label.message) is)
 
 -- a text, or another instead of an empty one
 abbrev pub nonempty : List ℕ → List ℕ
 nonempty [] = 32 ∷ []
 nonempty (b ∷ bs) = b ∷ bs
 
-abbrev pub full_text : {Id : Type 0} → List (InFile Id) → ℕ → List ℕ
+abbrev pub full_text : {Id : Type 0} → List (LabelInFile Id) → ℕ → List ℕ
 full_text xs k = nonempty (message_text xs k)
 
-full : {Id : Type 0} (xs : List (InFile Id)) (k : ℕ)
+full : {Id : Type 0} (xs : List (LabelInFile Id)) (k : ℕ)
     → is_empty_stream (map Byte (full_text xs k)) ≡ false
 full xs k = by_text (message_text xs k)
   where
@@ -139,12 +139,12 @@ no_text x is none =
     let e : x.message ≡ [] = is ∙ ap byte_stream none in
     ap {B = ℕ} (λ s. if not (is_empty_stream s) then 1 else 0) e
 
-unnamed : {Id : Type 0} (xs : List (InFile Id)) → IsPlain xs → (k : ℕ) → message_text xs k ≡ []
+unnamed : {Id : Type 0} (xs : List (LabelInFile Id)) → IsPlain xs → (k : ℕ) → message_text xs k ≡ []
     → slotted_sum k (slotted_from k 0 xs) ≡ 0
 unnamed {Id = Id} xs plain k none = by_label (slice_get xs k) refl none
   where
-    by_label : (o : Option (InFile Id)) → slice_get xs k ≡ o
-        → option_map_or (λ (y : InFile Id). text_of y.label.message) o [] ≡ []
+    by_label : (o : Option (LabelInFile Id)) → slice_get xs k ≡ o
+        → option_map_or (λ (y : LabelInFile Id). text_of y.label.message) o [] ≡ []
         → slotted_sum k (slotted_from k 0 xs) ≡ 0
     by_label None at e = none_here k 0 k xs (omega arith) at
     by_label (Some x) at e = one_here k 0 k xs x (omega arith) at ∙ no_text x.label (plain k x at) e
@@ -159,33 +159,33 @@ refill_one m k (b ∷ bs) message is at =
     ap (λ (s : Stream). with_messages m (if is_empty_stream s then [] else Slot k ∷ [])) is
     ∙ append-nil (map Byte (m k)) ∙ ap (map Byte) at ∙ sym is
 
-slots-refilled : {Id : Type 0} (φ : Stream → Stream) (k n : ℕ) (xs : List (InFile Id))
-    → ((j i : ℕ) (x : InFile Id) → n + j ≡ i → slice_get xs j ≡ Some x
+slots-refilled : {Id : Type 0} (φ : Stream → Stream) (k n : ℕ) (xs : List (LabelInFile Id))
+    → ((j i : ℕ) (x : LabelInFile Id) → n + j ≡ i → slice_get xs j ≡ Some x
     → φ (if is_empty_stream x.label.message then [] else Slot i ∷ []) ≡ x.label.message)
     → map (refilled_in φ) (slotted_from k n xs) ≡ xs
 slots-refilled φ k n [] h = refl
 slots-refilled {Id = Id} φ k n (x ∷ xs) h =
-    ap₂ {C = List (InFile Id)}
+    ap₂ {C = List (LabelInFile Id)}
     (λ (s : Stream) ys. record { file_id = x.file_id; label = record x.label { message = s } }
     ∷ ys)
     (h 0 n x (omega arith) refl)
     (slots-refilled φ k (n + 1) xs (λ j i y e at. h (suc j) i y (omega arith) at))
 
 -- the labels' files do not depend on the messages
-ids_kept : {Id : Type 0} (k n : ℕ) (xs : List (InFile Id))
-    → map (λ (x : InFile Id). x.file_id) (slotted_from k n xs)
-    ≡ map (λ (x : InFile Id). x.file_id) xs
+ids_kept : {Id : Type 0} (k n : ℕ) (xs : List (LabelInFile Id))
+    → map (λ (x : LabelInFile Id). x.file_id) (slotted_from k n xs)
+    ≡ map (λ (x : LabelInFile Id). x.file_id) xs
 ids_kept k n [] = refl
 ids_kept k n (x ∷ xs) = ap (λ ids. x.file_id ∷ ids) (ids_kept k (n + 1) xs)
 
 -- there are as many loci as files of labels with slots
-as_many : {Id : Type 0} (same : Id → Id → Bool) (file : Id → FileModel) (xs : List (InFile Id))
+as_many : {Id : Type 0} (same : Id → Id → Bool) (file : Id → FileModel) (xs : List (LabelInFile Id))
     (loci : List Locus)
-    → AllZip IsLocus (map snippet_locus_start (labeled_file_models same file xs)) loci
+    → AllZip IsLocus (map snippet_locus_byte (labeled_file_models same file xs)) loci
     → length loci ≡ length (labeled_file_models same file (all_slotted xs))
 as_many {Id} same file xs loci are =
-    sym (zip_length IsLocus (map snippet_locus_start (labeled_file_models same file xs)) loci are)
-    ∙ length-map (labeled_file_models same file xs) snippet_locus_start
+    sym (zip_length IsLocus (map snippet_locus_byte (labeled_file_models same file xs)) loci are)
+    ∙ length-map (labeled_file_models same file xs) snippet_locus_byte
     ∙ length-map (file_ids same xs) (labeled_file_model same file xs)
     ∙ ap (λ ids. length (first_seen same ids)) (sym (ids_kept 0 0 xs))
     ∙ sym
@@ -193,7 +193,7 @@ as_many {Id} same file xs loci are =
 
 filled_output : {Id : Type 0} (renderer_config view_config : Config) (same : Id → Id → Bool)
     (file : Id → FileModel) (severity : Severity) (header_text : HeaderText) (loci : List Locus)
-    (notes : List (List ℕ)) (xs : List (InFile Id))
+    (notes : List (List ℕ)) (xs : List (LabelInFile Id))
     → length loci ≡ length (labeled_file_models same file (all_slotted xs)) → IsPlain xs
     → fill (message_text xs)
     (rendered Rich renderer_config view_config severity header_text loci
@@ -232,7 +232,7 @@ filled_output {Id = Id} renderer_config view_config same file severity header_te
         (λ j i x e at. refill_one (full_text xs) i (text_of x.label.message) x.label.message
         (plain j x at)
         (ap (λ n. full_text xs n) (sym e ∙ zero_plus j)
-        ∙ ap (λ o. nonempty (option_map_or (λ (y : InFile Id). text_of y.label.message) o []))
+        ∙ ap (λ o. nonempty (option_map_or (λ (y : LabelInFile Id). text_of y.label.message) o []))
         at))
       where
         zero_plus : (j : ℕ) → 0 + j ≡ j

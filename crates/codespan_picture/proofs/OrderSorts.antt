@@ -1,5 +1,5 @@
--- For `labels_are_sorted` and `order_is_free`: the order of a line's labels. Only the order of the
--- labels of each range counts, and is kept.
+-- For `sorted_is_stable_sort` and `reordering_changes_nothing`: the order of a line's labels. Only
+-- the order of the labels of each range counts, and is kept.
 use mathlib.Core.Path.{fun_ext}
 use Rattle.std.proofs.Common.{◌≡◌, ℕ, Bool, true, false, ◌==◌, ◌&&◌, cond, List, [], ◌∷◌, filter, ⊎_elim, refl, sym, ap, subst, ◌∙◌, arith}
 use Rattle.std.proofs.lemmas.Bool.{both_ways, cases_Bool, cond_both, eq-eqb, false_from_ne_true}
@@ -10,7 +10,7 @@ use Rattle.std.specs.List.{AllByRecursion}
 use Rattle.std.specs.List.Sorted.{IsPermutation, IsStableBy, ties}
 use Rattle.codespan_core.specs.declared.diagnostic.LabelStyle.TheVariants.{Primary}
 use Rattle.codespan_core.specs.Labels.{LabelModel, range_precedes, insert_sorted, sorted}
-use Rattle.codespan_picture.specs.SortLaws.{SortsLabels}
+use Rattle.codespan_picture.specs.SortLaws.{SortedIsStableSort}
 use Rattle.codespan_picture.proofs.ListElements.{all-weaker, filter-nothing}
 use Rattle.codespan_picture.proofs.SortedLists.{Rises, rises-from_sorted, sorted_from_rises}
 
@@ -237,7 +237,7 @@ stable-ranges xs ys stable start end =
     (stable (of_range start end))
 
 -- sorted labels are in order, and no other list is
-pub sorts_labels : (xs : List LabelModel) → SortsLabels xs
+pub sorts_labels : (xs : List LabelModel) → SortedIsStableSort xs
 sorts_labels xs = record {
   is = record {
     in_order = sorted_from_rises range_precedes (sorted xs) (sorted-ascends xs);

@@ -1,4 +1,4 @@
--- For `outputs_are_texts`: the rows of an output are texts.
+-- For `outputs_are_utf8`: the rows of an output are texts.
 use Rattle.std.proofs.Common.{◌≡◌, ℕ, ◌+◌, ◌-◌, Bool, true, false, not, ◌&&◌, ◌==◌, List, [], ◌∷◌, ◌++◌, map, filter, reverse, Option, Some, None, refl, sym, subst, ◌||◌}
 use Rattle.std.specs.Prelude.{if◌then◌else◌, IfSome, String, nat_lt, string_bytes}
 use Rattle.std.specs.List.{AllByRecursion, cons_option, enumerate_from, filter_map}
@@ -16,20 +16,20 @@ use Rattle.codespan_core.specs.LawfulFiles.{IsLawful}
 use Rattle.codespan_core.specs.Labels.{LabelModel, LaneMark, Top, Left, Bottom, drawn_label, first_line, has_message, is_single, lane_mark_of, multi_line_labels, multi_label_at, multi_label_on, insert_sorted, single_labels, sorted, range_precedes}
 use Rattle.codespan_picture.specs.Lines.{drawn_lines}
 use Rattle.codespan_picture.specs.Padding.{padding_of}
-use Rattle.codespan_picture.specs.OutputStreams.{NamesAreTexts, files_of, header_text_of, label_of, labels_of, context_of, notes_of, output, locus_starts}
+use Rattle.codespan_picture.specs.OutputStreams.{NamesAreUtf8, files_of, header_text_of, label_of, labels_of, context_of, notes_of, output, locus_bytes}
 use Rattle.codespan_picture.specs.Picture.{stated_loci, headers}
 use Rattle.codespan_picture.specs.Rows.{Line, Locus, Row, HeaderRow, EmptyRow, SourceRow, HangingRow, UnderlineRow, FinalRow, caret_rows, hanging_labels, pointer_and_hanging_rows, has_underline, rows_of, underline_rows}
 use Rattle.codespan_picture.specs.CharMetrics.{leading_whitespace}
 use Rattle.codespan_picture.specs.Carets.{max_label_end}
 use Rattle.codespan_picture.specs.Sequences.{break_between}
-use Rattle.codespan_picture.specs.Snippets.{InFile, LabeledFileModel, empty_lanes, break_rows, has_any, header_rows, labeled_file_model, line_at, line_rows, note_rows, rich_rows, empty_row_after, rows_of_drawn, snippet, snippets}
+use Rattle.codespan_picture.specs.Snippets.{LabelInFile, LabeledFileModel, empty_lanes, break_rows, has_any, header_rows, labeled_file_model, line_at, line_rows, note_rows, rich_rows, empty_row_after, rows_of_drawn, snippet, snippets}
 use Rattle.codespan_picture.proofs.Sequences.{all-break, all-sequence}
-use Rattle.codespan_picture.specs.TextLaws.{AreCharacters, IsText, OutputIsText, PictureIsText}
+use Rattle.codespan_picture.specs.Utf8Laws.{CharsAreScalars, StreamIsUtf8, OutputIsUtf8, PictureIsUtf8}
 use Rattle.codespan_picture.proofs.LaneLineLemmas.{each_all, each_map}
 use Rattle.codespan_picture.proofs.Rightmost.{Around, others, around_trails, around_rightmost, hanging_of, around_is, hanging_is}
 use Rattle.codespan_picture.proofs.Loci.{each_start, stated_texts}
 use Rattle.codespan_picture.proofs.StreamTexts.{text-byte_stream}
-use Rattle.codespan_picture.proofs.LaneTexts.{IsTextLine, IsTextMultiLabel, IsTextRow}
+use Rattle.codespan_picture.proofs.LaneTexts.{LineIsUtf8, MultiLabelIsUtf8, RowIsUtf8}
 use Rattle.codespan_picture.proofs.RowTexts.{text-rows}
 use Rattle.codespan_picture.proofs.ListElements.{all-append, all-filter}
 use Rattle.codespan_picture.proofs.SortedFilters.{all-reverse}
@@ -39,7 +39,7 @@ use Rattle.codespan_picture.proofs.DrawnTexts.{drawn-utf8, line-utf8, rows-notes
 
 -- the message of a label is a text
 abbrev HasTextMessage : LabelModel → Type 0
-HasTextMessage x = IsText x.message
+HasTextMessage x = StreamIsUtf8 x.message
 
 text_message-put : (x : LabelModel) (ys : List LabelModel) → HasTextMessage x
     → AllByRecursion HasTextMessage ys → AllByRecursion HasTextMessage (insert_sorted x ys)
@@ -65,7 +65,7 @@ module _ (f : FileModel) (labels : List LabelModel) (texts : AllByRecursion HasT
   -- the message of a multi-line label mark is that of its label
   text_message-multi_label : (s e l start : ℕ) (x : LabelModel) (lane : ℕ) → HasTextMessage x
       → IfSome (lane_mark_of lane x (multi_label_at s e l start x))
-      (λ m. IsTextMultiLabel m.multi_label)
+      (λ m. MultiLabelIsUtf8 m.multi_label)
   text_message-multi_label s e l start x lane t = by (s == l) (e == l) (nat_lt s l && nat_lt l e)
     where
       by : (a b c : Bool)
@@ -74,14 +74,14 @@ module _ (f : FileModel) (labels : List LabelModel) (texts : AllByRecursion HasT
           (if a then Some (Top (x.start - start))
           else if b then Some (Bottom (x.end - start) x.message) else if c then Some Left
           else None))
-          (λ m. IsTextMultiLabel m.multi_label)
+          (λ m. MultiLabelIsUtf8 m.multi_label)
       by true b c = tt
       by false true c = t
       by false false true = tt
       by false false false = tt
 
   text_message-lane_marks : (l k : ℕ) (xs : List LabelModel) → AllByRecursion HasTextMessage xs
-      → AllByRecursion (λ (m : LaneMark). IsTextMultiLabel m.multi_label)
+      → AllByRecursion (λ (m : LaneMark). MultiLabelIsUtf8 m.multi_label)
       (filter_map
       (λ (entry : ℕ × LabelModel). lane_mark_of entry.0 entry.1 (multi_label_on f l entry.1))
       (enumerate_from k xs))
@@ -90,12 +90,12 @@ module _ (f : FileModel) (labels : List LabelModel) (texts : AllByRecursion HasT
       by (lane_mark_of k x (multi_label_on f l x)) (text_message-multi_label _ _ l _ x k h.0)
       (text_message-lane_marks l (k + 1) xs h.1)
     where
-      by : (o : Option LaneMark) → IfSome o (λ m. IsTextMultiLabel m.multi_label)
-          → AllByRecursion (λ (m : LaneMark). IsTextMultiLabel m.multi_label)
+      by : (o : Option LaneMark) → IfSome o (λ m. MultiLabelIsUtf8 m.multi_label)
+          → AllByRecursion (λ (m : LaneMark). MultiLabelIsUtf8 m.multi_label)
           (filter_map
           (λ (entry : ℕ × LabelModel). lane_mark_of entry.0 entry.1 (multi_label_on f l entry.1))
           (enumerate_from (k + 1) xs))
-          → AllByRecursion (λ (m : LaneMark). IsTextMultiLabel m.multi_label)
+          → AllByRecursion (λ (m : LaneMark). MultiLabelIsUtf8 m.multi_label)
           (cons_option o
           (filter_map
           (λ (entry : ℕ × LabelModel). lane_mark_of entry.0 entry.1 (multi_label_on f l entry.1))
@@ -129,42 +129,42 @@ text_message-hanging_labels (x ∷ xs) h =
         (λ _. all-filter HasTextMessage has_message (x ∷ xs) h)
 
 rows-hanging_labels : (line : Line) (labels : List LabelModel)
-    → AllByRecursion HasTextMessage labels → AllByRecursion IsTextRow (pointer_and_hanging_rows line labels)
+    → AllByRecursion HasTextMessage labels → AllByRecursion RowIsUtf8 (pointer_and_hanging_rows line labels)
 rows-hanging_labels line [] h = tt
 rows-hanging_labels line (x ∷ xs) h = (
   tt,
-  each_map IsTextRow (HangingRow line) (reverse (x ∷ xs)) (all-reverse HasTextMessage (x ∷ xs) h),
+  each_map RowIsUtf8 (HangingRow line) (reverse (x ∷ xs)) (all-reverse HasTextMessage (x ∷ xs) h),
 )
 
 rows-caret : (line : Line) (labels : List LabelModel) → AllByRecursion HasTextMessage line.labels
-    → AllByRecursion IsTextRow (caret_rows line labels)
+    → AllByRecursion RowIsUtf8 (caret_rows line labels)
 rows-caret line [] h = tt
 rows-caret line (x ∷ xs) h = (h, tt)
 
-rows-line : (line : Line) → IsTextLine line → AllByRecursion IsTextRow (rows_of line)
+rows-line : (line : Line) → LineIsUtf8 line → AllByRecursion RowIsUtf8 (rows_of line)
 rows-line line t =
     let test : LaneMark → Bool = λ m. has_underline (leading_whitespace line.text) m.multi_label in
-    all-append IsTextRow
+    all-append RowIsUtf8
     ((SourceRow line ∷ caret_rows line line.labels)
     ++ pointer_and_hanging_rows line (hanging_labels line.labels))
     (underline_rows line)
-    (all-append IsTextRow (SourceRow line ∷ caret_rows line line.labels)
+    (all-append RowIsUtf8 (SourceRow line ∷ caret_rows line line.labels)
     (pointer_and_hanging_rows line (hanging_labels line.labels))
     (t.text, rows-caret line line.labels t.labels)
     (rows-hanging_labels line (hanging_labels line.labels) (text_message-hanging_labels line.labels t.labels)))
-    (each_map IsTextRow (UnderlineRow line) (filter test line.lanes.lane_marks)
-    (all-filter (λ (m : LaneMark). IsTextMultiLabel m.multi_label) test line.lanes.lane_marks
+    (each_map RowIsUtf8 (UnderlineRow line) (filter test line.lanes.lane_marks)
+    (all-filter (λ (m : LaneMark). MultiLabelIsUtf8 m.multi_label) test line.lanes.lane_marks
     t.lane_marks))
 
 -- ---- the rows of a file
 
 -- a lawful file with labels whose messages are texts
-pub record IsTextFile (s : LabeledFileModel) : Type 0 where
+pub record FileIsUtf8 (s : LabeledFileModel) : Type 0 where
   pub lawful : IsLawful s.file
   pub labels : AllByRecursion HasTextMessage s.labels
 
-module _ (s : LabeledFileModel) (ok : IsTextFile s) where
-  line-text : (l : ℕ) → IsTextLine (line_at s l)
+module _ (s : LabeledFileModel) (ok : FileIsUtf8 s) where
+  line-text : (l : ℕ) → LineIsUtf8 (line_at s l)
   line-text l = record {
     text = drawn-utf8 (line_text s.file l) (line-utf8 s.file ok.lawful l);
     labels = text_message-single s.file s.labels ok.labels l;
@@ -174,26 +174,26 @@ module _ (s : LabeledFileModel) (ok : IsTextFile s) where
   }
 
   rows-lines : (previous : Option ℕ) (ls : List ℕ)
-      → AllByRecursion IsTextRow (rows_of_drawn s previous ls)
+      → AllByRecursion RowIsUtf8 (rows_of_drawn s previous ls)
   rows-lines previous ls =
-      all-sequence IsTextRow (λ l. l) (break_between (break_rows (line_at s))) (line_rows (line_at s))
-      (all-break IsTextRow (break_rows (line_at s)) (λ d. (tt, tt))) (λ l. rows-line (line_at s l) (line-text l)) previous ls
+      all-sequence RowIsUtf8 (λ l. l) (break_between (break_rows (line_at s))) (line_rows (line_at s))
+      (all-break RowIsUtf8 (break_rows (line_at s)) (λ d. (tt, tt))) (λ l. rows-line (line_at s l) (line-text l)) previous ls
 
   rows-snippet_and_after : (config : Config) (followed : Bool) (at : Locus) → IsUtf8 at.name
-      → AllByRecursion IsTextRow (snippet config at s ++ empty_row_after followed s)
+      → AllByRecursion RowIsUtf8 (snippet config at s ++ empty_row_after followed s)
   rows-snippet_and_after config followed at u =
-      all-append IsTextRow (snippet config at s) (empty_row_after followed s)
+      all-append RowIsUtf8 (snippet config at s) (empty_row_after followed s)
       (u, (tt, rows-lines None (drawn_lines config s.file s.labels)))
-      (cond_both followed (EmptyRow (empty_lanes s) ∷ []) [] (AllByRecursion IsTextRow) (λ _. (tt, tt)) (λ _. tt))
+      (cond_both followed (EmptyRow (empty_lanes s) ∷ []) [] (AllByRecursion RowIsUtf8) (λ _. (tt, tt)) (λ _. tt))
 
 rows-snippets : (config : Config) (has_notes : Bool) (loci : List Locus)
     (ss : List LabeledFileModel)
-    → NamesAreTexts loci → AllByRecursion IsTextFile ss
-    → AllByRecursion IsTextRow (snippets config has_notes loci ss)
+    → NamesAreUtf8 loci → AllByRecursion FileIsUtf8 ss
+    → AllByRecursion RowIsUtf8 (snippets config has_notes loci ss)
 rows-snippets config has_notes [] ss named ok = tt
 rows-snippets config has_notes (p ∷ ps) [] named ok = tt
 rows-snippets config has_notes (p ∷ ps) (s ∷ ss) named ok =
-    all-append IsTextRow (snippet config p s ++ empty_row_after (has_any ss || has_notes) s) (snippets config has_notes ps ss)
+    all-append RowIsUtf8 (snippet config p s ++ empty_row_after (has_any ss || has_notes) s) (snippets config has_notes ps ss)
     (rows-snippet_and_after s ok.0 config (has_any ss || has_notes) p named.0) (rows-snippets config has_notes ps ss named.1 ok.1)
 
 -- ---- a diagnostic
@@ -204,24 +204,24 @@ code-utf8 (Some s) = IsUtf8-string_bytes s
 
 module _ {Id : Type 0} (files : FileDatabase Id) (d : Diagnostic Id) (lawful : (id : Id) → IsLawful (files.file id)) where
   text_message-labels : (ls : List (Label Id))
-      → AllByRecursion (λ (x : InFile Id). HasTextMessage x.label) (map label_of ls)
-  text_message-labels ls = each_map (λ (x : InFile Id). HasTextMessage x.label) label_of ls
+      → AllByRecursion (λ (x : LabelInFile Id). HasTextMessage x.label) (map label_of ls)
+  text_message-labels ls = each_map (λ (x : LabelInFile Id). HasTextMessage x.label) label_of ls
       (each_all (λ (x : Label Id). HasTextMessage (label_of x).label) ls
       (λ x. text-byte_stream (string_bytes x.message) (IsUtf8-string_bytes x.message)))
 
-  text-file : (id : Id) → IsTextFile (labeled_file_model files.same files.file (labels_of d) id)
+  text-file : (id : Id) → FileIsUtf8 (labeled_file_model files.same files.file (labels_of d) id)
   text-file id = record {
     lawful = lawful id;
-    labels = each_map HasTextMessage (λ (x : InFile Id). x.label) (filter (λ (x : InFile Id). files.same id x.file_id) (labels_of d))
-        (all-filter (λ (x : InFile Id). HasTextMessage x.label)
-        (λ (x : InFile Id). files.same id x.file_id) (labels_of d)
+    labels = each_map HasTextMessage (λ (x : LabelInFile Id). x.label) (filter (λ (x : LabelInFile Id). files.same id x.file_id) (labels_of d))
+        (all-filter (λ (x : LabelInFile Id). HasTextMessage x.label)
+        (λ (x : LabelInFile Id). files.same id x.file_id) (labels_of d)
         (text_message-labels d.labels.items));
   }
 
-  text-files : AllByRecursion IsTextFile (files_of files d)
+  text-files : AllByRecursion FileIsUtf8 (files_of files d)
   text-files =
-      each_map IsTextFile (labeled_file_model files.same files.file (labels_of d)) _
-      (each_all (λ id. IsTextFile (labeled_file_model files.same files.file (labels_of d) id)) _
+      each_map FileIsUtf8 (labeled_file_model files.same files.file (labels_of d)) _
+      (each_all (λ id. FileIsUtf8 (labeled_file_model files.same files.file (labels_of d) id)) _
       text-file)
 
   text-notes : AllByRecursion IsUtf8 (notes_of d)
@@ -232,54 +232,54 @@ module _ {Id : Type 0} (files : FileDatabase Id) (d : Diagnostic Id) (lawful : (
   -- ---- whatever the names
 
   rows-header_text : (at : Option Locus) → IfSome at (λ p. IsUtf8 p.name)
-      → IsTextRow (HeaderRow at (header_text_of d))
+      → RowIsUtf8 (HeaderRow at (header_text_of d))
   rows-header_text at named = (named, code-utf8 d.code, IsUtf8-string_bytes d.message)
 
-  rows-rich : (view_config : Config) (loci : List Locus) → NamesAreTexts loci
-      → AllByRecursion IsTextRow
+  rows-rich : (view_config : Config) (loci : List Locus) → NamesAreUtf8 loci
+      → AllByRecursion RowIsUtf8
       (rich_rows view_config (header_text_of d) loci (files_of files d) (notes_of d))
   rows-rich view_config loci named =
       let first : List Row = HeaderRow None (header_text_of d) ∷ snippets view_config (has_any (notes_of d)) loci (files_of files d) in
-      all-append IsTextRow (first ++ note_rows (notes_of d)) (FinalRow ∷ [])
-      (all-append IsTextRow first (note_rows (notes_of d))
+      all-append RowIsUtf8 (first ++ note_rows (notes_of d)) (FinalRow ∷ [])
+      (all-append RowIsUtf8 first (note_rows (notes_of d))
       (rows-header_text None tt, rows-snippets view_config (has_any (notes_of d)) loci (files_of files d) named text-files)
       (rows-notes (notes_of d) text-notes))
       (tt, tt)
 
-  rows-headers : (loci : List Locus) → NamesAreTexts loci
-      → AllByRecursion IsTextRow (headers (header_text_of d) loci)
+  rows-headers : (loci : List Locus) → NamesAreUtf8 loci
+      → AllByRecursion RowIsUtf8 (headers (header_text_of d) loci)
   rows-headers [] named = tt
   rows-headers (p ∷ ps) named = (rows-header_text (Some p) named.0, rows-headers ps named.1)
 
-  rows-header_rows : (loci : List Locus) → NamesAreTexts loci
-      → AllByRecursion IsTextRow (header_rows (header_text_of d) loci)
+  rows-header_rows : (loci : List Locus) → NamesAreUtf8 loci
+      → AllByRecursion RowIsUtf8 (header_rows (header_text_of d) loci)
   rows-header_rows [] named = (rows-header_text None tt, tt)
   rows-header_rows (p ∷ ps) named = rows-headers (p ∷ ps) named
 
   -- the output with any loci is a text
   pub text-output : (style : DisplayStyle) (renderer_config view_config : Config)
-      → AreCharacters renderer_config.chars
-      → (loci : List Locus) → NamesAreTexts loci
-      → IsText (output style renderer_config view_config files d loci)
+      → CharsAreScalars renderer_config.chars
+      → (loci : List Locus) → NamesAreUtf8 loci
+      → StreamIsUtf8 (output style renderer_config view_config files d loci)
   text-output Rich renderer_config view_config ok loci named =
       text-rows (context_of renderer_config d.severity (padding_of view_config (files_of files d))) ok
       (rich_rows view_config (header_text_of d) loci (files_of files d) (notes_of d))
       (rows-rich view_config loci named)
   text-output Medium renderer_config view_config ok loci named =
       text-rows (context_of renderer_config d.severity 0) ok (header_rows (header_text_of d) loci ++ note_rows (notes_of d))
-      (all-append IsTextRow (header_rows (header_text_of d) loci) (note_rows (notes_of d))
+      (all-append RowIsUtf8 (header_rows (header_text_of d) loci) (note_rows (notes_of d))
       (rows-header_rows loci named) (rows-notes (notes_of d) text-notes))
   text-output Short renderer_config view_config ok loci named =
       text-rows (context_of renderer_config d.severity 0) ok (header_rows (header_text_of d) loci) (rows-header_rows loci named)
 
 module _ {Id : Type 0} (style : DisplayStyle) (renderer_config view_config : Config) (files : FileDatabase Id) (d : Diagnostic Id) where
-  pub output_is_text : OutputIsText style renderer_config view_config files d
-  output_is_text ok lawful loci named = text-output files d lawful style renderer_config view_config ok loci named
+  pub output_is_utf8 : OutputIsUtf8 style renderer_config view_config files d
+  output_is_utf8 ok lawful loci named = text-output files d lawful style renderer_config view_config ok loci named
 
   -- and so is the picture
-  pub picture_is_text : PictureIsText style renderer_config view_config files d
-  picture_is_text ok lawful named =
+  pub picture_is_utf8 : PictureIsUtf8 style renderer_config view_config files d
+  picture_is_utf8 ok lawful named =
       text-output files d lawful style renderer_config view_config ok (stated_loci files d style)
-      (stated_texts (locus_starts files.same files.file (labels_of d) style)
+      (stated_texts (locus_bytes files.same files.file (labels_of d) style)
       (each_start files.same files.file (labels_of d) (λ (f : FileModel). IfSome f.name IsUtf8)
-      (each_all (λ (x : InFile Id). IfSome (files.file x.file_id).name IsUtf8) (labels_of d) (λ x. named x.file_id)) style))
+      (each_all (λ (x : LabelInFile Id). IfSome (files.file x.file_id).name IsUtf8) (labels_of d) (λ x. named x.file_id)) style))

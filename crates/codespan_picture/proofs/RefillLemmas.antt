@@ -1,6 +1,6 @@
--- For `messages_appear_once` and `order_is_free`: labels with other messages have the same rows but
--- for these messages. `re φ` is a label whose message a function `φ` has changed; it changes no
--- message to an empty one or back.
+-- For `messages_appear_once` and `reordering_changes_nothing`: labels with other messages have the
+-- same rows but for these messages. `re φ` is a label whose message a function `φ` has changed; it
+-- changes no message to an empty one or back.
 use Rattle.std.proofs.Common.{◌≡◌, ℕ, max, Bool, true, false, not, cond, ◌&&◌, ◌||◌, ◌==◌, nat_lt, List, [], ◌∷◌, ◌++◌, map, filter, fold, find, flat_map, Option, Some, None, option_map, if◌then◌else◌, refl, sym, ap, ap₂, ◌∙◌}
 use mathlib.Core.Path.{fun_ext}
 use Rattle.std.specs.List.{list_any, range_with_len}

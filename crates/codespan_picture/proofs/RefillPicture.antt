@@ -13,7 +13,7 @@ use Rattle.codespan_core.specs.Labels.{LabelModel, is_empty_stream, LaneMark, Mu
 use Rattle.codespan_picture.specs.CharMetrics.{leading_whitespace}
 use Rattle.codespan_picture.specs.Lines.{shows, is_shown, drawn_lines, has_break_between}
 use Rattle.codespan_picture.specs.Rows.{Locus, HeaderText, Lanes, Line, HeaderRow, SnippetStartRow, EmptyRow, BreakRow, SourceRow, PointerRow, HangingRow, UnderlineRow, FirstNoteRow, LaterNoteRow, FinalRow, hanging_labels, has_underline, caret_rows, pointer_and_hanging_rows, underline_rows, rows_of}
-use Rattle.codespan_picture.specs.Snippets.{LabeledFileModel, InFile, labeled_file_model, labeled_file_models, num_multi_labels, empty_lanes, line_at, rows_of_drawn, snippet, has_any, empty_row_after, snippets, note_line_rows, note_rows, rich_rows}
+use Rattle.codespan_picture.specs.Snippets.{LabeledFileModel, LabelInFile, labeled_file_model, labeled_file_models, num_multi_labels, empty_lanes, line_at, rows_of_drawn, snippet, has_any, empty_row_after, snippets, note_line_rows, note_rows, rich_rows}
 use Rattle.codespan_picture.proofs.FillLemmas.{breaks_before}
 use Rattle.codespan_picture.specs.Padding.{spans, spanned_lines, numbered_lines, digits_of, padding_of}
 use Rattle.codespan_picture.proofs.RefillLemmas.{any-map, filter-map, map-append', refilled, refilled_multi_label, refilled_lane_mark, refilled_lanes, refilled_line, hanging_labels-refilled}
@@ -44,7 +44,7 @@ flat-map-map g f (x ∷ xs) = ap (λ ys. g (f x) ++ ys) (flat-map-map g f xs)
 abbrev pub refilled_file : (Stream → Stream) → LabeledFileModel → LabeledFileModel
 refilled_file φ s = record s { labels = map (refilled φ) s.labels }
 
-abbrev pub refilled_in : {Id : Type 0} → (Stream → Stream) → InFile Id → InFile Id
+abbrev pub refilled_in : {Id : Type 0} → (Stream → Stream) → LabelInFile Id → LabelInFile Id
 refilled_in φ x = record x { label = refilled φ x.label }
 
 module _ (φ : Stream → Stream) (keeps : (s : Stream) → is_empty_stream (φ s) ≡ is_empty_stream s) where
@@ -266,19 +266,19 @@ module _ (φ : Stream → Stream) (keeps : (s : Stream) → is_empty_stream (φ 
 
   -- ---- the files of labels
 
-  pub files-refilled : {Id : Type 0} (same : Id → Id → Bool) (file : Id → FileModel) (xs : List (InFile Id))
+  pub files-refilled : {Id : Type 0} (same : Id → Id → Bool) (file : Id → FileModel) (xs : List (LabelInFile Id))
       → labeled_file_models same file (map (refilled_in φ) xs) ≡ map (refilled_file φ) (labeled_file_models same file xs)
   files-refilled {Id = Id} same file xs =
-      ap (λ ids. map (labeled_file_model same file (map (refilled_in φ) xs)) (first_seen same ids)) (map-map (λ (x : InFile Id). x.file_id) (refilled_in φ) xs)
+      ap (λ ids. map (labeled_file_model same file (map (refilled_in φ) xs)) (first_seen same ids)) (map-map (λ (x : LabelInFile Id). x.file_id) (refilled_in φ) xs)
       ∙ map-ext (labeled_file_model same file (map (refilled_in φ) xs)) (λ id. refilled_file φ (labeled_file_model same file xs id)) one ids
       ∙ sym (map-map (refilled_file φ) (labeled_file_model same file xs) ids)
     where
       ids : List Id
-      ids = first_seen same (map (λ (x : InFile Id). x.file_id) xs)
+      ids = first_seen same (map (λ (x : LabelInFile Id). x.file_id) xs)
 
       one : (id : Id) → labeled_file_model same file (map (refilled_in φ) xs) id ≡ refilled_file φ (labeled_file_model same file xs id)
       one id =
           ap {B = LabeledFileModel} (λ ys. record { file = file id; labels = ys })
-          (ap (map (λ (x : InFile Id). x.label)) (filter-map (λ (x : InFile Id). same id x.file_id) (refilled_in φ) xs)
-          ∙ map-map (λ (x : InFile Id). x.label) (refilled_in φ) (filter (λ (x : InFile Id). same id x.file_id) xs)
-          ∙ sym (map-map (refilled φ) (λ (x : InFile Id). x.label) (filter (λ (x : InFile Id). same id x.file_id) xs)))
+          (ap (map (λ (x : LabelInFile Id). x.label)) (filter-map (λ (x : LabelInFile Id). same id x.file_id) (refilled_in φ) xs)
+          ∙ map-map (λ (x : LabelInFile Id). x.label) (refilled_in φ) (filter (λ (x : LabelInFile Id). same id x.file_id) xs)
+          ∙ sym (map-map (refilled φ) (λ (x : LabelInFile Id). x.label) (filter (λ (x : LabelInFile Id). same id x.file_id) xs)))

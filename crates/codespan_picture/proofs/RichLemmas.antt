@@ -32,12 +32,12 @@ pub snippet_means_labels : (view_config : Config) (context : RowContext) (s : La
     → SnippetMeansLabels view_config context s
 snippet_means_labels view_config context s = record {
   drawn = rows_of_shown_lines view_config s;
-  breaks = breaks.breaks_are_gaps view_config s (rows_of_shown_lines view_config s);
+  breaks = breaks.breaks_replace_lines view_config s (rows_of_shown_lines view_config s);
   few = bounds.source_rows_few view_config s;
   pointers = λ l wide. pointers.pointers_are_cells context (line_at s l) wide;
   bars = λ ordered. ranges.bars_are_labels context.layout s ordered;
   break_bars = λ ordered. ranges.breaks_have_bars view_config context.layout s ordered;
-  lanes = λ ordered. runs.lanes_are_lines view_config context.layout s ordered;
+  lanes = λ ordered. runs.lanes_join_corners view_config context.layout s ordered;
 }
 
 -- the output means the labels of the diagnostic

@@ -9,9 +9,9 @@ use Rattle.codespan_core.specs.Streams.{Stream, byte_stream, spaces, repeated, g
 use Rattle.codespan_core.proofs.Writes.{byte_stream-append}
 use Rattle.std.proofs.lemmas.Grind.{flat_map-append}
 use Rattle.codespan_core.proofs.Repeats.{repeat-add}
-use Rattle.codespan_picture.specs.declared.rows.lanes.LaneRow.TheVariants.{Source, EmptyOrBreak, SingleLabels}
+use Rattle.codespan_picture.specs.declared.rows.lanes.RowKind.TheVariants.{Source, EmptyOrBreak, SingleLabels}
 use Rattle.codespan_picture.specs.Arguments.{SingleLabelTuple, single_label_views}
-use Rattle.codespan_picture.specs.Private.LineViews.{row_lanes_view}
+use Rattle.codespan_picture.specs.Private.LineViews.{row_lanes_stream}
 use Rattle.codespan_picture.specs.Rows.{RowContext, Lanes, Line, Row, SourceRow, caret_rows, hanging_labels, pointer_and_hanging_rows, underline_rows, rows_of}
 use Rattle.codespan_picture.specs.RowStreams.{bracketed, caret_row, source_row, stream_of, stream_of_rows}
 use Rattle.std.specs.Prelude.{codes}
@@ -29,19 +29,19 @@ gutter_spaces n = refl
 
 -- the lanes of each kind of row, by the definitions
 pub source_lanes_are : (context : RowContext) (leading : ℕ) (lanes : Lanes)
-    → row_lanes_view context leading Source lanes ≡ inner_gutter context leading kind.Source lanes
-unfolding row_lanes_view inner_gutter
+    → row_lanes_stream context leading Source lanes ≡ inner_gutter context leading kind.Source lanes
+unfolding row_lanes_stream inner_gutter
 source_lanes_are context leading lanes = refl
 
 pub plain_lanes_are : (context : RowContext) (leading : ℕ) (lanes : Lanes)
-    → row_lanes_view context leading EmptyOrBreak lanes ≡ inner_gutter context 0 kind.EmptyOrBreak lanes
-unfolding row_lanes_view inner_gutter
+    → row_lanes_stream context leading EmptyOrBreak lanes ≡ inner_gutter context 0 kind.EmptyOrBreak lanes
+unfolding row_lanes_stream inner_gutter
 plain_lanes_are context leading lanes = refl
 
 pub below_lanes_are : (context : RowContext) (leading : ℕ) (lanes : Lanes)
-    → row_lanes_view context leading SingleLabels lanes ≡ inner_gutter context leading
+    → row_lanes_stream context leading SingleLabels lanes ≡ inner_gutter context leading
     kind.SingleLabels lanes
-unfolding row_lanes_view inner_gutter
+unfolding row_lanes_stream inner_gutter
 below_lanes_are context leading lanes = refl
 
 pub ruleset lanes_are = (source_lanes_are, plain_lanes_are, below_lanes_are)

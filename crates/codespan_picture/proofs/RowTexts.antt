@@ -1,4 +1,4 @@
--- For `outputs_are_texts`: the streams of rows are texts.
+-- For `outputs_are_utf8`: the streams of rows are texts.
 use Rattle.std.proofs.Common.{◌≡◌, ℕ, ◌+◌, ◌-◌, Bool, true, false, List, [], ◌∷◌, ◌++◌, Option, Some, None, refl, sym, subst, arith}
 use Rattle.std.specs.Prelude.{Contains, codes, nat_lt, nat_le, if◌then◌else◌, IfSome}
 use Rattle.std.specs.Char.{IsScalar}
@@ -15,27 +15,27 @@ use Rattle.codespan_picture.specs.declared.char_metrics.Metrics.{Metrics}
 use Rattle.codespan_picture.specs.declared.lane_shapes.Shape.{Shape}
 use Rattle.codespan_picture.specs.Carets.{caret_for, max_label_end, style_under}
 use Rattle.codespan_picture.specs.CharMetrics.{width_of}
-use Rattle.codespan_picture.specs.Lanes.{LaneRow, Source, EmptyOrBreak, SingleLabels, Underline, label_glyph, lane_mark_in, row_crossing, row_shape, shape_of, style_of_lane_mark}
+use Rattle.codespan_picture.specs.Lanes.{RowKind, Source, EmptyOrBreak, SingleLabels, Underline, label_glyph, lane_mark_in, row_crossing, row_shape, shape_of, style_of_lane_mark}
 use Rattle.codespan_picture.specs.Rows.{Locus, RowContext, Lanes, Line, Row, HeaderRow, SnippetStartRow, EmptyRow, BreakRow, SourceRow, CaretRow, PointerRow, HangingRow, UnderlineRow, FirstNoteRow, LaterNoteRow, FinalRow, hanging_labels, trailing_label}
-use Rattle.codespan_picture.specs.RowParts.{locus, label_message, inner_gutter_column, inner_gutter, leading_of, line_metrics, line_metrics_to_end, source_style, source_glyph, colored_text, caret_glyphs, carets, trailing_message, starts_in, max_label_start, spaces_up_to, pointer_style, pointer_at, pointers, metrics_before, metrics_up_to, start_caret, end_caret, underline_message, underline}
-use Rattle.codespan_picture.specs.RowStreams.{bracketed, leading_locus, header_row, snippet_start_row, empty_row, break_row, source_row, row_start, caret_row, pointer_row, hanging_row, underline_row, first_note_row, later_note_row, stream_of, stream_of_rows}
-use Rattle.codespan_picture.specs.TextLaws.{IsText, AreCharacters}
+use Rattle.codespan_picture.specs.RowParts.{snippet_locus, label_message, inner_gutter_column, inner_gutter, leading_of, line_metrics, line_metrics_to_end, source_style, source_glyph, colored_text, caret_glyphs, carets, trailing_message, starts_in, max_label_start, spaces_up_to, pointer_style, pointer_at, pointers, metrics_before, metrics_up_to, start_caret, end_caret, underline_message, underline}
+use Rattle.codespan_picture.specs.RowStreams.{bracketed, header_locus, header_row, snippet_start_row, empty_row, break_row, source_row, row_start, caret_row, pointer_row, hanging_row, underline_row, first_note_row, later_note_row, stream_of, stream_of_rows}
+use Rattle.codespan_picture.specs.Utf8Laws.{StreamIsUtf8, CharsAreScalars}
 use Rattle.codespan_picture.proofs.LaneLineLemmas.{each_all}
 use Rattle.codespan_picture.proofs.Rightmost.{Around, around_trails, around_rightmost, trailing_of, around_is, trailing_is}
 use Rattle.codespan_picture.proofs.ListElements.{all-weaker}
 use Rattle.codespan_picture.proofs.StreamTexts.{text-none, text-both, followed, text-byte_stream, text-style_mark, text-glyph, text-space, text-newline, text-colon_space, text-open, text-close, text-spaces, text-repeated, text-each, text-severity, text-locus, text-outer_gutter, text-outer_gutter_number, text-border_left, text-border_left_break, text-styled, text-label_message}
-use Rattle.codespan_picture.proofs.LaneTexts.{text-label_glyph, text-lane_characters, scalar-caret_for, scalar-start_caret, scalar-end_caret, scalar-char_metrics, text-source_glyph, IsTextMultiLabel, IsTextRow}
+use Rattle.codespan_picture.proofs.LaneTexts.{text-label_glyph, text-lane_characters, scalar-caret_for, scalar-start_caret, scalar-end_caret, scalar-char_metrics, text-source_glyph, MultiLabelIsUtf8, RowIsUtf8}
 
 -- ---- rows
 
-text-leading_locus : (at : Option Locus) → IfSome at (λ p. IsUtf8 p.name)
-    → IsText (leading_locus at)
-unfolding leading_locus
-text-leading_locus None h = text-none
-text-leading_locus (Some p) h =
-    text-both (locus p) (byte_stream (codes ": ")) (text-locus p h) text-colon_space
+text-header_locus : (at : Option Locus) → IfSome at (λ p. IsUtf8 p.name)
+    → StreamIsUtf8 (header_locus at)
+unfolding header_locus
+text-header_locus None h = text-none
+text-header_locus (Some p) h =
+    text-both (snippet_locus p) (byte_stream (codes ": ")) (text-locus p h) text-colon_space
 
-text-bracketed : (code : Option (List ℕ)) → IfSome code IsUtf8 → IsText (bracketed code)
+text-bracketed : (code : Option (List ℕ)) → IfSome code IsUtf8 → StreamIsUtf8 (bracketed code)
 unfolding bracketed
 text-bracketed None h = text-none
 text-bracketed (Some []) h = text-none
@@ -45,102 +45,102 @@ text-bracketed (Some (c ∷ cs)) h =
 
 -- the trailing message is a text where the labels' messages are
 text-trailing_label : (severity : Severity) (labels : List LabelModel)
-    → AllByRecursion (λ (x : LabelModel). IsText x.message) labels
-    → IsText (trailing_message severity (trailing_label labels))
+    → AllByRecursion (λ (x : LabelModel). StreamIsUtf8 x.message) labels
+    → StreamIsUtf8 (trailing_message severity (trailing_label labels))
 unfolding trailing_message
 text-trailing_label severity [] h = text-none
 text-trailing_label severity (x ∷ xs) h =
-    subst (λ t. IsText (trailing_message severity t)) (sym (trailing_is (x ∷ xs)))
+    subst (λ t. StreamIsUtf8 (trailing_message severity t)) (sym (trailing_is (x ∷ xs)))
     (by (around_rightmost (x ∷ xs)) refl)
   where
-    shown : (y : LabelModel) → IsText y.message → IsText (trailing_message severity (Some y))
+    shown : (y : LabelModel) → StreamIsUtf8 y.message → StreamIsUtf8 (trailing_message severity (Some y))
     shown y t =
         text-both space (label_message severity y.style y.message) text-space
         (text-label_message severity y.style y.message t)
 
-    here : (a : Around) → a.before ++ (a.here ∷ a.after) ≡ x ∷ xs → IsText a.here.message
+    here : (a : Around) → a.before ++ (a.here ∷ a.after) ≡ x ∷ xs → StreamIsUtf8 a.here.message
     here a whole =
-        All-contains (λ (y : LabelModel). IsText y.message) (x ∷ xs) a.here
-        (All-from_recursion (λ (y : LabelModel). IsText y.message) (x ∷ xs) h)
+        All-contains (λ (y : LabelModel). StreamIsUtf8 y.message) (x ∷ xs) a.here
+        (All-from_recursion (λ (y : LabelModel). StreamIsUtf8 y.message) (x ∷ xs) h)
         (subst (λ ys. Contains ys a.here) whole
         (Contains-append_right a.before (a.here ∷ a.after) a.here (0, omega arith, refl)))
 
-    tested : (a : Around) → IsText a.here.message → (b : Bool)
-        → IsText (trailing_message severity (if b then Some a.here else None))
+    tested : (a : Around) → StreamIsUtf8 a.here.message → (b : Bool)
+        → StreamIsUtf8 (trailing_message severity (if b then Some a.here else None))
     tested a t true = shown a.here t
     tested a t false = text-none
 
     by : (r : Option Around) → around_rightmost (x ∷ xs) ≡ r
-        → IsText (trailing_message severity (trailing_of r))
+        → StreamIsUtf8 (trailing_message severity (trailing_of r))
     by None is = text-none
     by (Some a) is =
         tested a (here a (around_is (max_label_end (x ∷ xs)) (x ∷ xs) a is)) (around_trails a)
 
-module _ (context : RowContext) (ok : AreCharacters context.chars) where
+module _ (context : RowContext) (ok : CharsAreScalars context.chars) where
   text-inner_gutter_column : (crossing : Option LaneMark) (shape : MultiLabel → Shape)
       (lane_mark : Option LaneMark)
-      → IsText (inner_gutter_column context crossing shape lane_mark)
+      → StreamIsUtf8 (inner_gutter_column context crossing shape lane_mark)
   unfolding inner_gutter_column
   text-inner_gutter_column crossing shape lane_mark =
       text-lane_characters context.chars ok context.severity crossing (style_of_lane_mark lane_mark)
       (shape_of shape lane_mark)
 
-  text-inner_gutter : (leading : ℕ) (row : LaneRow) (lanes : Lanes)
-      → IsText (inner_gutter context leading row lanes)
+  text-inner_gutter : (leading : ℕ) (row : RowKind) (lanes : Lanes)
+      → StreamIsUtf8 (inner_gutter context leading row lanes)
   unfolding inner_gutter
   text-inner_gutter leading row lanes =
       let shown : ℕ → Stream = λ lane. inner_gutter_column context (row_crossing row lane)
       (row_shape context.layout leading row lane) (lane_mark_in lanes.lane_marks lane) in
       text-each shown (range_with_len 0 lanes.count)
-      (each_all (λ lane. IsText (shown lane)) (range_with_len 0 lanes.count)
+      (each_all (λ lane. StreamIsUtf8 (shown lane)) (range_with_len 0 lanes.count)
       (λ lane. text-inner_gutter_column (row_crossing row lane)
       (row_shape context.layout leading row lane) (lane_mark_in lanes.lane_marks lane)))
 
   -- the source
-  text-colored : (line : Line) → IsUtf8 line.text → IsText (colored_text context line)
+  text-colored : (line : Line) → IsUtf8 line.text → StreamIsUtf8 (colored_text context line)
   unfolding colored_text
   text-colored line u =
       text-styled context.severity (source_style line) source_glyph None (line_metrics context line)
-      (all-weaker (λ (c : Metrics). IsScalar c.ch) (λ (c : Metrics). IsText (source_glyph c))
+      (all-weaker (λ (c : Metrics). IsScalar c.ch) (λ (c : Metrics). StreamIsUtf8 (source_glyph c))
       text-source_glyph (line_metrics context line)
       (scalar-char_metrics context.tab_width line.text u))
 
   -- the carets
   text-caret_glyphs : (end : ℕ) (style : Option LabelStyle) (c : Metrics)
-      → IsText (caret_glyphs context.chars end style c)
+      → StreamIsUtf8 (caret_glyphs context.chars end style c)
   unfolding caret_glyphs
   text-caret_glyphs end None c =
-      cond_both (nat_lt c.byte_index end) (spaces c.unicode_width) [] IsText
+      cond_both (nat_lt c.byte_index end) (spaces c.unicode_width) [] StreamIsUtf8
       (λ _. text-spaces c.unicode_width) (λ _. text-none)
   text-caret_glyphs end (Some style) c =
       text-repeated c.unicode_width (caret_for context.chars (Some style))
       (scalar-caret_for context.chars ok (Some style))
 
-  text-carets : (labels : List LabelModel) (cs : List Metrics) → IsText (carets context labels cs)
+  text-carets : (labels : List LabelModel) (cs : List Metrics) → StreamIsUtf8 (carets context labels cs)
   unfolding carets
   text-carets labels cs =
       text-styled context.severity (style_under labels)
       (λ c. caret_glyphs context.chars (max_label_end labels) (style_under labels c) c) None cs
       (each_all
-      (λ c. IsText (caret_glyphs context.chars (max_label_end labels) (style_under labels c) c))
+      (λ c. StreamIsUtf8 (caret_glyphs context.chars (max_label_end labels) (style_under labels c) c))
       cs (λ c. text-caret_glyphs (max_label_end labels) (style_under labels c) c))
 
   -- the pointers
-  text-spaces_up_to : (byte_index : ℕ) (c : Metrics) (n : ℕ) → IsText (spaces_up_to byte_index c n)
+  text-spaces_up_to : (byte_index : ℕ) (c : Metrics) (n : ℕ) → StreamIsUtf8 (spaces_up_to byte_index c n)
   unfolding spaces_up_to
   text-spaces_up_to byte_index c n =
-      cond_both (nat_le c.byte_index byte_index) (spaces n) [] IsText (λ _. text-spaces n)
+      cond_both (nat_le c.byte_index byte_index) (spaces n) [] StreamIsUtf8 (λ _. text-spaces n)
       (λ _. text-none)
 
   text-pointer_at : (labels hanging_labels : List LabelModel) (c : Metrics)
-      → IsText (pointer_at context labels hanging_labels c)
+      → StreamIsUtf8 (pointer_at context labels hanging_labels c)
   unfolding pointer_at
   text-pointer_at labels hanging_labels c =
       let here : Stream =
       label_glyph context.severity (pointer_style hanging_labels c) context.chars.pointer_left
       ++ spaces_up_to (max_label_start labels) c (c.unicode_width - 1) in
       cond_both (list_any (starts_in c) hanging_labels) here
-      (spaces_up_to (max_label_start labels) c c.unicode_width) IsText
+      (spaces_up_to (max_label_start labels) c c.unicode_width) StreamIsUtf8
       (λ _. text-both
       (label_glyph context.severity (pointer_style hanging_labels c) context.chars.pointer_left)
       (spaces_up_to (max_label_start labels) c (c.unicode_width - 1))
@@ -150,21 +150,21 @@ module _ (context : RowContext) (ok : AreCharacters context.chars) where
       (λ _. text-spaces_up_to (max_label_start labels) c c.unicode_width)
 
   text-pointers : (labels : List LabelModel) (cs : List Metrics)
-      → IsText (pointers context labels cs)
+      → StreamIsUtf8 (pointers context labels cs)
   unfolding pointers
   text-pointers labels cs =
       text-each (pointer_at context labels (hanging_labels labels)) cs
-      (each_all (λ c. IsText (pointer_at context labels (hanging_labels labels) c)) cs
+      (each_all (λ c. StreamIsUtf8 (pointer_at context labels (hanging_labels labels) c)) cs
       (text-pointer_at labels (hanging_labels labels)))
 
   -- the underlines
-  text-underline_message : (message : Stream) → IsText message → IsText (underline_message message)
+  text-underline_message : (message : Stream) → StreamIsUtf8 message → StreamIsUtf8 (underline_message message)
   unfolding underline_message
   text-underline_message [] t = text-none
   text-underline_message (p ∷ ps) t = text-both space (p ∷ ps) text-space t
 
   text-underline : (style : LabelStyle) (cs : List Metrics) (multi_label : MultiLabel)
-      → IsTextMultiLabel multi_label → IsText (underline context.chars style cs multi_label)
+      → MultiLabelIsUtf8 multi_label → StreamIsUtf8 (underline context.chars style cs multi_label)
   unfolding underline
   text-underline style cs (Top start) t =
       followed
@@ -179,7 +179,7 @@ module _ (context : RowContext) (ok : AreCharacters context.chars) where
       (text-glyph (end_caret context.chars style) (scalar-end_caret context.chars ok style)))
       (text-underline_message message t)
 
-  text-row_start : (line : Line) → IsText (row_start context line)
+  text-row_start : (line : Line) → StreamIsUtf8 (row_start context line)
   unfolding row_start
   text-row_start line =
       followed
@@ -188,7 +188,7 @@ module _ (context : RowContext) (ok : AreCharacters context.chars) where
       text-space
 
   -- the stream of a row is a text where what it is rendered from are texts
-  pub text-row : (row : Row) → IsTextRow row → IsText (stream_of context row)
+  pub text-row : (row : Row) → RowIsUtf8 row → StreamIsUtf8 (stream_of context row)
   unfolding header_row snippet_start_row empty_row break_row source_row caret_row pointer_row
       hanging_row underline_row first_note_row later_note_row
   text-row (HeaderRow at header_text) h =
@@ -198,7 +198,7 @@ module _ (context : RowContext) (ok : AreCharacters context.chars) where
       (followed
       (followed
       (followed
-      (followed (text-leading_locus at h.0) (text-style_mark (Header context.severity)))
+      (followed (text-header_locus at h.0) (text-style_mark (Header context.severity)))
       (text-severity context.severity))
       (text-bracketed header_text.code h.1))
       (text-style_mark HeaderMessage))
@@ -267,9 +267,9 @@ module _ (context : RowContext) (ok : AreCharacters context.chars) where
   text-row FinalRow h = text-none
 
   -- and so are those of many rows
-  pub text-rows : (rows : List Row) → AllByRecursion IsTextRow rows
-      → IsText (stream_of_rows context rows)
+  pub text-rows : (rows : List Row) → AllByRecursion RowIsUtf8 rows
+      → StreamIsUtf8 (stream_of_rows context rows)
   text-rows rows h =
       text-each (λ row. stream_of context row ++ newline) rows
-      (all-weaker IsTextRow (λ row. IsText (stream_of context row ++ newline))
+      (all-weaker RowIsUtf8 (λ row. StreamIsUtf8 (stream_of context row ++ newline))
       (λ row r. text-both (stream_of context row) newline (text-row row r) text-newline) rows h)

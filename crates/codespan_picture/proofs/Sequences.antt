@@ -1,4 +1,4 @@
--- For `outputs_are_texts`: the elements of items in sequence and of what is between them, and what
+-- For `outputs_are_utf8`: the elements of items in sequence and of what is between them, and what
 -- holds of all of them.
 use Rattle.std.proofs.Common.{◌≡◌, ℕ, ◌+◌, Bool, true, false, cond, ◌==◌, List, [], ◌∷◌, ◌++◌, flat_map, Option, Some, None, refl, ap, ap₂, ◌∙◌}
 use Rattle.std.specs.List.{AllByRecursion}

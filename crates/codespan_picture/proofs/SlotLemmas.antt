@@ -13,10 +13,10 @@ use Rattle.codespan_picture.specs.declared.char_metrics.Metrics.{Metrics}
 use Rattle.codespan_picture.specs.Carets.{style_under, max_label_end}
 use Rattle.codespan_picture.specs.declared.lane_shapes.Shape.{Shape}
 use Rattle.codespan_picture.specs.declared.lane_shapes.Shape.TheVariants.{Space, Bar, TopCorner, BottomCorner}
-use Rattle.codespan_picture.specs.Lanes.{lane_mark_in, label_glyph, crossing_characters, lane_characters, LaneRow}
+use Rattle.codespan_picture.specs.Lanes.{lane_mark_in, label_glyph, crossing_characters, lane_characters, RowKind}
 use Rattle.codespan_picture.specs.Rows.{Locus, RowContext, Lanes, Line, Row, HeaderRow, SnippetStartRow, EmptyRow, BreakRow, SourceRow, CaretRow, PointerRow, HangingRow, UnderlineRow, FirstNoteRow, LaterNoteRow, FinalRow, trailing_label, hanging_labels}
-use Rattle.codespan_picture.specs.RowParts.{locus, outer_gutter, outer_gutter_number, border_left, border_left_break, style_change, styled, label_message, inner_gutter_column, lanes_in, inner_gutter, line_metrics, source_style, source_glyph, colored_text, caret_glyphs, carets, trailing_message, spaces_up_to, pointer_at, pointers, pointer_style, starts_in, max_label_start, underline_message, underline}
-use Rattle.codespan_picture.specs.RowStreams.{bracketed, leading_locus, header_row, snippet_start_row, empty_row, break_row, source_row, row_start, caret_row, pointer_row, hanging_row, underline_row, first_note_row, later_note_row, stream_of, stream_of_rows}
+use Rattle.codespan_picture.specs.RowParts.{snippet_locus, outer_gutter, outer_gutter_number, border_left, border_left_break, style_change, styled, label_message, inner_gutter_column, lanes_in, inner_gutter, line_metrics, source_style, source_glyph, colored_text, caret_glyphs, carets, trailing_message, spaces_up_to, pointer_at, pointers, pointer_style, starts_in, max_label_start, underline_message, underline}
+use Rattle.codespan_picture.specs.RowStreams.{bracketed, header_locus, header_row, snippet_start_row, empty_row, break_row, source_row, row_start, caret_row, pointer_row, hanging_row, underline_row, first_note_row, later_note_row, stream_of, stream_of_rows}
 use Rattle.codespan_picture.specs.MessageLaws.{is_slot}
 use Rattle.codespan_picture.proofs.MessageLemmas.{weight_of}
 
@@ -99,14 +99,14 @@ slots-lanes_in k context crossing shape lanes =
     slots-flat_map k (λ lane. inner_gutter_column context (crossing lane) (shape lane) (lane_mark_in lanes.lane_marks lane)) (range_with_len 0 lanes.count)
     (λ lane. slots-inner_gutter_column k context (crossing lane) (shape lane) (lane_mark_in lanes.lane_marks lane))
 
-pub slots-inner_gutter : (k : ℕ) (context : RowContext) (leading : ℕ) (row : LaneRow)
+pub slots-inner_gutter : (k : ℕ) (context : RowContext) (leading : ℕ) (row : RowKind)
     (lanes : Lanes)
     → slots k (inner_gutter context leading row lanes) ≡ 0
 unfolding inner_gutter
 slots-inner_gutter k context leading row lanes = slots-lanes_in k context _ _ lanes
 
-pub slots-locus : (k : ℕ) (p : Locus) → slots k (locus p) ≡ 0
-unfolding locus
+pub slots-locus : (k : ℕ) (p : Locus) → slots k (snippet_locus p) ≡ 0
+unfolding snippet_locus
 slots-locus k p = simp slots_of_parts
 
 pub slots-outer_gutter : (k n : ℕ) → slots k (outer_gutter n) ≡ 0
@@ -244,10 +244,10 @@ slots-bracketed k None = slots-nil k
 slots-bracketed k (Some []) = slots-nil k
 slots-bracketed k (Some (c ∷ cs)) = simp slots_of_parts
 
-pub slots-leading_locus : (k : ℕ) (at : Option Locus) → slots k (leading_locus at) ≡ 0
-unfolding leading_locus
-slots-leading_locus k None = slots-nil k
-slots-leading_locus k (Some p) = simp parts
+pub slots-header_locus : (k : ℕ) (at : Option Locus) → slots k (header_locus at) ≡ 0
+unfolding header_locus
+slots-header_locus k None = slots-nil k
+slots-header_locus k (Some p) = simp parts
 
 pub slots-row_start : (k : ℕ) (context : RowContext) (line : Line) → slots k (row_start context line) ≡ 0
 unfolding row_start
@@ -263,7 +263,7 @@ row_slots k _ = 0
 pub slots-stream_of : (k : ℕ) (context : RowContext) (row : Row)
     → slots k (stream_of context row) ≡ row_slots k row
 unfolding header_row snippet_start_row empty_row break_row source_row caret_row pointer_row hanging_row underline_row first_note_row later_note_row
-slots-stream_of k context (HeaderRow at header_text) = simp (parts, slots-bracketed, slots-leading_locus)
+slots-stream_of k context (HeaderRow at header_text) = simp (parts, slots-bracketed, slots-header_locus)
 slots-stream_of k context (SnippetStartRow at) = simp parts
 slots-stream_of k context (EmptyRow lanes) = simp parts
 slots-stream_of k context (BreakRow lanes) = simp parts

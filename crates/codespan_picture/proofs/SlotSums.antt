@@ -11,7 +11,7 @@ use Rattle.codespan_core.specs.Streams.{Slot}
 use Rattle.codespan_core.specs.Labels.{has_message, is_empty_stream, first_seen}
 use Rattle.codespan_picture.specs.Rows.{HeaderText, Locus, RowContext}
 use Rattle.codespan_picture.specs.RowStreams.{stream_of_rows}
-use Rattle.codespan_picture.specs.Snippets.{InFile, labeled_file_model, labeled_file_models, rich_rows}
+use Rattle.codespan_picture.specs.Snippets.{LabelInFile, labeled_file_model, labeled_file_models, rich_rows}
 use Rattle.codespan_picture.specs.MessageLaws.{is_slot, slotted, all_slotted}
 use Rattle.codespan_picture.proofs.SlotLemmas.{slots, slots-is, slots-rows}
 use Rattle.codespan_picture.proofs.LineSlots.{sum-ext, sum-zero, sum-map, sum-filter, sum-filter_free, sum-swap, label_slots}
@@ -72,52 +72,52 @@ module _ {Id : Type 0} (same : Id → Id → Bool) (law : IsEquivalence same) wh
           )
 
   -- over all files each label counts once
-  all_seen : (w : InFile Id → ℕ) (ids : List Id) (xs : List (InFile Id))
-      → ((z : Id) → list_any (λ id. same id z) (map (λ (x : InFile Id). x.file_id) xs) ≡ true
+  all_seen : (w : LabelInFile Id → ℕ) (ids : List Id) (xs : List (LabelInFile Id))
+      → ((z : Id) → list_any (λ id. same id z) (map (λ (x : LabelInFile Id). x.file_id) xs) ≡ true
       → list_any (λ id. same id z) ids ≡ true)
       → sum_by
-      (λ (x : InFile Id). sum_by (λ id. cond (same id x.file_id) (w x) 0) (first_seen same ids)) xs
+      (λ (x : LabelInFile Id). sum_by (λ id. cond (same id x.file_id) (w x) 0) (first_seen same ids)) xs
       ≡ sum_by w xs
   all_seen w ids [] h = refl
   all_seen w ids (x ∷ xs) h =
       let here = h x.file_id
       (or_left (same x.file_id x.file_id)
-      (list_any (λ id. same id x.file_id) (map (λ (y : InFile Id). y.file_id) xs)) (law.refl x.file_id)) in
+      (list_any (λ id. same id x.file_id) (map (λ (y : LabelInFile Id). y.file_id) xs)) (law.refl x.file_id)) in
       let e = ap {B = ℕ} (λ b. cond b (w x) 0) here in
       omega (
         arith,
         e,
         once_seen (w x) x.file_id ids,
         all_seen w ids xs (λ z any. h z (or_right (same x.file_id z)
-            (list_any (λ id. same id z) (map (λ (y : InFile Id). y.file_id) xs)) any)),
-        sum_by-cons (λ (x : InFile Id). sum_by (λ id. cond (same id x.file_id) (w x) 0)
+            (list_any (λ id. same id z) (map (λ (y : LabelInFile Id). y.file_id) xs)) any)),
+        sum_by-cons (λ (x : LabelInFile Id). sum_by (λ id. cond (same id x.file_id) (w x) 0)
             (first_seen same ids))
             x xs,
         sum_by-cons w x xs,
       )
 
   files_sum : (k : ℕ) (config : Config) (file : Id → FileModel)
-      → ((id : Id) → 0 < line_count (file id)) → (xs : List (InFile Id))
+      → ((id : Id) → 0 < line_count (file id)) → (xs : List (LabelInFile Id))
       → sum_by (file_slots k config) (labeled_file_models same file xs) ≡ sum_by
-      (λ (x : InFile Id). label_slots k x.label) xs
+      (λ (x : LabelInFile Id). label_slots k x.label) xs
   files_sum k config file some xs =
-      let ids = first_seen same (map (λ (x : InFile Id). x.file_id) xs) in
+      let ids = first_seen same (map (λ (x : LabelInFile Id). x.file_id) xs) in
       sum-map (file_slots k config) (labeled_file_model same file xs) ids
       ∙ sum-ext (λ id. file_slots k config (labeled_file_model same file xs id))
-      (λ id. sum_by (λ (x : InFile Id). cond (same id x.file_id) (label_slots k x.label) 0) xs)
+      (λ id. sum_by (λ (x : LabelInFile Id). cond (same id x.file_id) (label_slots k x.label) 0) xs)
       (λ id. snippet_sum k config (labeled_file_model same file xs id) (some id)
-      ∙ sum-map (label_slots k) (λ (x : InFile Id). x.label)
-      (filter (λ (x : InFile Id). same id x.file_id) xs)
-      ∙ sum-filter (λ (x : InFile Id). label_slots k x.label) (λ (x : InFile Id). same id
+      ∙ sum-map (label_slots k) (λ (x : LabelInFile Id). x.label)
+      (filter (λ (x : LabelInFile Id). same id x.file_id) xs)
+      ∙ sum-filter (λ (x : LabelInFile Id). label_slots k x.label) (λ (x : LabelInFile Id). same id
       x.file_id) xs)
       ids
-      ∙ sum-swap (λ id (x : InFile Id). cond (same id x.file_id) (label_slots k x.label) 0) ids xs
-      ∙ all_seen (λ x. label_slots k x.label) (map (λ (x : InFile Id). x.file_id) xs) xs
+      ∙ sum-swap (λ id (x : LabelInFile Id). cond (same id x.file_id) (label_slots k x.label) 0) ids xs
+      ∙ all_seen (λ x. label_slots k x.label) (map (λ (x : LabelInFile Id). x.file_id) xs) xs
       (λ z any. any)
 
 -- ---- slots instead of messages
 
-pub slotted_slots : {Id : Type 0} (k n : ℕ) (x : InFile Id)
+pub slotted_slots : {Id : Type 0} (k n : ℕ) (x : LabelInFile Id)
     → label_slots k (slotted n x).label ≡ cond (n == k) (if has_message x.label then 1 else 0) 0
 unfolding slots
 slotted_slots k n x = by_tests (is_empty_stream x.label.message) (n == k) refl refl
@@ -130,13 +130,13 @@ slotted_slots k n x = by_tests (is_empty_stream x.label.message) (n == k) refl r
     by_tests false false h i = let e = ap {B = ℕ} (λ b. cond b 1 0) i in omega (arith, e)
 
 module _ {Id : Type 0} (k : ℕ) where
-  abbrev pub slotted_from : ℕ → List (InFile Id) → List (InFile Id)
-  slotted_from n xs = map (λ (e : ℕ × InFile Id). slotted e.0 e.1) (enumerate_from n xs)
+  abbrev pub slotted_from : ℕ → List (LabelInFile Id) → List (LabelInFile Id)
+  slotted_from n xs = map (λ (e : ℕ × LabelInFile Id). slotted e.0 e.1) (enumerate_from n xs)
 
-  abbrev pub slotted_sum : List (InFile Id) → ℕ
-  slotted_sum ys = sum_by (λ (y : InFile Id). label_slots k y.label) ys
+  abbrev pub slotted_sum : List (LabelInFile Id) → ℕ
+  slotted_sum ys = sum_by (λ (y : LabelInFile Id). label_slots k y.label) ys
 
-  pub none_later : (n : ℕ) (xs : List (InFile Id)) → k < n → slotted_sum (slotted_from n xs) ≡ 0
+  pub none_later : (n : ℕ) (xs : List (LabelInFile Id)) → k < n → slotted_sum (slotted_from n xs) ≡ 0
   none_later n [] h = refl
   none_later n (x ∷ xs) h =
       let other : (n == k) ≡ false = grind (arith, nat_tests) in
@@ -146,17 +146,17 @@ module _ {Id : Type 0} (k : ℕ) where
         e,
         slotted_slots k n x,
         none_later (n + 1) xs (omega arith),
-        sum_by-cons (λ (y : InFile Id). label_slots k y.label) (slotted n x)
+        sum_by-cons (λ (y : LabelInFile Id). label_slots k y.label) (slotted n x)
             (slotted_from (n + 1) xs),
       )
 
-  pub one_here : (n j : ℕ) (xs : List (InFile Id)) (x : InFile Id) → n + j ≡ k
+  pub one_here : (n j : ℕ) (xs : List (LabelInFile Id)) (x : LabelInFile Id) → n + j ≡ k
       → slice_get xs j ≡ Some x
       → slotted_sum (slotted_from n xs) ≡ (if has_message x.label then 1 else 0)
   one_here n j [] x at h = cc
   one_here n zero (y ∷ ys) x at h =
       let is : y ≡ x = cc in
-      let weight = ap {B = ℕ} (λ (z : InFile Id). if has_message z.label then 1 else 0) is in
+      let weight = ap {B = ℕ} (λ (z : LabelInFile Id). if has_message z.label then 1 else 0) is in
       let here : (n == k) ≡ true = grind (arith, nat_tests) in
       let e = ap {B = ℕ} (λ b. cond b (if has_message y.label then 1 else 0) 0) here in
       omega (
@@ -165,7 +165,7 @@ module _ {Id : Type 0} (k : ℕ) where
         weight,
         slotted_slots k n y,
         none_later (n + 1) ys (omega arith),
-        sum_by-cons (λ (y : InFile Id). label_slots k y.label) (slotted n y)
+        sum_by-cons (λ (y : LabelInFile Id). label_slots k y.label) (slotted n y)
             (slotted_from (n + 1) ys),
       )
   one_here n (suc j) (y ∷ ys) x at h =
@@ -176,15 +176,15 @@ module _ {Id : Type 0} (k : ℕ) where
         e,
         slotted_slots k n y,
         one_here (n + 1) j ys x (omega arith) h,
-        sum_by-cons (λ (y : InFile Id). label_slots k y.label) (slotted n y)
+        sum_by-cons (λ (y : LabelInFile Id). label_slots k y.label) (slotted n y)
             (slotted_from (n + 1) ys),
       )
 
 pub each_once : {Id : Type 0} (context : RowContext) (config : Config) (same : Id → Id → Bool)
     (file : Id → FileModel) (header_text : HeaderText) (notes : List (List ℕ))
-    (xs : List (InFile Id)) (ps : List Locus)
+    (xs : List (LabelInFile Id)) (ps : List Locus)
     → length ps ≡ length (labeled_file_models same file (all_slotted xs))
-    → IsEquivalence same → ((id : Id) → 0 < line_count (file id)) → (k : ℕ) (x : InFile Id)
+    → IsEquivalence same → ((id : Id) → 0 < line_count (file id)) → (k : ℕ) (x : LabelInFile Id)
     → slice_get xs k ≡ Some x
     → count_by (is_slot k)
     (stream_of_rows context

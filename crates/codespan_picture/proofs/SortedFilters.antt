@@ -1,4 +1,4 @@
--- For `labels_are_sorted`: what a filter keeps of a list that was sorted.
+-- For `sorted_is_stable_sort`: what a filter keeps of a list that was sorted.
 use Rattle.std.proofs.Common.{◌≡◌, ◌+◌, Bool, true, false, cond, List, [], ◌∷◌, ◌++◌, filter, reverse, ◌⊎◌, inl, inr, refl, sym, ap, subst, ◌∙◌, arith, true≢false}
 use Rattle.std.specs.Cmp.{IsStrictWeakOrder}
 use Rattle.std.specs.List.{AllByRecursion, sum_by}

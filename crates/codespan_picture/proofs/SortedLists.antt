@@ -1,4 +1,4 @@
--- For `labels_are_sorted`: lists in order, and what a filter keeps of a list that was sorted.
+-- For `sorted_is_stable_sort`: lists in order, and what a filter keeps of a list that was sorted.
 use Rattle.std.proofs.Common.{◌≡◌, ℕ, zero, suc, ◌+◌, Bool, true, false, cond, List, [], ◌∷◌, length, map, filter, ◌⊎◌, ⊎_elim, refl, sym, ap, ◌∙◌, arith}
 use Rattle.std.specs.Cmp.{IsStrictWeakOrder}
 use Rattle.std.specs.List.{AllByRecursion, AllPairs, sum_by}

@@ -1,4 +1,4 @@
--- For `stated_names_make_the_picture` and `stated_names_make_the_headers`: an output where the
+-- For `output_is_picture` and `headers_are_before_failure`: an output where the
 -- names of files are stated.
 use Rattle.std.proofs.Common.{◌≡◌, Bool, true, false, cond, ◌&&◌, List, [], ◌∷◌, ◌++◌, length, map, take, flat_map, Option, None, Some, refl, sym, ap, ◌∙◌, arith}
 use Rattle.std.specs.Prelude.{IsSome, is_none, take_while}
@@ -14,17 +14,17 @@ use Rattle.codespan_core.specs.declared.term.config.DisplayStyle.TheVariants.{Sh
 use Rattle.codespan_core.specs.FileModel.{FileDatabase, FileModel, Lookup, or_failure}
 use Rattle.codespan_core.specs.FileModel.Lookup.{Name, LocationAt}
 use Rattle.codespan_picture.specs.Lookups.{AllSucceed, Failures, first_error, header_lookups_of}
-use Rattle.codespan_picture.specs.OutputStreams.{AreLoci, label_locus_start, labels_of, output, locus_starts}
+use Rattle.codespan_picture.specs.OutputStreams.{AreLoci, label_locus_byte, labels_of, output, locus_bytes}
 use Rattle.codespan_picture.specs.Picture.{headers_at, stated_loci, stated_locus}
 use Rattle.codespan_picture.specs.Rows.{Locus}
-use Rattle.codespan_picture.specs.Snippets.{InFile, primary_of}
+use Rattle.codespan_picture.specs.Snippets.{LabelInFile, primary_of}
 use Rattle.codespan_picture.specs.StatedNames.{HeadersAreBeforeFailure, NamesAreStated, OutputIsPicture}
 use Rattle.codespan_picture.proofs.Loci.{each_of, each_start, zip_stated}
 
 -- ---- labels before the first one for which a lookup fails
 
 -- whether both lookups of a header succeed
-abbrev lookup_succeeds : {Id : Type 0} → Failures Id → InFile Id → Bool
+abbrev lookup_succeeds : {Id : Type 0} → Failures Id → LabelInFile Id → Bool
 lookup_succeeds failure x =
     is_none (failure x.file_id Name) && is_none (failure x.file_id (LocationAt x.label.start))
 
@@ -58,8 +58,8 @@ none_of_first failure (l ∷ ls) ms h =
     (ap (λ (o : Option Error). or_failure o (first_error failure ls)) parts.0 ∙ later.0, later.1)
 
 -- labels whose lookups succeed, and then a label for which one fails
-run_before : {Id : Type 0} (failure : Failures Id) (before : List (InFile Id)) (here : InFile Id)
-    (after : List (InFile Id))
+run_before : {Id : Type 0} (failure : Failures Id) (before : List (LabelInFile Id)) (here : LabelInFile Id)
+    (after : List (LabelInFile Id))
     → first_error failure (flat_map header_lookups_of before) ≡ None
     → lookup_succeeds failure here ≡ false
     → take_while (lookup_succeeds failure) (before ++ here ∷ after) ≡ before
@@ -73,7 +73,7 @@ run_before {Id} failure (x ∷ xs) here after succeeded failed =
     take_while-cons (lookup_succeeds failure) x (xs ++ here ∷ after)
     ∙ ap (λ (b : Bool). cond b (x ∷ take_while (lookup_succeeds failure) (xs ++ here ∷ after)) [])
     passes
-    ∙ ap (λ (l : List (InFile Id)). x ∷ l) (run_before failure xs here after parts.1 failed)
+    ∙ ap (λ (l : List (LabelInFile Id)). x ∷ l) (run_before failure xs here after parts.1 failed)
 
 -- ---- loci of files that state their names
 
@@ -88,9 +88,9 @@ module _ {Id : Type 0} (files : FileDatabase Id) (d : Diagnostic Id)
   pub loci_stated : (style : DisplayStyle) (loci : List Locus) → AreLoci files d style loci
       → loci ≡ stated_loci files d style
   loci_stated style loci are =
-      zip_stated (locus_starts files.same files.file (labels_of d) style) loci are
+      zip_stated (locus_bytes files.same files.file (labels_of d) style) loci are
       (each_start files.same files.file (labels_of d) (λ (f : FileModel). IsSome f.name)
-      (each_of (λ (x : InFile Id). IsSome (files.file x.file_id).name) (labels_of d) named)
+      (each_of (λ (x : LabelInFile Id). IsSome (files.file x.file_id).name) (labels_of d) named)
       style)
 
   -- so the output is the picture
@@ -105,19 +105,19 @@ module _ {Id : Type 0} (files : FileDatabase Id) (d : Diagnostic Id)
   -- the headers before a label for which a lookup fails are those of the labels before the first
   -- such label
   headers_stated : (config : Config) (loci : List Locus) → AreLoci files d Short loci
-      → (before : List (InFile Id)) (here : InFile Id) (after : List (InFile Id))
+      → (before : List (LabelInFile Id)) (here : LabelInFile Id) (after : List (LabelInFile Id))
       → before ++ here ∷ after ≡ primary_of (labels_of d)
       → AllSucceed files.failure (flat_map header_lookups_of before) → (e : Error)
       → first_error files.failure (header_lookups_of here) ≡ Some e
       → headers_at config d (take (length before) loci)
       ≡ headers_at config d
-      (map (λ (x : InFile Id). stated_locus (label_locus_start files.file x))
+      (map (λ (x : LabelInFile Id). stated_locus (label_locus_byte files.file x))
       (take_while (lookup_succeeds files.failure) (primary_of (labels_of d))))
   headers_stated config loci are before here after whole succeeded e failed =
       let primaries = primary_of (labels_of d) in
-      let to_locus : InFile Id → Locus = λ x. stated_locus (label_locus_start files.file x) in
+      let to_locus : LabelInFile Id → Locus = λ x. stated_locus (label_locus_byte files.file x) in
       let split : loci ≡ map to_locus before ++ map to_locus (here ∷ after) =
-      loci_stated Short loci are ∙ map_twice stated_locus (label_locus_start files.file) primaries
+      loci_stated Short loci are ∙ map_twice stated_locus (label_locus_byte files.file) primaries
       ∙ ap (map to_locus) (sym whole) ∙ map-append to_locus before (here ∷ after) in
       let taken : take (length before) loci ≡ map to_locus before =
       ap (λ n. take n loci) (sym (length-map before to_locus))

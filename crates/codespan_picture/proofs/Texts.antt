@@ -1,4 +1,5 @@
--- For `carets_are_cells`, `characters_are_free` and `lanes_take_two`: texts of streams.
+-- For `carets_are_cells`, `chars_change_no_row_length` and `lanes_take_two_characters`: texts of
+-- streams.
 use Rattle.std.proofs.Common.{◌≡◌, ℕ, zero, suc, ◌+◌, not, List, [], ◌∷◌, ◌++◌, replicate, encode_utf8_all, cond, refl, sym, ap, ◌∙◌, arith, append_assoc}
 use Rattle.std.specs.List.{repeat}
 use Rattle.std.specs.Char.{encode_utf8}

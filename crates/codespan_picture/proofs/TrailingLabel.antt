@@ -10,7 +10,7 @@ use Rattle.codespan_core.specs.Labels.{LabelModel, has_message, is_empty_stream}
 use Rattle.codespan_core.specs.Streams.{byte_stream}
 use Rattle.codespan_picture.specs.Arguments.{SingleLabelTuple, single_label_view, single_label_views}
 use Rattle.codespan_picture.specs.Rows.{last_with_end, overlaps_any, does_trail}
-use Rattle.codespan_picture.specs.Private.Runs.{label_entry_view}
+use Rattle.codespan_picture.specs.Private.Runs.{indexed_label_view}
 
 -- a text is empty as a stream where it is empty
 pub is_empty_bytes : (text : List ℕ) → is_empty_stream (byte_stream text) ≡ (length text == 0)
@@ -94,14 +94,14 @@ last_at end (x ∷ xs) (suc k) n o d h e none =
 
 -- the label at an index, with the index
 pub entry_is : (xs : List SingleLabelTuple) (k : ℕ) (d : SingleLabelTuple) → k < length xs
-    → label_entry_view xs (Some k) ≡ Some (k, single_label_view (get_or xs k d))
+    → indexed_label_view xs (Some k) ≡ Some (k, single_label_view (get_or xs k d))
 entry_is xs k d h = ap (option_map (λ x. (k, single_label_view x))) (slice_get-get_or xs k d h)
 
 -- the label at this index is the last one with the end
 pub last_here : (end : ℕ) (xs : List SingleLabelTuple) (k later : ℕ) (d : SingleLabelTuple)
     → k < length xs → later ≡ k + 1
     → (get_or xs k d).1.end ≡ end → NoneEnds end (drop later xs)
-    → last_with_end end (single_label_views xs) ≡ label_entry_view xs (Some k)
+    → last_with_end end (single_label_views xs) ≡ indexed_label_view xs (Some k)
 last_here end xs k later d h s e none =
     let next : later ≡ suc k = omega (arith, s) in
     let all : 0 + k ≡ k = omega arith in
@@ -121,7 +121,7 @@ without_at xs k =
 -- what is tested of the label at an index
 pub trails_at : (xs : List SingleLabelTuple) (k : ℕ) (d : SingleLabelTuple) (empty : Bool)
     → k < length xs → empty ≡ (length (get_or xs k d).2.now == 0)
-    → option_map_or (does_trail (single_label_views xs)) (label_entry_view xs (Some k)) false
+    → option_map_or (does_trail (single_label_views xs)) (indexed_label_view xs (Some k)) false
     ≡ (not empty
     && not
     (overlaps_any (single_label_view (get_or xs k d)) (single_label_views (take k xs))

@@ -14,25 +14,25 @@ use Rattle.codespan_core.specs.WriterLaw.{Sink}
 use Rattle.codespan_core.proofs.Loops.{StillToWrite}
 use Rattle.codespan_picture.specs.declared.char_metrics.Metrics.{Metrics}
 use Rattle.codespan_picture.specs.declared.arguments.MultiLabel as rust_multi_label
-use Rattle.codespan_picture.specs.declared.rows.lanes.LaneRow.TheVariants.{Underline}
+use Rattle.codespan_picture.specs.declared.rows.lanes.RowKind.TheVariants.{Underline}
 use Rattle.codespan_picture.specs.CharMetrics.{leading_whitespace}
 use Rattle.codespan_picture.specs.Arguments.{LaneMarkTuple, lane_mark_view, multi_label_view}
-use Rattle.codespan_picture.specs.Private.LineViews.{row_lanes_view}
+use Rattle.codespan_picture.specs.Private.LineViews.{row_lanes_stream}
 use Rattle.codespan_picture.specs.Rows.{RowContext, Lanes, Line, UnderlineRow, has_underline}
 use Rattle.codespan_picture.specs.Lanes as kind
 use Rattle.codespan_picture.specs.RowParts.{inner_gutter, underline, underline_message}
 use Rattle.codespan_picture.specs.Private.Underlines.{underline_by_width, underline_width}
 use Rattle.codespan_picture.specs.RowStreams.{underline_row, stream_of_rows}
-use Rattle.codespan_picture.specs.RenderedRows.{later_note_lines_stream}
+use Rattle.codespan_picture.specs.RenderedRows.{later_note_rows_stream}
 
 -- ---- the lanes of an underline row
 
 -- the lanes of the row of a lane mark are those of that kind of row
 pub underline_lanes_are : (context : RowContext) (leading : ℕ) (lane : ℕ) (style : LabelStyle)
     (multi_label : rust_multi_label.MultiLabel) (lanes : Lanes)
-    → row_lanes_view context leading (Underline lane style multi_label) lanes ≡ inner_gutter context
+    → row_lanes_stream context leading (Underline lane style multi_label) lanes ≡ inner_gutter context
     leading (kind.Underline (lane_mark_view (lane, style, multi_label))) lanes
-unfolding row_lanes_view inner_gutter
+unfolding row_lanes_stream inner_gutter
 underline_lanes_are context leading lane style multi_label lanes = refl
 
 -- ---- the message of an underline
@@ -116,7 +116,7 @@ pub record NotesToWrite (s : Sink) (whole : Stream) (padding : ℕ) (left : Text
     (t : Sink) : Type 0 where
   pub note_lines : List (List ℕ)
   pub yields : HasLines left note_lines
-  pub written_so_far : StillToWrite s whole (later_note_lines_stream padding note_lines) t
+  pub written_so_far : StillToWrite s whole (later_note_rows_stream padding note_lines) t
 
 -- one line is the next
 pub record Next (x : List ℕ) (t : TextLines) (note_lines : List (List ℕ)) : Type 0 where

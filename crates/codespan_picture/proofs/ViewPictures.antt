@@ -9,9 +9,9 @@ use Rattle.codespan_core.specs.ConfigEquality.{IsEqualConfig}
 use Rattle.codespan_core.specs.Diagnostics.{diagnostic_view, label_view}
 use Rattle.codespan_core.specs.FileModel.{FileDatabase}
 use Rattle.codespan_core.specs.Streams.{Stream}
-use Rattle.codespan_picture.specs.OutputStreams.{header_text_of, label_of, labels_of, locus_starts, notes_of, rendered}
+use Rattle.codespan_picture.specs.OutputStreams.{header_text_of, label_of, labels_of, locus_bytes, notes_of, rendered}
 use Rattle.codespan_picture.specs.Picture.{picture, stated_locus}
-use Rattle.codespan_picture.specs.Snippets.{InFile, labeled_file_models}
+use Rattle.codespan_picture.specs.Snippets.{LabelInFile, labeled_file_models}
 use Rattle.codespan_picture.specs.ViewPictures.{label_of_view, picture_of_view}
 use Rattle.codespan_picture.proofs.EqualConfigs.{rendered_equal}
 
@@ -24,10 +24,10 @@ labels-of_view (x ∷ xs) = ap (λ rest. label_of x ∷ rest) (labels-of_view xs
 module _ {Id : Type 0} (expected config : Config) (files : FileDatabase Id) (d : Diagnostic Id)
   where
     -- what is rendered in a style, by a configuration, with these labels
-    abbrev rendered_with : DisplayStyle → Config → List (InFile Id) → Stream
+    abbrev rendered_with : DisplayStyle → Config → List (LabelInFile Id) → Stream
     rendered_with style by xs =
         rendered style by by d.severity (header_text_of d)
-        (map stated_locus (locus_starts files.same files.file xs style))
+        (map stated_locus (locus_bytes files.same files.file xs style))
         (labeled_file_models files.same files.file xs) (notes_of d)
 
     -- the picture by a configuration equal to the one that is expected
@@ -38,6 +38,6 @@ module _ {Id : Type 0} (expected config : Config) (files : FileDatabase Id) (d :
         ap (λ (style : DisplayStyle). rendered_with style config (labels_of d))
         (ap (λ (c : Config). c.display_style) equal.others)
         ∙ rendered_equal expected config equal d.severity (header_text_of d)
-        (map stated_locus (locus_starts files.same files.file (labels_of d) expected.display_style))
+        (map stated_locus (locus_bytes files.same files.file (labels_of d) expected.display_style))
         (labeled_file_models files.same files.file (labels_of d)) (notes_of d) expected.display_style
         ∙ ap (λ xs. rendered_with expected.display_style expected xs) (labels-of_view d.labels.items)

@@ -28,14 +28,14 @@ max_label_end labels = fold (λ m (x : LabelModel). max m x.end) 0 labels
 
 -- ---- the carets of cells
 
--- the character owns the cell: it occupies this one
-abbrev pub owns : ℕ → Metrics → Bool
-owns k c = nat_le c.column k && nat_lt k (c.column + c.unicode_width)
+-- the character has the cell: it occupies this one
+abbrev pub occupies : ℕ → Metrics → Bool
+occupies k c = nat_le c.column k && nat_lt k (c.column + c.unicode_width)
 
--- the style of a cell: that of the labels over the character that owns it, none past the last one
+-- the style of a cell: that of the labels over the character that has it, none past the last one
 abbrev pub style_at : List LabelModel → List Metrics → ℕ → Option LabelStyle
 style_at labels [] k = None
-style_at labels (c ∷ cs) k = if owns k c then style_under labels c else style_at labels cs k
+style_at labels (c ∷ cs) k = if occupies k c then style_under labels c else style_at labels cs k
 
 -- the caret of a style, and a space for none
 abbrev pub caret_for : Chars → Option LabelStyle → ℕ

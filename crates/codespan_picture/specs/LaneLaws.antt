@@ -9,7 +9,7 @@ use Rattle.codespan_core.specs.Labels.{LabelModel, first_line, last_line, multi_
 use Rattle.codespan_core.specs.Streams.{Stream}
 use Rattle.codespan_picture.specs.declared.lane_shapes.Shape.{Shape}
 use Rattle.codespan_picture.specs.declared.lane_shapes.Shape.TheVariants.{Space, Bar, TopCorner, BottomCorner}
-use Rattle.codespan_picture.specs.Lanes.{LaneRow, Source, EmptyOrBreak, SingleLabels, Underline, row_shape, row_crossing, lane_mark_in, shape_of, style_of_lane_mark, is_unbroken, lane_characters}
+use Rattle.codespan_picture.specs.Lanes.{RowKind, Source, EmptyOrBreak, SingleLabels, Underline, row_shape, row_crossing, lane_mark_in, shape_of, style_of_lane_mark, is_unbroken, lane_characters}
 use Rattle.codespan_picture.specs.Rows.{Locus, RowContext, Lanes, Line, Row, EmptyRow, BreakRow, SourceRow, CaretRow, PointerRow, HangingRow, UnderlineRow}
 use Rattle.codespan_picture.specs.RowParts.{outer_gutter, outer_gutter_number, border_left, border_left_break, leading_of}
 use Rattle.codespan_picture.specs.RowStreams.{stream_of}
@@ -31,7 +31,7 @@ lanes_of_row (BreakRow lanes) = Some lanes
 lanes_of_row row = option_map (λ (line : Line). line.lanes) (line_of_row row)
 
 -- the kind of a row, as far as its lanes go
-abbrev pub kind_of : Row → LaneRow
+abbrev pub kind_of : Row → RowKind
 kind_of (SourceRow line) = Source
 kind_of (CaretRow line) = SingleLabels
 kind_of (PointerRow line) = SingleLabels

@@ -43,21 +43,21 @@ underline_shape layout leading corner_lane lane (Bottom end message) =
 
 -- a kind of row, as far as its lanes go: a source row; an empty or a break row; a caret, pointer or
 -- hanging row; the underline row of a lane mark
-pub data LaneRow : Type 0 where
-  Source : LaneRow
-  EmptyOrBreak : LaneRow
-  SingleLabels : LaneRow
-  Underline : LaneMark → LaneRow
+pub data RowKind : Type 0 where
+  Source : RowKind
+  EmptyOrBreak : RowKind
+  SingleLabels : RowKind
+  Underline : LaneMark → RowKind
 
 -- the table of lanes: what a multi-line label mark shows in a kind of row
-abbrev pub row_shape : Layout → ℕ → LaneRow → ℕ → MultiLabel → Shape
+abbrev pub row_shape : Layout → ℕ → RowKind → ℕ → MultiLabel → Shape
 row_shape layout leading Source lane = source_shape leading
 row_shape layout leading EmptyOrBreak lane = empty_or_break_shape
 row_shape layout leading SingleLabels lane = single_labels_shape layout leading
 row_shape layout leading (Underline m) lane = underline_shape layout leading m.lane lane
 
 -- the crossing of a lane: the lane mark of an underline row whose corner is left of the lane
-abbrev pub row_crossing : LaneRow → ℕ → Option LaneMark
+abbrev pub row_crossing : RowKind → ℕ → Option LaneMark
 row_crossing (Underline m) lane = if nat_lt m.lane lane then Some m else None
 row_crossing _ lane = None
 
@@ -96,8 +96,8 @@ crossing_characters severity chars (Some m) n =
     style_mark (LabelStyleMark severity m.style) ++ repeated n (underline_char chars m.multi_label)
     ++ style_mark Reset
 
--- the two characters of a lane: a space, or one character of the line that crosses it, and then its
--- own; if it shows nothing, two such
+-- the two characters of a lane: a space, or one character of the underline that crosses it, and
+-- then its own; if it shows nothing, two such
 unfoldable pub lane_characters : Severity → Chars → Option LaneMark → LabelStyle → Shape → Stream
 lane_characters severity chars crossing style Space = crossing_characters severity chars crossing 2
 lane_characters severity chars crossing style Bar =

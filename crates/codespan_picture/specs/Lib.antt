@@ -27,7 +27,7 @@ pub mod LineLaws
 pub mod MessageLaws
 pub mod RowLaws
 pub mod SortLaws
-pub mod TextLaws
+pub mod Utf8Laws
 pub mod TrailingLaws
 pub mod StatedNames
 pub mod RichLaws

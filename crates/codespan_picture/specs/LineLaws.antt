@@ -18,30 +18,31 @@ shown_lines config s =
     filter (is_shown config s.file s.labels) (range_with_len 0 (line_count s.file))
 
 -- the rows of drawn lines with their breaks follow from the shown lines
-abbrev pub RowsOfShown : Config → LabeledFileModel → Type 0
-RowsOfShown config s =
+abbrev pub RowsAreOfShownLines : Config → LabeledFileModel → Type 0
+RowsAreOfShownLines config s =
     rows_of_drawn s None (drawn_lines config s.file s.labels)
     ≡ rows_of_shown (line_at s) None (shown_lines config s)
 
 -- ---- breaks
 
 -- of each two consecutive lines in this list with two or more lines between them the later one
-abbrev pub broken_before : List ℕ → List ℕ
-broken_before [] = []
-broken_before (c ∷ []) = []
-broken_before (c ∷ d ∷ more) =
-    if has_break_between c d then d ∷ broken_before (d ∷ more) else broken_before (d ∷ more)
+abbrev pub lines_after_breaks : List ℕ → List ℕ
+lines_after_breaks [] = []
+lines_after_breaks (c ∷ []) = []
+lines_after_breaks (c ∷ d ∷ more) =
+    if has_break_between c d then d ∷ lines_after_breaks (d ∷ more)
+    else lines_after_breaks (d ∷ more)
 
 -- the lanes of a break row
 abbrev pub break_lanes : Row → Option Lanes
 break_lanes (BreakRow lanes) = Some lanes
 break_lanes _ = None
 
--- the snippet has one break row for each line of `broken_before`, in order, with that line's lanes
-abbrev pub BreaksAreGaps : Config → LabeledFileModel → Type 0
-BreaksAreGaps config s = (locus : Locus)
+-- the snippet has one break row for each of `lines_after_breaks`, in order, with that line's lanes
+abbrev pub BreaksReplaceLines : Config → LabeledFileModel → Type 0
+BreaksReplaceLines config s = (locus : Locus)
     → filter_map break_lanes (snippet config locus s)
-    ≡ map (λ l. (line_at s l).lanes) (broken_before (shown_lines config s))
+    ≡ map (λ l. (line_at s l).lanes) (lines_after_breaks (shown_lines config s))
 
 -- a lane has a bar in a break row exactly where its label covers every line that is left out there
 abbrev pub BreaksHaveBars : Config → Layout → LabeledFileModel → Type 0

@@ -6,7 +6,7 @@ use Rattle.codespan_core.specs.FileModel.{FileDatabase, FileModel, Lookup, line_
 use Rattle.codespan_core.specs.FileModel.Lookup.{Name, Source, LineIndex, LineNumber, LocationAt, LineRange}
 use Rattle.codespan_core.specs.Labels.{LabelModel, first_line, last_line}
 use Rattle.codespan_picture.specs.Lines.{is_shown, is_drawn}
-use Rattle.codespan_picture.specs.Snippets.{LabeledFileModel, InFile, file_ids, labeled_file_model, locus_start, primary_of}
+use Rattle.codespan_picture.specs.Snippets.{LabeledFileModel, LabelInFile, file_ids, labeled_file_model, locus_byte_of, primary_of}
 use Rattle.codespan_picture.specs.Padding.{spans}
 use Rattle.codespan_picture.specs.OutputStreams.{labels_of}
 
@@ -73,21 +73,21 @@ lookups_of_file {Id} id ls = map (λ l. (id, l)) ls
 
 -- those of all labels, in their order
 abbrev pub label_lookups : {Id : Type 0}
-    → Config → FileDatabase Id → List (InFile Id) → List (Id × Lookup)
+    → Config → FileDatabase Id → List (LabelInFile Id) → List (Id × Lookup)
 label_lookups {Id} config files xs =
-    flat_map (λ (x : InFile Id).
+    flat_map (λ (x : LabelInFile Id).
     lookups_of_file x.file_id
     (label_line_lookups config (files.file x.file_id) (files.failure x.file_id) x.label))
     xs
 
-module _ {Id : Type 0} (files : FileDatabase Id) (xs : List (InFile Id)) where
+module _ {Id : Type 0} (files : FileDatabase Id) (xs : List (LabelInFile Id)) where
   -- a file with its labels
   abbrev pub file_at : Id → LabeledFileModel
   file_at id = labeled_file_model files.same files.file xs id
 
   -- those of the locus of a file's snippet: the file's name, and the location of a byte
   abbrev pub locus_lookups : Id → List Lookup
-  locus_lookups id = Name ∷ LocationAt (locus_start (file_at id).labels) ∷ []
+  locus_lookups id = Name ∷ LocationAt (locus_byte_of (file_at id).labels) ∷ []
 
   module _ (config : Config) where
     -- the numbers of filled lines that the padding needs
@@ -114,7 +114,7 @@ module _ {Id : Type 0} (files : FileDatabase Id) (xs : List (InFile Id)) where
 
 -- in short and medium style, those of a label's header: the name of its file, and the location of
 -- its start
-abbrev pub header_lookups_of : {Id : Type 0} → InFile Id → List (Id × Lookup)
+abbrev pub header_lookups_of : {Id : Type 0} → LabelInFile Id → List (Id × Lookup)
 header_lookups_of x = lookups_of_file x.file_id (Name ∷ LocationAt x.label.start ∷ [])
 
 -- all lookups of an output in a style: in short and medium style those of all primary labels

@@ -9,12 +9,12 @@ use Rattle.codespan_core.specs.Streams.{Stream, byte_stream}
 use Rattle.codespan_picture.specs.Padding.{padding_of}
 use Rattle.codespan_picture.specs.Rows.{HeaderText, Locus, RowContext}
 use Rattle.codespan_picture.specs.RowStreams.{stream_of_rows}
-use Rattle.codespan_picture.specs.Snippets.{InFile, LabeledFileModel, header_rows, labeled_file_models, locus_start, note_rows, primary_of, rich_rows}
+use Rattle.codespan_picture.specs.Snippets.{LabelInFile, LabeledFileModel, header_rows, labeled_file_models, locus_byte_of, note_rows, primary_of, rich_rows}
 
 -- ---- a diagnostic, as its output reads it
 
 -- a label
-abbrev pub label_of : {Id : Type 0} → Label Id → InFile Id
+abbrev pub label_of : {Id : Type 0} → Label Id → LabelInFile Id
 label_of x = record {
   file_id = x.file_id;
   label = record {
@@ -26,7 +26,7 @@ label_of x = record {
 }
 
 -- the labels in the order given
-abbrev pub labels_of : {Id : Type 0} → Diagnostic Id → List (InFile Id)
+abbrev pub labels_of : {Id : Type 0} → Diagnostic Id → List (LabelInFile Id)
 labels_of d = map label_of d.labels.items
 
 -- its files with their labels
@@ -53,28 +53,30 @@ pub record IsLocus (at : FileModel × ℕ) (locus : Locus) : Type 0 where
   pub name : IfSome at.0.name (λ name. locus.name ≡ name)
 
 -- the byte of a file whose locus its snippet shows
-abbrev pub snippet_locus_start : LabeledFileModel → FileModel × ℕ
-snippet_locus_start s = (s.file, locus_start s.labels)
+abbrev pub snippet_locus_byte : LabeledFileModel → FileModel × ℕ
+snippet_locus_byte s = (s.file, locus_byte_of s.labels)
 
 -- the byte of a file at which a label starts
-abbrev pub label_locus_start : {Id : Type 0} → (Id → FileModel) → InFile Id → FileModel × ℕ
-label_locus_start file x = (file x.file_id, x.label.start)
+abbrev pub label_locus_byte : {Id : Type 0} → (Id → FileModel) → LabelInFile Id → FileModel × ℕ
+label_locus_byte file x = (file x.file_id, x.label.start)
 
-module _ {Id : Type 0} (same : Id → Id → Bool) (file : Id → FileModel) (xs : List (InFile Id)) where
+module _ {Id : Type 0} (same : Id → Id → Bool) (file : Id → FileModel)
+    (xs : List (LabelInFile Id)) where
   -- the bytes of files whose loci the output shows: in rich style that of each file's snippet, in
   -- medium and short style the start of each primary label
-  abbrev pub locus_starts : DisplayStyle → List (FileModel × ℕ)
-  locus_starts Rich = map snippet_locus_start (labeled_file_models same file xs)
-  locus_starts _ = map (label_locus_start file) (primary_of xs)
+  abbrev pub locus_bytes : DisplayStyle → List (FileModel × ℕ)
+  locus_bytes Rich = map snippet_locus_byte (labeled_file_models same file xs)
+  locus_bytes _ = map (label_locus_byte file) (primary_of xs)
 
--- the names of these loci are texts
-abbrev pub NamesAreTexts : List Locus → Type 0
-NamesAreTexts loci = AllByRecursion (λ (locus : Locus). IsUtf8 locus.name) loci
+-- the names of these loci are UTF-8
+abbrev pub NamesAreUtf8 : List Locus → Type 0
+NamesAreUtf8 loci = AllByRecursion (λ (locus : Locus). IsUtf8 locus.name) loci
 
-module _ {Id : Type 0} (files : FileDatabase Id) (d : Diagnostic Id) (style : DisplayStyle) where
-  -- these are the loci of an output, one for each byte of `locus_starts`
+module _ {Id : Type 0} (files : FileDatabase Id) (d : Diagnostic Id)
+    (display_style : DisplayStyle) where
+  -- these are the loci of an output, one for each byte of `locus_bytes`
   abbrev pub AreLoci : List Locus → Type 0
-  AreLoci loci = AllZip IsLocus (locus_starts files.same files.file (labels_of d) style) loci
+  AreLoci loci = AllZip IsLocus (locus_bytes files.same files.file (labels_of d) display_style) loci
 
 -- ---- the output
 
@@ -101,10 +103,10 @@ rendered Medium renderer_config view_config severity header_text loci ss notes =
 rendered Short renderer_config view_config severity header_text loci ss notes =
     stream_of_rows (context_of renderer_config severity 0) (header_rows header_text loci)
 
-module _ {Id : Type 0} (style : DisplayStyle) (renderer_config view_config : Config)
+module _ {Id : Type 0} (display_style : DisplayStyle) (renderer_config view_config : Config)
     (files : FileDatabase Id) (d : Diagnostic Id) where
   -- the output of a diagnostic with these loci
   abbrev pub output : List Locus → Stream
   output loci =
-      rendered style renderer_config view_config d.severity (header_text_of d) loci
+      rendered display_style renderer_config view_config d.severity (header_text_of d) loci
       (files_of files d) (notes_of d)

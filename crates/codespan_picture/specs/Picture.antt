@@ -5,23 +5,25 @@ use Rattle.codespan_core.specs.FileModel.{FileDatabase, FileModel, name_text}
 use Rattle.codespan_core.specs.Streams.{Stream}
 use Rattle.codespan_picture.specs.Rows.{HeaderText, HeaderRow, Locus, Row}
 use Rattle.codespan_picture.specs.RowStreams.{stream_of_rows}
-use Rattle.codespan_picture.specs.OutputStreams.{header_text_of, labels_of, context_of, output, locus_starts}
+use Rattle.codespan_picture.specs.OutputStreams.{header_text_of, labels_of, context_of, output, locus_bytes}
 
 -- the locus of a byte of a file with the name that the file states, and with an empty name where it
 -- states none
 abbrev pub stated_locus : FileModel × ℕ → Locus
 stated_locus at = record { name = name_text at.0; location = at.0.location at.1 }
 
-module _ {Id : Type 0} (files : FileDatabase Id) (d : Diagnostic Id) (style : DisplayStyle) where
+module _ {Id : Type 0} (files : FileDatabase Id) (d : Diagnostic Id)
+    (display_style : DisplayStyle) where
   -- the loci of an output with the names that the files state
   abbrev pub stated_loci : List Locus
-  stated_loci = map stated_locus (locus_starts files.same files.file (labels_of d) style)
+  stated_loci = map stated_locus (locus_bytes files.same files.file (labels_of d) display_style)
 
-module _ {Id : Type 0} (style : DisplayStyle) (renderer_config view_config : Config)
+module _ {Id : Type 0} (display_style : DisplayStyle) (renderer_config view_config : Config)
     (files : FileDatabase Id) (d : Diagnostic Id) where
   -- the picture of a diagnostic: its output with the names that the files state
   abbrev pub picture : Stream
-  picture = output style renderer_config view_config files d (stated_loci files d style)
+  picture =
+      output display_style renderer_config view_config files d (stated_loci files d display_style)
 
 -- headers with these loci
 abbrev pub headers : HeaderText → List Locus → List Row

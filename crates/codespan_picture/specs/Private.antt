@@ -1,10 +1,10 @@
 -- Definitions that proofs use, and calls that users do not name, here and in the crates above: a
 -- reader of the contracts of what users name needs none of them.
 pub mod LineViews
-pub mod RowViews
+pub mod WrittenParts
 pub mod CharCursors
 pub mod LineCharacters
-pub mod LaneMarksLeft
+pub mod RemainingLaneMarks
 pub mod PrimaryCover
 pub mod Runs
 -- the underlines of multi-line labels

@@ -49,15 +49,15 @@ rendered_break config severity padding num_multi_labels lane_marks =
     break_row (context_of config severity padding) (lanes_of num_multi_labels lane_marks) ++ newline
 
 -- the rows of the lines of a note after the first
-abbrev pub later_note_lines_stream : ℕ → List (List ℕ) → Stream
-later_note_lines_stream padding note_lines =
+abbrev pub later_note_rows_stream : ℕ → List (List ℕ) → Stream
+later_note_rows_stream padding note_lines =
     flat_map (λ note_line. later_note_row padding note_line ++ newline) note_lines
 
 -- the rows of a note of these lines
 abbrev pub note_stream : Chars → ℕ → List (List ℕ) → Stream
 note_stream chars padding [] = []
 note_stream chars padding (p ∷ ps) =
-    first_note_row chars padding p ++ newline ++ later_note_lines_stream padding ps
+    first_note_row chars padding p ++ newline ++ later_note_rows_stream padding ps
 
 -- the rows of a note
 abbrev pub rendered_note : Config → ℕ → List ℕ → Stream

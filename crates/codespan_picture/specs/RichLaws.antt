@@ -10,7 +10,7 @@ use Rattle.codespan_picture.specs.Padding.{padding_of}
 use Rattle.codespan_picture.specs.OutputStreams.{AreLoci, files_of, context_of}
 use Rattle.codespan_picture.specs.CaretLaws.{CaretsAreCells, StartsHaveCells, PointersAreCells}
 use Rattle.codespan_picture.specs.LaneLaws.{BarsAreLabels, LanesJoinCorners, LanesAreShown}
-use Rattle.codespan_picture.specs.LineLaws.{BreaksAreGaps, BreaksHaveBars, RowsOfShown, SourceRowsAreFew, PaddingFits}
+use Rattle.codespan_picture.specs.LineLaws.{BreaksReplaceLines, BreaksHaveBars, RowsAreOfShownLines, SourceRowsAreFew, PaddingFits}
 use Rattle.codespan_picture.specs.MessageLaws.{MessagesAppearOnce}
 
 -- no label of a file starts after its end
@@ -21,8 +21,8 @@ NoneReversed labels = (x : LabelModel) → Contains labels x → x.start ≤ x.e
 -- is that of the renderer
 pub record SnippetMeansLabels (view_config : Config) (context : RowContext)
     (s : LabeledFileModel) : Type 0 where
-  pub drawn : RowsOfShown view_config s
-  pub breaks : BreaksAreGaps view_config s
+  pub drawn : RowsAreOfShownLines view_config s
+  pub breaks : BreaksReplaceLines view_config s
   pub few : SourceRowsAreFew view_config s
   pub pointers : (l : ℕ) → StartsHaveCells (line_at s l).labels (line_metrics context (line_at s l))
       → PointersAreCells context (line_at s l)

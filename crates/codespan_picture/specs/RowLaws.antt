@@ -21,8 +21,8 @@ row_length s = character_count (text_of s)
 
 -- a configuration with other characters, whose text before a locus has as many characters, changes
 -- no row's number of characters
-abbrev pub CharactersAreFree : Type 0
-CharactersAreFree = (context : RowContext) (chars : Chars) (row : Row)
+abbrev pub CharsChangeNoRowLength : Type 0
+CharsChangeNoRowLength = (context : RowContext) (chars : Chars) (row : Row)
     → character_count (start_text chars.snippet_start)
     ≡ character_count (start_text context.chars.snippet_start)
     → row_length (stream_of (record context { chars = chars }) row)

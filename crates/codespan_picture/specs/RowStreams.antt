@@ -7,7 +7,7 @@ use Rattle.codespan_core.specs.Labels.{LabelModel, LaneMark}
 use Rattle.codespan_core.specs.SnippetStarts.{start_text}
 use Rattle.codespan_picture.specs.Lanes.{Source, EmptyOrBreak, SingleLabels, Underline}
 use Rattle.codespan_picture.specs.Rows.{Locus, HeaderText, RowContext, Lanes, Line, Row, HeaderRow, SnippetStartRow, EmptyRow, BreakRow, SourceRow, CaretRow, PointerRow, HangingRow, UnderlineRow, FirstNoteRow, LaterNoteRow, FinalRow, trailing_label}
-use Rattle.codespan_picture.specs.RowParts.{severity_name, locus, outer_gutter, outer_gutter_number, border_left, border_left_break, label_message, inner_gutter, leading_of, line_metrics, line_metrics_to_end, colored_text, carets, trailing_message, pointers, metrics_before, underline}
+use Rattle.codespan_picture.specs.RowParts.{severity_name, snippet_locus, outer_gutter, outer_gutter_number, border_left, border_left_break, label_message, inner_gutter, leading_of, line_metrics, line_metrics_to_end, colored_text, carets, trailing_message, pointers, metrics_before, underline}
 
 -- ---- rows, before their newlines
 
@@ -19,14 +19,14 @@ bracketed (Some (c ∷ cs)) =
     byte_stream (codes "[") ++ byte_stream (c ∷ cs) ++ byte_stream (codes "]")
 
 -- the locus before a header, where there is one
-unfoldable pub leading_locus : Option Locus → Stream
-leading_locus None = []
-leading_locus (Some p) = locus p ++ byte_stream (codes ": ")
+unfoldable pub header_locus : Option Locus → Stream
+header_locus None = []
+header_locus (Some p) = snippet_locus p ++ byte_stream (codes ": ")
 
 -- the header: the locus, the severity, the code and the message
 unfoldable pub header_row : Severity → Option Locus → HeaderText → Stream
 header_row severity at header_text =
-    leading_locus at ++ style_mark (Header severity) ++ byte_stream (severity_name severity)
+    header_locus at ++ style_mark (Header severity) ++ byte_stream (severity_name severity)
     ++ bracketed header_text.code
     ++ style_mark HeaderMessage ++ byte_stream (codes ": ") ++ byte_stream header_text.message
     ++ style_mark Reset
@@ -35,7 +35,7 @@ header_row severity at header_text =
 unfoldable pub snippet_start_row : Chars → ℕ → Locus → Stream
 snippet_start_row chars padding at =
     outer_gutter padding ++ style_mark SourceBorder ++ byte_stream (start_text chars.snippet_start)
-    ++ style_mark Reset ++ space ++ locus at
+    ++ style_mark Reset ++ space ++ snippet_locus at
 
 -- an empty row of a snippet
 unfoldable pub empty_row : RowContext → Lanes → Stream

@@ -69,19 +69,20 @@ abbrev pub does_trail : List LabelModel → ℕ × LabelModel → Bool
 does_trail labels e = has_message e.1 && not (overlaps_any e.1 (remove labels e.0))
 
 -- the last of the labels with the greatest end, where its message trails
-abbrev pub trailing_entry : List LabelModel → Option (ℕ × LabelModel)
-trailing_entry labels =
+abbrev pub indexed_trailing_label : List LabelModel → Option (ℕ × LabelModel)
+indexed_trailing_label labels =
     option_and_then (λ e. if does_trail labels e then Some e else None)
     (last_with_end (max_label_end labels) labels)
 
 -- the label whose message trails
 abbrev pub trailing_label : List LabelModel → Option LabelModel
-trailing_label labels = option_map (λ (e : ℕ × LabelModel). e.1) (trailing_entry labels)
+trailing_label labels = option_map (λ (e : ℕ × LabelModel). e.1) (indexed_trailing_label labels)
 
 -- the labels that hang: all others with a message
 abbrev pub hanging_labels : List LabelModel → List LabelModel
 hanging_labels labels =
-    filter has_message (option_map_or (λ e. remove labels e.0) (trailing_entry labels) labels)
+    filter has_message
+    (option_map_or (λ e. remove labels e.0) (indexed_trailing_label labels) labels)
 
 -- ---- underlines
 

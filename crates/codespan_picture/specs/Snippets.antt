@@ -15,25 +15,27 @@ pub record LabeledFileModel : Type 0 where
   pub labels : List LabelModel
 
 -- a label of the diagnostic, with the id of its file
-pub record InFile (Id : Type 0) : Type 0 where
+pub record LabelInFile (Id : Type 0) : Type 0 where
   pub file_id : Id
   pub label : LabelModel
 
 -- one file with its labels
 abbrev pub labeled_file_model : {Id : Type 0}
-    → (Id → Id → Bool) → (Id → FileModel) → List (InFile Id) → Id → LabeledFileModel
+    → (Id → Id → Bool) → (Id → FileModel) → List (LabelInFile Id) → Id → LabeledFileModel
 labeled_file_model {Id} same file labels id = record {
   file = file id;
-  labels = map (λ (x : InFile Id). x.label) (filter (λ (x : InFile Id). same id x.file_id) labels);
+  labels =
+      map (λ (x : LabelInFile Id). x.label)
+      (filter (λ (x : LabelInFile Id). same id x.file_id) labels);
 }
 
 -- the ids of the labels' files, in the order of their first label
-abbrev pub file_ids : {Id : Type 0} → (Id → Id → Bool) → List (InFile Id) → List Id
-file_ids {Id} same labels = first_seen same (map (λ (x : InFile Id). x.file_id) labels)
+abbrev pub file_ids : {Id : Type 0} → (Id → Id → Bool) → List (LabelInFile Id) → List Id
+file_ids {Id} same labels = first_seen same (map (λ (x : LabelInFile Id). x.file_id) labels)
 
 -- the labels' files in that order, each with its labels
 abbrev pub labeled_file_models : {Id : Type 0}
-    → (Id → Id → Bool) → (Id → FileModel) → List (InFile Id) → List LabeledFileModel
+    → (Id → Id → Bool) → (Id → FileModel) → List (LabelInFile Id) → List LabeledFileModel
 labeled_file_models same file labels =
     map (labeled_file_model same file labels) (file_ids same labels)
 
@@ -88,8 +90,8 @@ if_any (x ∷ xs) others = x ∷ xs
 
 -- the byte of a file's locus: the least start of a primary label, or of any label where none is
 -- primary
-abbrev pub locus_start : List LabelModel → ℕ
-locus_start labels =
+abbrev pub locus_byte_of : List LabelModel → ℕ
+locus_byte_of labels =
     least (map (λ (x : LabelModel). x.start) (if_any (filter is_primary labels) labels))
 
 -- the rows of a file's snippet, which starts with this locus
@@ -137,8 +139,8 @@ rich_rows config header_text loci ss notes =
 -- ---- short and medium style
 
 -- the primary ones of these labels
-abbrev pub primary_of : {Id : Type 0} → List (InFile Id) → List (InFile Id)
-primary_of {Id} xs = filter (λ (x : InFile Id). is_primary x.label) xs
+abbrev pub primary_of : {Id : Type 0} → List (LabelInFile Id) → List (LabelInFile Id)
+primary_of {Id} xs = filter (λ (x : LabelInFile Id). is_primary x.label) xs
 
 -- a header with each of these loci, or one without a locus where there is none
 abbrev pub header_rows : HeaderText → List Locus → List Row

@@ -11,6 +11,6 @@ pub record IsSortOf (xs ys : List LabelModel) : Type 0 where
   pub stable : IsStableBy range_precedes xs ys
 
 -- there is one such list, which is `sorted`
-pub record SortsLabels (xs : List LabelModel) : Type 0 where
+pub record SortedIsStableSort (xs : List LabelModel) : Type 0 where
   pub is : IsSortOf xs (sorted xs)
   pub only : (ys : List LabelModel) → IsSortOf xs ys → ys ≡ sorted xs

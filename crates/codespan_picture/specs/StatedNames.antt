@@ -3,39 +3,42 @@ use Rattle.std.specs.Prelude.{◌≡◌, List, ◌∷◌, ◌++◌, flat_map, Co
 use Rattle.codespan_picture.specs.Types.{Diagnostic, Error, Config, DisplayStyle, Short}
 use Rattle.codespan_core.specs.FileModel.{FileDatabase}
 use Rattle.codespan_picture.specs.Lookups.{AllSucceed, first_error, header_lookups_of, Failures}
-use Rattle.codespan_picture.specs.OutputStreams.{AreLoci, labels_of, output, label_locus_start}
+use Rattle.codespan_picture.specs.OutputStreams.{AreLoci, labels_of, output, label_locus_byte}
 use Rattle.codespan_picture.specs.Picture.{headers_at, picture, stated_locus}
 use Rattle.codespan_picture.specs.Rows.{Locus}
-use Rattle.codespan_picture.specs.Snippets.{InFile, primary_of}
+use Rattle.codespan_picture.specs.Snippets.{LabelInFile, primary_of}
 use Rattle.codespan_core.specs.FileModel.Lookup.{Name, LocationAt}
 use Rattle.codespan_core.specs.Streams.{Stream}
 
 -- the primary labels before the first one for which a lookup fails
-abbrev pub labels_before_failure : {Id : Type 0} → Failures Id → List (InFile Id) → List (InFile Id)
+abbrev pub labels_before_failure : {Id : Type 0} → Failures Id → List (LabelInFile Id)
+    → List (LabelInFile Id)
 labels_before_failure {Id} failure xs = take_while lookup_succeeds (primary_of xs)
   where
-    lookup_succeeds : InFile Id → Bool
+    lookup_succeeds : LabelInFile Id → Bool
     lookup_succeeds x =
         is_none (failure x.file_id Name) && is_none (failure x.file_id (LocationAt x.label.start))
 
 module _ {Id : Type 0} (files : FileDatabase Id) (d : Diagnostic Id) where
   -- the names of the labels' files are stated
   abbrev pub NamesAreStated : Type 0
-  NamesAreStated = (x : InFile Id) → Contains (labels_of d) x → IsSome (files.file x.file_id).name
+  NamesAreStated = (x : LabelInFile Id) → Contains (labels_of d) x
+      → IsSome (files.file x.file_id).name
 
   -- the output with any loci is the picture
   abbrev pub OutputIsPicture : Type 0
   OutputIsPicture = NamesAreStated
-      → (style : DisplayStyle) (renderer_config view_config : Config) (loci : List Locus)
-      → AreLoci files d style loci
-      → output style renderer_config view_config files d loci
-      ≡ picture style renderer_config view_config files d
+      → (display_style : DisplayStyle) (renderer_config view_config : Config) (loci : List Locus)
+      → AreLoci files d display_style loci
+      → output display_style renderer_config view_config files d loci
+      ≡ picture display_style renderer_config view_config files d
 
   -- the headers of the primary labels before the first one for which a lookup fails: what short
   -- and medium style have written when it fails
   abbrev pub headers_before_failure : Config → Stream
   headers_before_failure config =
-      headers_at config d (map (λ (x : InFile Id). stated_locus (label_locus_start files.file x))
+      headers_at config d
+      (map (λ (x : LabelInFile Id). stated_locus (label_locus_byte files.file x))
       (labels_before_failure files.failure (labels_of d)))
 
   -- where a lookup of a primary label fails, and none of those of the primary labels before it, the
@@ -43,7 +46,7 @@ module _ {Id : Type 0} (files : FileDatabase Id) (d : Diagnostic Id) where
   abbrev pub HeadersAreBeforeFailure : Type 0
   HeadersAreBeforeFailure = NamesAreStated
       → (config : Config) (loci : List Locus) → AreLoci files d Short loci
-      → (before : List (InFile Id)) (here : InFile Id) (after : List (InFile Id))
+      → (before : List (LabelInFile Id)) (here : LabelInFile Id) (after : List (LabelInFile Id))
       → before ++ here ∷ after ≡ primary_of (labels_of d)
       → AllSucceed files.failure (flat_map header_lookups_of before)
       → (e : Error) → first_error files.failure (header_lookups_of here) ≡ Some e

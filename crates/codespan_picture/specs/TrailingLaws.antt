@@ -18,5 +18,5 @@ pub record TrailsOrHangs (labels : List LabelModel) : Type 0 where
       ≡ before ++ with_first (trailing_label labels) after
 
 -- so each label with a message trails or hangs, and none does both
-abbrev pub EachTrailsOrHangs : Type 0
-EachTrailsOrHangs = (labels : List LabelModel) → TrailsOrHangs labels
+abbrev pub EachMessageTrailsOrHangs : Type 0
+EachMessageTrailsOrHangs = (labels : List LabelModel) → TrailsOrHangs labels

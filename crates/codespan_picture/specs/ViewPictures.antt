@@ -5,12 +5,12 @@ use Rattle.codespan_core.specs.Diagnostics.{DiagnosticView, LabelView}
 use Rattle.codespan_core.specs.FileModel.{FileModel}
 use Rattle.codespan_core.specs.Streams.{Stream, byte_stream}
 use Rattle.codespan_picture.specs.Rows.{HeaderText}
-use Rattle.codespan_picture.specs.Snippets.{InFile, labeled_file_models}
-use Rattle.codespan_picture.specs.OutputStreams.{locus_starts, rendered}
+use Rattle.codespan_picture.specs.Snippets.{LabelInFile, labeled_file_models}
+use Rattle.codespan_picture.specs.OutputStreams.{locus_bytes, rendered}
 use Rattle.codespan_picture.specs.Picture.{stated_locus}
 
 -- a label
-abbrev pub label_of_view : {Id : Type 0} → LabelView Id → InFile Id
+abbrev pub label_of_view : {Id : Type 0} → LabelView Id → LabelInFile Id
 label_of_view x = record {
   file_id = x.file_id;
   label = record {
@@ -22,7 +22,7 @@ label_of_view x = record {
 }
 
 -- the labels in the order given
-abbrev pub labels_of_view : {Id : Type 0} → DiagnosticView Id → List (InFile Id)
+abbrev pub labels_of_view : {Id : Type 0} → DiagnosticView Id → List (LabelInFile Id)
 labels_of_view d = map label_of_view d.labels
 
 -- the code and the message
@@ -34,5 +34,5 @@ abbrev pub picture_of_view : {Id : Type 0}
     → Config → (Id → Id → Bool) → (Id → FileModel) → DiagnosticView Id → Stream
 picture_of_view config same file d =
     rendered config.display_style config config d.severity (header_text_of_view d)
-    (map stated_locus (locus_starts same file (labels_of_view d) config.display_style))
+    (map stated_locus (locus_bytes same file (labels_of_view d) config.display_style))
     (labeled_file_models same file (labels_of_view d)) d.notes

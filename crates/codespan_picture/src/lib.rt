@@ -5,7 +5,7 @@
 
 pub mod arguments;
 pub mod char_metrics;
-pub mod characters;
 pub mod lane_shapes;
 pub mod padding;
 pub mod rows;
+pub mod scalar_chars;

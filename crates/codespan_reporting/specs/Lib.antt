@@ -37,7 +37,7 @@ pub use Rattle.codespan_picture.specs.MessageLaws
 pub use Rattle.codespan_laws.specs.OrderLaws
 pub use Rattle.codespan_picture.specs.RowLaws
 pub use Rattle.codespan_picture.specs.SortLaws
-pub use Rattle.codespan_picture.specs.TextLaws
+pub use Rattle.codespan_picture.specs.Utf8Laws
 pub use Rattle.codespan_picture.specs.TrailingLaws
 pub use Rattle.codespan_picture.specs.StatedNames
 pub use Rattle.codespan_picture.specs.RichLaws

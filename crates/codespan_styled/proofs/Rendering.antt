@@ -11,7 +11,7 @@ use Rattle.codespan_base.specs.LawfulFiles.{IsLawful}
 use Rattle.codespan_base.specs.Streams.{Stream, Byte, Mark, Slot, Spelling, spelled}
 use Rattle.codespan_base.specs.WriterLaw.{Frame, Sink, are_known, extended, is_known, with_written}
 use Rattle.codespan_base.specs.Writers.{fresh_sink}
-use Rattle.codespan_picture.specs.TextLaws.{AreCharacters, AreTextsAfter}
+use Rattle.codespan_picture.specs.Utf8Laws.{CharsAreScalars, AreUtf8After}
 use Rattle.codespan_picture.proofs.PictureTexts.{text-output}
 use Rattle.codespan_views.specs.Output.{IsEmitError}
 use Rattle.codespan_views.specs.WriteCalls.{WritesStyled}
@@ -40,7 +40,7 @@ module _ {Id : Type 0} {config : Config} {files : FileDatabase Id} {d : Diagnost
   pub runs_rendered : {old new : Sink} {last : List ℕ} (text : StyledText)
       → WritesStyled config.display_style config config files d old (Ok tt) new
       → old ≡ fresh_sink style_spelling (Some (style_number Plain ∷ [])) → new.contents ≡ Some last
-      → AreCharacters config.chars → ((id : Id) → IsLawful (files.file id))
+      → CharsAreScalars config.chars → ((id : Id) → IsLawful (files.file id))
       → recorded_runs (styled_runs text) ≡ last → AreRuns config files d (styled_runs text)
   runs_rendered {old} {new} {last} text rendered fresh contents characters lawful are =
       let loci = rendered.writes.loci in
@@ -65,7 +65,7 @@ module _ {Id : Type 0} {config : Config} {files : FileDatabase Id} {d : Diagnost
   pub runs_emitted : {old new : Sink} {last : List ℕ} (r : Result StyledText Error)
       → WritesStyled config.display_style config config files d old (Ok tt) new
       → old ≡ fresh_sink style_spelling (Some (style_number Plain ∷ [])) → new.contents ≡ Some last
-      → AreCharacters config.chars → ((id : Id) → IsLawful (files.file id))
+      → CharsAreScalars config.chars → ((id : Id) → IsLawful (files.file id))
       → MatchResult r (λ text. recorded_runs (styled_runs text) ≡ last) (λ e. e ≡ OutOfMemory)
       → EmitsRuns config files d styled_runs r
   runs_emitted (Ok text) rendered fresh contents characters lawful are =
@@ -83,7 +83,7 @@ module _ {Id : Type 0} {config : Config} {files : FileDatabase Id} {d : Diagnost
 -- ---- texts
 
 -- the runs of a text are texts
-runs-texts : (style : Style) (text : List ℕ) (s : Stream) → AreTextsAfter text s
+runs-texts : (style : Style) (text : List ℕ) (s : Stream) → AreUtf8After text s
     → AreTexts (runs_from style text s)
 runs-texts style text [] h = (h, tt)
 runs-texts style text (Byte b ∷ s) h = runs-texts style (text ++ b ∷ []) s h

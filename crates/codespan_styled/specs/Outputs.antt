@@ -5,8 +5,8 @@ use Rattle.codespan_base.specs.FileModel.{FileDatabase}
 use Rattle.codespan_base.specs.LawfulFiles.{IsLawful}
 use Rattle.codespan_base.specs.Streams.{Stream, text_of}
 use Rattle.codespan_picture.specs.RichLaws.{MeansLabels}
-use Rattle.codespan_picture.specs.TextLaws.{AreCharacters}
-use Rattle.codespan_picture.specs.OutputStreams.{AreLoci, NamesAreTexts, output}
+use Rattle.codespan_picture.specs.Utf8Laws.{CharsAreScalars}
+use Rattle.codespan_picture.specs.OutputStreams.{AreLoci, NamesAreUtf8, output}
 use Rattle.codespan_picture.specs.Rows.{Locus}
 use Rattle.codespan_views.specs.Output.{IsEmitError, Succeeds}
 use Rattle.codespan_documents.specs.Runs.{AreTexts, StyledRun, joined, runs_of}
@@ -30,8 +30,8 @@ module _ {Id : Type 0} (config : Config) (files : FileDatabase Id) (d : Diagnost
   -- values, its files are lawful, and the names of the loci are texts: no style mark is inside a
   -- character
   abbrev pub RunsAreTexts : Type 0
-  RunsAreTexts = AreCharacters config.chars → ((id : Id) → IsLawful (files.file id))
-      → (loci : List Locus) → NamesAreTexts loci → AreTexts (runs_of (output_at loci))
+  RunsAreTexts = CharsAreScalars config.chars → ((id : Id) → IsLawful (files.file id))
+      → (loci : List Locus) → NamesAreUtf8 loci → AreTexts (runs_of (output_at loci))
 
   -- the call returns the runs of the output, or fails as `emit_into_string` does
   abbrev pub EmitsRuns : {T : Type 0} → (T → List StyledRun) → Result T Error → Type 0

@@ -10,7 +10,7 @@ use codespan_base::diagnostic::Diagnostic;
 use codespan_base::files::{Error, Files};
 use codespan_base::term::Config;
 use codespan_documents::text::StyledText;
-use codespan_picture::characters::are_characters;
+use codespan_picture::scalar_chars::chars_are_scalars;
 use codespan_views::emitting::emit_to_write_style;
 use std::alloc::Global;
 
@@ -46,7 +46,7 @@ pub fn styled_text<'files, F: Files<'files>>(
     ensures { EmitsRuns config.now (F.database files.now) diagnostic.now styled_runs result }
 {
     // Does nothing: shows the prover that the characters are Unicode scalar values.
-    are_characters(&config.chars);
+    chars_are_scalars(&config.chars);
     let mut recorder = Recorder::new(alloc);
     match emit_to_write_style(&mut recorder, config, files, diagnostic) {
         Ok(()) => recorder.into_text(),

@@ -16,7 +16,7 @@ use Rattle.codespan_views.specs.Private.LabelAnnotations.{line_annotations, anno
 use Rattle.codespan_picture.specs.Lines.{shows}
 use Rattle.codespan_views.specs.Private.FileIndices.{index_of_file}
 use Rattle.codespan_views.specs.Private.IndexedLabels.{indices_after, annotations_after}
-use Rattle.codespan_picture.specs.Snippets.{InFile}
+use Rattle.codespan_picture.specs.Snippets.{LabelInFile}
 use Rattle.codespan_views.specs.Private.LabeledFiles.{num_multi_labels_of}
 use Rattle.codespan_views.specs.Private.SnippetLines.{single_labels_in}
 use Rattle.codespan_views.proofs.AnnotationOrder.{lane_mark_annotation, index_below}
@@ -36,12 +36,12 @@ module _ {Id : Type 0} {same : Id → Id → Bool} {file : Id → FileModel} {id
   own_file = file id
 
   -- the labels that are of the file
-  abbrev own : List (InFile Id) → List (InFile Id)
-  own xs = filter (λ (x : InFile Id). same id x.file_id) xs
+  abbrev own : List (LabelInFile Id) → List (LabelInFile Id)
+  own xs = filter (λ (x : LabelInFile Id). same id x.file_id) xs
 
   -- they, without their ids
-  abbrev pub labels_in : List (InFile Id) → List LabelModel
-  labels_in xs = map (λ (x : InFile Id). x.label) (own xs)
+  abbrev pub labels_in : List (LabelInFile Id) → List LabelModel
+  labels_in xs = map (λ (x : LabelInFile Id). x.label) (own xs)
 
   -- ---- lines of the file
 
@@ -50,7 +50,7 @@ module _ {Id : Type 0} {same : Id → Id → Bool} {file : Id → FileModel} {id
   ends-below x = (line_of-below own_file.starts x.start here.has_line, line_of-below own_file.starts x.end here.has_line)
 
   -- its annotations of the file are of such lines
-  pub annotations-below : (xs before : List (InFile Id)) → AllByRecursion (λ e. is_of_file f e ≡ true → e.line < line_count own_file) (annotations_after same file config ids before xs)
+  pub annotations-below : (xs before : List (LabelInFile Id)) → AllByRecursion (λ e. is_of_file f e ≡ true → e.line < line_count own_file) (annotations_after same file config ids before xs)
   annotations-below [] before = tt
   annotations-below (x ∷ xs) before =
       all-append (λ e. is_of_file f e ≡ true → e.line < line_count own_file)
@@ -67,25 +67,25 @@ module _ {Id : Type 0} {same : Id → Id → Bool} {file : Id → FileModel} {id
       (cases_Bool (same id x.file_id)))
       (annotations-below xs (before ++ x ∷ []))
     where
-      other : (x : InFile Id) → same id x.file_id ≡ false → (e : Annotation) → e.file ≡ index_of_file same ids x.file_id → is_of_file f e ≡ true → ⊥
+      other : (x : LabelInFile Id) → same id x.file_id ≡ false → (e : Annotation) → e.file ≡ index_of_file same ids x.file_id → is_of_file f e ≡ true → ⊥
       other x t e h k = let both = sym k ∙ ap (λ i. i == f) h ∙ here.index x.file_id ∙ t in cc
 
   module _ (l : ℕ) where
     -- where a label of the file is after these
-    abbrev indices_at : List (InFile Id) → LabelIndices
+    abbrev indices_at : List (LabelInFile Id) → LabelIndices
     indices_at before = record { file = f; index = length before; lane = num_multi_labels_of same file before id }
 
     -- the annotations of a label on the line
-    abbrev line_annotations_of : List (InFile Id) → InFile Id → List Annotation
+    abbrev line_annotations_of : List (LabelInFile Id) → LabelInFile Id → List Annotation
     line_annotations_of before x = cond (same id x.file_id && nat_lt l (line_count own_file)) (line_annotations config own_file (indices_at before) x.label l) []
 
     -- the annotations of labels after these on the line
-    abbrev pub line_annotations_after : List (InFile Id) → List (InFile Id) → List Annotation
+    abbrev pub line_annotations_after : List (LabelInFile Id) → List (LabelInFile Id) → List Annotation
     line_annotations_after before [] = []
     line_annotations_after before (x ∷ xs) = line_annotations_of before x ++ line_annotations_after (before ++ x ∷ []) xs
 
     -- a label's annotations of the line of the file
-    one-line_annotations : (before : List (InFile Id)) (x : InFile Id)
+    one-line_annotations : (before : List (LabelInFile Id)) (x : LabelInFile Id)
         → filter (is_on_line l) (filter (is_of_file f) (annotations_of config (file x.file_id) (indices_after same file ids before x) x.label)) ≡ line_annotations_of before x
     one-line_annotations before x =
         ⊎_elim
@@ -107,7 +107,7 @@ module _ {Id : Type 0} {same : Id → Id → Bool} {file : Id → FileModel} {id
         of = all-of_file config (file x.file_id) (indices_after same file ids before x) x.label
 
     -- all annotations of the line of the file
-    pub all-line_annotations : (xs before : List (InFile Id)) → filter (is_on_line l) (filter (is_of_file f) (annotations_after same file config ids before xs)) ≡ line_annotations_after before xs
+    pub all-line_annotations : (xs before : List (LabelInFile Id)) → filter (is_on_line l) (filter (is_of_file f) (annotations_after same file config ids before xs)) ≡ line_annotations_after before xs
     all-line_annotations [] before = refl
     all-line_annotations (x ∷ xs) before =
         let es = annotations_of config (file x.file_id) (indices_after same file ids before x) x.label in
@@ -137,12 +137,12 @@ module _ {Id : Type 0} {same : Id → Id → Bool} {file : Id → FileModel} {id
     single_label_at k x = record { file = f; line = l; kind = Single k (drawn_label own_file x) }
 
     -- the annotations of the labels inside the line, where their indices begin here
-    abbrev pub single_labels_from : ℕ → List (InFile Id) → List Annotation
+    abbrev pub single_labels_from : ℕ → List (LabelInFile Id) → List Annotation
     single_labels_from k [] = []
     single_labels_from k (x ∷ xs) = cond (same id x.file_id && on x.label) (single_label_at k x.label ∷ []) [] ++ single_labels_from (k + 1) xs
 
     -- the annotation of one of them
-    one-single : (before : List (InFile Id)) (x : InFile Id) → filter (is_kind 1) (line_annotations_of before x) ≡ cond (same id x.file_id && on x.label) (single_label_at (length before) x.label ∷ []) []
+    one-single : (before : List (LabelInFile Id)) (x : LabelInFile Id) → filter (is_kind 1) (line_annotations_of before x) ≡ cond (same id x.file_id && on x.label) (single_label_at (length before) x.label ∷ []) []
     one-single before x = by_tests (same id x.file_id) (nat_lt l (line_count own_file)) refl
       where
         by_tests : (s t : Bool) → nat_lt l (line_count own_file) ≡ t
@@ -152,7 +152,7 @@ module _ {Id : Type 0} {same : Id → Id → Bool} {file : Id → FileModel} {id
         by_tests true false h = sym (ap (λ b. cond b (single_label_at (length before) x.label ∷ []) []) (on-outside x.label h))
 
     -- the annotations of all of them
-    pub all-single_labels : (xs before : List (InFile Id)) (k : ℕ) → length before ≡ k → filter (is_kind 1) (line_annotations_after before xs) ≡ single_labels_from k xs
+    pub all-single_labels : (xs before : List (LabelInFile Id)) (k : ℕ) → length before ≡ k → filter (is_kind 1) (line_annotations_after before xs) ≡ single_labels_from k xs
     all-single_labels [] before k e = refl
     all-single_labels (x ∷ xs) before k e =
         let one = length-append before (x ∷ []) in
@@ -162,13 +162,13 @@ module _ {Id : Type 0} {same : Id → Id → Bool} {file : Id → FileModel} {id
         ∙ ap (λ (r : List Annotation). cond (same id x.file_id && on x.label) (single_label_at k x.label ∷ []) [] ++ r) (all-single_labels xs (before ++ x ∷ []) (k + 1) more)
 
     -- the labels of those annotations
-    pub single_labels-labels : (k : ℕ) (xs : List (InFile Id)) → single_labels_in (single_labels_from k xs) ≡ map (drawn_label own_file) (filter on (labels_in xs))
+    pub single_labels-labels : (k : ℕ) (xs : List (LabelInFile Id)) → single_labels_in (single_labels_from k xs) ≡ map (drawn_label own_file) (filter on (labels_in xs))
     single_labels-labels k [] = refl
     single_labels-labels k (x ∷ xs) = by_tests (same id x.file_id) (on x.label) refl (single_labels-labels (k + 1) xs)
       where
         by_tests : (s t : Bool) → on x.label ≡ t → single_labels_in (single_labels_from (k + 1) xs) ≡ map (drawn_label own_file) (filter on (labels_in xs))
             → single_labels_in (cond (s && on x.label) (single_label_at k x.label ∷ []) [] ++ single_labels_from (k + 1) xs)
-            ≡ map (drawn_label own_file) (filter on (map (λ (y : InFile Id). y.label) (cond s (x ∷ own xs) (own xs))))
+            ≡ map (drawn_label own_file) (filter on (map (λ (y : LabelInFile Id). y.label) (cond s (x ∷ own xs) (own xs))))
         by_tests false t h rest = rest
         by_tests true t h rest = by_test (on x.label)
           where
@@ -178,7 +178,7 @@ module _ {Id : Type 0} {same : Id → Id → Bool} {file : Id → FileModel} {id
             by_test false = rest
 
     -- of the labels of one range the later ones come first
-    single_labels-below : (start end k j : ℕ) (a : LabelModel) → k < j → has_range start end (drawn_label own_file a) ≡ true → (xs : List (InFile Id))
+    single_labels-below : (start end k j : ℕ) (a : LabelModel) → k < j → has_range start end (drawn_label own_file a) ≡ true → (xs : List (LabelInFile Id))
         → AllByRecursion (λ e. is_before e (single_label_at k a) ≡ true) (filter (is_of_range start end) (single_labels_from j xs))
     single_labels-below start end k j a h t [] = tt
     single_labels-below start end k j a h t (x ∷ xs) = by_test (same id x.file_id && on x.label) (single_labels-below start end k (j + 1) a (omega arith) t xs)
@@ -202,7 +202,7 @@ module _ {Id : Type 0} {same : Id → Id → Bool} {file : Id → FileModel} {id
         by_test false rest = rest
 
     -- the annotations of the labels of one range are in descending order
-    pub single_labels-fall : (start end k : ℕ) (xs : List (InFile Id)) → Falls is_before (filter (is_of_range start end) (single_labels_from k xs))
+    pub single_labels-fall : (start end k : ℕ) (xs : List (LabelInFile Id)) → Falls is_before (filter (is_of_range start end) (single_labels_from k xs))
     single_labels-fall start end k [] = tt
     single_labels-fall start end k (x ∷ xs) = by_test (same id x.file_id && on x.label) (single_labels-fall start end (k + 1) xs)
       where
@@ -235,7 +235,7 @@ module _ {Id : Type 0} {same : Id → Id → Bool} {file : Id → FileModel} {id
     multi_annotations_if a o = annotation_if_any f l (cond a None (option_map Multi o))
 
     -- the lane mark of a label that comes after these
-    one-lane_mark : (before : List (InFile Id)) (x : InFile Id)
+    one-lane_mark : (before : List (LabelInFile Id)) (x : LabelInFile Id)
         → filter (is_kind 2) (line_annotations_of before x) ≡ cond (same id x.file_id) (multi_annotations_if (is_single own_file x.label) (lane_mark_of (num_multi_labels_of same file before id) x.label (multi_label_on own_file l x.label))) []
     one-lane_mark before x = by_tests (same id x.file_id) (nat_lt l (line_count own_file)) refl
       where
@@ -253,7 +253,7 @@ module _ {Id : Type 0} {same : Id → Id → Bool} {file : Id → FileModel} {id
         by_tests true false h = none (is_single own_file x.label) ∙ ap (λ o. multi_annotations_if (is_single own_file x.label) (lane_mark_of lane x.label o)) (sym (multi_label-outside x.label h))
 
     -- the lane marks of labels that come after these, in their lanes
-    pub all-lane_marks : (xs before : List (InFile Id)) (n : ℕ) → num_multi_labels_of same file before id ≡ n
+    pub all-lane_marks : (xs before : List (LabelInFile Id)) (n : ℕ) → num_multi_labels_of same file before id ≡ n
         → filter (is_kind 2) (line_annotations_after before xs) ≡ map (lane_mark_annotation f l) (marks_from own_file l n (multi_line_labels own_file (labels_in xs)))
     all-lane_marks [] before n e = refl
     all-lane_marks (x ∷ xs) before n e =
@@ -271,7 +271,7 @@ module _ {Id : Type 0} {same : Id → Id → Bool} {file : Id → FileModel} {id
 
         by_tests : (s t : Bool) → is_single own_file x.label ≡ t
             → cond s (multi_annotations_if t (lane_mark_of n x.label (multi_label_on own_file l x.label))) [] ++ later (n + (if s then (if t then 0 else 1) else 0))
-            ≡ map (lane_mark_annotation f l) (marks_from own_file l n (multi_line_labels own_file (map (λ (y : InFile Id). y.label) (cond s (x ∷ own xs) (own xs)))))
+            ≡ map (lane_mark_annotation f l) (marks_from own_file l n (multi_line_labels own_file (map (λ (y : LabelInFile Id). y.label) (cond s (x ∷ own xs) (own xs)))))
         by_tests false t h = let e : n + 0 ≡ n = omega arith in ap later e
         by_tests true true h = (let e : n + 0 ≡ n = omega arith in ap later e)
             ∙ ap (λ b. map (lane_mark_annotation f l) (marks_from own_file l n (cond (not b) (x.label ∷ multi_line_labels own_file (labels_in xs)) (multi_line_labels own_file (labels_in xs))))) (sym h)
@@ -281,7 +281,7 @@ module _ {Id : Type 0} {same : Id → Id → Bool} {file : Id → FileModel} {id
     -- ---- lines that are shown
 
     -- an annotation shows the lines that the file has and that some label shows
-    pub any-line_annotations : (xs before : List (InFile Id)) → list_any shows_line (line_annotations_after before xs)
+    pub any-line_annotations : (xs before : List (LabelInFile Id)) → list_any shows_line (line_annotations_after before xs)
         ≡ (nat_lt l (line_count own_file) && list_any (λ x. shows config (first_line own_file x) (last_line own_file x) l) (labels_in xs))
     any-line_annotations [] before = sym (and-false (nat_lt l (line_count own_file)))
     any-line_annotations (x ∷ xs) before =
@@ -293,7 +293,7 @@ module _ {Id : Type 0} {same : Id → Id → Bool} {file : Id → FileModel} {id
         shows_it y = shows config (first_line own_file y) (last_line own_file y) l
 
         by_tests : (s t : Bool) → (list_any shows_line (cond (s && t) (line_annotations config own_file (indices_at before) x.label l) []) || (t && list_any shows_it (labels_in xs)))
-            ≡ (t && list_any shows_it (map (λ (y : InFile Id). y.label) (cond s (x ∷ own xs) (own xs))))
+            ≡ (t && list_any shows_it (map (λ (y : LabelInFile Id). y.label) (cond s (x ∷ own xs) (own xs))))
         by_tests false t = refl
         by_tests true false = refl
         by_tests true true = ap (λ b. b || list_any shows_it (labels_in xs)) (shown-on_line config own_file (indices_at before) x.label l)

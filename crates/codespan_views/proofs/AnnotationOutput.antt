@@ -19,7 +19,7 @@ use Rattle.codespan_picture.specs.Lookups.{filled_lines}
 use Rattle.codespan_picture.specs.Sequences.{break_between, in_sequence}
 use Rattle.codespan_views.specs.Private.FileIndices.{IsIdAt}
 use Rattle.codespan_views.specs.Private.IndexedLabels.{all_annotations}
-use Rattle.codespan_picture.specs.Snippets.{InFile, LabeledFileModel, labeled_file_model, num_multi_labels, line_at, line_rows, break_rows, rows_of_drawn, file_ids}
+use Rattle.codespan_picture.specs.Snippets.{LabelInFile, LabeledFileModel, labeled_file_model, num_multi_labels, line_at, line_rows, break_rows, rows_of_drawn, file_ids}
 use Rattle.codespan_views.specs.Private.SnippetLines.{are_shown, lane_marks_in, lines_of, single_labels_in, line_of_group, rows_of_lines, filled_lines_of, are_lane_marks_in_order, is_line_in_order}
 use Rattle.codespan_views.proofs.AnnotationGroups.{lines_after, snippet_lines-by_line, all-on_line}
 use Rattle.codespan_views.proofs.AnnotationLines as annotation_lines
@@ -42,7 +42,7 @@ use Rattle.codespan_views.proofs.GroupAnnotations.{single_labels-of_range, range
 -- ---- the annotations of a file
 
 module _ {Id : Type 0} {database : FileDatabase Id} (lawful : AreFiles database)
-    {config : Config} {xs : List (InFile Id)} {collected : Collected Id}
+    {config : Config} {xs : List (LabelInFile Id)} {collected : Collected Id}
     (known : IsCollected database config xs collected)
     (f : ℕ) (id : Id) (at : IsIdAt (file_ids database.same xs) f id) where
   -- which ids name one file, and the file that an id names

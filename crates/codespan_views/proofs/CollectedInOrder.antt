@@ -3,7 +3,7 @@ use Rattle.std.proofs.Common.{List, map, Vec, Global}
 use Rattle.std.specs.List.Sorted.{IsPermutation, IsSortedBy}
 use Rattle.codespan_core.specs.declared.term.config.Config.{Config}
 use Rattle.codespan_core.specs.FileModel.{FileDatabase}
-use Rattle.codespan_picture.specs.Snippets.{InFile}
+use Rattle.codespan_picture.specs.Snippets.{LabelInFile}
 use Rattle.codespan_views.specs.declared.annotation.Annotation.{Annotation as RustAnnotation}
 use Rattle.codespan_views.specs.declared.collected.Collected.{Collected}
 use Rattle.codespan_views.specs.Private.Annotations.{is_before}
@@ -15,7 +15,7 @@ use Rattle.codespan_views.proofs.Collecting.{collected-each, collected-kind, col
 
 -- what was collected, put in order
 pub collected-in_order : {Id : Type 0} {database : FileDatabase Id} {config : Config}
-    {xs : List (InFile Id)} {was : Collected Id} (annotations : Vec (RustAnnotation Id) Global)
+    {xs : List (LabelInFile Id)} {was : Collected Id} (annotations : Vec (RustAnnotation Id) Global)
     → IsCollectedInTurn database config xs was
     → IsPermutation was.annotations.items annotations.items
     → IsSortedBy is_before (map annotation_view annotations.items)

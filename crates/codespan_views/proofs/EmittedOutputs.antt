@@ -16,7 +16,7 @@ use Rattle.codespan_core.specs.WriterLaw.{Frame, Sink, with_written, is_known, a
 use Rattle.codespan_core.specs.declared.term.config.plain_ref.PlainWriterRef.{PlainWriterRef}
 use Rattle.codespan_core.specs.Writers.{fresh_plain_ref_sink, fresh_sink, plain_reference, plain_ref_sink, borrowed_writer}
 use Rattle.codespan_picture.specs.Rows.{Locus}
-use Rattle.codespan_picture.specs.TextLaws.{AreCharacters}
+use Rattle.codespan_picture.specs.Utf8Laws.{CharsAreScalars}
 use Rattle.codespan_picture.proofs.PictureTexts.{text-output}
 use Rattle.codespan_views.specs.Failures.{WrittenBefore}
 use Rattle.codespan_views.specs.Output.{IsEmitError, IsRendered}
@@ -110,7 +110,7 @@ module _ {Id : Type 0} {config : Config} {files : FileDatabase Id} {d : Diagnost
   pub text_is_utf8 : {old new : Sink} {bytes : List ℕ}
       → WritesStyled config.display_style config config files d old (Ok tt) new
       → old ≡ fresh_sink plain_spelling (Some []) → new.contents ≡ Some bytes
-      → AreCharacters config.chars → ((id : Id) → IsLawful (files.file id)) → IsUtf8 bytes
+      → CharsAreScalars config.chars → ((id : Id) → IsLawful (files.file id)) → IsUtf8 bytes
   text_is_utf8 rendered fresh contents characters lawful =
       subst IsUtf8 (sym (written_text _ fresh contents rendered.writes.received))
       (text-output files d lawful config.display_style config config characters

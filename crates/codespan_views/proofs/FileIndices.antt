@@ -5,7 +5,7 @@ use Rattle.std.specs.Cmp.{IsEquivalence, both_ways}
 use Rattle.std.specs.List.{AllByRecursion}
 use Rattle.std.proofs.lemmas.Bool.{cases_Bool, eqb-true, eq-eqb, ne_eqb}
 use Rattle.codespan_core.specs.Labels.{first_seen}
-use Rattle.codespan_picture.specs.Snippets.{InFile, file_ids}
+use Rattle.codespan_picture.specs.Snippets.{LabelInFile, file_ids}
 use Rattle.codespan_views.specs.Private.LabeledFiles.{with_file}
 use Rattle.codespan_views.specs.Private.FileIndices.{AreDistinct, IsIdAt, index_of_file}
 use Rattle.codespan_views.proofs.FileOrder.{has, or_parts}
@@ -85,11 +85,11 @@ module _ {Id : Type 0} (same : Id → Id → Bool) (o : IsEquivalence same) wher
       (cases_Bool (same j i))
 
   -- the id at an index of a diagnostic's files is equal to those of the labels there
-  pub index_of_file-at : (xs : List (InFile Id)) (f : ℕ) (id : Id) → IsIdAt (file_ids same xs) f id
+  pub index_of_file-at : (xs : List (LabelInFile Id)) (f : ℕ) (id : Id) → IsIdAt (file_ids same xs) f id
       → (i : Id) → (index_of_file same (file_ids same xs) i == f) ≡ same id i
   index_of_file-at xs f id a i =
       index-is (file_ids same xs) f id (first_seen-differ
-      (map (λ (x : InFile Id). x.file_id) xs)) a i
+      (map (λ (x : LabelInFile Id). x.file_id) xs)) a i
 
 -- the id at an index
 pub at-get : {Id : Type 0} (ids : List Id) (f : ℕ) (d : Id) → f < length ids

@@ -5,7 +5,7 @@ use Rattle.codespan_core.specs.FileModel.{FileModel, line_count}
 use Rattle.codespan_core.specs.Labels.{LabelModel}
 use Rattle.codespan_views.specs.Private.Annotations.{Annotation}
 use Rattle.codespan_views.specs.Private.FileIndices.{index_of_file}
-use Rattle.codespan_picture.specs.Snippets.{InFile}
+use Rattle.codespan_picture.specs.Snippets.{LabelInFile}
 use Rattle.codespan_views.specs.Private.LabeledFiles.{num_multi_labels_of}
 use Rattle.codespan_views.specs.Private.SnippetLines.{single_label_of}
 use Rattle.codespan_picture.proofs.OrderSorts.{has_range}
@@ -29,6 +29,6 @@ pub record HasFileIndex {Id : Type 0} (same : Id → Id → Bool) (file : Id →
     (ids : List Id) (f : ℕ) (id : Id) : Type 0 where
   pub index : (i : Id) → (index_of_file same ids i == f) ≡ same id i
   pub one_file : (i : Id) → same id i ≡ true → file i ≡ file id
-  pub lanes : (before : List (InFile Id)) (i : Id) → same id i ≡ true
+  pub lanes : (before : List (LabelInFile Id)) (i : Id) → same id i ≡ true
       → num_multi_labels_of same file before i ≡ num_multi_labels_of same file before id
   pub has_line : 0 < line_count (file id)

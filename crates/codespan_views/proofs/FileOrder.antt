@@ -7,7 +7,7 @@ use Rattle.std.specs.List.{AllByRecursion, list_any}
 use Rattle.std.proofs.lemmas.List.{append-nil, get_or-map, length-map, map-append}
 use Rattle.std.proofs.lemmas.List.Elements.{filter-append}
 use Rattle.codespan_core.specs.Labels.{first_seen}
-use Rattle.codespan_picture.specs.Snippets.{InFile, file_ids}
+use Rattle.codespan_picture.specs.Snippets.{LabelInFile, file_ids}
 use Rattle.codespan_views.specs.Private.LabeledFiles.{with_file}
 
 -- neither of two is true
@@ -81,12 +81,12 @@ module _ {Id : Type 0} (same : Id → Id → Bool) (o : IsEquivalence same) wher
               (within refl))
 
   -- the id of one more label, which is added unless it is there
-  pub file_ids-more : (xs : List (InFile Id)) (x : InFile Id)
+  pub file_ids-more : (xs : List (LabelInFile Id)) (x : LabelInFile Id)
       → file_ids same (xs ++ x ∷ []) ≡ with_file same (file_ids same xs) x.file_id
       (file_ids same xs) x.file_id
   file_ids-more xs x =
-      ap (first_seen same) (map-append (λ (y : InFile Id). y.file_id) xs (x ∷ []))
-      ∙ first_seen-more (map (λ (y : InFile Id). y.file_id) xs) x.file_id
+      ap (first_seen same) (map-append (λ (y : LabelInFile Id). y.file_id) xs (x ∷ []))
+      ∙ first_seen-more (map (λ (y : LabelInFile Id). y.file_id) xs) x.file_id
 
   -- an id of the list is among the first appearances
   first_seen-has : (js : List Id) (i : Id) → has (first_seen same js) i ≡ has js i
@@ -116,25 +116,25 @@ module _ {Id : Type 0} (same : Id → Id → Bool) (o : IsEquivalence same) wher
       either false = refl
 
   -- the file of each label is among those of all
-  pub file_ids-has : (xs : List (InFile Id)) (k : ℕ) (x : InFile Id) → k < length xs
+  pub file_ids-has : (xs : List (LabelInFile Id)) (k : ℕ) (x : LabelInFile Id) → k < length xs
       → has (file_ids same xs) (get_or xs k x).file_id ≡ true
   file_ids-has xs k x h =
-      first_seen-has (map (λ (y : InFile Id). y.file_id) xs) (get_or xs k x).file_id
-      ∙ ap (has (map (λ (y : InFile Id). y.file_id) xs))
-      (sym (get_or-map (λ (y : InFile Id). y.file_id) xs k x x.file_id h))
-      ∙ has-one (map (λ (y : InFile Id). y.file_id) xs) k x.file_id
-      (omega (arith, length-map xs (λ (y : InFile Id). y.file_id)))
+      first_seen-has (map (λ (y : LabelInFile Id). y.file_id) xs) (get_or xs k x).file_id
+      ∙ ap (has (map (λ (y : LabelInFile Id). y.file_id) xs))
+      (sym (get_or-map (λ (y : LabelInFile Id). y.file_id) xs k x x.file_id h))
+      ∙ has-one (map (λ (y : LabelInFile Id). y.file_id) xs) k x.file_id
+      (omega (arith, length-map xs (λ (y : LabelInFile Id). y.file_id)))
 
   -- no label is of a file that is not among those of all
-  pub none-of_file : (xs : List (InFile Id)) (id : Id) → has (file_ids same xs) id ≡ false
-      → AllByRecursion (λ (x : InFile Id). same id x.file_id ≡ false) xs
+  pub none-of_file : (xs : List (LabelInFile Id)) (id : Id) → has (file_ids same xs) id ≡ false
+      → AllByRecursion (λ (x : LabelInFile Id). same id x.file_id ≡ false) xs
   none-of_file xs id none =
-      by xs (sym (first_seen-has (map (λ (x : InFile Id). x.file_id) xs) id) ∙ none)
+      by xs (sym (first_seen-has (map (λ (x : LabelInFile Id). x.file_id) xs) id) ∙ none)
     where
-      by : (ys : List (InFile Id)) → has (map (λ (y : InFile Id). y.file_id) ys) id ≡ false
-          → AllByRecursion (λ (y : InFile Id). same id y.file_id ≡ false) ys
+      by : (ys : List (LabelInFile Id)) → has (map (λ (y : LabelInFile Id). y.file_id) ys) id ≡ false
+          → AllByRecursion (λ (y : LabelInFile Id). same id y.file_id ≡ false) ys
       by [] h = tt
       by (y ∷ ys) h =
           let parts =
-          or_parts (same y.file_id id) (has (map (λ (z : InFile Id). z.file_id) ys) id) h in
+          or_parts (same y.file_id id) (has (map (λ (z : LabelInFile Id). z.file_id) ys) id) h in
           (o.symm id y.file_id ∙ parts.0, by ys parts.1)

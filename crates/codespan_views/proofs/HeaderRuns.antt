@@ -16,11 +16,11 @@ use Rattle.codespan_core.specs.Streams.{Stream}
 use Rattle.codespan_core.specs.WriterLaw.{Sink, with_written, is_known, PrefixWritten, Writes, failed_frame}
 use Rattle.codespan_core.proofs.Writes.{is_known-with_written, with_written-append, with_written-nil, PrefixWritten-first, PrefixWritten-last}
 use Rattle.codespan_picture.specs.Lookups.{first_error, header_lookups_of}
-use Rattle.codespan_picture.specs.OutputStreams.{AreLoci, IsLocus, header_text_of, label_locus_start, notes_of}
+use Rattle.codespan_picture.specs.OutputStreams.{AreLoci, IsLocus, header_text_of, label_locus_byte, notes_of}
 use Rattle.codespan_views.specs.Private.TextLoci.{IsLocusOfLabel}
 use Rattle.codespan_picture.specs.Rows.{Locus, Row}
 use Rattle.codespan_picture.specs.RowStreams.{stream_of_rows}
-use Rattle.codespan_picture.specs.Snippets.{InFile, has_any, header_rows, note_rows}
+use Rattle.codespan_picture.specs.Snippets.{LabelInFile, has_any, header_rows, note_rows}
 use Rattle.codespan_views.specs.Output.{Succeeds}
 use Rattle.codespan_views.specs.WriteCalls.{WritesOutput}
 use Rattle.codespan_views.proofs.OutputLoci.{label_loci, label_texts}
@@ -55,16 +55,16 @@ module _ {Id : Type 0} {config : Config} (files : FileDatabase Id) {d : Diagnost
   loci_with here = w.written.loci ++ here ∷ others
 
   -- they are loci
-  abbrev IsLocusOf : InFile Id → Locus → Type 0
-  IsLocusOf x p = IsLocus (label_locus_start files.file x) p
+  abbrev IsLocusOf : LabelInFile Id → Locus → Type 0
+  IsLocusOf x p = IsLocus (label_locus_byte files.file x) p
 
   loci_with-are : (here : Locus) → IsLocusOf w.here here → AreLoci files d Short (loci_with here)
   loci_with-are here is =
-      subst (λ (xs : List (InFile Id)). AllZip IsLocus (map (label_locus_start files.file) xs) (loci_with here)) w.whole
-      (zip_map IsLocus (label_locus_start files.file) (w.before ++ w.here ∷ w.after) (loci_with here)
+      subst (λ (xs : List (LabelInFile Id)). AllZip IsLocus (map (label_locus_byte files.file) xs) (loci_with here)) w.whole
+      (zip_map IsLocus (label_locus_byte files.file) (w.before ++ w.here ∷ w.after) (loci_with here)
       (zip_append IsLocusOf w.before (w.here ∷ w.after) w.written.loci (here ∷ others)
       (zip_weaker (IsLocusOfLabel files.file) IsLocusOf (λ x p h. h.is_locus) w.before w.written.loci w.written.are)
-      (is, zip_each IsLocusOf (stated_of files.file) (λ x. locus_there (label_locus_start files.file x)) w.after)))
+      (is, zip_each IsLocusOf (stated_of files.file) (λ x. locus_there (label_locus_byte files.file x)) w.after)))
 
   -- the headers of the labels before it have been written
   abbrev first : Stream
@@ -108,7 +108,7 @@ module _ {Id : Type 0} {config : Config} (files : FileDatabase Id) {d : Diagnost
       let here = stated_of files.file w.here in
       record {
         loci = loci_with here;
-        are_loci = loci_with-are here (locus_there (label_locus_start files.file w.here));
+        are_loci = loci_with-are here (locus_there (label_locus_byte files.file w.here));
         received = λ known. prefix_whole here known (λ there. PrefixWritten-none w.mid (headers_stream config d (here ∷ others)) new stop.same);
         on_end = record {
           error_is = inr (

@@ -12,11 +12,11 @@ use Rattle.codespan_core.specs.declared.term.config.Config.{Config}
 use Rattle.codespan_core.specs.FileModel.{FileModel}
 use Rattle.codespan_core.specs.Labels.{is_primary}
 use Rattle.codespan_core.specs.Streams.{Stream, newline}
-use Rattle.codespan_picture.specs.OutputStreams.{header_text_of, label_of, label_locus_start, labels_of, context_of, notes_of}
+use Rattle.codespan_picture.specs.OutputStreams.{header_text_of, label_of, label_locus_byte, labels_of, context_of, notes_of}
 use Rattle.codespan_picture.specs.Picture.{stated_locus, headers}
 use Rattle.codespan_picture.specs.Rows.{HeaderRow, HeaderText, RowContext, Locus, Row}
 use Rattle.codespan_picture.specs.RowStreams.{header_row, stream_of, stream_of_rows}
-use Rattle.codespan_picture.specs.Snippets.{InFile, has_any, header_rows, note_rows, primary_of}
+use Rattle.codespan_picture.specs.Snippets.{LabelInFile, has_any, header_rows, note_rows, primary_of}
 use Rattle.codespan_views.proofs.IndexedElements.{IsElementAt}
 
 -- what a filter keeps was there
@@ -60,7 +60,7 @@ module _ {Id : Type 0} {items : List (Label Id)} {i : ℕ} {label : Label Id}
       ap primary_of
       (map_more label_of items i label at.inside
       ∙ ap (λ (l : Label Id). map label_of (take i items) ++ label_of l ∷ []) (sym at.is))
-      ∙ filter-append (λ (x : InFile Id). is_primary x.label) (map label_of (take i items))
+      ∙ filter-append (λ (x : LabelInFile Id). is_primary x.label) (map label_of (take i items))
       (label_of label ∷ [])
 
   -- whether there is one up to that index
@@ -72,7 +72,7 @@ module _ {Id : Type 0} {items : List (Label Id)} {i : ℕ} {label : Label Id}
       ∙ sym
       (has_any-append (primary_of (map label_of (take i items)))
       (primary_of (label_of label ∷ [])))
-      ∙ ap (λ (xs : List (InFile Id)). has_any xs) (sym primary_next)
+      ∙ ap (λ (xs : List (LabelInFile Id)). has_any xs) (sym primary_next)
 
 -- those up to an index, and those from there on
 pub primary_cut : {Id : Type 0} (items : List (Label Id)) (i : ℕ)
@@ -81,7 +81,7 @@ pub primary_cut : {Id : Type 0} (items : List (Label Id)) (i : ℕ)
 primary_cut {Id} items i =
     ap (λ (l : List (Label Id)). primary_of (map label_of l)) (sym (take-append-drop i items))
     ∙ ap primary_of (map-append label_of (take i items) (drop i items))
-    ∙ filter-append (λ (x : InFile Id). is_primary x.label) (map label_of (take i items))
+    ∙ filter-append (λ (x : LabelInFile Id). is_primary x.label) (map label_of (take i items))
     (map label_of (drop i items))
 
 -- no loci of no labels
@@ -103,11 +103,11 @@ some_headers R header_text (x ∷ xs) (p ∷ ps) some h = refl
 -- ---- the streams
 
 -- the locus of a label, with the name that its file states
-abbrev pub stated_of : {Id : Type 0} → (Id → FileModel) → InFile Id → Locus
-stated_of file x = stated_locus (label_locus_start file x)
+abbrev pub stated_of : {Id : Type 0} → (Id → FileModel) → LabelInFile Id → Locus
+stated_of file x = stated_locus (label_locus_byte file x)
 
 -- the labels that have headers
-abbrev pub primary_labels : {Id : Type 0} → Diagnostic Id → List (InFile Id)
+abbrev pub primary_labels : {Id : Type 0} → Diagnostic Id → List (LabelInFile Id)
 primary_labels d = primary_of (labels_of d)
 
 module _ {Id : Type 0} (config : Config) (d : Diagnostic Id) where

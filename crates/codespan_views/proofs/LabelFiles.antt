@@ -7,7 +7,7 @@ use Rattle.std.proofs.lemmas.List.{map-append}
 use Rattle.std.proofs.lemmas.List.Elements.{recursion_from_All}
 use Rattle.codespan_core.specs.declared.term.config.Config.{Config}
 use Rattle.codespan_core.specs.FileModel.{FileModel}
-use Rattle.codespan_picture.specs.Snippets.{InFile, file_ids}
+use Rattle.codespan_picture.specs.Snippets.{LabelInFile, file_ids}
 use Rattle.codespan_views.specs.declared.annotation.Annotation.{Annotation as RustAnnotation}
 use Rattle.codespan_views.specs.Private.Annotations.{Annotation}
 use Rattle.codespan_views.specs.Private.LabelAnnotations.{annotations_of}
@@ -20,8 +20,8 @@ use Rattle.codespan_views.proofs.FileIndices.{at-stays, index-stays, has-index}
 use Rattle.codespan_views.proofs.LabelAnnotations.{all-of_file}
 use Rattle.codespan_picture.proofs.ListElements.{all-append, all-both, all-mapped, all-weaker}
 
-module _ {Id : Type 0} {same : Id → Id → Bool} (o : IsEquivalence same) (xs : List (InFile Id))
-    (x : InFile Id) where
+module _ {Id : Type 0} {same : Id → Id → Bool} (o : IsEquivalence same) (xs : List (LabelInFile Id))
+    (x : LabelInFile Id) where
   -- the files of the labels
   abbrev were : List Id
   were = file_ids same xs
@@ -31,9 +31,9 @@ module _ {Id : Type 0} {same : Id → Id → Bool} (o : IsEquivalence same) (xs 
   are = file_ids same (xs ++ x ∷ [])
 
   -- the files of labels have them
-  all-there : AllByRecursion (λ (y : InFile Id). has same o were y.file_id ≡ true) xs
+  all-there : AllByRecursion (λ (y : LabelInFile Id). has same o were y.file_id ≡ true) xs
   all-there =
-      recursion_from_All (λ (y : InFile Id). has same o were y.file_id ≡ true) xs
+      recursion_from_All (λ (y : LabelInFile Id). has same o were y.file_id ≡ true) xs
       (λ k d h. file_ids-has same o xs k d h)
 
   -- the indices of ids that are there are unchanged
@@ -44,7 +44,7 @@ module _ {Id : Type 0} {same : Id → Id → Bool} (o : IsEquivalence same) (xs 
 
   -- what is known of each file, where the label is not of it
   pub known-more : {A : Type 0} {d : A} {known now : List A} (h : Id → A)
-      → (AllByRecursion (λ (y : InFile Id). same x.file_id y.file_id ≡ false) xs → h x.file_id ≡ d)
+      → (AllByRecursion (λ (y : LabelInFile Id). same x.file_id y.file_id ≡ false) xs → h x.file_id ≡ d)
       → known ≡ map h were → now ≡ with_file same were x.file_id known d → now ≡ map h are
   known-more {A} {d} {known} h new was is =
       is ∙ ap (λ (ks : List A). with_file same were x.file_id ks d) was
@@ -61,8 +61,8 @@ module _ {Id : Type 0} {same : Id → Id → Bool} (o : IsEquivalence same) (xs 
 
   module _ (file : Id → FileModel) (config : Config) where
     -- the annotations of labels of these files stay
-    annotations-stay : (before ys : List (InFile Id))
-        → AllByRecursion (λ (y : InFile Id). has same o were y.file_id ≡ true) ys
+    annotations-stay : (before ys : List (LabelInFile Id))
+        → AllByRecursion (λ (y : LabelInFile Id). has same o were y.file_id ≡ true) ys
         → annotations_after same file config are before ys ≡ annotations_after same file config were
         before ys
     annotations-stay before [] there = refl
@@ -75,8 +75,8 @@ module _ {Id : Type 0} {same : Id → Id → Bool} (o : IsEquivalence same) (xs 
         ++ annotations-stay (before ++ y ∷ []) ys there.1 i
 
     -- the annotations are of these files
-    annotations-inside : (before ys : List (InFile Id))
-        → AllByRecursion (λ (y : InFile Id). has same o were y.file_id ≡ true) ys
+    annotations-inside : (before ys : List (LabelInFile Id))
+        → AllByRecursion (λ (y : LabelInFile Id). has same o were y.file_id ≡ true) ys
         → AllByRecursion (λ (e : Annotation). e.file < length were)
         (annotations_after same file config were before ys)
     annotations-inside before [] there = tt

@@ -18,7 +18,7 @@ use Rattle.codespan_picture.specs.Lookups.{Failures, first_error, header_lookups
 use Rattle.codespan_picture.specs.OutputStreams.{label_of}
 use Rattle.codespan_views.specs.Private.TextLoci.{IsLocusOfLabel}
 use Rattle.codespan_picture.specs.Rows.{Locus}
-use Rattle.codespan_picture.specs.Snippets.{InFile, has_any, primary_of}
+use Rattle.codespan_picture.specs.Snippets.{LabelInFile, has_any, primary_of}
 use Rattle.codespan_views.specs.Private.Headers.{HeadersWritten, HeadersFailed}
 use Rattle.codespan_picture.proofs.Loci.{zip_append}
 use Rattle.codespan_views.proofs.IndexedElements.{IsElementAt}
@@ -43,7 +43,7 @@ module _ {Id : Type 0} {config : Config} {file : Id → FileModel} {failure : Fa
       }
 
   -- headers have been written, and then those of other labels
-  written_more : {s t u : Sink} {xs ys : List (InFile Id)}
+  written_more : {s t u : Sink} {xs ys : List (LabelInFile Id)}
       → HeadersWritten config file failure d s xs t → HeadersWritten config file failure d t ys u
       → HeadersWritten config file failure d s (xs ++ ys) u
   written_more {s} {xs = xs} {ys = ys} first second = record {
@@ -67,7 +67,7 @@ module _ {Id : Type 0} {config : Config} {file : Id → FileModel} {failure : Fa
   }
 
   -- headers have been written, and then rendering ended at one of other labels
-  failed_more : {s t u : Sink} {xs ys : List (InFile Id)} {e : Error}
+  failed_more : {s t u : Sink} {xs ys : List (LabelInFile Id)} {e : Error}
       → HeadersWritten config file failure d s xs t → HeadersFailed config file failure d t ys e u
       → HeadersFailed config file failure d s (xs ++ ys) e u
   failed_more {xs = xs} first w = record {
@@ -76,14 +76,14 @@ module _ {Id : Type 0} {config : Config} {file : Id → FileModel} {failure : Fa
     after = w.after;
     whole =
         append_assoc xs w.before (w.here ∷ w.after)
-        ∙ ap (λ (l : List (InFile Id)). xs ++ l) w.whole;
+        ∙ ap (λ (l : List (LabelInFile Id)). xs ++ l) w.whole;
     mid = w.mid;
     written = written_more first w.written;
     ended = w.ended;
   }
 
   -- rendering ended, with more labels after these
-  failed_before : {s t : Sink} {xs : List (InFile Id)} (ys : List (InFile Id)) {e : Error}
+  failed_before : {s t : Sink} {xs : List (LabelInFile Id)} (ys : List (LabelInFile Id)) {e : Error}
       → HeadersFailed config file failure d s xs e t
       → HeadersFailed config file failure d s (xs ++ ys) e t
   failed_before ys w = record {
@@ -92,7 +92,7 @@ module _ {Id : Type 0} {config : Config} {file : Id → FileModel} {failure : Fa
     after = w.after ++ ys;
     whole =
         sym (append_assoc w.before (w.here ∷ w.after) ys)
-        ∙ ap (λ (l : List (InFile Id)). l ++ ys) w.whole;
+        ∙ ap (λ (l : List (LabelInFile Id)). l ++ ys) w.whole;
     mid = w.mid;
     written = w.written;
     ended = w.ended;
@@ -127,7 +127,7 @@ module _ {Id : Type 0} {config now : Config} {file : Id → FileModel} {failure 
         → HeadersWritten config file failure d s
         (primary_of (map label_of (take (i + 1) d.labels.items))) u
     written_next {u} here =
-        subst (λ (xs : List (InFile Id)). HeadersWritten config file failure d s xs u)
+        subst (λ (xs : List (LabelInFile Id)). HeadersWritten config file failure d s xs u)
         (sym (primary_next at))
         (written_more before
         (subst
@@ -140,10 +140,10 @@ module _ {Id : Type 0} {config now : Config} {file : Id → FileModel} {failure 
         → HeadersFailed config file failure d s (primary_labels d) e u
     failed_next {e} {u} here =
         let later = primary_of (map label_of (drop (i + 1) d.labels.items)) in
-        subst (λ (xs : List (InFile Id)). HeadersFailed config file failure d s xs e u)
+        subst (λ (xs : List (LabelInFile Id)). HeadersFailed config file failure d s xs e u)
         (sym
         (primary_cut d.labels.items (i + 1)
-        ∙ ap (λ (xs : List (InFile Id)). xs ++ later) (primary_next at)))
+        ∙ ap (λ (xs : List (LabelInFile Id)). xs ++ later) (primary_next at)))
         (failed_before later
         (failed_more before
         (subst
@@ -153,7 +153,7 @@ module _ {Id : Type 0} {config now : Config} {file : Id → FileModel} {failure 
 -- ---- the header of one label
 
 module _ {Id : Type 0} {config : Config} {file : Id → FileModel} {failure : Failures Id}
-    {d : Diagnostic Id} (x : InFile Id) where
+    {d : Diagnostic Id} (x : LabelInFile Id) where
   -- a secondary label has none
   pub secondary_one : {s : Sink} → is_primary x.label ≡ false
       → HeadersWritten config file failure d s (primary_of (x ∷ []))

@@ -18,7 +18,7 @@ use Rattle.codespan_views.specs.Private.LabelAnnotations.{annotations_of}
 use Rattle.codespan_views.specs.Private.LabeledFiles.{lanes_by, num_multi_labels_of}
 use Rattle.codespan_views.specs.Private.FileIndices.{index_of_file}
 use Rattle.codespan_views.specs.Private.IndexedLabels.{indices_after, annotations_after}
-use Rattle.codespan_picture.specs.Snippets.{InFile, num_multi_labels}
+use Rattle.codespan_picture.specs.Snippets.{LabelInFile, num_multi_labels}
 use Rattle.codespan_picture.proofs.ListElements.{filter-nothing}
 use Rattle.codespan_views.proofs.FileOrder.{has}
 use Rattle.codespan_views.proofs.FileIndices.{Differ, index-here, index-later}
@@ -98,50 +98,50 @@ module _ {Id : Type 0} {same : Id → Id → Bool} (o : IsEquivalence same) wher
 
 -- equal ids have as many lanes
 pub num_multi_labels_of-equal : {Id : Type 0} {database : FileDatabase Id}
-    (lawful : AreFiles database) (before : List (InFile Id)) (i j : Id)
+    (lawful : AreFiles database) (before : List (LabelInFile Id)) (i j : Id)
     → database.same i j ≡ true
     → num_multi_labels_of database.same database.file before i ≡ num_multi_labels_of database.same
     database.file before j
 num_multi_labels_of-equal {Id} lawful before i j t = λ k. num_multi_labels (record {
   file = lawful.one_file i j t k;
   labels =
-      map (λ (x : InFile Id). x.label)
-      (filter (λ (x : InFile Id). lawful.equivalence.congr i j x.file_id t k) before);
+      map (λ (x : LabelInFile Id). x.label)
+      (filter (λ (x : LabelInFile Id). lawful.equivalence.congr i j x.file_id t k) before);
 })
 
 module _ {Id : Type 0} (same : Id → Id → Bool) (file : Id → FileModel) where
   -- labels of other files have no lane in a file
-  pub num_multi_labels_of-none : (xs : List (InFile Id)) (id : Id)
-      → AllByRecursion (λ (x : InFile Id). same id x.file_id ≡ false) xs
+  pub num_multi_labels_of-none : (xs : List (LabelInFile Id)) (id : Id)
+      → AllByRecursion (λ (x : LabelInFile Id). same id x.file_id ≡ false) xs
       → num_multi_labels_of same file xs id ≡ 0
   num_multi_labels_of-none xs id none =
-      ap (λ (own : List (InFile Id)). num_multi_labels (record { file = file id; labels = map (λ (x : InFile Id). x.label) own })) (filter-nothing (λ (x : InFile Id). same id x.file_id) xs none)
+      ap (λ (own : List (LabelInFile Id)). num_multi_labels (record { file = file id; labels = map (λ (x : LabelInFile Id). x.label) own })) (filter-nothing (λ (x : LabelInFile Id). same id x.file_id) xs none)
 
   -- a file has a lane for each label at most
-  pub lanes-within : (id : Id) (xs : List (InFile Id))
+  pub lanes-within : (id : Id) (xs : List (LabelInFile Id))
       → num_multi_labels_of same file xs id ≤ length xs
   lanes-within id xs =
-      let a = length-filter_both (λ (x : InFile Id). same id x.file_id)
-      (λ (x : InFile Id). not (same id x.file_id)) (λ x. refl) xs in
-      let own = filter (λ (x : InFile Id). same id x.file_id) xs in
+      let a = length-filter_both (λ (x : LabelInFile Id). same id x.file_id)
+      (λ (x : LabelInFile Id). not (same id x.file_id)) (λ x. refl) xs in
+      let own = filter (λ (x : LabelInFile Id). same id x.file_id) xs in
       let b = length-filter_both (λ y. not (is_single (file id) y))
       (λ y. not (not (is_single (file id) y))) (λ y. refl)
-      (map (λ (x : InFile Id). x.label) own) in
-      omega (arith, a, b, length-map own (λ (x : InFile Id). x.label))
+      (map (λ (x : LabelInFile Id). x.label) own) in
+      omega (arith, a, b, length-map own (λ (x : LabelInFile Id). x.label))
 
   -- the lanes with one more label
-  pub num_multi_labels_of-more : (before : List (InFile Id)) (x : InFile Id) (id : Id)
+  pub num_multi_labels_of-more : (before : List (LabelInFile Id)) (x : LabelInFile Id) (id : Id)
       → num_multi_labels_of same file (before ++ x ∷ []) id ≡ num_multi_labels_of same file before
       id + (if same id x.file_id then label_lanes (file id) x.label else 0)
   num_multi_labels_of-more before x id =
-      ap (λ (xs : List (InFile Id)). num_multi_labels (record { file = file id; labels = map (λ (y : InFile Id). y.label) xs })) (filter-append (λ (y : InFile Id). same id y.file_id) before (x ∷ []))
+      ap (λ (xs : List (LabelInFile Id)). num_multi_labels (record { file = file id; labels = map (λ (y : LabelInFile Id). y.label) xs })) (filter-append (λ (y : LabelInFile Id). same id y.file_id) before (x ∷ []))
       ∙ by_same (same id x.file_id)
     where
-      own : List (InFile Id)
-      own = filter (λ (y : InFile Id). same id y.file_id) before
+      own : List (LabelInFile Id)
+      own = filter (λ (y : LabelInFile Id). same id y.file_id) before
 
       labels : List LabelModel
-      labels = map (λ (y : InFile Id). y.label) own
+      labels = map (λ (y : LabelInFile Id). y.label) own
 
       one : (b : Bool) → length (cond (not b) (x.label ∷ []) []) ≡ (if b then 0 else 1)
       one true = refl
@@ -152,13 +152,13 @@ module _ {Id : Type 0} (same : Id → Id → Bool) (file : Id → FileModel) whe
           (record {
             file =
                 file id;
-            labels = map (λ (y : InFile Id). y.label) (own ++ (cond b (x ∷ []) []));
+            labels = map (λ (y : LabelInFile Id). y.label) (own ++ (cond b (x ∷ []) []));
           })
           ≡ num_multi_labels_of same file before id
           + (if b then label_lanes (file id) x.label else 0)
       by_same true =
           ap (λ (ls : List LabelModel). num_multi_labels (record { file = file id; labels = ls }))
-          (map-append (λ (y : InFile Id). y.label) own (x ∷ []))
+          (map-append (λ (y : LabelInFile Id). y.label) own (x ∷ []))
           ∙ ap (λ (ls : List LabelModel). length ls)
           (filter-append (λ y. not (is_single (file id) y)) labels (x.label ∷ []))
           ∙ length-append (multi_line_labels (file id) labels)
@@ -166,13 +166,13 @@ module _ {Id : Type 0} (same : Id → Id → Bool) (file : Id → FileModel) whe
           ∙ ap (λ n. num_multi_labels_of same file before id + n)
           (one (is_single (file id) x.label))
       by_same false =
-          ap (λ (xs : List (InFile Id)). num_multi_labels (record { file = file id; labels = map (λ (y : InFile Id). y.label) xs })) (append-nil own)
+          ap (λ (xs : List (LabelInFile Id)). num_multi_labels (record { file = file id; labels = map (λ (y : LabelInFile Id). y.label) xs })) (append-nil own)
           ∙ (let e : num_multi_labels_of same file before id
           ≡ num_multi_labels_of same file before id + 0 = omega arith in e)
 
   -- the annotations of the labels, with one more
-  pub annotations_after-more : (config : Config) (ids : List Id) (before xs : List (InFile Id))
-      (x : InFile Id)
+  pub annotations_after-more : (config : Config) (ids : List Id) (before xs : List (LabelInFile Id))
+      (x : LabelInFile Id)
       → annotations_after same file config ids before (xs ++ x ∷ [])
       ≡ annotations_after same file config ids before xs
       ++ annotations_of config (file x.file_id) (indices_after same file ids (before ++ xs) x)
@@ -180,7 +180,7 @@ module _ {Id : Type 0} (same : Id → Id → Bool) (file : Id → FileModel) whe
   annotations_after-more config ids before [] x =
       append-nil _
       ∙ ap
-      (λ (ys : List (InFile Id)). annotations_of config (file x.file_id)
+      (λ (ys : List (LabelInFile Id)). annotations_of config (file x.file_id)
       (indices_after same file ids ys x) x.label)
       (sym (append-nil before))
   annotations_after-more config ids before (y ∷ ys) x =
@@ -190,6 +190,6 @@ module _ {Id : Type 0} (same : Id → Id → Bool) (file : Id → FileModel) whe
       y.label) (annotations_after same file config ids (before ++ y ∷ []) ys)
       (annotations_of config (file x.file_id)
       (indices_after same file ids ((before ++ y ∷ []) ++ ys) x) x.label))
-      ∙ ap (λ (zs : List (InFile Id)). annotations_after same file config ids before (y ∷ ys)
+      ∙ ap (λ (zs : List (LabelInFile Id)). annotations_after same file config ids before (y ∷ ys)
       ++ annotations_of config (file x.file_id) (indices_after same file ids zs x) x.label)
       (append_assoc before (y ∷ []) ys)

@@ -5,14 +5,14 @@ use Rattle.std.specs.Cmp.{IsEquivalence}
 use Rattle.std.proofs.lemmas.List.{get_or-map, get_or-take, length-map, length-take-le, map-append}
 use Rattle.codespan_core.specs.declared.diagnostic.Label.{Label}
 use Rattle.codespan_picture.specs.OutputStreams.{label_of}
-use Rattle.codespan_picture.specs.Snippets.{InFile, file_ids}
+use Rattle.codespan_picture.specs.Snippets.{LabelInFile, file_ids}
 use Rattle.codespan_views.specs.Private.FileIndices.{index_of_file}
 use Rattle.codespan_views.proofs.FileOrder.{file_ids-has, has}
 use Rattle.codespan_views.proofs.FileIndices.{Differ, first_seen-differ, has-index}
 use Rattle.codespan_views.proofs.IndexedElements.{IsElementAt, take-at}
 
 -- the labels before an index
-abbrev pub before : {Id : Type 0} → List (Label Id) → ℕ → List (InFile Id)
+abbrev pub before : {Id : Type 0} → List (Label Id) → ℕ → List (LabelInFile Id)
 before labels index = map label_of (take index labels)
 
 module _ {Id : Type 0} {labels : List (Label Id)} {index : ℕ} {label : Label Id}
@@ -37,7 +37,7 @@ module _ {Id : Type 0} {labels : List (Label Id)} {index : ℕ} {label : Label I
         get_or-map label_of (take (index + 1) labels) index label (label_of label)
         (omega (arith, long))
         ∙ ap label_of (get_or-take (index + 1) labels index label (omega arith) ∙ sym turn.is) in
-        ap (λ (x : InFile Id). has same o ids x.file_id) (sym last)
+        ap (λ (x : LabelInFile Id). has same o ids x.file_id) (sym last)
         ∙ file_ids-has same o (before labels (index + 1)) index (label_of label)
         (omega (arith, long, length-map (take (index + 1) labels) label_of))
 
@@ -48,4 +48,4 @@ module _ {Id : Type 0} {labels : List (Label Id)} {index : ℕ} {label : Label I
     -- no two of the ids are the same
     pub ids-differ : Differ same o ids
     ids-differ =
-        first_seen-differ same o (map (λ (x : InFile Id). x.file_id) (before labels (index + 1)))
+        first_seen-differ same o (map (λ (x : LabelInFile Id). x.file_id) (before labels (index + 1)))

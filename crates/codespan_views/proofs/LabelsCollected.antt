@@ -27,7 +27,7 @@ use Rattle.codespan_picture.specs.OutputStreams.{label_of}
 use Rattle.codespan_views.specs.Private.FileIndices.{IsIdAt, index_of_file}
 use Rattle.codespan_views.specs.Private.IndexedLabels.{annotations_after, indices_after}
 use Rattle.codespan_views.specs.Private.SpannedDigits.{all_digits, label_digits}
-use Rattle.codespan_picture.specs.Snippets.{InFile, file_ids}
+use Rattle.codespan_picture.specs.Snippets.{LabelInFile, file_ids}
 use Rattle.codespan_picture.proofs.Greatest.{greatest-append}
 use Rattle.codespan_picture.proofs.ListElements.{all-both, all-mapped, all-weaker}
 use Rattle.codespan_views.proofs.FileOrder.{file_ids-more}
@@ -43,7 +43,7 @@ use Rattle.codespan_views.proofs.FirstErrors.{first_error-none, first_error-some
 
 -- these labels are done with: each file has what they add, their annotations are there, the padding
 -- fits the lines that they span, and no lookup failed
-pub record AreCollected {Id : Type 0} (database : FileDatabase Id) (config : Config) (ids : List Id) (done : List (InFile Id)) (files : List (RustFile Id)) (found : FoundAnnotations Id) : Type 0 where
+pub record AreCollected {Id : Type 0} (database : FileDatabase Id) (config : Config) (ids : List Id) (done : List (LabelInFile Id)) (files : List (RustFile Id)) (found : FoundAnnotations Id) : Type 0 where
   pub ids_are : ids_view files ≡ ids
   pub starts_are : starts_view files ≡ map (file_least_starts database.same done) ids
   pub lanes_are : lane_counts files ≡ map (num_multi_labels_of database.same database.file done) ids
@@ -164,7 +164,7 @@ module _ {Id : Type 0} {database : FileDatabase Id} (lawful : AreFiles database)
         (label_digits (file label.file_id) (label_of label).label)
         → more.spanned_padding.digits ≡ fold max 0 (all_digits file (before labels (index + 1)))
     counted-more more counts =
-        let digits : InFile Id → List ℕ = λ x. label_digits (file x.file_id) x.label in
+        let digits : LabelInFile Id → List ℕ = λ x. label_digits (file x.file_id) x.label in
         counts ∙ ap (λ n. fold max n (digits (label_of label))) g.counted
         ∙ sym (greatest-append 0 (all_digits file (before labels index)) (digits (label_of label)))
         ∙ ap (λ (ns : List ℕ). fold max 0 (all_digits file (before labels index) ++ ns)) (sym (append-nil (digits (label_of label))))
@@ -257,7 +257,7 @@ module _ {Id : Type 0} {database : FileDatabase Id} (lawful : AreFiles database)
         let rest = map label_of (drop (index + 1) labels) in
         let whole : map label_of labels ≡ (before labels index ++ label_of label ∷ []) ++ rest =
         ap (map label_of) (sym (take-append-drop (index + 1) labels)) ∙ map-append label_of (take (index + 1) labels) (drop (index + 1) labels)
-        ∙ ap (λ (xs : List (InFile Id)). xs ++ rest) (before-more turn) in
+        ∙ ap (λ (xs : List (LabelInFile Id)). xs ++ rest) (before-more turn) in
         let lookups = lookups_of_label config database in
         ap (λ xs. first_error database.failure (flat_map lookups xs)) whole
         ∙ ap (first_error database.failure) (flat_map-append lookups (before labels index ++ label_of label ∷ []) rest)
@@ -274,7 +274,7 @@ collected-all {Id} {database} {config} {files} {found} labels index past g =
     subst (λ (ls : List (Label Id)). AreCollected database config (file_ids database.same (map label_of ls)) (map label_of ls) files found) (take_all index labels past) g
 
 -- each file has what the labels add to it
-pub each-labels : {Id : Type 0} (same : Id → Id → Bool) (file : Id → FileModel) (xs : List (InFile Id)) (files : List (RustFile Id))
+pub each-labels : {Id : Type 0} (same : Id → Id → Bool) (file : Id → FileModel) (xs : List (LabelInFile Id)) (files : List (RustFile Id))
     → starts_view files ≡ map (file_least_starts same xs) (ids_view files) → lane_counts files ≡ map (num_multi_labels_of same file xs) (ids_view files) → AllByRecursion (HasLabels same file xs) files
 each-labels same file xs [] starts lanes = tt
 each-labels same file xs (f ∷ fs) starts lanes = (

@@ -10,7 +10,7 @@ use Rattle.std.proofs.lemmas.List.Sums.{fold-append}
 use Rattle.codespan_core.specs.declared.diagnostic.Label.{Label}
 use Rattle.codespan_core.specs.Labels.{is_primary}
 use Rattle.codespan_picture.specs.OutputStreams.{label_of}
-use Rattle.codespan_picture.specs.Snippets.{InFile, file_ids}
+use Rattle.codespan_picture.specs.Snippets.{LabelInFile, file_ids}
 use Rattle.codespan_views.specs.declared.least_starts.LeastStarts.{LeastStarts}
 use Rattle.codespan_views.specs.Private.LabeledFiles.{starts_with_label}
 use Rattle.codespan_views.specs.Private.LocusBytes.{file_least_starts, is_locus_label, least_if_any, least_with, no_starts, least_starts_with, label_starts}
@@ -26,7 +26,7 @@ least-more : (ns : List ℕ) (n : ℕ)
 least-more [] n = refl
 least-more (m ∷ ns) n = ap Some (fold-append min m ns (n ∷ []))
 
-module _ {Id : Type 0} (same : Id → Id → Bool) (xs : List (InFile Id)) (x : InFile Id) (id : Id)
+module _ {Id : Type 0} (same : Id → Id → Bool) (xs : List (LabelInFile Id)) (x : LabelInFile Id) (id : Id)
   where
     -- the start of the label, where it counts
     abbrev own_start : Bool → List ℕ
@@ -43,7 +43,7 @@ module _ {Id : Type 0} (same : Id → Id → Bool) (xs : List (InFile Id)) (x : 
         ∙ ap (λ (ns : List ℕ). label_starts same id only xs ++ ns)
         (by (is_locus_label same id only x))
       where
-        start : InFile Id → ℕ
+        start : LabelInFile Id → ℕ
         start y = y.label.start
 
         by : (b : Bool) → map start (cond b (x ∷ []) []) ≡ own_start b
@@ -105,21 +105,21 @@ module _ {Id : Type 0} (same : Id → Id → Bool) (xs : List (InFile Id)) (x : 
             (candidates true ∙ ap (λ (c : Bool). primary ++ own_start c) is ∙ append-nil primary)
 
 -- labels of other files change nothing
-pub start-unknown : {Id : Type 0} (same : Id → Id → Bool) (xs : List (InFile Id)) (id : Id)
-    → AllByRecursion (λ (x : InFile Id). same id x.file_id ≡ false) xs
+pub start-unknown : {Id : Type 0} (same : Id → Id → Bool) (xs : List (LabelInFile Id)) (id : Id)
+    → AllByRecursion (λ (x : LabelInFile Id). same id x.file_id ≡ false) xs
     → file_least_starts same xs id ≡ no_starts
 start-unknown {Id} same xs id none =
     λ i. record { primary = least_if_any (starts true i); any = least_if_any (starts false i) }
   where
     starts : (only : Bool) → label_starts same id only xs ≡ []
     starts only =
-        ap (map (λ (x : InFile Id). x.label.start)) (filter-nothing (is_locus_label same id only) xs
-        (all-weaker (λ (x : InFile Id). same id x.file_id ≡ false)
+        ap (map (λ (x : LabelInFile Id). x.label.start)) (filter-nothing (is_locus_label same id only) xs
+        (all-weaker (λ (x : LabelInFile Id). same id x.file_id ≡ false)
         (λ x. is_locus_label same id only x ≡ false)
         (λ x f. ap (λ (b : Bool). b && (not only || is_primary x.label)) f) xs none))
 
 -- equal ids have one start
-start-equal : {Id : Type 0} (same : Id → Id → Bool) (o : IsEquivalence same) (xs : List (InFile Id))
+start-equal : {Id : Type 0} (same : Id → Id → Bool) (o : IsEquivalence same) (xs : List (LabelInFile Id))
     (i j : Id)
     → same i j ≡ true → file_least_starts same xs i ≡ file_least_starts same xs j
 start-equal {Id} same o xs i j t =
@@ -127,8 +127,8 @@ start-equal {Id} same o xs i j t =
   where
     starts : (only : Bool) → label_starts same i only xs ≡ label_starts same j only xs
     starts only =
-        λ k. map (λ (y : InFile Id). y.label.start)
-        (filter (λ (y : InFile Id). o.congr i j y.file_id t k && (not only || is_primary y.label))
+        λ k. map (λ (y : LabelInFile Id). y.label.start)
+        (filter (λ (y : LabelInFile Id). o.congr i j y.file_id t k && (not only || is_primary y.label))
         xs)
 
 module _ {Id : Type 0} {labels : List (Label Id)} {index : ℕ} {label : Label Id}
@@ -141,7 +141,7 @@ module _ {Id : Type 0} {labels : List (Label Id)} {index : ℕ} {label : Label I
   with_label : (j : Id)
       → file_least_starts same (before labels (index + 1)) j ≡ file_least_starts same
       (before labels index ++ label_of label ∷ []) j
-  with_label j = ap (λ (ys : List (InFile Id)). file_least_starts same ys j) (before-more turn)
+  with_label j = ap (λ (ys : List (LabelInFile Id)). file_least_starts same ys j) (before-more turn)
 
   -- the label changes the start of its file, and of no other one
   start-changed : IsChanged same label.file_id (file_least_starts same (before labels index))

@@ -7,7 +7,7 @@ use Rattle.std.proofs.lemmas.List.{append-nil, map-append, take-append-drop, tak
 use Rattle.codespan_core.specs.Streams.{Stream, newline}
 use Rattle.codespan_picture.specs.Rows.{RowContext, Row, FinalRow, LaterNoteRow}
 use Rattle.codespan_picture.specs.RowStreams.{first_note_row, later_note_row, stream_of, stream_of_rows}
-use Rattle.codespan_picture.specs.RenderedRows.{later_note_lines_stream, note_stream}
+use Rattle.codespan_picture.specs.RenderedRows.{later_note_rows_stream, note_stream}
 use Rattle.codespan_picture.specs.Snippets.{note_rows, note_line_rows}
 
 module _ (context : RowContext) where
@@ -17,7 +17,7 @@ module _ (context : RowContext) where
 
   -- the later rows of a note
   later-rows : (ps : List (List ℕ))
-      → stream_of_rows context (map LaterNoteRow ps) ≡ later_note_lines_stream context.padding ps
+      → stream_of_rows context (map LaterNoteRow ps) ≡ later_note_rows_stream context.padding ps
   later-rows [] = refl
   later-rows (p ∷ ps) =
       ap (λ (s : Stream). (later_note_row context.padding p ++ newline) ++ s) (later-rows ps)

@@ -4,9 +4,9 @@ use Rattle.std.proofs.Common.{List}
 use Rattle.std.specs.List.{AllZip}
 use Rattle.codespan_core.specs.declared.term.config.DisplayStyle.TheVariants.{Rich, Short}
 use Rattle.codespan_core.specs.declared.diagnostic.Diagnostic.{Diagnostic}
-use Rattle.codespan_picture.specs.OutputStreams.{AreLoci, IsLocus, NamesAreTexts, files_of, label_locus_start, labels_of, snippet_locus_start}
+use Rattle.codespan_picture.specs.OutputStreams.{AreLoci, IsLocus, NamesAreUtf8, files_of, label_locus_byte, labels_of, snippet_locus_byte}
 use Rattle.codespan_picture.specs.Rows.{Locus}
-use Rattle.codespan_picture.specs.Snippets.{InFile, LabeledFileModel, primary_of}
+use Rattle.codespan_picture.specs.Snippets.{LabelInFile, LabeledFileModel, primary_of}
 use Rattle.codespan_picture.proofs.Loci.{zip_map, zip_texts, zip_weaker}
 use Rattle.codespan_views.specs.Private.TextLoci.{IsLocusOfFile, IsLocusOfLabel}
 use Rattle.codespan_core.specs.FileModel.{FileDatabase}
@@ -17,29 +17,29 @@ module _ {Id : Type 0} (files : FileDatabase Id) (d : Diagnostic Id) (loci : Lis
   own = files_of files d
 
   -- the labels that have headers
-  abbrev primary_labels : List (InFile Id)
+  abbrev primary_labels : List (LabelInFile Id)
   primary_labels = primary_of (labels_of d)
 
   -- those of the files' snippets are loci of a rich output
   pub file_loci : AllZip IsLocusOfFile own loci → AreLoci files d Rich loci
   file_loci are =
-      zip_map IsLocus snippet_locus_start own loci
-      (zip_weaker IsLocusOfFile (λ s p. IsLocus (snippet_locus_start s) p) (λ s p h. h.is_locus) own
+      zip_map IsLocus snippet_locus_byte own loci
+      (zip_weaker IsLocusOfFile (λ s p. IsLocus (snippet_locus_byte s) p) (λ s p h. h.is_locus) own
       loci are)
 
   -- and their names are UTF-8
-  pub file_texts : AllZip IsLocusOfFile own loci → NamesAreTexts loci
+  pub file_texts : AllZip IsLocusOfFile own loci → NamesAreUtf8 loci
   file_texts are = zip_texts IsLocusOfFile (λ s p h. h.is_utf8) own loci are
 
   -- those of the labels' headers are loci of a short output
   pub label_loci : AllZip (IsLocusOfLabel files.file) primary_labels loci
       → AreLoci files d Short loci
   label_loci are =
-      zip_map IsLocus (label_locus_start files.file) primary_labels loci
-      (zip_weaker (IsLocusOfLabel files.file) (λ x p. IsLocus (label_locus_start files.file x) p)
+      zip_map IsLocus (label_locus_byte files.file) primary_labels loci
+      (zip_weaker (IsLocusOfLabel files.file) (λ x p. IsLocus (label_locus_byte files.file x) p)
       (λ x p h. h.is_locus) primary_labels loci are)
 
   -- and their names are UTF-8
-  pub label_texts : AllZip (IsLocusOfLabel files.file) primary_labels loci → NamesAreTexts loci
+  pub label_texts : AllZip (IsLocusOfLabel files.file) primary_labels loci → NamesAreUtf8 loci
   label_texts are =
       zip_texts (IsLocusOfLabel files.file) (λ x p h. h.is_utf8) primary_labels loci are

@@ -16,7 +16,7 @@ use Rattle.codespan_picture.specs.Lines.{drawn_lines}
 use Rattle.codespan_picture.specs.Lookups.{lookups_of_file, filled_lines, first_error, locus_lookups, numbers_for_padding, filled_line_lookups}
 use Rattle.codespan_picture.specs.Padding.{digits_of, numbered_lines, padding_of}
 use Rattle.codespan_views.specs.Private.TextLoci.{IsTextLocus}
-use Rattle.codespan_picture.specs.Snippets.{InFile, LabeledFileModel, labeled_file_model, labeled_file_models, num_multi_labels, locus_start, rows_of_drawn, file_ids}
+use Rattle.codespan_picture.specs.Snippets.{LabelInFile, LabeledFileModel, labeled_file_model, labeled_file_models, num_multi_labels, locus_byte_of, rows_of_drawn, file_ids}
 use Rattle.codespan_views.specs.declared.collected.Collected.{Collected}
 use Rattle.codespan_views.specs.declared.labeled_files.LabeledFile.{LabeledFile as RustFile}
 use Rattle.codespan_views.specs.declared.plan.snippet_plans.SnippetPlan.{SnippetPlan}
@@ -58,7 +58,7 @@ numbered : (config : Config) → config.layout ≡ Unbroken → (s : LabeledFile
 numbered config unbroken s = ap (λ v. numbered_lines (record config { layout = v }) s) unbroken
 
 module _ {Id : Type 0} {database : FileDatabase Id} (lawful : AreFiles database) {config : Config}
-    {xs : List (InFile Id)} {collected : Collected Id}
+    {xs : List (LabelInFile Id)} {collected : Collected Id}
     (all : IsCollected database config xs collected) where
   -- which ids name one file, and the file that an id names
   abbrev same : Id → Id → Bool
@@ -107,7 +107,7 @@ module _ {Id : Type 0} {database : FileDatabase Id} (lawful : AreFiles database)
 
   -- where a file's snippet starts
   file_locus_byte-is : {f : RustFile Id} → HasLabels same file xs f
-      → locus_byte f.least_starts ≡ locus_start (labeled f.file_id).labels
+      → locus_byte f.least_starts ≡ locus_byte_of (labeled f.file_id).labels
   file_locus_byte-is {f} known = ap locus_byte known.least_starts_are ∙ start-is same file f.file_id xs
 
   -- the lookups of the loci of files are those of their snippets
@@ -263,7 +263,7 @@ module _ {Id : Type 0} {database : FileDatabase Id} (lawful : AreFiles database)
 -- ---- what was collected, with its plans
 
 module _ {Id : Type 0} {database : FileDatabase Id} (lawful : AreFiles database) {config : Config}
-    {xs : List (InFile Id)} {collected : Collected Id}
+    {xs : List (LabelInFile Id)} {collected : Collected Id}
     (all : IsCollected database config xs collected) where
   -- plans fail with what the output plan fails with
   pub failure-is : collected_plan_failure config.layout database.failure collected ≡ output_plan_failure

@@ -5,7 +5,7 @@ use Rattle.std.proofs.lemmas.Grind.{common_steps}
 use Rattle.std.proofs.lemmas.List.{drop-drop, get_or-map, length-drop, length-map, length-take}
 use Rattle.codespan_core.specs.declared.term.config.Config.{Config}
 use Rattle.codespan_core.specs.FileModel.{FileDatabase}
-use Rattle.codespan_picture.specs.Snippets.{empty_row_after, snippet, InFile, LabeledFileModel, empty_lanes, has_any, labeled_file_model}
+use Rattle.codespan_picture.specs.Snippets.{empty_row_after, snippet, LabelInFile, LabeledFileModel, empty_lanes, has_any, labeled_file_model}
 use Rattle.codespan_picture.specs.Rows.{EmptyRow, Row, SnippetStartRow}
 use Rattle.codespan_picture.specs.Arguments.{locus_view}
 use Rattle.codespan_views.specs.Private.OutputPlans.{ArePlansOfLabels, IsPlanOfLabels, ids_of, loci_of}
@@ -83,7 +83,7 @@ module _ {Id : Type 0} {snippet_plans : List (SnippetPlan Id)} {k : ℕ}
       (get_or-map (λ (snippet_plan : SnippetPlan Id). locus_view snippet_plan.locus) snippet_plans k
       snippet_plan (locus_view snippet_plan.locus) at.inside)
 
-module _ {Id : Type 0} (database : FileDatabase Id) (config : Config) (xs : List (InFile Id)) where
+module _ {Id : Type 0} (database : FileDatabase Id) (config : Config) (xs : List (LabelInFile Id)) where
   -- the file is that of its labels, with the snippet lines that it counts in front, and the rest is
   -- of the files after it
   abbrev pub IsFirstFile : List (SnippetPlan Id) → SnippetPlan Id → List (RustLine Id) → Type 0
@@ -100,7 +100,7 @@ module _ {Id : Type 0} (database : FileDatabase Id) (config : Config) (xs : List
     pub inside : start ≤ length snippet_lines
     pub are : ArePlansOfLabels database config xs (drop k snippet_plans) (drop start snippet_lines)
 
-module _ {Id : Type 0} {database : FileDatabase Id} {config : Config} {xs : List (InFile Id)}
+module _ {Id : Type 0} {database : FileDatabase Id} {config : Config} {xs : List (LabelInFile Id)}
     {snippet_plans : List (SnippetPlan Id)} {k : ℕ} {snippet_plan : SnippetPlan Id}
     {snippet_lines : List (RustLine Id)} {start : ℕ}
     (at : IsElementAt snippet_plans k snippet_plan)

@@ -4,7 +4,7 @@ use Rattle.std.proofs.Common.{◌≡◌, ℕ, Bool, true, false, cond, ◌&&◌,
 use Rattle.std.specs.Prelude.{unwrap_or}
 use Rattle.codespan_core.specs.FileModel.{FileModel}
 use Rattle.codespan_core.specs.Labels.{LabelModel, is_primary}
-use Rattle.codespan_picture.specs.Snippets.{InFile, if_any, labeled_file_model, least, locus_start}
+use Rattle.codespan_picture.specs.Snippets.{LabelInFile, if_any, labeled_file_model, least, locus_byte_of}
 use Rattle.codespan_views.specs.Private.LocusBytes.{file_least_starts, is_locus_label, least_if_any, locus_byte, label_starts}
 
 -- the least of some numbers is that of those that there are
@@ -14,40 +14,40 @@ least-unwrap (n ∷ ns) = refl
 
 module _ {Id : Type 0} (same : Id → Id → Bool) (file : Id → FileModel) (id : Id) where
   -- the starts of the primary labels of the file
-  primary-starts : (xs : List (InFile Id))
+  primary-starts : (xs : List (LabelInFile Id))
       → label_starts same id true xs ≡ map (λ (x : LabelModel). x.start)
       (filter is_primary (labeled_file_model same file xs id).labels)
   primary-starts [] = refl
   primary-starts (x ∷ xs) = by (same id x.file_id) (primary-starts xs)
     where
-      own : List (InFile Id)
-      own = filter (λ (y : InFile Id). same id y.file_id) xs
+      own : List (LabelInFile Id)
+      own = filter (λ (y : LabelInFile Id). same id y.file_id) xs
 
-      candidates : List (InFile Id)
+      candidates : List (LabelInFile Id)
       candidates = filter (is_locus_label same id true) xs
 
       unchanged : (c : Bool)
           → label_starts same id true xs ≡ map (λ (y : LabelModel). y.start)
           (filter is_primary (labeled_file_model same file xs id).labels)
-          → map (λ (y : InFile Id). y.label.start) (cond c (x ∷ candidates) candidates)
+          → map (λ (y : LabelInFile Id). y.label.start) (cond c (x ∷ candidates) candidates)
           ≡ map (λ (y : LabelModel). y.start)
-          (cond c (x.label ∷ filter is_primary (map (λ (y : InFile Id). y.label) own))
-          (filter is_primary (map (λ (y : InFile Id). y.label) own)))
+          (cond c (x.label ∷ filter is_primary (map (λ (y : LabelInFile Id). y.label) own))
+          (filter is_primary (map (λ (y : LabelInFile Id). y.label) own)))
       unchanged true rest = ap (λ (ns : List ℕ). x.label.start ∷ ns) rest
       unchanged false rest = rest
 
       by : (b : Bool)
           → label_starts same id true xs ≡ map (λ (y : LabelModel). y.start)
           (filter is_primary (labeled_file_model same file xs id).labels)
-          → map (λ (y : InFile Id). y.label.start)
+          → map (λ (y : LabelInFile Id). y.label.start)
           (cond (b && is_primary x.label) (x ∷ candidates) candidates)
           ≡ map (λ (y : LabelModel). y.start)
-          (filter is_primary (map (λ (y : InFile Id). y.label) (cond b (x ∷ own) own)))
+          (filter is_primary (map (λ (y : LabelInFile Id). y.label) (cond b (x ∷ own) own)))
       by true rest = unchanged (is_primary x.label) rest
       by false rest = rest
 
   -- the starts of all its labels
-  all-starts : (xs : List (InFile Id))
+  all-starts : (xs : List (LabelInFile Id))
       → label_starts same id false xs ≡ map (λ (x : LabelModel). x.start)
       (labeled_file_model same file xs id).labels
   all-starts [] = refl
@@ -56,20 +56,20 @@ module _ {Id : Type 0} (same : Id → Id → Bool) (file : Id → FileModel) (id
       by : (b : Bool)
           → label_starts same id false xs ≡ map (λ (x : LabelModel). x.start)
           (labeled_file_model same file xs id).labels
-          → map (λ (x : InFile Id). x.label.start)
+          → map (λ (x : LabelInFile Id). x.label.start)
           (cond (b && true) (x ∷ filter (is_locus_label same id false) xs)
           (filter (is_locus_label same id false) xs))
           ≡ map (λ (x : LabelModel). x.start)
-          (map (λ (x : InFile Id). x.label)
-          (cond b (x ∷ filter (λ (x : InFile Id). same id x.file_id) xs)
-          (filter (λ (x : InFile Id). same id x.file_id) xs)))
+          (map (λ (x : LabelInFile Id). x.label)
+          (cond b (x ∷ filter (λ (x : LabelInFile Id). same id x.file_id) xs)
+          (filter (λ (x : LabelInFile Id). same id x.file_id) xs)))
       by true rest = ap (λ (ns : List ℕ). x.label.start ∷ ns) rest
       by false rest = rest
 
   -- the least start of a primary label, where there is one
-  locus-primary : (xs : List (InFile Id)) (n : ℕ)
+  locus-primary : (xs : List (LabelInFile Id)) (n : ℕ)
       → least_if_any (label_starts same id true xs) ≡ Some n
-      → n ≡ locus_start (labeled_file_model same file xs id).labels
+      → n ≡ locus_byte_of (labeled_file_model same file xs id).labels
   locus-primary xs n is =
       by (filter is_primary labels) (ap least_if_any (sym (primary-starts xs)) ∙ is)
     where
@@ -82,9 +82,9 @@ module _ {Id : Type 0} (same : Id → Id → Bool) (file : Id → FileModel) (id
       by (l ∷ ls) h = cc
 
   -- or that of any label
-  locus-any : (xs : List (InFile Id)) (n : ℕ) → least_if_any (label_starts same id true xs) ≡ None
+  locus-any : (xs : List (LabelInFile Id)) (n : ℕ) → least_if_any (label_starts same id true xs) ≡ None
       → n ≡ unwrap_or (least_if_any (label_starts same id false xs)) 0
-      → n ≡ locus_start (labeled_file_model same file xs id).labels
+      → n ≡ locus_byte_of (labeled_file_model same file xs id).labels
   locus-any xs n none is =
       is ∙ ap (λ (ns : List ℕ). unwrap_or (least_if_any ns) 0) (all-starts xs)
       ∙ least-unwrap (map (λ (x : LabelModel). x.start) labels)
@@ -100,13 +100,13 @@ module _ {Id : Type 0} (same : Id → Id → Bool) (file : Id → FileModel) (id
       by (l ∷ ls) h = cc
 
   -- the start by the labels is where the snippet starts
-  pub start-is : (xs : List (InFile Id))
-      → locus_byte (file_least_starts same xs id) ≡ locus_start
+  pub start-is : (xs : List (LabelInFile Id))
+      → locus_byte (file_least_starts same xs id) ≡ locus_byte_of
       (labeled_file_model same file xs id).labels
   start-is xs = by (least_if_any (label_starts same id true xs)) refl
     where
       by : (o : Option ℕ) → least_if_any (label_starts same id true xs) ≡ o
           → unwrap_or o (unwrap_or (least_if_any (label_starts same id false xs)) 0)
-          ≡ locus_start (labeled_file_model same file xs id).labels
+          ≡ locus_byte_of (labeled_file_model same file xs id).labels
       by (Some n) is = locus-primary xs n is
       by None is = locus-any xs _ is refl

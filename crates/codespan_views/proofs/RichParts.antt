@@ -26,7 +26,7 @@ use Rattle.codespan_views.specs.WriteCalls.{WritesOutput}
 use Rattle.codespan_picture.specs.Lookups.{early_lookups, first_error, late_lookups}
 use Rattle.codespan_picture.specs.OutputStreams.{header_text_of, label_of, labels_of, context_of, notes_of}
 use Rattle.codespan_picture.specs.Padding.{padding_of}
-use Rattle.codespan_picture.specs.Snippets.{snippets, InFile, has_any, labeled_file_model, labeled_file_models, note_rows}
+use Rattle.codespan_picture.specs.Snippets.{snippets, LabelInFile, has_any, labeled_file_model, labeled_file_models, note_rows}
 use Rattle.codespan_views.specs.Private.TextLoci.{IsLocusOfFile}
 use Rattle.codespan_picture.specs.Rows.{FinalRow, HeaderRow, Row}
 use Rattle.codespan_picture.specs.RowStreams.{header_row, stream_of, stream_of_rows}
@@ -48,7 +48,7 @@ module _ {Id : Type 0} (view_config : Config) (files : FileDatabase Id) (d : Dia
   some_early : 0 < length (before_header view_config files d)
   some_early = from (labels_of d) some_labels
     where
-      from : (xs : List (InFile Id)) → 0 < length xs
+      from : (xs : List (LabelInFile Id)) → 0 < length xs
           → 0 < length (early_lookups files xs view_config)
       from [] none = absurd (omega arith)
       from (x ∷ xs) none = omega arith
@@ -57,7 +57,7 @@ module _ {Id : Type 0} (view_config : Config) (files : FileDatabase Id) (d : Dia
   some_late : 0 < length (after_header view_config files d)
   some_late = from (labels_of d) some_labels
     where
-      from : (xs : List (InFile Id)) → 0 < length xs
+      from : (xs : List (LabelInFile Id)) → 0 < length xs
           → 0 < length (late_lookups files xs view_config)
       from [] none = absurd (omega arith)
       from (x ∷ xs) none = omega arith
@@ -79,18 +79,18 @@ bare-whole {renderer_config = renderer_config} {view_config = view_config} {file
     (header_row d.severity None (header_text_of d) ++ newline
     ++ whole_of_notes (context_of renderer_config d.severity 0) (notes_of d))
     r
-    (ap (λ (xs : List (InFile _)). first_error files.failure (early_lookups files xs view_config)) none) (
-      ap (λ (xs : List (InFile _)). first_error files.failure (late_lookups files xs view_config))
+    (ap (λ (xs : List (LabelInFile _)). first_error files.failure (early_lookups files xs view_config)) none) (
+      ap (λ (xs : List (LabelInFile _)). first_error files.failure (late_lookups files xs view_config))
           none,
       (refl, λ known. sym (with_written-nil old)),
     )
     writes io
     (record {
       loci = [];
-      are = subst (λ (xs : List (InFile _)). AllZip IsLocusOfFile (labeled_file_models files.same files.file xs) []) (sym none) tt;
+      are = subst (λ (xs : List (LabelInFile _)). AllZip IsLocusOfFile (labeled_file_models files.same files.file xs) []) (sym none) tt;
       holds =
           ap
-          (λ (xs : List (InFile _)). stream_of_rows
+          (λ (xs : List (LabelInFile _)). stream_of_rows
           (context_of renderer_config d.severity
           (padding_of view_config (labeled_file_models files.same files.file xs)))
           (HeaderRow None (header_text_of d) ∷ (note_rows (notes_of d) ++ (FinalRow ∷ [])))) none;

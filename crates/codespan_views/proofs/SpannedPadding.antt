@@ -12,7 +12,7 @@ use Rattle.codespan_core.specs.declared.term.config.Layout.TheVariants.{Classic}
 use Rattle.codespan_core.specs.FileModel.{FileModel, line_count}
 use Rattle.codespan_core.specs.Labels.{LabelModel}
 use Rattle.codespan_picture.specs.Padding.{count_digits, digits_of, numbered_lines, padding_of, spanned_lines, spans}
-use Rattle.codespan_picture.specs.Snippets.{InFile, LabeledFileModel, labeled_file_model, labeled_file_models, file_ids}
+use Rattle.codespan_picture.specs.Snippets.{LabelInFile, LabeledFileModel, labeled_file_model, labeled_file_models, file_ids}
 use Rattle.codespan_views.specs.Private.FileIndices.{IsIdAt, index_of_file}
 use Rattle.codespan_views.specs.Private.SpannedDigits.{all_digits, digits_on, label_digits}
 use Rattle.codespan_picture.proofs.Greatest.{greatest-any, greatest-append, greatest-same}
@@ -114,7 +114,7 @@ module _ (f : FileModel) (x : LabelModel) where
 
 module _ {Id : Type 0} (same : Id → Id → Bool) (file : Id → FileModel) (o : IsEquivalence same)
     (one_file : (i j : Id) → same i j ≡ true → file i ≡ file j)
-    (config : Config) (xs : List (InFile Id)) (classic : config.layout ≡ Classic) where
+    (config : Config) (xs : List (LabelInFile Id)) (classic : config.layout ≡ Classic) where
   -- the ids of the files
   abbrev ids : List Id
   ids = file_ids same xs
@@ -134,15 +134,15 @@ module _ {Id : Type 0} (same : Id → Id → Bool) (file : Id → FileModel) (o 
   -- whether some label of a file spans a line
   spans-any : (id : Id) (l : ℕ)
       → list_any (λ x. spans (file id) x l) (labeled id).labels ≡ list_any
-      (λ (x : InFile Id). same id x.file_id && spans (file id) x.label l) xs
+      (λ (x : LabelInFile Id). same id x.file_id && spans (file id) x.label l) xs
   spans-any id l =
-      any-map (λ x. spans (file id) x l) (λ (x : InFile Id). x.label)
-      (filter (λ (x : InFile Id). same id x.file_id) xs)
-      ∙ any-filtered (λ (x : InFile Id). spans (file id) x.label l)
-      (λ (x : InFile Id). same id x.file_id) xs
+      any-map (λ x. spans (file id) x l) (λ (x : LabelInFile Id). x.label)
+      (filter (λ (x : LabelInFile Id). same id x.file_id) xs)
+      ∙ any-filtered (λ (x : LabelInFile Id). spans (file id) x.label l)
+      (λ (x : LabelInFile Id). same id x.file_id) xs
 
   -- the number of a line that a label spans fits the padding
-  line-fits : (k : ℕ) (d : InFile Id) → k < length xs → (l : ℕ)
+  line-fits : (k : ℕ) (d : LabelInFile Id) → k < length xs → (l : ℕ)
       → l < line_count (file (get_or xs k d).file_id)
       → spans (file (get_or xs k d).file_id) (get_or xs k d).label l ≡ true
       → count_digits ((file (get_or xs k d).file_id).line_number l) ≤ padding_width
@@ -159,7 +159,7 @@ module _ {Id : Type 0} (same : Id → Id → Bool) (file : Id → FileModel) (o 
       let own : (same id y.file_id && spans (file id) y.label l) ≡ true =
       ap (λ b. b && spans (file id) y.label l) equal ∙ here in
       let any = spans-any id l
-      ∙ list_any_at (λ (x : InFile Id). same id x.file_id && spans (file id) x.label l) xs k d
+      ∙ list_any_at (λ (x : LabelInFile Id). same id x.file_id && spans (file id) x.label l) xs k d
       inside own in
       let count : l < line_count (file id) = subst (λ m. l < line_count m) model low in
       subst (λ m. count_digits (m.line_number l) ≤ padding_width) (sym model)
@@ -174,9 +174,9 @@ module _ {Id : Type 0} (same : Id → Id → Bool) (file : Id → FileModel) (o 
   labels-fit : AllByRecursion (λ n. n ≤ padding_width) (all_digits file xs)
   labels-fit =
       all-elements (λ n. n ≤ padding_width)
-      (λ (x : InFile Id). label_digits (file x.file_id) x.label) xs
+      (λ (x : LabelInFile Id). label_digits (file x.file_id) x.label) xs
       (recursion_from_All
-      (λ (x : InFile Id). AllByRecursion (λ n. n ≤ padding_width)
+      (λ (x : LabelInFile Id). AllByRecursion (λ n. n ≤ padding_width)
       (label_digits (file x.file_id) x.label))
       xs
       (λ k d inside. digits-fit (file (get_or xs k d).file_id) (get_or xs k d).label padding_width
@@ -184,8 +184,8 @@ module _ {Id : Type 0} (same : Id → Id → Bool) (file : Id → FileModel) (o 
       (λ l low t. line-fits k d inside l (omega (arith, low)) t)))
 
   -- the number of a line that some label of the file spans is counted
-  some-counted : (id : Id) (l : ℕ) → l < line_count (file id) → (ys : List (InFile Id))
-      → list_any (λ (x : InFile Id). same id x.file_id && spans (file id) x.label l) ys ≡ true
+  some-counted : (id : Id) (l : ℕ) → l < line_count (file id) → (ys : List (LabelInFile Id))
+      → list_any (λ (x : LabelInFile Id). same id x.file_id && spans (file id) x.label l) ys ≡ true
       → count_digits ((file id).line_number l) ≤ fold max 0 (all_digits file ys)
   some-counted id l low [] any = absurd (true≢false (sym any))
   some-counted id l low (y ∷ ys) any =
@@ -205,7 +205,7 @@ module _ {Id : Type 0} (same : Id → Id → Bool) (file : Id → FileModel) (o 
       (sym
       (ap
       (λ b. b
-      || list_any (λ (x : InFile Id). same id x.file_id && spans (file id) x.label l) ys)
+      || list_any (λ (x : LabelInFile Id). same id x.file_id && spans (file id) x.label l) ys)
       t)
       ∙ any)))
       (cases_Bool (same id y.file_id && spans (file id) y.label l))

@@ -7,7 +7,7 @@ use Rattle.codespan_core.specs.FileModel.{FileDatabase, Lookup}
 use Rattle.codespan_picture.specs.Lookups.{AllSucceed, IsLookupError, early_lookups, first_error, header_lookups_of, late_lookups, lookups_in}
 use Rattle.codespan_picture.specs.OutputStreams.{labels_of}
 use Rattle.codespan_picture.specs.Rows.{Locus}
-use Rattle.codespan_picture.specs.Snippets.{InFile, primary_of}
+use Rattle.codespan_picture.specs.Snippets.{LabelInFile, primary_of}
 
 -- one of these lookups fails with this error
 pub record FailsWith {Id : Type 0} (files : FileDatabase Id) (lookups : List (Id × Lookup))
@@ -29,9 +29,9 @@ module _ {Id : Type 0} (view_config : Config) (files : FileDatabase Id) (d : Dia
   -- in short and medium style a lookup for the header of a primary label fails, and the headers of
   -- the labels before it have been written, whole
   pub record FailsAtLabel : Type 0 where
-    pub before : List (InFile Id)
-    pub here : InFile Id
-    pub after : List (InFile Id)
+    pub before : List (LabelInFile Id)
+    pub here : LabelInFile Id
+    pub after : List (LabelInFile Id)
     pub whole : before ++ here ∷ after ≡ primary_of (labels_of d)
     pub succeed : AllSucceed files.failure (flat_map header_lookups_of before)
     pub fails : IsLookupError files (header_lookups_of here) e

@@ -4,7 +4,7 @@ use Rattle.codespan_picture.specs.Types.{Diagnostic, Error, OutOfMemory, Config,
 use Rattle.codespan_core.specs.FileModel.{FileDatabase}
 use Rattle.codespan_core.specs.Streams.{text_of}
 use Rattle.codespan_picture.specs.RichLaws.{MeansLabels}
-use Rattle.codespan_picture.specs.OutputStreams.{AreLoci, NamesAreTexts, output}
+use Rattle.codespan_picture.specs.OutputStreams.{AreLoci, NamesAreUtf8, output}
 use Rattle.codespan_picture.specs.Rows.{Locus}
 use Rattle.codespan_picture.specs.Lookups.{AllSucceed, IsLookupError, lookups_in}
 
@@ -13,7 +13,7 @@ module _ {Id : Type 0} (view_config : Config) (files : FileDatabase Id) (d : Dia
   -- no lookup failed, and each name is a text
   pub record Succeeds (loci : List Locus) : Type 0 where
     pub lookups_succeed : AllSucceed files.failure (lookups_in style view_config files d)
-    pub texts : NamesAreTexts loci
+    pub texts : NamesAreUtf8 loci
 
 module _ {Id : Type 0} (config : Config) (files : FileDatabase Id) (d : Diagnostic Id) where
   -- the text of the output with these loci, in the configuration's style

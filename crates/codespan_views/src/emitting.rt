@@ -11,7 +11,7 @@ use codespan_core::diagnostic::Diagnostic;
 use codespan_core::files::{Error, Files};
 use codespan_core::term::config::plain_ref::PlainWriterRef;
 use codespan_core::term::{Config, DisplayStyle, PlainWriter, WriteStyle};
-use codespan_picture::characters::are_characters;
+use codespan_picture::scalar_chars::chars_are_scalars;
 use codespan_renderer::term::renderer::Renderer;
 use std::io::Write;
 
@@ -66,14 +66,14 @@ pub fn emit_into_string<'files, F: Files<'files>>(
     ensures { Emits config.now (F.database files.now) diagnostic.now string_bytes result }
 {
     // Does nothing: shows the prover that the characters are Unicode scalar values.
-    are_characters(&config.chars);
+    chars_are_scalars(&config.chars);
     let bytes = Vec::with_capacity(*diagnostic.labels.allocator(), INITIAL_CAPACITY)?;
     let mut plain = PlainWriter::new(bytes);
     let rendered = emit_to_write_style(&mut plain, config, files, diagnostic);
     match rendered {
         // SAFETY: an output is UTF-8: its characters are Unicode scalar values, its texts are
         // UTF-8, and a line is cut at character boundaries only. The condition of the call is
-        // proved from `OutputIsText`, the law that `codespan_laws::laws::outputs_are_texts` states.
+        // proved from `OutputIsUtf8`, the law that `codespan_laws::laws::outputs_are_utf8` states.
         Ok(()) => Ok(unsafe { String::from_utf8_unchecked(plain.into_inner()) }),
         Err(error) => Err(string_error(plain.has_failed(), error)),
     }

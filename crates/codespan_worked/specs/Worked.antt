@@ -16,8 +16,8 @@ use Rattle.codespan_picture.specs.declared.arguments.MultiLabel.TheVariants as r
 use Rattle.codespan_picture.specs.Arguments.{LaneMarkTuple}
 use Rattle.codespan_picture.specs.Rows.{Line}
 use Rattle.codespan_picture.specs.RowDefinitions.{row_definitions}
-use Rattle.codespan_picture.specs.Snippets.{InFile, labeled_file_models}
-use Rattle.codespan_picture.specs.OutputStreams.{rendered, locus_starts}
+use Rattle.codespan_picture.specs.Snippets.{LabelInFile, labeled_file_models}
+use Rattle.codespan_picture.specs.OutputStreams.{rendered, locus_bytes}
 use Rattle.codespan_picture.specs.Picture.{stated_locus}
 
 -- opens all definitions of an output, so that it computes
@@ -31,7 +31,7 @@ abbrev pub text_file : List ℕ → List ℕ → FileModel
 text_file name text = simple_file (Some (encode_utf8_all name)) (encode_utf8_all text)
 
 -- a label of these bytes in the file of a number
-abbrev pub label : LabelStyle → ℕ → ℕ → ℕ → List ℕ → InFile ℕ
+abbrev pub label : LabelStyle → ℕ → ℕ → ℕ → List ℕ → LabelInFile ℕ
 label style id start end message = record {
   file_id = id;
   label = record {
@@ -43,8 +43,8 @@ label style id start end message = record {
 }
 
 -- a file of a name and a text, with set line numbers
-abbrev pub mapped_text : List ℕ → List ℕ → List (ℕ × ℕ) → FileModel
-mapped_text name text set_numbers =
+abbrev pub mapped_text_file : List ℕ → List ℕ → List (ℕ × ℕ) → FileModel
+mapped_text_file name text set_numbers =
     mapped_file (Some (encode_utf8_all name)) (encode_utf8_all text) set_numbers
 
 -- the file with lines that are numbered by their indices
@@ -82,28 +82,28 @@ abbrev pub with_note : List ℕ → DiagnosticText → DiagnosticText
 with_note note diagnostic = record diagnostic { notes = encode_utf8_all note ∷ [] }
 
 -- the file of a number
-abbrev pub numbered : List FileModel → ℕ → FileModel
-numbered files id = option_map_or (λ f. f) (slice_get files id) missing_file
+abbrev pub file_by_id : List FileModel → ℕ → FileModel
+file_by_id files id = option_map_or (λ f. f) (slice_get files id) missing_file
 
 -- what is rendered in a style, with the names that the files state
 abbrev pub worked_output_of : DisplayStyle → Config → DiagnosticText → List FileModel
-    → List (InFile ℕ) → Stream
-worked_output_of style config diagnostic files labels =
-    rendered style config config diagnostic.severity
+    → List (LabelInFile ℕ) → Stream
+worked_output_of display_style config diagnostic files labels =
+    rendered display_style config config diagnostic.severity
     (record { code = diagnostic.code; message = diagnostic.message })
-    (map stated_locus (locus_starts ◌==◌ (numbered files) labels style))
-    (labeled_file_models ◌==◌ (numbered files) labels) diagnostic.notes
+    (map stated_locus (locus_bytes ◌==◌ (file_by_id files) labels display_style))
+    (labeled_file_models ◌==◌ (file_by_id files) labels) diagnostic.notes
 
 -- in rich style
-abbrev pub rich : Config → DiagnosticText → List FileModel → List (InFile ℕ) → Stream
+abbrev pub rich : Config → DiagnosticText → List FileModel → List (LabelInFile ℕ) → Stream
 rich config diagnostic files labels = worked_output_of Rich config diagnostic files labels
 
 -- in medium style
-abbrev pub medium : Config → DiagnosticText → List FileModel → List (InFile ℕ) → Stream
+abbrev pub medium : Config → DiagnosticText → List FileModel → List (LabelInFile ℕ) → Stream
 medium config diagnostic files labels = worked_output_of Medium config diagnostic files labels
 
 -- in short style
-abbrev pub short : Config → DiagnosticText → List FileModel → List (InFile ℕ) → Stream
+abbrev pub short : Config → DiagnosticText → List FileModel → List (LabelInFile ℕ) → Stream
 short config diagnostic files labels = worked_output_of Short config diagnostic files labels
 
 -- ---- texts of several worked outputs
@@ -133,11 +133,11 @@ tabbed_file = text_file (codes "tabbed") (codes "Entity:\n\tArmament:\n\t\tWeapo
 -- ---- rows of direct calls
 
 -- a line with labels inside it alone
-abbrev pub line_of_labels : ℕ → List ℕ → List (InFile ℕ) → Line
+abbrev pub line_of_labels : ℕ → List ℕ → List (LabelInFile ℕ) → Line
 line_of_labels number text labels = record {
   number = number;
   text = encode_utf8_all text;
-  labels = map (λ (x : InFile ℕ). x.label) labels;
+  labels = map (λ (x : LabelInFile ℕ). x.label) labels;
   lanes = record { count = 0; lane_marks = [] };
 }
 
@@ -152,22 +152,22 @@ abbrev pub many_lines : FileModel
 many_lines = text_file (codes "f") (flat_map (λ _. codes "abcdefgh\n") (range_with_len 0 50))
 
 -- a label on one of them, two bytes long; the number is its index in the list
-abbrev pub one_of_many : ℕ → InFile ℕ
+abbrev pub one_of_many : ℕ → LabelInFile ℕ
 one_of_many i =
     let start = 9 * (i % 50) + i / 50 in
     label (if i % 2 == 0 then Primary else Secondary) 0 start (start + 2)
     (codes "m" ++ decimal i)
 
 -- two hundred of them
-abbrev pub many_labels : List (InFile ℕ)
+abbrev pub many_labels : List (LabelInFile ℕ)
 many_labels = map one_of_many (range_with_len 0 200)
 
 -- those of even numbers
-abbrev pub evens : List (InFile ℕ)
+abbrev pub evens : List (LabelInFile ℕ)
 evens = map (λ k. one_of_many (2 * k)) (range_with_len 0 100)
 
 -- those of odd numbers
-abbrev pub odds : List (InFile ℕ)
+abbrev pub odds : List (LabelInFile ℕ)
 odds = map (λ k. one_of_many (2 * k + 1)) (range_with_len 0 100)
 
 -- ---- texts

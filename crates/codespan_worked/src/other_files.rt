@@ -9,12 +9,12 @@ ghost use Rattle.codespan_base.specs.declared.diagnostic.Severity.TheVariants.{E
 ghost use Rattle.codespan_base.specs.declared.diagnostic.LabelStyle.TheVariants.{Primary};
 ghost use Rattle.codespan_base.specs.declared.files.Error.TheVariants.{FileMissing};
 ghost use Rattle.codespan_picture.specs.Lookups.{first_error, header_lookups_of};
-ghost use Rattle.codespan_worked.specs.Worked.{text_file, mapped_text, from_zero, label, message_only, rich, short, rows, many_lines, many_labels, evens, odds};
+ghost use Rattle.codespan_worked.specs.Worked.{text_file, mapped_text_file, from_zero, label, message_only, rich, short, rows, many_lines, many_labels, evens, odds};
 
 /// Computes the output of a line whose number is set, and of those after it.
 fn mapped_numbers()
     ensures { text_of (rich default_config (message_only Error [])
-        (mapped_text (codes "m") (codes "a\nb\nc\nd") (with_set_number 2 100 []) ∷ [])
+        (mapped_text_file (codes "m") (codes "a\nb\nc\nd") (with_set_number 2 100 []) ∷ [])
         (label Primary 0 2 7 (codes "x") ∷ []))
         ≡ rows (codes "error: "
         ∷ codes "    ┌─ m:2:1"

@@ -10,7 +10,7 @@ use Rattle.codespan_base.specs.declared.term.config.Config.{Config}
 use Rattle.codespan_base.specs.FileModel.{FileDatabase}
 use Rattle.codespan_base.specs.SimpleModel.{missing_file, simple_file, database_file}
 use Rattle.codespan_picture.specs.OutputStreams.{labels_of}
-use Rattle.codespan_picture.specs.Snippets.{InFile}
+use Rattle.codespan_picture.specs.Snippets.{LabelInFile}
 use Rattle.codespan_picture.specs.StatedNames.{NamesAreStated}
 use Rattle.codespan_picture.proofs.StatedNames.{output_stated}
 use Rattle.codespan_styled.specs.Outputs.{EmitsRuns}
@@ -33,7 +33,7 @@ module _ {Id : Type 0} (config : Config) (files : FileDatabase Id) (d : Diagnost
   stated_runs runs (Err error) emits stated = tt
 
 -- the names of the files of a database are stated
-pub stated_in_database : (files : List BorrowedFile) (diagnostic : Diagnostic ℕ) (x : InFile ℕ)
+pub stated_in_database : (files : List BorrowedFile) (diagnostic : Diagnostic ℕ) (x : LabelInFile ℕ)
     → Contains (labels_of diagnostic) x
     → IsSome (database_file (λ name. Some name.now) (λ source. source.now) files x.file_id).name
 stated_in_database files diagnostic x contains = stated x.file_id

@@ -21,12 +21,12 @@ char_input x line = record {
 }
 
 -- the characters of the line
-abbrev pub characters_of : CharInput → List Metrics
-characters_of x = char_metrics x.tab_width x.text
+abbrev pub metrics_of : CharInput → List Metrics
+metrics_of x = char_metrics x.tab_width x.text
 
 -- the characters of the line, and the placeholder after the last one
-abbrev pub characters_to_end_of : CharInput → List Metrics
-characters_to_end_of x = char_metrics_to_end x.tab_width x.text
+abbrev pub metrics_to_end_of : CharInput → List Metrics
+metrics_to_end_of x = char_metrics_to_end x.tab_width x.text
 
 -- the characters end at this byte index or before it
 abbrev pub EndBy : ℕ → List Metrics → Type 0

@@ -27,9 +27,9 @@ optional_label_view x = option_map (λ (l : Bor SingleLabelTuple). single_label_
 -- ---- messages
 
 -- the label at an index, with the index
-abbrev pub label_entry_view : List SingleLabelTuple → Option ℕ → Option (ℕ × LabelModel)
-label_entry_view xs None = None
-label_entry_view xs (Some k) = option_map (λ x. (k, single_label_view x)) (slice_get xs k)
+abbrev pub indexed_label_view : List SingleLabelTuple → Option ℕ → Option (ℕ × LabelModel)
+indexed_label_view xs None = None
+indexed_label_view xs (Some k) = option_map (λ x. (k, single_label_view x)) (slice_get xs k)
 
 -- the labels that hang are those of the two lists that have a message
 pub record AreHanging (labels before after : List SingleLabelTuple) : Type 0 where

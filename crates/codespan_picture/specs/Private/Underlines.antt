@@ -1,4 +1,4 @@
--- An underline by its width, the number of cells that its line runs through.
+-- An underline by its width, the number of cells that its run goes through.
 use Rattle.std.specs.Prelude.{ℕ, List, [], ◌++◌}
 use Rattle.codespan_picture.specs.Types.{LabelStyle, Chars}
 use Rattle.codespan_core.specs.Labels.{MultiLabel, Top, Left, Bottom}
@@ -13,7 +13,7 @@ underline_width cs (Top start) = width_of (metrics_up_to start cs)
 underline_width cs Left = 0
 underline_width cs (Bottom end message) = width_of (metrics_before end cs)
 
--- an underline right of the lanes: a line of this width, the caret, and the message
+-- an underline right of the lanes: a run of this width, the caret, and the message
 unfoldable pub underline_by_width : Chars → LabelStyle → ℕ → MultiLabel → Stream
 underline_by_width chars style width (Top start) =
     repeated width chars.multi_top ++ glyph (start_caret chars style)

@@ -7,7 +7,7 @@ ghost use Rattle.codespan_picture.specs.Carets.{is_overlapping, max_label_end};
 ghost use Rattle.codespan_picture.specs.Arguments.{single_label_view, single_label_views};
 ghost use Rattle.codespan_picture.specs.Private.Runs.{caret_run, optional_label_view};
 ghost use Rattle.codespan_picture.specs.Private.LineViews.{context_view, line_view};
-ghost use Rattle.codespan_picture.specs.Private.RowViews.{carets_view, line_metrics_to_end_view, label_message_view};
+ghost use Rattle.codespan_picture.specs.Private.WrittenParts.{carets_stream, line_metrics_to_end_view, label_message_stream};
 ghost use Rattle.codespan_picture.specs.RowParts.{carets, style_change, trailing_message};
 ghost use Rattle.codespan_picture.specs.RowStreams.{caret_row};
 ghost use Rattle.codespan_picture.specs.Rows.{trailing_label};
@@ -91,7 +91,7 @@ fn write_carets<W: PutStyle, S: LineCharacters>(
 ) -> Result<(), W::Error>
     requires input { S.input characters.now ≡ char_input context line }
     ensures { Writes (W.sink w.old)
-        (carets_view context.entry line.entry.labels.now
+        (carets_stream context.entry line.entry.labels.now
         (line_metrics_to_end_view context.entry line.entry))
         result (W.sink w.new) }
 {
@@ -123,7 +123,7 @@ pub fn write_message<W: PutStyle>(
     severity: Severity,
     label: &SingleLabel<'_>,
 ) -> Result<(), W::Error>
-    ensures { Writes (W.sink w.old) (label_message_view severity label.now)
+    ensures { Writes (W.sink w.old) (label_message_stream severity label.now)
         result (W.sink w.new) }
 {
     w.set_label(severity, label.0)?;
@@ -134,7 +134,7 @@ pub fn write_message<W: PutStyle>(
 /// Writes a space and the trailing message, where a message trails.
 #[tactic(auto, using(codespan_core::proofs::Writes::write_chains), unfolding(crate::specs::RowParts::trailing_message))]
 #[inline(always)]
-fn write_trailing<W: PutStyle>(
+fn write_trailing_message<W: PutStyle>(
     w: &mut W,
     severity: Severity,
     trailing_label: Option<&SingleLabel<'_>>,
@@ -178,6 +178,6 @@ pub fn write_caret_row<W: PutStyle, S: LineCharacters>(
 {
     write_row_start(w, context, line)?;
     write_carets(w, context, line, characters)?;
-    write_trailing(w, context.severity, messages.trailing_label)?;
+    write_trailing_message(w, context.severity, messages.trailing_label)?;
     write_newline(w)
 }

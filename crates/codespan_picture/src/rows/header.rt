@@ -7,8 +7,8 @@ ghost use Rattle.codespan_core.specs.WriterLaw.{Writes};
 ghost use Rattle.codespan_core.specs.SnippetStarts.{start_text};
 ghost use Rattle.codespan_picture.specs.Arguments.{locus_view, text_now};
 ghost use Rattle.codespan_picture.specs.RowParts.{severity_name};
-ghost use Rattle.codespan_picture.specs.RowStreams.{bracketed, leading_locus, snippet_start_row};
-ghost use Rattle.codespan_picture.specs.Private.RowViews.{header_start_view};
+ghost use Rattle.codespan_picture.specs.RowStreams.{bracketed, header_locus, snippet_start_row};
+ghost use Rattle.codespan_picture.specs.Private.WrittenParts.{header_start_stream};
 ghost use Rattle.codespan_picture.specs.RenderedRows.{rendered_header};
 
 use crate::arguments::Locus;
@@ -32,10 +32,10 @@ fn severity_name(severity: Severity) -> &'static str
 }
 
 /// Writes the locus of a header, a colon and a space, or nothing where there is no locus.
-#[tactic(auto, using(codespan_core::proofs::Writes::write_chains), unfolding(crate::specs::RowStreams::leading_locus))]
-fn write_leading_locus<W: PutStyle>(w: &mut W, locus: Option<&Locus>) -> Result<(), W::Error>
+#[tactic(auto, using(codespan_core::proofs::Writes::write_chains), unfolding(crate::specs::RowStreams::header_locus))]
+fn write_header_locus<W: PutStyle>(w: &mut W, locus: Option<&Locus>) -> Result<(), W::Error>
     ensures { Writes (W.sink w.old)
-        (leading_locus (option_map (λ at. locus_view at.now) locus.entry)) result (W.sink w.new) }
+        (header_locus (option_map (λ at. locus_view at.now) locus.entry)) result (W.sink w.new) }
 {
     if let Some(locus) = locus {
         snippet_locus(w, locus)?;
@@ -67,10 +67,10 @@ fn write_header_start<W: PutStyle>(
     severity: Severity,
     code: Option<&str>,
 ) -> Result<(), W::Error>
-    ensures { Writes (W.sink w.old) (header_start_view locus.entry severity code.entry)
+    ensures { Writes (W.sink w.old) (header_start_stream locus.entry severity code.entry)
         result (W.sink w.new) }
 {
-    write_leading_locus(w, locus)?;
+    write_header_locus(w, locus)?;
     w.set_header(severity)?;
     put_all(w, severity_name(severity).as_bytes())?;
     write_code(w, code)

@@ -4,9 +4,9 @@ ghost use Rattle.std.specs.Prelude.{◌≡◌, ◌+◌, ◌<◌, ◌≤◌, ℕ,
 ghost use Rattle.std.specs.Option.{option_map};
 ghost use Rattle.codespan_core.specs.WriterLaw.{Writes};
 ghost use Rattle.codespan_picture.specs.Arguments.{lane_mark_view, multi_label_view};
-ghost use Rattle.codespan_picture.specs.Private.LineViews.{context_view, lanes_view, lane_row_view, row_lane_view, row_lanes_view};
-ghost use Rattle.codespan_picture.specs.Private.RowViews.{lane_glyph_view};
-ghost use Rattle.codespan_picture.specs.Private.LaneMarksLeft.{lane_mark_here, lane_marks_after};
+ghost use Rattle.codespan_picture.specs.Private.LineViews.{context_view, lanes_view, row_kind_view, row_lane_stream, row_lanes_stream};
+ghost use Rattle.codespan_picture.specs.Private.WrittenParts.{lane_glyph_stream};
+ghost use Rattle.codespan_picture.specs.Private.RemainingLaneMarks.{lane_mark_here, lane_marks_after};
 ghost use Rattle.codespan_picture.specs.Lanes.{crossing_characters, lane_characters, underline_char, row_crossing};
 
 use crate::arguments::MultiLabel;
@@ -23,7 +23,7 @@ mod shapes;
 
 /// The kind of a row, as far as its lanes go.
 #[derive(Clone, Copy)]
-pub enum LaneRow<'d> {
+pub enum RowKind<'d> {
     /// A source row.
     Source,
     /// An empty row or a break row.
@@ -46,19 +46,19 @@ struct Lane<'d> {
 
 /// Returns the crossing of a lane: in an underline row whose corner is left of the lane its lane
 /// mark, else `None`.
-fn crossing<'d>(row: LaneRow<'d>, lane: usize) -> Option<(usize, LabelStyle, MultiLabel<'d>)>
-    ensures { option_map lane_mark_view result ≡ row_crossing (lane_row_view row.entry) lane }
+fn crossing<'d>(row: RowKind<'d>, lane: usize) -> Option<(usize, LabelStyle, MultiLabel<'d>)>
+    ensures { option_map lane_mark_view result ≡ row_crossing (row_kind_view row.entry) lane }
 {
     match row {
-        LaneRow::Underline(corner_lane, style, multi_label) if corner_lane < lane => Some((
+        RowKind::Underline(corner_lane, style, multi_label) if corner_lane < lane => Some((
             corner_lane,
             style,
             multi_label,
         )),
-        LaneRow::Source
-        | LaneRow::EmptyOrBreak
-        | LaneRow::SingleLabels
-        | LaneRow::Underline(_, _, _) => None,
+        RowKind::Source
+        | RowKind::EmptyOrBreak
+        | RowKind::SingleLabels
+        | RowKind::Underline(_, _, _) => None,
     }
 }
 
@@ -105,7 +105,7 @@ fn write_lane_glyph<W: PutStyle>(
     style: LabelStyle,
     own: char,
 ) -> Result<(), W::Error>
-    ensures { Writes (W.sink w.old) (lane_glyph_view context.entry crossing.entry style own)
+    ensures { Writes (W.sink w.old) (lane_glyph_stream context.entry crossing.entry style own)
         result (W.sink w.new) }
 {
     write_crossing_characters(w, context, crossing, 1)?;
@@ -148,16 +148,16 @@ fn write_lane_characters<W: PutStyle>(
 }
 
 /// Writes the two characters of a lane, by the kind of the row and the lane mark in the lane.
-#[tactic(auto, unfolding(crate::specs::RowParts::inner_gutter_column, crate::specs::Private::LineViews::row_lane_view))]
+#[tactic(auto, unfolding(crate::specs::RowParts::inner_gutter_column, crate::specs::Private::LineViews::row_lane_stream))]
 fn inner_gutter_column<W: PutStyle>(
     w: &mut W,
     context: RowContext<'_>,
     leading: usize,
-    row: LaneRow<'_>,
+    row: RowKind<'_>,
     lane: Lane<'_>,
 ) -> Result<(), W::Error>
     ensures { Writes (W.sink w.old)
-        (row_lane_view (context_view context.entry) leading row.entry lane.entry.index
+        (row_lane_stream (context_view context.entry) leading row.entry lane.entry.index
         lane.entry.lane_mark)
         result (W.sink w.new) }
 {
@@ -211,15 +211,15 @@ const MAX_EMPTY_LANES: usize = 32;
 
 /// Returns how many lanes from `lane` on and before `until`, the lane of the next lane mark, are
 /// empty: no underline from a corner crosses them. At most [`MAX_EMPTY_LANES`] are counted.
-fn num_empty_lanes(row: LaneRow<'_>, lane: usize, until: usize) -> usize
+fn num_empty_lanes(row: RowKind<'_>, lane: usize, until: usize) -> usize
     ensures no_crossing { (other : ℕ) → lane ≤ other → other < lane + result
-        → row_crossing (lane_row_view row.entry) other ≡ None }
+        → row_crossing (row_kind_view row.entry) other ≡ None }
     ensures within { lane + result ≤ max lane until }
     ensures limit { result ≤ MAX_EMPTY_LANES }
 {
     let end = match row {
-        LaneRow::Underline(corner_lane, _, _) => until.min(corner_lane.saturating_add(1)),
-        LaneRow::Source | LaneRow::EmptyOrBreak | LaneRow::SingleLabels => until,
+        RowKind::Underline(corner_lane, _, _) => until.min(corner_lane.saturating_add(1)),
+        RowKind::Source | RowKind::EmptyOrBreak | RowKind::SingleLabels => until,
     };
     end.saturating_sub(lane).min(MAX_EMPTY_LANES)
 }
@@ -236,11 +236,11 @@ pub fn inner_gutter<W: PutStyle>(
     w: &mut W,
     context: RowContext<'_>,
     leading: usize,
-    row: LaneRow<'_>,
+    row: RowKind<'_>,
     lanes: Lanes<'_, '_>,
 ) -> Result<(), W::Error>
     ensures { Writes (W.sink w.old)
-        (row_lanes_view (context_view context.entry) leading row.entry (lanes_view lanes.entry))
+        (row_lanes_stream (context_view context.entry) leading row.entry (lanes_view lanes.entry))
         result (W.sink w.new) }
 {
     if lanes.count == 0 {
@@ -255,11 +255,11 @@ fn inner_gutter_columns<W: PutStyle>(
     w: &mut W,
     context: RowContext<'_>,
     leading: usize,
-    row: LaneRow<'_>,
+    row: RowKind<'_>,
     lanes: Lanes<'_, '_>,
 ) -> Result<(), W::Error>
     ensures { Writes (W.sink w.old)
-        (row_lanes_view (context_view context.entry) leading row.entry (lanes_view lanes.entry))
+        (row_lanes_stream (context_view context.entry) leading row.entry (lanes_view lanes.entry))
         result (W.sink w.new) }
 {
     let mut next = 0;

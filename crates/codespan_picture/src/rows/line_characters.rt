@@ -5,9 +5,9 @@ ghost use Rattle.codespan_core.specs.WriterLaw.{Writes};
 ghost use Rattle.codespan_picture.specs.CharMetrics.{width_of};
 ghost use Rattle.codespan_picture.specs.Arguments.{single_label_views};
 ghost use Rattle.codespan_picture.specs.RowParts.{metrics_before, metrics_up_to, max_label_start};
-ghost use Rattle.codespan_picture.specs.Private.RowViews.{line_metrics_view, pointers_view, pointers_before_view};
+ghost use Rattle.codespan_picture.specs.Private.WrittenParts.{line_metrics_view, pointers_stream, pointers_before_stream};
 ghost use Rattle.codespan_picture.specs.Private.Runs.{AreHanging, least_start};
-ghost use Rattle.codespan_picture.specs.Private.LineCharacters.{LeavesOut, CharInput, char_input, characters_of, characters_to_end_of};
+ghost use Rattle.codespan_picture.specs.Private.LineCharacters.{LeavesOut, CharInput, char_input, metrics_of, metrics_to_end_of};
 
 use crate::rows::char_cursor::CharCursor;
 use crate::rows::line::{Line, RowContext};
@@ -27,7 +27,7 @@ pub trait LineCharacters {
 
     /// Returns a cursor over the characters of the line.
     fn characters(&self) -> Self::Cursor
-        ensures left { Self.Cursor.left result ≡ characters_of (input self.now) }
+        ensures left { Self.Cursor.left result ≡ metrics_of (input self.now) }
         ensures labels { Self.Cursor.labels result ≡ (input self.now).labels };
 
     /// Returns a column, in cells from the line's start, and a cursor over the characters of the
@@ -35,17 +35,17 @@ pub trait LineCharacters {
     /// end at or before the byte index `end`, and at or before the start of each label.
     fn characters_from_labels(&self, end: usize) -> (u128, Self::Cursor)
         ensures left { LeavesOut (least_start end (single_label_views (input self.now).labels))
-            (characters_to_end_of (input self.now)) result.0 (Self.Cursor.left result.1) }
+            (metrics_to_end_of (input self.now)) result.0 (Self.Cursor.left result.1) }
         ensures labels { Self.Cursor.labels result.1 ≡ (input self.now).labels };
 
     /// Returns how many cells the characters that begin at this byte index or before it occupy.
     fn width_up_to(&self, byte_index: usize) -> u128
-        ensures { result ≡ width_of (metrics_up_to byte_index (characters_of (input self.now))) };
+        ensures { result ≡ width_of (metrics_up_to byte_index (metrics_of (input self.now))) };
 
     /// Returns how many cells the characters that begin before this byte index occupy.
     #[tactic(auto, using(crate::proofs::Widths::widths_before))]
     fn width_before(&self, byte_index: usize) -> u128
-        ensures { result ≡ width_of (metrics_before byte_index (characters_of (input self.now))) }
+        ensures { result ≡ width_of (metrics_before byte_index (metrics_of (input self.now))) }
     {
         match byte_index.checked_sub(1) {
             Some(last) => self.width_up_to(last),
@@ -75,7 +75,7 @@ pub trait LineCharacters {
         requires hanging_labels { AreHanging line.labels.now messages.before.now
             messages.after.now }
         ensures { Writes (W.sink w.old)
-            (pointers_view context.entry line.entry (line_metrics_view context.entry line.entry))
+            (pointers_stream context.entry line.entry (line_metrics_view context.entry line.entry))
             result (W.sink w.new) };
 
     /// Writes the pointers under the characters that begin before the byte index `before`.
@@ -101,7 +101,7 @@ pub trait LineCharacters {
         requires input { input self.now ≡ char_input context line }
         requires hanging_labels { AreHanging line.labels.now messages.before.now
             messages.after.now }
-        requires within_starts { before ≤ max_label_start (single_label_views line.labels.now) }
-        ensures { Writes (W.sink w.old) (pointers_before_view context.entry line.entry before)
+        requires within_max_start { before ≤ max_label_start (single_label_views line.labels.now) }
+        ensures { Writes (W.sink w.old) (pointers_before_stream context.entry line.entry before)
             result (W.sink w.new) };
 }

@@ -7,7 +7,7 @@ ghost use Rattle.codespan_picture.specs.Rows.{rows_of, trailing_label};
 ghost use Rattle.codespan_picture.specs.RowStreams.{stream_of_rows};
 ghost use Rattle.codespan_picture.specs.Private.LineCharacters.{char_input};
 ghost use Rattle.codespan_picture.specs.Private.LineViews.{context_view, line_view};
-ghost use Rattle.codespan_picture.specs.Private.RowViews.{caret_rows_view};
+ghost use Rattle.codespan_picture.specs.Private.WrittenParts.{caret_rows_stream};
 ghost use Rattle.codespan_picture.specs.Private.Runs.{optional_label_view};
 
 use crate::rows::carets::write_caret_row;
@@ -30,7 +30,7 @@ fn write_caret_rows<W: PutStyle, S: LineCharacters>(
     requires input { S.input characters.now ≡ char_input context line }
     requires trailing_label { optional_label_view messages.trailing_label
         ≡ trailing_label (single_label_views line.labels.now) }
-    ensures { Writes (W.sink w.old) (caret_rows_view context.entry line.entry) result
+    ensures { Writes (W.sink w.old) (caret_rows_stream context.entry line.entry) result
         (W.sink w.new) }
 {
     if line.labels.is_empty() {

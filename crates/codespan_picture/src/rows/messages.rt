@@ -5,7 +5,7 @@ ghost use Rattle.std.specs.List.{list_any};
 ghost use Rattle.std.specs.Option.{option_map_or};
 ghost use Rattle.codespan_core.specs.Labels.{has_message};
 ghost use Rattle.codespan_picture.specs.Arguments.{single_label_view, single_label_views};
-ghost use Rattle.codespan_picture.specs.Private.Runs.{optional_label_view, label_entry_view, AreHanging, ArePrefixAndSuffix};
+ghost use Rattle.codespan_picture.specs.Private.Runs.{optional_label_view, indexed_label_view, AreHanging, ArePrefixAndSuffix};
 ghost use Rattle.codespan_picture.specs.Rows.{trailing_label, last_with_end, overlaps_any, does_trail};
 
 use crate::arguments::SingleLabel;
@@ -50,7 +50,7 @@ impl<'row, 'd> Messages<'row, 'd> {
 /// Returns the index of the last label with this end.
 fn last_with_end(labels: &[SingleLabel<'_>], end: usize) -> Option<usize>
     ensures value { last_with_end end (single_label_views labels.now)
-        ≡ label_entry_view labels.now result }
+        ≡ indexed_label_view labels.now result }
     ensures within { IfSome result (λ index. index < length labels.now) }
 {
     for index in (0..labels.len()).rev() {
@@ -66,7 +66,7 @@ fn last_with_end(labels: &[SingleLabel<'_>], end: usize) -> Option<usize>
 fn does_trail(labels: &[SingleLabel<'_>], index: usize) -> bool
     requires { index < length labels.now }
     ensures { result ≡ option_map_or (does_trail (single_label_views labels.now))
-        (label_entry_view labels.now (Some index)) false }
+        (indexed_label_view labels.now (Some index)) false }
 {
     let label = &labels[index];
     !label.2.is_empty()

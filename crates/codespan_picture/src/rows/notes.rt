@@ -8,7 +8,7 @@ ghost use Rattle.codespan_picture.specs.Private.LineViews.{context_view, lanes_v
 ghost use Rattle.codespan_picture.specs.RowStreams.{empty_row, break_row, first_note_row, later_note_row};
 ghost use Rattle.codespan_picture.specs.RenderedRows.{note_stream};
 
-use crate::rows::lanes::{LaneRow, inner_gutter};
+use crate::rows::lanes::{RowKind, inner_gutter};
 use crate::rows::line::{Lanes, RowContext};
 use crate::rows::parts::{
     border_left, border_left_break, outer_gutter, write_newline, write_space,
@@ -33,7 +33,7 @@ pub fn write_snippet_empty<W: PutStyle>(
 {
     outer_gutter(w, context.padding)?;
     border_left(w, context.chars)?;
-    inner_gutter(w, context, 0, LaneRow::EmptyOrBreak, lanes)?;
+    inner_gutter(w, context, 0, RowKind::EmptyOrBreak, lanes)?;
     write_newline(w)
 }
 
@@ -53,12 +53,12 @@ pub fn write_break<W: PutStyle>(
 {
     outer_gutter(w, context.padding)?;
     border_left_break(w, context.chars)?;
-    inner_gutter(w, context, 0, LaneRow::EmptyOrBreak, lanes)?;
+    inner_gutter(w, context, 0, RowKind::EmptyOrBreak, lanes)?;
     write_newline(w)
 }
 
 /// Writes the first row of a note, which has the bullet.
-fn write_first_note_line<W: PutStyle>(
+fn write_first_note_row<W: PutStyle>(
     w: &mut W,
     chars: &Chars<'_>,
     padding: usize,
@@ -77,7 +77,7 @@ fn write_first_note_line<W: PutStyle>(
 }
 
 /// Writes a later row of a note, which has a space instead of the bullet.
-fn write_later_note_line<W: PutStyle>(
+fn write_later_note_row<W: PutStyle>(
     w: &mut W,
     padding: usize,
     note_line: &str,
@@ -110,9 +110,9 @@ pub fn write_note<W: PutStyle>(
     let Some(first) = note_lines.next() else {
         return Ok(());
     };
-    write_first_note_line(w, chars, padding, first)?;
+    write_first_note_row(w, chars, padding, first)?;
     for note_line in note_lines {
-        write_later_note_line(w, padding, note_line)?;
+        write_later_note_row(w, padding, note_line)?;
     }
     Ok(())
 }

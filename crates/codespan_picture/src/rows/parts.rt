@@ -5,12 +5,12 @@ ghost use Rattle.codespan_core.specs.WriterLaw.{Writes};
 ghost use Rattle.codespan_picture.specs.Arguments.{locus_view};
 ghost use Rattle.codespan_picture.specs.Private.LineViews.{context_view, line_view};
 ghost use Rattle.codespan_picture.specs.Lanes.{label_glyph};
-ghost use Rattle.codespan_picture.specs.RowParts.{outer_gutter, outer_gutter_number, border_left, border_left_break, locus, style_change};
+ghost use Rattle.codespan_picture.specs.RowParts.{outer_gutter, outer_gutter_number, border_left, border_left_break, snippet_locus, style_change};
 ghost use Rattle.codespan_picture.specs.RowStreams.{row_start};
 
 use crate::arguments::Locus;
 use crate::padding::count_digits;
-use crate::rows::lanes::{LaneRow, inner_gutter};
+use crate::rows::lanes::{RowKind, inner_gutter};
 use crate::rows::line::{Line, RowContext};
 use crate::rows::runs::write_spaces;
 use codespan_core::diagnostic::{LabelStyle, Severity};
@@ -149,7 +149,7 @@ pub fn change_style<W: PutStyle>(
 /// The writer's error; a prefix has then been written.
 #[inline(always)]
 pub fn snippet_locus<W: PutStyle>(w: &mut W, at: &Locus) -> Result<(), W::Error>
-    ensures { Writes (W.sink w.old) (locus (locus_view at.now)) result (W.sink w.new) }
+    ensures { Writes (W.sink w.old) (snippet_locus (locus_view at.now)) result (W.sink w.new) }
 {
     put_all(w, at.name.as_bytes())?;
     put_all(w, b":")?;
@@ -176,6 +176,6 @@ pub fn write_row_start<W: PutStyle>(
 {
     outer_gutter(w, context.padding)?;
     border_left(w, context.chars)?;
-    inner_gutter(w, context, line.leading, LaneRow::SingleLabels, line.lanes)?;
+    inner_gutter(w, context, line.leading, RowKind::SingleLabels, line.lanes)?;
     write_space(w)
 }

@@ -5,7 +5,7 @@ ghost use Rattle.codespan_core.specs.Streams.{newline, spaces};
 ghost use Rattle.codespan_core.specs.WriterLaw.{Writes};
 ghost use Rattle.codespan_picture.specs.Arguments.{single_label_view, single_label_views};
 ghost use Rattle.codespan_picture.specs.Private.LineViews.{context_view, line_view};
-ghost use Rattle.codespan_picture.specs.Private.RowViews.{hanging_stream_view, pointer_and_hanging_rows_view, pointer_and_messages_view};
+ghost use Rattle.codespan_picture.specs.Private.WrittenParts.{hanging_rows_stream, pointer_and_hanging_rows_stream, pointer_and_messages_stream};
 ghost use Rattle.codespan_picture.specs.Lanes.{label_glyph};
 ghost use Rattle.codespan_picture.specs.RowParts.{max_label_start};
 ghost use Rattle.codespan_picture.specs.RowStreams.{pointer_row, hanging_row};
@@ -95,7 +95,7 @@ fn write_hanging_row<W: PutStyle, S: LineCharacters>(
     requires input { S.input rows.now.characters.now ≡ char_input rows.now.context rows.now.line }
     requires hanging_labels { AreHanging rows.now.line.labels.now
         rows.now.messages.before.now rows.now.messages.after.now }
-    requires near { (single_label_view label.now).start
+    requires within_max_start { (single_label_view label.now).start
         ≤ max_label_start (single_label_views rows.now.line.labels.now) }
     ensures { Writes (W.sink w.old)
         (hanging_row (context_view rows.now.context) (line_view rows.now.line)
@@ -118,9 +118,9 @@ fn write_hanging_rows<W: PutStyle, S: LineCharacters>(
     requires input { S.input rows.now.characters.now ≡ char_input rows.now.context rows.now.line }
     requires hanging_labels { AreHanging rows.now.line.labels.now
         rows.now.messages.before.now rows.now.messages.after.now }
-    requires near { max_label_start (single_label_views labels.now)
+    requires within_max_start { max_label_start (single_label_views labels.now)
         ≤ max_label_start (single_label_views rows.now.line.labels.now) }
-    ensures { Writes (W.sink w.old) (hanging_stream_view rows.now.context rows.now.line labels.now)
+    ensures { Writes (W.sink w.old) (hanging_rows_stream rows.now.context rows.now.line labels.now)
         result (W.sink w.new) }
 {
     for label in labels.iter().rev() {
@@ -143,7 +143,7 @@ fn write_pointers_and_messages<W: PutStyle, S: LineCharacters>(
     requires slices { ArePrefixAndSuffix rows.now.line.labels.now
         rows.now.messages.before.now rows.now.messages.after.now }
     ensures { Writes (W.sink w.old)
-        (pointer_and_messages_view rows.now.context rows.now.line rows.now.messages)
+        (pointer_and_messages_stream rows.now.context rows.now.line rows.now.messages)
         result (W.sink w.new) }
 {
     write_pointer_row(w, rows)?;
@@ -173,7 +173,7 @@ pub fn write_pointer_and_hanging_rows<W: PutStyle, S: LineCharacters>(
     requires input { S.input characters.now ≡ char_input context line }
     requires hanging_labels { AreHanging line.labels.now messages.before.now messages.after.now }
     requires slices { ArePrefixAndSuffix line.labels.now messages.before.now messages.after.now }
-    ensures { Writes (W.sink w.old) (pointer_and_hanging_rows_view context.entry line.entry)
+    ensures { Writes (W.sink w.old) (pointer_and_hanging_rows_stream context.entry line.entry)
         result (W.sink w.new) }
 {
     if !has_any_message(messages.before) && !has_any_message(messages.after) {

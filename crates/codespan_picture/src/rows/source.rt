@@ -5,13 +5,13 @@ ghost use Rattle.codespan_core.specs.Streams.{byte_stream, newline};
 ghost use Rattle.codespan_core.specs.WriterLaw.{Writes};
 ghost use Rattle.codespan_picture.specs.CharMetrics.{char_metrics};
 ghost use Rattle.codespan_picture.specs.Private.LineViews.{context_view, line_view};
-ghost use Rattle.codespan_picture.specs.Private.RowViews.{source_lanes_view};
+ghost use Rattle.codespan_picture.specs.Private.WrittenParts.{source_row_start_stream};
 ghost use Rattle.codespan_picture.specs.Private.LineCharacters.{char_input};
 ghost use Rattle.codespan_picture.specs.RowParts.{style_change, colored_text};
 ghost use Rattle.codespan_picture.specs.RowStreams.{source_row};
 
 use crate::rows::char_cursor::CharCursor;
-use crate::rows::lanes::{LaneRow, inner_gutter};
+use crate::rows::lanes::{RowKind, inner_gutter};
 use crate::rows::line::{Line, RowContext};
 use crate::rows::line_characters::LineCharacters;
 use crate::rows::parts::{
@@ -104,17 +104,17 @@ fn end_text_run<W: PutStyle>(
 /// Writes the start of a source row: outer gutter with the line number, left border, inner gutter
 /// and a space.
 #[inline(always)]
-fn write_source_lanes<W: PutStyle>(
+fn write_source_row_start<W: PutStyle>(
     w: &mut W,
     context: RowContext<'_>,
     line: Line<'_, '_>,
 ) -> Result<(), W::Error>
-    ensures { Writes (W.sink w.old) (source_lanes_view context.entry line.entry)
+    ensures { Writes (W.sink w.old) (source_row_start_stream context.entry line.entry)
         result (W.sink w.new) }
 {
     outer_gutter_number(w, context.padding, line.number)?;
     border_left(w, context.chars)?;
-    inner_gutter(w, context, line.leading, LaneRow::Source, line.lanes)?;
+    inner_gutter(w, context, line.leading, RowKind::Source, line.lanes)?;
     write_space(w)
 }
 
@@ -138,7 +138,7 @@ pub fn write_source_row<W: PutStyle, S: LineCharacters>(
         (source_row (context_view context.entry) (line_view line.entry) ++ newline)
         result (W.sink w.new) }
 {
-    write_source_lanes(w, context, line)?;
+    write_source_row_start(w, context, line)?;
     write_text(w, context, line, characters)?;
     write_newline(w)
 }

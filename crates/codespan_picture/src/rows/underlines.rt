@@ -6,15 +6,15 @@ ghost use Rattle.codespan_core.specs.WriterLaw.{Writes};
 ghost use Rattle.codespan_picture.specs.CharMetrics.{char_metrics};
 ghost use Rattle.codespan_picture.specs.Arguments.{lane_mark_view, multi_label_view};
 ghost use Rattle.codespan_picture.specs.Private.LineViews.{context_view, line_view};
-ghost use Rattle.codespan_picture.specs.Private.RowViews.{underline_lanes_view};
+ghost use Rattle.codespan_picture.specs.Private.WrittenParts.{underline_row_start_stream};
 ghost use Rattle.codespan_picture.specs.Private.Underlines.{underline_by_width, underline_width};
-ghost use Rattle.codespan_picture.specs.Private.LineCharacters.{char_input, characters_of};
+ghost use Rattle.codespan_picture.specs.Private.LineCharacters.{char_input, metrics_of};
 ghost use Rattle.codespan_picture.specs.Rows.{has_underline, underline_rows};
 ghost use Rattle.codespan_picture.specs.RowParts.{underline_message, start_caret, end_caret, metrics_before, metrics_up_to};
 ghost use Rattle.codespan_picture.specs.RowStreams.{underline_row, stream_of_rows};
 
 use crate::arguments::MultiLabel;
-use crate::rows::lanes::{LaneRow, inner_gutter};
+use crate::rows::lanes::{RowKind, inner_gutter};
 use crate::rows::line::{Line, RowContext};
 use crate::rows::line_characters::LineCharacters;
 use crate::rows::parts::{border_left, outer_gutter, write_newline, write_space};
@@ -60,7 +60,7 @@ fn write_underline_message<W: PutStyle>(w: &mut W, message: &str) -> Result<(), 
 /// Returns how many cells an underline has between its lanes and its caret.
 fn underline_width<S: LineCharacters>(characters: &S, multi_label: MultiLabel<'_>) -> u128
     ensures { result
-        ≡ underline_width (characters_of (S.input characters.now))
+        ≡ underline_width (metrics_of (S.input characters.now))
         (multi_label_view multi_label.entry) }
 {
     match multi_label {
@@ -70,7 +70,7 @@ fn underline_width<S: LineCharacters>(characters: &S, multi_label: MultiLabel<'_
     }
 }
 
-/// Writes an underline right of the lanes: a line of `width` cells, the caret, and the message.
+/// Writes an underline right of the lanes: a run of `width` cells, the caret, and the message.
 #[tactic(auto, using(codespan_core::proofs::Writes::write_chains), unfolding(crate::specs::Private::Underlines::underline_by_width))]
 fn label_multi_caret<W: PutStyle>(
     w: &mut W,
@@ -98,13 +98,14 @@ fn label_multi_caret<W: PutStyle>(
 }
 
 /// Writes the start of an underline row: outer gutter, left border and inner gutter.
-fn write_underline_lanes<W: PutStyle>(
+fn write_underline_row_start<W: PutStyle>(
     w: &mut W,
     context: RowContext<'_>,
     line: Line<'_, '_>,
     lane_mark: (usize, LabelStyle, MultiLabel<'_>),
 ) -> Result<(), W::Error>
-    ensures { Writes (W.sink w.old) (underline_lanes_view context.entry line.entry lane_mark.entry)
+    ensures { Writes (W.sink w.old)
+        (underline_row_start_stream context.entry line.entry lane_mark.entry)
         result (W.sink w.new) }
 {
     let (lane, style, multi_label) = lane_mark;
@@ -114,7 +115,7 @@ fn write_underline_lanes<W: PutStyle>(
         w,
         context,
         line.leading,
-        LaneRow::Underline(lane, style, multi_label),
+        RowKind::Underline(lane, style, multi_label),
         line.lanes,
     )
 }
@@ -135,7 +136,7 @@ fn write_underline_row<W: PutStyle>(
         ++ newline) result (W.sink w.new) }
 {
     let (_, style, multi_label) = lane_mark;
-    write_underline_lanes(w, context, line, lane_mark)?;
+    write_underline_row_start(w, context, line, lane_mark)?;
     w.set_label(context.severity, style)?;
     label_multi_caret(w, context.chars, style, multi_label, width)?;
     w.reset()?;

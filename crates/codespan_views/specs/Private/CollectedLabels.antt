@@ -5,7 +5,7 @@ use Rattle.codespan_core.specs.FileModel.{FileDatabase, FileModel, line_count, L
 use Rattle.codespan_core.specs.Labels.{LabelModel, first_line, last_line}
 use Rattle.codespan_picture.specs.Lookups.{Failures, looked_up_lines, lookups_of_file, first_error, is_looked_up, label_lookups, label_line_lookups, line_lookups, lookup_past_end}
 use Rattle.codespan_picture.specs.OutputStreams.{label_of}
-use Rattle.codespan_picture.specs.Snippets.{InFile}
+use Rattle.codespan_picture.specs.Snippets.{LabelInFile}
 use Rattle.codespan_views.specs.declared.annotation.Annotation.{Annotation as RustAnnotation}
 use Rattle.codespan_views.specs.declared.annotation.LineInfo.{LineInfo}
 use Rattle.codespan_views.specs.declared.label_annotations.LabelCollector.{LabelCollector}
@@ -19,14 +19,14 @@ use Rattle.codespan_views.specs.Private.AnnotationViews.{AddsOf}
 use Rattle.codespan_views.specs.Private.SpannedDigits.{digits_on, label_digits}
 
 -- the lookups of one label
-abbrev pub lookups_of_label : {Id : Type 0} → Config → FileDatabase Id → InFile Id
+abbrev pub lookups_of_label : {Id : Type 0} → Config → FileDatabase Id → LabelInFile Id
     → List (Id × Lookup)
 lookups_of_label config database x =
     lookups_of_file x.file_id
     (label_line_lookups config (database.file x.file_id) (database.failure x.file_id) x.label)
 
 -- what the lookups of these labels fail with
-abbrev pub labels_failure : {Id : Type 0} → Config → FileDatabase Id → List (InFile Id)
+abbrev pub labels_failure : {Id : Type 0} → Config → FileDatabase Id → List (LabelInFile Id)
     → Option Error
 labels_failure config database xs =
     first_error database.failure (label_lookups config database xs)

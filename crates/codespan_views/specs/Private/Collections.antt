@@ -4,7 +4,7 @@ use Rattle.std.specs.List.{AllByRecursion}
 use Rattle.std.specs.List.Sorted.{IsPermutation, IsSortedBy}
 use Rattle.codespan_picture.specs.Types.{Config}
 use Rattle.codespan_core.specs.FileModel.{FileDatabase}
-use Rattle.codespan_picture.specs.Snippets.{InFile, file_ids}
+use Rattle.codespan_picture.specs.Snippets.{LabelInFile, file_ids}
 use Rattle.codespan_views.specs.declared.collected.Collected.{Collected}
 use Rattle.codespan_views.specs.Private.Annotations.{is_before}
 use Rattle.codespan_views.specs.Private.AnnotationViews.{Adds, IsOfFiles, annotation_view}
@@ -14,21 +14,22 @@ use Rattle.codespan_views.specs.Private.SpannedDigits.{all_digits}
 
 module _ {Id : Type 0} (database : FileDatabase Id) where
   -- the files of these labels were collected, and the padding width of the classic layout
-  pub record AreFilesCollected (xs : List (InFile Id)) (collected : Collected Id) : Type 0 where
+  pub record AreFilesCollected (xs : List (LabelInFile Id)) (collected : Collected Id)
+      : Type 0 where
     pub ids_are : ids_view collected.files.items ≡ file_ids database.same xs
     pub labels_are : AllByRecursion (HasLabels database.same database.file xs) collected.files.items
     pub padding_is : collected.spanned_padding ≡ fold max 0 (all_digits database.file xs)
 
   -- this was collected of these labels, one after another
-  pub record IsCollectedInTurn (config : Config) (xs : List (InFile Id))
+  pub record IsCollectedInTurn (config : Config) (xs : List (LabelInFile Id))
       (collected : Collected Id) : Type 0 where
     pub files : AreFilesCollected xs collected
     pub adds : Adds (IsOfFiles database.file (ids_view collected.files.items)) []
         collected.annotations.items (all_annotations database.same database.file config xs)
 
   -- this was collected of these labels, and is in order
-  pub record IsCollected (config : Config) (xs : List (InFile Id)) (collected : Collected Id) : Type
-      0 where
+  pub record IsCollected (config : Config) (xs : List (LabelInFile Id)) (collected : Collected Id)
+      : Type 0 where
     pub files : AreFilesCollected xs collected
     pub sorted : IsSortedBy is_before (map annotation_view collected.annotations.items)
     pub permutation : IsPermutation (all_annotations database.same database.file config xs)

@@ -8,13 +8,13 @@ use Rattle.codespan_core.specs.WriterLaw.{Sink, with_written, is_known, PrefixWr
 use Rattle.codespan_picture.specs.Lookups.{Failures, first_error, header_lookups_of}
 use Rattle.codespan_picture.specs.Picture.{headers_at}
 use Rattle.codespan_picture.specs.Rows.{Locus}
-use Rattle.codespan_picture.specs.Snippets.{InFile, has_any}
+use Rattle.codespan_picture.specs.Snippets.{LabelInFile, has_any}
 use Rattle.codespan_views.specs.Private.TextLoci.{IsLocusOfLabel}
 
 module _ {Id : Type 0} (config : Config) (file : Id → FileModel) (failure : Failures Id)
     (d : Diagnostic Id) where
   -- the headers have been written, with the loci of their labels, and no lookup for them failed
-  pub record HeadersWritten (old : Sink) (xs : List (InFile Id)) (new : Sink) : Type 0 where
+  pub record HeadersWritten (old : Sink) (xs : List (LabelInFile Id)) (new : Sink) : Type 0 where
     pub frame : new.frame ≡ old.frame
     pub loci : List Locus
     pub are : AllZip (IsLocusOfLabel file) xs loci
@@ -22,7 +22,7 @@ module _ {Id : Type 0} (config : Config) (file : Id → FileModel) (failure : Fa
     pub succeeded : first_error failure (flat_map header_lookups_of xs) ≡ None
 
   -- the writer failed within a label's header
-  pub record HeaderWriteFailed (old : Sink) (x : InFile Id) (error : Error)
+  pub record HeaderWriteFailed (old : Sink) (x : LabelInFile Id) (error : Error)
       (new : Sink) : Type 0 where
     pub io : IsIo error
     pub frame : new.frame ≡ failed_frame old.frame
@@ -32,7 +32,7 @@ module _ {Id : Type 0} (config : Config) (file : Id → FileModel) (failure : Fa
 
   -- a lookup for a label's header failed, or an allocation, or the `Display` of its file's name:
   -- nothing of the header has been written
-  pub record HeaderLookupFailed (old : Sink) (x : InFile Id) (error : Error)
+  pub record HeaderLookupFailed (old : Sink) (x : LabelInFile Id) (error : Error)
       (new : Sink) : Type 0 where
     pub same : new ≡ old
     pub error_is : error ≢ OutOfMemory → error ≢ FormatError
@@ -40,18 +40,18 @@ module _ {Id : Type 0} (config : Config) (file : Id → FileModel) (failure : Fa
         ≡ Some error
 
   -- rendering failed at one of these labels
-  pub record HeadersFailed (old : Sink) (xs : List (InFile Id)) (error : Error) (new : Sink) : Type
-      0 where
-    pub before : List (InFile Id)
-    pub here : InFile Id
-    pub after : List (InFile Id)
+  pub record HeadersFailed (old : Sink) (xs : List (LabelInFile Id)) (error : Error) (new : Sink)
+      : Type 0 where
+    pub before : List (LabelInFile Id)
+    pub here : LabelInFile Id
+    pub after : List (LabelInFile Id)
     pub whole : before ++ here ∷ after ≡ xs
     pub mid : Sink
     pub written : HeadersWritten old before mid
     pub ended : HeaderWriteFailed mid here error new ⊎ HeaderLookupFailed mid here error new
 
   -- the call renders the headers of these labels, and returns whether there is one
-  abbrev pub RendersHeaders : List (InFile Id) → Sink → Result Bool Error → Sink → Type 0
+  abbrev pub RendersHeaders : List (LabelInFile Id) → Sink → Result Bool Error → Sink → Type 0
   RendersHeaders xs old r new =
       MatchResult r (λ some. HeadersWritten old xs new × (some ≡ has_any xs))
       (λ e. HeadersFailed old xs e new)

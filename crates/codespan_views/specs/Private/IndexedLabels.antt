@@ -5,12 +5,12 @@ use Rattle.codespan_core.specs.FileModel.{FileModel}
 use Rattle.codespan_views.specs.declared.label_annotations.LabelIndices.{LabelIndices}
 use Rattle.codespan_views.specs.Private.Annotations.{Annotation}
 use Rattle.codespan_views.specs.Private.LabelAnnotations.{annotations_of}
-use Rattle.codespan_picture.specs.Snippets.{InFile, file_ids, labeled_file_model, num_multi_labels}
+use Rattle.codespan_picture.specs.Snippets.{LabelInFile, file_ids, labeled_file_model, num_multi_labels}
 use Rattle.codespan_views.specs.Private.FileIndices.{index_of_file}
 
 module _ {Id : Type 0} (same : Id → Id → Bool) (file : Id → FileModel) where
   -- the indices of a label that comes after these
-  abbrev pub indices_after : List Id → List (InFile Id) → InFile Id → LabelIndices
+  abbrev pub indices_after : List Id → List (LabelInFile Id) → LabelInFile Id → LabelIndices
   indices_after ids before x = record {
     file = index_of_file same ids x.file_id;
     index = length before;
@@ -18,7 +18,7 @@ module _ {Id : Type 0} (same : Id → Id → Bool) (file : Id → FileModel) whe
   }
 
   -- the annotations of these labels, after those before them
-  abbrev pub annotations_after : Config → List Id → List (InFile Id) → List (InFile Id)
+  abbrev pub annotations_after : Config → List Id → List (LabelInFile Id) → List (LabelInFile Id)
       → List Annotation
   annotations_after config ids before [] = []
   annotations_after config ids before (x ∷ xs) =
@@ -26,5 +26,5 @@ module _ {Id : Type 0} (same : Id → Id → Bool) (file : Id → FileModel) whe
       ++ annotations_after config ids (before ++ x ∷ []) xs
 
   -- the annotations of all labels of a diagnostic
-  abbrev pub all_annotations : Config → List (InFile Id) → List Annotation
+  abbrev pub all_annotations : Config → List (LabelInFile Id) → List Annotation
   all_annotations config xs = annotations_after config (file_ids same xs) [] xs

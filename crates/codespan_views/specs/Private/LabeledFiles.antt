@@ -3,7 +3,7 @@ use Rattle.std.specs.Prelude.{◌≡◌, ◌==◌, ℕ, ◌+◌, Bool, List, [],
 use Rattle.std.specs.List.{list_any}
 use Rattle.codespan_core.specs.FileModel.{FileModel}
 use Rattle.codespan_core.specs.Labels.{LabelModel}
-use Rattle.codespan_picture.specs.Snippets.{InFile, labeled_file_model, num_multi_labels}
+use Rattle.codespan_picture.specs.Snippets.{LabelInFile, labeled_file_model, num_multi_labels}
 use Rattle.codespan_views.specs.declared.labeled_files.LabeledFile.{LabeledFile as RustFile}
 use Rattle.codespan_views.specs.declared.label_span.LabelSpan.{LabelSpan}
 use Rattle.codespan_views.specs.declared.least_starts.LeastStarts.{LeastStarts}
@@ -25,12 +25,12 @@ lane_counts {Id} files = map (λ (f : RustFile Id). f.num_multi_labels) files
 
 -- how many lanes the file of an id has for these labels
 abbrev pub num_multi_labels_of : {Id : Type 0} → (Id → Id → Bool) → (Id → FileModel)
-    → List (InFile Id) → Id → ℕ
+    → List (LabelInFile Id) → Id → ℕ
 num_multi_labels_of same file xs id = num_multi_labels (labeled_file_model same file xs id)
 
 -- the least starts of the file's labels and the number of its lanes are those of these labels
 pub record HasLabels {Id : Type 0} (same : Id → Id → Bool) (file : Id → FileModel)
-    (xs : List (InFile Id)) (f : RustFile Id) : Type 0 where
+    (xs : List (LabelInFile Id)) (f : RustFile Id) : Type 0 where
   pub least_starts_are : f.least_starts ≡ file_least_starts same xs f.file_id
   pub lanes_are : f.num_multi_labels ≡ num_multi_labels_of same file xs f.file_id
 

@@ -1,7 +1,7 @@
 -- The byte of each file's locus, by the least starts of its labels.
 use Rattle.std.specs.Prelude.{ℕ, Bool, true, false, not, ◌&&◌, ◌||◌, min, List, [], ◌∷◌, map, filter, fold, if◌then◌else◌, Option, Some, None, unwrap_or}
 use Rattle.codespan_core.specs.Labels.{LabelModel, is_primary}
-use Rattle.codespan_picture.specs.Snippets.{InFile}
+use Rattle.codespan_picture.specs.Snippets.{LabelInFile}
 use Rattle.codespan_views.specs.declared.least_starts.LeastStarts.{LeastStarts}
 
 -- the least of some numbers, if there is one
@@ -10,17 +10,18 @@ least_if_any [] = None
 least_if_any (n ∷ ns) = Some (fold min n ns)
 
 -- the label is of the file, and primary if only primary ones count
-abbrev pub is_locus_label : {Id : Type 0} → (Id → Id → Bool) → Id → Bool → InFile Id → Bool
+abbrev pub is_locus_label : {Id : Type 0} → (Id → Id → Bool) → Id → Bool → LabelInFile Id → Bool
 is_locus_label same id only_primary x =
     same id x.file_id && (not only_primary || is_primary x.label)
 
 -- the starts of the labels of a file, or of its primary ones alone
-abbrev pub label_starts : {Id : Type 0} → (Id → Id → Bool) → Id → Bool → List (InFile Id) → List ℕ
+abbrev pub label_starts : {Id : Type 0}
+    → (Id → Id → Bool) → Id → Bool → List (LabelInFile Id) → List ℕ
 label_starts {Id} same id only_primary xs =
-    map (λ (x : InFile Id). x.label.start) (filter (is_locus_label same id only_primary) xs)
+    map (λ (x : LabelInFile Id). x.label.start) (filter (is_locus_label same id only_primary) xs)
 
 -- the least starts of a file's labels, of these
-abbrev pub file_least_starts : {Id : Type 0} → (Id → Id → Bool) → List (InFile Id) → Id
+abbrev pub file_least_starts : {Id : Type 0} → (Id → Id → Bool) → List (LabelInFile Id) → Id
     → LeastStarts
 file_least_starts same xs id = record {
   primary = least_if_any (label_starts same id true xs);

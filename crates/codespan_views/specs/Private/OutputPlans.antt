@@ -8,7 +8,7 @@ use Rattle.codespan_picture.specs.Lines.{drawn_lines}
 use Rattle.codespan_picture.specs.Lookups.{lookups_of_file, filled_lines, first_error, locus_lookups, numbers_for_padding, filled_line_lookups}
 use Rattle.codespan_picture.specs.Padding.{padding_of}
 use Rattle.codespan_picture.specs.Rows.{Locus}
-use Rattle.codespan_picture.specs.Snippets.{InFile, LabeledFileModel, labeled_file_model, labeled_file_models, num_multi_labels, rows_of_drawn, file_ids}
+use Rattle.codespan_picture.specs.Snippets.{LabelInFile, LabeledFileModel, labeled_file_model, labeled_file_models, num_multi_labels, rows_of_drawn, file_ids}
 use Rattle.codespan_views.specs.declared.plan.OutputPlan.{OutputPlan}
 use Rattle.codespan_views.specs.declared.plan.snippet_plans.SnippetPlan.{SnippetPlan}
 use Rattle.codespan_views.specs.declared.plan.snippet_lines.SnippetLine.{SnippetLine as RustLine}
@@ -43,7 +43,7 @@ pub record IsPlanOfLabels {Id : Type 0} (config : Config) (s : LabeledFileModel)
 module _ {Id : Type 0} (database : FileDatabase Id) where
   -- the plans are those of the files of these labels, and the lines are theirs, those of the first
   -- file in front
-  abbrev pub ArePlansOfLabels : Config → List (InFile Id) → List (SnippetPlan Id)
+  abbrev pub ArePlansOfLabels : Config → List (LabelInFile Id) → List (SnippetPlan Id)
       → List (RustLine Id)
       → Type 0
   ArePlansOfLabels config xs [] snippet_lines = Unit {0}
@@ -54,8 +54,8 @@ module _ {Id : Type 0} (database : FileDatabase Id) where
       × ArePlansOfLabels config xs snippet_plans (drop snippet_plan.line_total snippet_lines)
 
   -- the plan is that of these labels
-  pub record IsOutputPlan (config : Config) (xs : List (InFile Id)) (output_plan : OutputPlan Id)
-      : Type 0 where
+  pub record IsOutputPlan (config : Config) (xs : List (LabelInFile Id))
+      (output_plan : OutputPlan Id) : Type 0 where
     pub ids_are : ids_of output_plan.snippet_plans.items ≡ file_ids database.same xs
     pub snippet_plans_are : ArePlansOfLabels config xs output_plan.snippet_plans.items
         output_plan.snippet_lines.items
@@ -63,7 +63,7 @@ module _ {Id : Type 0} (database : FileDatabase Id) where
         ≡ padding_of config (labeled_file_models database.same database.file xs)
 
 -- the lookups of the numbers of filled lines, where they are made before the header
-abbrev pub padding_lookups : {Id : Type 0} → Config → FileDatabase Id → List (InFile Id)
+abbrev pub padding_lookups : {Id : Type 0} → Config → FileDatabase Id → List (LabelInFile Id)
     → List (Id × Lookup)
 padding_lookups config database xs =
     flat_map
@@ -72,20 +72,20 @@ padding_lookups config database xs =
     (file_ids database.same xs)
 
 -- those of names and locations
-abbrev pub file_locus_lookups : {Id : Type 0} → FileDatabase Id → List (InFile Id)
+abbrev pub file_locus_lookups : {Id : Type 0} → FileDatabase Id → List (LabelInFile Id)
     → List (Id × Lookup)
 file_locus_lookups database xs =
     flat_map (λ id. lookups_of_file id (locus_lookups database xs id))
     (file_ids database.same xs)
 
 -- both, which come after those of its labels
-abbrev pub output_plan_lookups : {Id : Type 0} → Config → FileDatabase Id → List (InFile Id)
+abbrev pub output_plan_lookups : {Id : Type 0} → Config → FileDatabase Id → List (LabelInFile Id)
     → List (Id × Lookup)
 output_plan_lookups config database xs =
     padding_lookups config database xs ++ file_locus_lookups database xs
 
 -- what these lookups fail with
-abbrev pub output_plan_failure : {Id : Type 0} → Config → FileDatabase Id → List (InFile Id)
+abbrev pub output_plan_failure : {Id : Type 0} → Config → FileDatabase Id → List (LabelInFile Id)
     → Option Error
 output_plan_failure config database xs = first_error database.failure
     (output_plan_lookups config database xs)

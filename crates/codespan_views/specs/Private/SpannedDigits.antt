@@ -5,7 +5,7 @@ use Rattle.std.specs.List.{range_with_len}
 use Rattle.codespan_core.specs.FileModel.{FileModel, line_count}
 use Rattle.codespan_core.specs.Labels.{LabelModel}
 use Rattle.codespan_picture.specs.Padding.{count_digits, spans}
-use Rattle.codespan_picture.specs.Snippets.{InFile}
+use Rattle.codespan_picture.specs.Snippets.{LabelInFile}
 
 -- those of a line's number, where the label spans it
 abbrev pub digits_on : FileModel → LabelModel → ℕ → List ℕ
@@ -16,5 +16,6 @@ abbrev pub label_digits : FileModel → LabelModel → List ℕ
 label_digits f x = flat_map (digits_on f x) (range_with_len 0 (line_count f))
 
 -- those of all labels
-abbrev pub all_digits : {Id : Type 0} → (Id → FileModel) → List (InFile Id) → List ℕ
-all_digits {Id} file xs = flat_map (λ (x : InFile Id). label_digits (file x.file_id) x.label) xs
+abbrev pub all_digits : {Id : Type 0} → (Id → FileModel) → List (LabelInFile Id) → List ℕ
+all_digits {Id} file xs =
+    flat_map (λ (x : LabelInFile Id). label_digits (file x.file_id) x.label) xs

@@ -2,9 +2,9 @@
 use Rattle.std.specs.Prelude.{ℕ}
 use Rattle.std.specs.Str.{IsUtf8}
 use Rattle.codespan_core.specs.FileModel.{FileModel}
-use Rattle.codespan_picture.specs.OutputStreams.{IsLocus, label_locus_start, snippet_locus_start}
+use Rattle.codespan_picture.specs.OutputStreams.{IsLocus, label_locus_byte, snippet_locus_byte}
 use Rattle.codespan_picture.specs.Rows.{Locus}
-use Rattle.codespan_picture.specs.Snippets.{InFile, LabeledFileModel}
+use Rattle.codespan_picture.specs.Snippets.{LabelInFile, LabeledFileModel}
 
 -- the locus of a byte index of a file, whose name is UTF-8
 pub record IsTextLocus (at : FileModel × ℕ) (locus : Locus) : Type 0 where
@@ -13,8 +13,8 @@ pub record IsTextLocus (at : FileModel × ℕ) (locus : Locus) : Type 0 where
 
 -- that of a file's snippet
 abbrev pub IsLocusOfFile : LabeledFileModel → Locus → Type 0
-IsLocusOfFile s locus = IsTextLocus (snippet_locus_start s) locus
+IsLocusOfFile s locus = IsTextLocus (snippet_locus_byte s) locus
 
 -- that of a label's header
-abbrev pub IsLocusOfLabel : {Id : Type 0} → (Id → FileModel) → InFile Id → Locus → Type 0
-IsLocusOfLabel file x locus = IsTextLocus (label_locus_start file x) locus
+abbrev pub IsLocusOfLabel : {Id : Type 0} → (Id → FileModel) → LabelInFile Id → Locus → Type 0
+IsLocusOfLabel file x locus = IsTextLocus (label_locus_byte file x) locus

@@ -5,7 +5,7 @@ use Rattle.codespan_core.specs.Streams.{Stream, newline}
 use Rattle.codespan_core.specs.WriterLaw.{Sink}
 use Rattle.codespan_picture.specs.Lookups.{first_error, late_lookups}
 use Rattle.codespan_picture.specs.OutputStreams.{header_text_of, labels_of, context_of, notes_of}
-use Rattle.codespan_picture.specs.Snippets.{snippets, InFile, has_any, labeled_file_models, note_rows, primary_of}
+use Rattle.codespan_picture.specs.Snippets.{snippets, LabelInFile, has_any, labeled_file_models, note_rows, primary_of}
 use Rattle.codespan_picture.specs.Rows.{FinalRow, Locus, Row}
 use Rattle.codespan_picture.specs.RowStreams.{header_row, stream_of_rows}
 use Rattle.codespan_renderer.specs.declared.term.renderer.Renderer.{Renderer}
@@ -41,7 +41,7 @@ module _ {Id : Type 0} (d : Diagnostic Id) where
 module _ {W Id : Type 0} (sink : W → Sink) (database : FileDatabase Id) where
   -- the call renders the headers of those of these labels that are primary, and returns whether
   -- there is one
-  unfoldable pub RendersHeadersOf : Diagnostic Id → List (InFile Id) → Renderer W
+  unfoldable pub RendersHeadersOf : Diagnostic Id → List (LabelInFile Id) → Renderer W
       → Result Bool Error → Renderer W → Type 0
   RendersHeadersOf d xs old r new =
       RendersHeaders (config_of old) database.file database.failure d (primary_of xs)

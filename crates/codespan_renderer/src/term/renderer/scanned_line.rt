@@ -3,7 +3,7 @@
 
 ghost use Rattle.std.specs.Prelude.{⊤};
 ghost use Rattle.codespan_core.specs.WriterLaw.{Writes};
-ghost use Rattle.codespan_picture.specs.Private.RowViews.{pointers_before_view};
+ghost use Rattle.codespan_picture.specs.Private.WrittenParts.{pointers_before_stream};
 ghost use Rattle.codespan_picture.specs.Private.Runs.{AreHanging};
 
 use crate::term::renderer::SingleLabel;
@@ -127,7 +127,7 @@ fn scanned_caret_pointers<W: PutStyle>(
     before: usize,
 ) -> Result<(), W::Error>
     requires { AreHanging line.labels.now messages.before.now messages.after.now }
-    ensures { Writes (W.sink w.old) (pointers_before_view context.entry line.entry before)
+    ensures { Writes (W.sink w.old) (pointers_before_stream context.entry line.entry before)
         result (W.sink w.new) }
 {
     let greatest_start = max_label_start(line.labels);

@@ -13,7 +13,7 @@ returns-in-Ok g c =
     let lawful : (id : g.row.F-FileId.Denot) → IsLawful (file id) =
     λ id. (g.met.F.Files c.lifetimes claim).lawful c.args.files.now id in
     runs_emitted c.into_text.result c.in-Ok.ensures c.new-recorder.ensures refl
-    c.are_characters.ensures lawful c.into_text.ensures
+    c.chars_are_scalars.ensures lawful c.into_text.ensures
 
 -- the error is `OutOfMemory` where the writer has failed, and else one of lookups
 pub returns-after-has_failed : goal.returns-after-has_failed

@@ -20,7 +20,7 @@ from_utf8_unchecked-requires g c =
     λ id. (g.met.F.Files c.lifetimes claim).lawful c.args.files.now id in
     text_is_utf8 c.in-Ok.ensures
     (begins-empty c.new-plain.ensures.begins c.in_ok-bytes.ensures.items) (search rules)
-    c.are_characters.ensures lawful
+    c.chars_are_scalars.ensures lawful
 
 pub returns-in-Ok : goal.returns-in-Ok
 returns-in-Ok g c =

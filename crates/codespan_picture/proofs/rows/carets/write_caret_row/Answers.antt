@@ -15,13 +15,13 @@ returns-in_err-write_carets g c =
     (failed-before _
     (failed-before _ (failed-then _ c.in_ok-write_row_start.ensures c.in_err-write_carets.ensures)))
 
-pub returns-in_err-write_trailing : goal.returns-in_err-write_trailing
+pub returns-in_err-write_trailing_message : goal.returns-in_err-write_trailing_message
 unfolding caret_row
-returns-in_err-write_trailing g c =
-    failed _ _ _ _ _ c.from_residual-in_err-write_trailing.ensures.1
+returns-in_err-write_trailing_message g c =
+    failed _ _ _ _ _ c.from_residual-in_err-write_trailing_message.ensures.1
     (failed-before _
     (failed-then _ (written-then _ _ _ c.in_ok-write_row_start.ensures c.in_ok-write_carets.ensures)
-    (rw c.requires.trailing_label at c.in_err-write_trailing.ensures)))
+    (rw c.requires.trailing_label at c.in_err-write_trailing_message.ensures)))
 
 pub returns : goal.returns
 unfolding caret_row
@@ -29,5 +29,5 @@ returns g c =
     writes-last _ _ _ _ _
     (written-then _ _ _
     (written-then _ _ _ c.in_ok-write_row_start.ensures c.in_ok-write_carets.ensures)
-    (rw c.requires.trailing_label at c.in_ok-write_trailing.ensures))
+    (rw c.requires.trailing_label at c.in_ok-write_trailing_message.ensures))
     c.write_newline.ensures

@@ -16,6 +16,6 @@ invariant-loop-label g l = record {
       (hanging_stream (context_view l.rows.context) (line_view l.rows.line)
       (filter has_message (single_label_views l.label-iterator.iter.rest.now)))
       (g.W.PutStyle.sink l.w);
-  near : max_label_start (single_label_views l.label-iterator.iter.rest.now) ≤ max_label_start
+  within_max_start : max_label_start (single_label_views l.label-iterator.iter.rest.now) ≤ max_label_start
       (single_label_views l.rows.line.labels.now);
 }

@@ -7,11 +7,11 @@ returns-in_err-write_pointer_row g c =
     failed _ _ _ _ _ c.from_residual.ensures.1
     (failed-before _ (failed-before _ c.in_err-write_pointer_row.ensures))
 
-pub write_hanging_rows-requires-clause-near : goal.write_hanging_rows-requires-clause-near
-write_hanging_rows-requires-clause-near g c = after-near _ _ _ c.requires.slices
+pub write_hanging_rows-requires-clause-within_max_start : goal.write_hanging_rows-requires-clause-within_max_start
+write_hanging_rows-requires-clause-within_max_start g c = after-near _ _ _ c.requires.slices
 
-pub write_hanging_rows-requires-2-clause-near : goal.write_hanging_rows-requires-2-clause-near
-write_hanging_rows-requires-2-clause-near g c = before-near _ _ _ c.requires.slices
+pub write_hanging_rows-requires-2-clause-within_max_start : goal.write_hanging_rows-requires-2-clause-within_max_start
+write_hanging_rows-requires-2-clause-within_max_start g c = before-near _ _ _ c.requires.slices
 
 pub returns-in_err-write_hanging_rows : goal.returns-in_err-write_hanging_rows
 returns-in_err-write_hanging_rows g c =

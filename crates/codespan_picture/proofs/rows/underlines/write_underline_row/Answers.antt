@@ -5,12 +5,12 @@ use Rattle.codespan_picture.specs.Arguments.{multi_label_view}
 use Rattle.codespan_picture.proofs.UnderlineRows.{underline-runs}
 use Rattle.codespan_picture.proofs.rows.underlines.write_underline_row.Goals as goal
 
-pub returns-in_err-write_underline_lanes : goal.returns-in_err-write_underline_lanes
+pub returns-in_err-write_underline_row_start : goal.returns-in_err-write_underline_row_start
 unfolding underline_row
-returns-in_err-write_underline_lanes g c =
+returns-in_err-write_underline_row_start g c =
     failed _ _ _ _ _ c.from_residual.ensures.1
     (failed-before _
-    (failed-before _ (failed-before _ (failed-before _ c.in_err-write_underline_lanes.ensures))))
+    (failed-before _ (failed-before _ (failed-before _ c.in_err-write_underline_row_start.ensures))))
 
 pub returns-in_err-set_label : goal.returns-in_err-set_label
 unfolding underline_row
@@ -19,7 +19,7 @@ returns-in_err-set_label g c =
     (failed-before _
     (failed-before _
     (failed-before _
-    (failed-then _ c.in_ok-write_underline_lanes.ensures c.in_err-set_label.ensures))))
+    (failed-then _ c.in_ok-write_underline_row_start.ensures c.in_err-set_label.ensures))))
 
 pub returns-in_err-label_multi_caret : goal.returns-in_err-label_multi_caret
 unfolding underline_row
@@ -32,7 +32,7 @@ returns-in_err-label_multi_caret g c =
     (failed-before _
     (failed-before _
     (failed-then _
-    (written-then _ _ _ c.in_ok-write_underline_lanes.ensures c.in_ok-set_label.ensures)
+    (written-then _ _ _ c.in_ok-write_underline_row_start.ensures c.in_ok-set_label.ensures)
     c.in_err-label_multi_caret.ensures))))
 
 pub returns-in_err-reset : goal.returns-in_err-reset
@@ -46,7 +46,7 @@ returns-in_err-reset g c =
     (failed-before _
     (failed-then _
     (written-then _ _ _
-    (written-then _ _ _ c.in_ok-write_underline_lanes.ensures c.in_ok-set_label.ensures)
+    (written-then _ _ _ c.in_ok-write_underline_row_start.ensures c.in_ok-set_label.ensures)
     c.in_ok-label_multi_caret.ensures)
     c.in_err-reset.ensures)))
 
@@ -60,7 +60,7 @@ returns g c =
     (writes-last _ _ _ _ _
     (written-then _ _ _
     (written-then _ _ _
-    (written-then _ _ _ c.in_ok-write_underline_lanes.ensures c.in_ok-set_label.ensures)
+    (written-then _ _ _ c.in_ok-write_underline_row_start.ensures c.in_ok-set_label.ensures)
     c.in_ok-label_multi_caret.ensures)
     c.in_ok-reset.ensures)
     c.write_newline.ensures)

@@ -1,0 +1,5 @@
+use Rattle.codespan_picture.proofs.StatedNames.{headers_are_before_failure}
+use Rattle.codespan_laws.proofs.laws.headers_are_before_failure.Goals as goal
+
+pub returns : goal.returns
+returns g c = λ files d. headers_are_before_failure files d

@@ -1,5 +1,0 @@
-use Rattle.codespan_picture.proofs.OrderSorts.{sorts_labels}
-use Rattle.codespan_laws.proofs.laws.labels_are_sorted.Goals as goal
-
-pub returns : goal.returns
-returns c = λ labels. sorts_labels labels

@@ -1,0 +1,5 @@
+use Rattle.codespan_picture.proofs.StatedNames.{output_is_picture}
+use Rattle.codespan_laws.proofs.laws.output_is_picture.Goals as goal
+
+pub returns : goal.returns
+returns g c = λ files d. output_is_picture files d

@@ -1,5 +1,0 @@
-use Rattle.codespan_picture.proofs.StatedNames.{headers_are_before_failure}
-use Rattle.codespan_laws.proofs.laws.stated_names_make_the_headers.Goals as goal
-
-pub returns : goal.returns
-returns g c = λ files d. headers_are_before_failure files d

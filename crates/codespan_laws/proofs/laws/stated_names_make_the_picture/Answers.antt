@@ -1,5 +1,0 @@
-use Rattle.codespan_picture.proofs.StatedNames.{output_is_picture}
-use Rattle.codespan_laws.proofs.laws.stated_names_make_the_picture.Goals as goal
-
-pub returns : goal.returns
-returns g c = λ files d. output_is_picture files d
