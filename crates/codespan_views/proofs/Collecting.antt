@@ -14,7 +14,7 @@ use Rattle.codespan_views.specs.declared.annotation.Annotation.{Annotation as Ru
 use Rattle.codespan_views.specs.declared.annotation.LineInfo.{LineInfo}
 use Rattle.codespan_views.specs.Private.CollectedLabels.{CollectedLabel}
 use Rattle.codespan_views.specs.Private.Annotations.{Annotation, AnnotationKind, Single, annotation_if_any}
-use Rattle.codespan_views.specs.Private.LabelAnnotations.{line_annotations, kind_on, lane_mark_at, kind_at}
+use Rattle.codespan_views.specs.Private.LabelAnnotations.{line_annotations, kind_on, lane_mark_at, kind_by_ends}
 use Rattle.codespan_views.specs.Private.AnnotationViews.{Adds, IsLineOf, annotation_view, kind_view}
 use Rattle.codespan_views.specs.Private.LabelSpans.{IsFarInside}
 use Rattle.codespan_views.specs.declared.annotation.AnnotationKind.TheVariants as rust
@@ -100,7 +100,7 @@ module _ {Id : Type 0} (x : CollectedLabel Id) where
   -- the annotations of a label on a line of its file, by the indices of its lines
   kind_on-is : (line : LineInfo) → IsLineOf x.file line
       → kind_on x.config x.file x.indices x.label line.index
-      ≡ kind_at x.config x.indices (first_line x.file x.label) (last_line x.file x.label) line.index
+      ≡ kind_by_ends x.config x.indices (first_line x.file x.label) (last_line x.file x.label) line.index
       line.start x.label
   kind_on-is line is =
       by_kind (first_line x.file x.label == last_line x.file x.label)
@@ -109,7 +109,7 @@ module _ {Id : Type 0} (x : CollectedLabel Id) where
       (λ t. ap (λ k. from_line_start (line_start x.file k) x.label)
       (eqb-true (first_line x.file x.label) line.index t))
       ∙ ap
-      (λ start. kind_at x.config x.indices (first_line x.file x.label) (last_line x.file x.label)
+      (λ start. kind_by_ends x.config x.indices (first_line x.file x.label) (last_line x.file x.label)
       line.index start x.label)
       (sym is.range_is.start_is)
 
@@ -117,7 +117,7 @@ module _ {Id : Type 0} (x : CollectedLabel Id) where
   pub annotation_if_any-line : {line : LineInfo} {first last : ℕ}
       {kind lane_mark : Option AnnotationKind}
       → first_line x.file x.label ≡ first → last_line x.file x.label ≡ last → IsLineOf x.file line
-      → kind ≡ kind_at x.config x.indices first last line.index line.start x.label
+      → kind ≡ kind_by_ends x.config x.indices first last line.index line.start x.label
       → lane_mark ≡ lane_mark_at x.indices first last line.index line.start x.label
       → line_annotations x.config x.file x.indices x.label line.index ≡ annotation_if_any
       x.indices.file line.index kind ++ annotation_if_any x.indices.file line.index lane_mark
@@ -125,7 +125,7 @@ module _ {Id : Type 0} (x : CollectedLabel Id) where
       let l = line.index in
       let f = x.indices.file in
       let by_kind = kind_on-is line is
-      ∙ (λ i. kind_at x.config x.indices (is_first i) (is_last i) l line.start x.label)
+      ∙ (λ i. kind_by_ends x.config x.indices (is_first i) (is_last i) l line.start x.label)
       ∙ sym kind_is in
       let by_lane_mark =
       (λ i. lane_mark_at x.indices (is_first i) (is_last i) l (sym is.range_is.start_is i)
@@ -135,7 +135,7 @@ module _ {Id : Type 0} (x : CollectedLabel Id) where
 
 -- a label does not make a line shown that is far from its ends
 pub far-kind : (config : Config) (indices : LabelIndices) (s e l start : ℕ) (x : LabelModel)
-    → IsFarInside config s e l → None ≡ kind_at config indices s e l start x
+    → IsFarInside config s e l → None ≡ kind_by_ends config indices s e l start x
 far-kind config indices s e l start x far = grind (arith, nat_tests)
 
 -- its lane mark on such a line

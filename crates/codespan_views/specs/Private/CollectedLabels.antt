@@ -12,7 +12,7 @@ use Rattle.codespan_views.specs.declared.label_annotations.LabelCollector.{Label
 use Rattle.codespan_views.specs.declared.label_annotations.FoundAnnotations.{FoundAnnotations}
 use Rattle.codespan_views.specs.declared.label_annotations.LabelIndices.{LabelIndices}
 use Rattle.codespan_views.specs.Private.Annotations.{AnnotationKind}
-use Rattle.codespan_views.specs.Private.LabelAnnotations.{annotations_of, line_annotations, annotations_on, lookups_on, lane_mark_at, kind_at}
+use Rattle.codespan_views.specs.Private.LabelAnnotations.{annotations_of, line_annotations, annotations_on, lookups_on, lane_mark_at, kind_by_ends}
 use Rattle.codespan_views.specs.Private.FileLookups.{failure_in}
 use Rattle.codespan_views.specs.Private.SourceFiles.{failure_unless_past_end, model_of}
 use Rattle.codespan_views.specs.Private.AnnotationViews.{AddsOf}
@@ -140,7 +140,7 @@ IfEnded r P = IfOk r (λ goes_on. goes_on ≡ false → P)
 abbrev pub kind_by : {F Id Name Source : Type 0} → LabelCollector F Id Name Source → LineInfo
     → Option AnnotationKind
 kind_by collector line =
-    kind_at collector.config.now collector.indices collector.span.first collector.span.last
+    kind_by_ends collector.config.now collector.indices collector.span.first collector.span.last
     line.index line.start (label_of collector.label.now).label
 
 -- its lane mark on a line, by the lines of its ends

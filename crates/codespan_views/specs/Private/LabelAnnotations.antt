@@ -34,8 +34,8 @@ module _ (config : Config) (f : FileModel) (indices : LabelIndices) (x : LabelMo
 -- ---- by the lines of its ends
 
 -- what a label from line `s` to line `e` does on line `l`, which starts at this byte index
-abbrev pub kind_at : Config → LabelIndices → ℕ → ℕ → ℕ → ℕ → LabelModel → Option AnnotationKind
-kind_at config indices s e l start x =
+abbrev pub kind_by_ends : Config → LabelIndices → ℕ → ℕ → ℕ → ℕ → LabelModel → Option AnnotationKind
+kind_by_ends config indices s e l start x =
     if (s == e) && (s == l) then Some (Single indices.index (from_line_start start x))
     else if shows config s e l then Some Shown else None
 
