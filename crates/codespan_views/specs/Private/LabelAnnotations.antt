@@ -40,8 +40,8 @@ kind_by_ends config indices s e l start x =
     else if shows config s e l then Some Shown else None
 
 -- its lane mark there, if it is a multi-line label that has one
-abbrev pub lane_mark_at : LabelIndices → ℕ → ℕ → ℕ → ℕ → LabelModel → Option AnnotationKind
-lane_mark_at indices s e l start x =
+abbrev pub lane_mark_by_ends : LabelIndices → ℕ → ℕ → ℕ → ℕ → LabelModel → Option AnnotationKind
+lane_mark_by_ends indices s e l start x =
     if s == e then None
     else option_map Multi (lane_mark_of indices.lane x (multi_label_at s e l start x))
 
