@@ -3,7 +3,7 @@
 ghost use Rattle.std.specs.Prelude.{◌≡◌, ◌≢◌, true, None, IfErr, IfOk, OnOk, OnErr, IsErrOf};
 ghost use Rattle.std.specs.Option.{option_map};
 ghost use Rattle.codespan_core.specs.LawfulFiles.{FailsBy};
-ghost use Rattle.codespan_views.specs.Private.CollectedLabels.{AddsLine, FindsLine, FindsLines, HasLineLookedUp, IfEnded, IfContinues, ExtendsPadding, ExtendsPaddingForLine, FailsLine, HasLabelLines, label_of_collector, collected_label, label_failure, lines_failure, failure_on, lane_mark_by, kind_by};
+ghost use Rattle.codespan_views.specs.Private.CollectedLabels.{AddsLine, FindsLine, FindsLines, HasLineLookedUp, IfEnded, IfContinues, ExtendsPadding, ExtendsPaddingForLine, FailsLine, HasLabelLines, label_of_collector, collected_label, label_failure, lines_failure, failure_on, lane_mark_by, kind_by_collector};
 ghost use Rattle.codespan_views.specs.Private.SourceFiles.{EndsBefore, model_of};
 ghost use Rattle.codespan_views.specs.Private.AnnotationViews.{IsLineOf, kind_view};
 ghost use Rattle.codespan_views.specs.Private.LabelSpans.{IsFarInside, line_of_end, line_of_start};
@@ -55,7 +55,7 @@ impl<'a, 'c, 'd, 'files, F: Files<'files>> LabelCollector<'a, 'c, 'd, 'files, F>
     /// Returns what the label does on a line, its lane mark aside: it is a single-line label on it,
     /// or makes it shown, or neither.
     fn kind_on_line(&self, line: LineInfo) -> Option<AnnotationKind<'d, F::FileId>>
-        ensures { option_map (kind_view line.start) result ≡ kind_by self.now line }
+        ensures { option_map (kind_view line.start) result ≡ kind_by_collector self.now line }
     {
         if self.span.is_single() && self.span.first == line.index {
             Some(AnnotationKind::Single {

@@ -137,9 +137,9 @@ abbrev pub IfEnded : Result Bool Error → Type 0 → Type 0
 IfEnded r P = IfOk r (λ goes_on. goes_on ≡ false → P)
 
 -- what a label does on a line, by the lines of its ends
-abbrev pub kind_by : {F Id Name Source : Type 0} → LabelCollector F Id Name Source → LineInfo
+abbrev pub kind_by_collector : {F Id Name Source : Type 0} → LabelCollector F Id Name Source → LineInfo
     → Option AnnotationKind
-kind_by collector line =
+kind_by_collector collector line =
     kind_by_ends collector.config.now collector.indices collector.span.first collector.span.last
     line.index line.start (label_of collector.label.now).label
 
