@@ -144,9 +144,9 @@ kind_by_collector collector line =
     line.index line.start (label_of collector.label.now).label
 
 -- its lane mark on a line, by the lines of its ends
-abbrev pub lane_mark_by : {F Id Name Source : Type 0} → LabelCollector F Id Name Source → LineInfo
+abbrev pub lane_mark_by_collector : {F Id Name Source : Type 0} → LabelCollector F Id Name Source → LineInfo
     → Option AnnotationKind
-lane_mark_by collector line =
+lane_mark_by_collector collector line =
     lane_mark_by_ends collector.indices collector.span.first collector.span.last line.index line.start
     (label_of collector.label.now).label
 
