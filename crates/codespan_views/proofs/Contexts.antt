@@ -15,7 +15,7 @@ use Rattle.codespan_core.specs.Lemmas.Lines.{lines_have_indices, lines_within_te
 use Rattle.codespan_views.specs.Private.CollectedLabels.{CollectedLabel, IsLookedUp, FindsLine, FindsLines, HasLineLookedUp, ExtendsPadding, ExtendsPaddingForLine, lines_failure, failure_on}
 use Rattle.codespan_views.specs.Private.SourceFiles.{line_failure}
 use Rattle.codespan_views.specs.Private.Annotations.{Annotation}
-use Rattle.codespan_views.specs.Private.LabelAnnotations.{annotations_of, line_annotations, annotations_on, lookups_on}
+use Rattle.codespan_views.specs.Private.LabelAnnotations.{annotations_of, line_annotations, annotations_if_looked_up, lookups_on}
 use Rattle.codespan_views.specs.declared.label_annotations.FoundAnnotations.{FoundAnnotations}
 use Rattle.codespan_views.specs.Private.FileLookups.{failure_in}
 use Rattle.codespan_views.specs.Private.AnnotationViews.{AddsOf}
@@ -35,7 +35,7 @@ module _ {Id : Type 0} (x : CollectedLabel Id) where
 
   -- the annotations of the lines below this one
   abbrev annotations_below : ℕ → List Annotation
-  annotations_below n = flat_map (annotations_on x.config x.file x.label x.indices) (range_with_len 0 n)
+  annotations_below n = flat_map (annotations_if_looked_up x.config x.file x.label x.indices) (range_with_len 0 n)
 
   -- their lookups
   abbrev lookups_below : ℕ → List Lookup
@@ -46,7 +46,7 @@ module _ {Id : Type 0} (x : CollectedLabel Id) where
   digits_below n = flat_map (digits_on x.file x.label) (range_with_len 0 n)
 
   -- there is no annotation of a line that is not looked up
-  no_annotations : (l : ℕ) → is_looked_up x.config x.file x.label l ≡ false → annotations_on x.config x.file x.label x.indices l ≡ []
+  no_annotations : (l : ℕ) → is_looked_up x.config x.file x.label l ≡ false → annotations_if_looked_up x.config x.file x.label x.indices l ≡ []
   no_annotations l skipped = ap (λ (b : Bool). if b then line_annotations x.config x.file x.indices x.label l else []) skipped
 
   -- nor are there lookups of it
@@ -101,7 +101,7 @@ module _ {Id : Type 0} {x : CollectedLabel Id} where
       → CollectsLines x xs xs n
   collected-start {xs} {n} there low far = record {
     within = omega (arith, there.last);
-    added = Adds-as (flat_map_none (annotations_on x.config x.file x.label x.indices) 0 n (λ l _ high. no_annotations x l (too_far l (omega arith)))) Adds-none;
+    added = Adds-as (flat_map_none (annotations_if_looked_up x.config x.file x.label x.indices) 0 n (λ l _ high. no_annotations x l (too_far l (omega arith)))) Adds-none;
     counted = sym (ap (fold max xs.spanned_padding.digits) (flat_map_none (digits_on x.file x.label) 0 n (λ l _ high. no_digits x l (too_far l (omega arith)))));
     succeeded = ap (failed x) (flat_map_none (lookups_on x.config x.file x.label) 0 n (λ l _ high. no_lookups x l (too_far l (omega arith))));
   }
@@ -117,7 +117,7 @@ module _ {Id : Type 0} {x : CollectedLabel Id} where
         → CollectsLines x xs zs (n + 1)
     collected-line there near inside adds counts none = record {
       within = ⊎_elim (λ looked_up. let k = inside looked_up in omega arith) (λ skipped. further skipped) (cases_Bool (is_looked_up x.config x.file x.label n));
-      added = Adds-as (flat_map_more (annotations_on x.config x.file x.label x.indices) n) (Adds-both g.added adds);
+      added = Adds-as (flat_map_more (annotations_if_looked_up x.config x.file x.label x.indices) n) (Adds-both g.added adds);
       counted = counts ∙ ap (λ k. fold max k (digits_on x.file x.label n)) g.counted
           ∙ sym (greatest-append xs.spanned_padding.digits (digits_below x n) (digits_on x.file x.label n))
           ∙ sym (ap (fold max xs.spanned_padding.digits) (flat_map_more (digits_on x.file x.label) n));
@@ -141,7 +141,7 @@ module _ {Id : Type 0} {x : CollectedLabel Id} where
         × (label_digits x.file x.label ≡ digits_below x n)
     all_collected skipped = (
       flat_map_filtered (line_annotations x.config x.file x.indices x.label) (is_looked_up x.config x.file x.label) (range_with_len 0 (line_count x.file))
-          ∙ flat_map_same (annotations_on x.config x.file x.label x.indices) n (line_count x.file) g.within (λ l low high. no_annotations x l (skipped l low high)),
+          ∙ flat_map_same (annotations_if_looked_up x.config x.file x.label x.indices) n (line_count x.file) g.within (λ l low high. no_annotations x l (skipped l low high)),
       flat_map_filtered line_lookups (is_looked_up x.config x.file x.label) (range_with_len 0 (line_count x.file))
           ∙ flat_map_same (lookups_on x.config x.file x.label) n (line_count x.file) g.within (λ l low high. no_lookups x l (skipped l low high)),
       flat_map_same (digits_on x.file x.label) n (line_count x.file) g.within (λ l low high. no_digits x l (skipped l low high)),

@@ -12,7 +12,7 @@ use Rattle.codespan_views.specs.declared.label_annotations.LabelCollector.{Label
 use Rattle.codespan_views.specs.declared.label_annotations.FoundAnnotations.{FoundAnnotations}
 use Rattle.codespan_views.specs.declared.label_annotations.LabelIndices.{LabelIndices}
 use Rattle.codespan_views.specs.Private.Annotations.{AnnotationKind}
-use Rattle.codespan_views.specs.Private.LabelAnnotations.{annotations_of, line_annotations, annotations_on, lookups_on, lane_mark_by_ends, kind_by_ends}
+use Rattle.codespan_views.specs.Private.LabelAnnotations.{annotations_of, line_annotations, annotations_if_looked_up, lookups_on, lane_mark_by_ends, kind_by_ends}
 use Rattle.codespan_views.specs.Private.FileLookups.{failure_in}
 use Rattle.codespan_views.specs.Private.SourceFiles.{failure_unless_past_end, model_of}
 use Rattle.codespan_views.specs.Private.AnnotationViews.{AddsOf}
@@ -91,7 +91,7 @@ module _ {Id : Type 0} (x : CollectedLabel Id) where
   abbrev pub FindsLine : FoundAnnotations Id → FoundAnnotations Id → ℕ → Type 0
   FindsLine old new l =
       AddsOf x.file old.annotations.items new.annotations.items
-      (annotations_on x.config x.file x.label x.indices l)
+      (annotations_if_looked_up x.config x.file x.label x.indices l)
 
   -- the padding has been widened to the number of a line, where the label spans the line
   abbrev pub ExtendsPaddingForLine : FoundAnnotations Id → FoundAnnotations Id → ℕ → Type 0

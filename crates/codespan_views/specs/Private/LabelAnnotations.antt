@@ -53,6 +53,6 @@ module _ (config : Config) (f : FileModel) (x : LabelModel) where
   lookups_on l = if is_looked_up config f x l then line_lookups l else []
 
   -- the annotations of such a line
-  abbrev pub annotations_on : LabelIndices → ℕ → List Annotation
-  annotations_on indices l =
+  abbrev pub annotations_if_looked_up : LabelIndices → ℕ → List Annotation
+  annotations_if_looked_up indices l =
       if is_looked_up config f x l then line_annotations config f indices x l else []
