@@ -15,7 +15,7 @@ use Rattle.codespan_core.specs.Lemmas.Lines.{lines_have_indices, lines_within_te
 use Rattle.codespan_views.specs.Private.CollectedLabels.{CollectedLabel, IsLookedUp, FindsLine, FindsLines, HasLineLookedUp, ExtendsPadding, ExtendsPaddingForLine, lines_failure, failure_on}
 use Rattle.codespan_views.specs.Private.SourceFiles.{line_failure}
 use Rattle.codespan_views.specs.Private.Annotations.{Annotation}
-use Rattle.codespan_views.specs.Private.LabelAnnotations.{annotations_of, line_annotations, annotations_if_looked_up, lookups_on}
+use Rattle.codespan_views.specs.Private.LabelAnnotations.{annotations_of, line_annotations, annotations_if_looked_up, lookups_if_looked_up}
 use Rattle.codespan_views.specs.declared.label_annotations.FoundAnnotations.{FoundAnnotations}
 use Rattle.codespan_views.specs.Private.FileLookups.{failure_in}
 use Rattle.codespan_views.specs.Private.AnnotationViews.{AddsOf}
@@ -39,7 +39,7 @@ module _ {Id : Type 0} (x : CollectedLabel Id) where
 
   -- their lookups
   abbrev lookups_below : ℕ → List Lookup
-  lookups_below n = flat_map (lookups_on x.config x.file x.label) (range_with_len 0 n)
+  lookups_below n = flat_map (lookups_if_looked_up x.config x.file x.label) (range_with_len 0 n)
 
   -- the digits of those that it spans
   abbrev digits_below : ℕ → List ℕ
@@ -50,11 +50,11 @@ module _ {Id : Type 0} (x : CollectedLabel Id) where
   no_annotations l skipped = ap (λ (b : Bool). if b then line_annotations x.config x.file x.indices x.label l else []) skipped
 
   -- nor are there lookups of it
-  no_lookups : (l : ℕ) → is_looked_up x.config x.file x.label l ≡ false → lookups_on x.config x.file x.label l ≡ []
+  no_lookups : (l : ℕ) → is_looked_up x.config x.file x.label l ≡ false → lookups_if_looked_up x.config x.file x.label l ≡ []
   no_lookups l skipped = ap (λ (b : Bool). if b then line_lookups l else []) skipped
 
   -- a line that is looked up has its lookups
-  some_lookups : (l : ℕ) → is_looked_up x.config x.file x.label l ≡ true → lookups_on x.config x.file x.label l ≡ line_lookups l
+  some_lookups : (l : ℕ) → is_looked_up x.config x.file x.label l ≡ true → lookups_if_looked_up x.config x.file x.label l ≡ line_lookups l
   some_lookups l looked_up = ap (λ (b : Bool). if b then line_lookups l else []) looked_up
 
   -- lookups that succeed, and others after them
@@ -103,7 +103,7 @@ module _ {Id : Type 0} {x : CollectedLabel Id} where
     within = omega (arith, there.last);
     added = Adds-as (flat_map_none (annotations_if_looked_up x.config x.file x.label x.indices) 0 n (λ l _ high. no_annotations x l (too_far l (omega arith)))) Adds-none;
     counted = sym (ap (fold max xs.spanned_padding.digits) (flat_map_none (digits_on x.file x.label) 0 n (λ l _ high. no_digits x l (too_far l (omega arith)))));
-    succeeded = ap (failed x) (flat_map_none (lookups_on x.config x.file x.label) 0 n (λ l _ high. no_lookups x l (too_far l (omega arith))));
+    succeeded = ap (failed x) (flat_map_none (lookups_if_looked_up x.config x.file x.label) 0 n (λ l _ high. no_lookups x l (too_far l (omega arith))));
   }
     where
       too_far : (l : ℕ) → l < n → is_looked_up x.config x.file x.label l ≡ false
@@ -121,7 +121,7 @@ module _ {Id : Type 0} {x : CollectedLabel Id} where
       counted = counts ∙ ap (λ k. fold max k (digits_on x.file x.label n)) g.counted
           ∙ sym (greatest-append xs.spanned_padding.digits (digits_below x n) (digits_on x.file x.label n))
           ∙ sym (ap (fold max xs.spanned_padding.digits) (flat_map_more (digits_on x.file x.label) n));
-      succeeded = ap (failed x) (flat_map_more (lookups_on x.config x.file x.label) n) ∙ succeeded_then x (lookups_below x n) (lookups_on x.config x.file x.label n) g.succeeded ∙ none;
+      succeeded = ap (failed x) (flat_map_more (lookups_if_looked_up x.config x.file x.label) n) ∙ succeeded_then x (lookups_below x n) (lookups_if_looked_up x.config x.file x.label n) g.succeeded ∙ none;
     }
       where
         at_end : is_looked_up x.config x.file x.label n ≡ false → line_count x.file ≤ n → ⊥
@@ -143,7 +143,7 @@ module _ {Id : Type 0} {x : CollectedLabel Id} where
       flat_map_filtered (line_annotations x.config x.file x.indices x.label) (is_looked_up x.config x.file x.label) (range_with_len 0 (line_count x.file))
           ∙ flat_map_same (annotations_if_looked_up x.config x.file x.label x.indices) n (line_count x.file) g.within (λ l low high. no_annotations x l (skipped l low high)),
       flat_map_filtered line_lookups (is_looked_up x.config x.file x.label) (range_with_len 0 (line_count x.file))
-          ∙ flat_map_same (lookups_on x.config x.file x.label) n (line_count x.file) g.within (λ l low high. no_lookups x l (skipped l low high)),
+          ∙ flat_map_same (lookups_if_looked_up x.config x.file x.label) n (line_count x.file) g.within (λ l low high. no_lookups x l (skipped l low high)),
       flat_map_same (digits_on x.file x.label) n (line_count x.file) g.within (λ l low high. no_digits x l (skipped l low high)),
     )
 
@@ -244,14 +244,14 @@ module _ {Id : Type 0} {x : CollectedLabel Id} where
         before_end : n < line_count x.file → lines_failure x ≡ Some e
         before_end h =
             let upto : failed x (lookups_below x (n + 1)) ≡ Some e =
-            ap (failed x) (flat_map_more (lookups_on x.config x.file x.label) n) ∙ succeeded_then x (lookups_below x n) (lookups_on x.config x.file x.label n) g.succeeded
+            ap (failed x) (flat_map_more (lookups_if_looked_up x.config x.file x.label) n) ∙ succeeded_then x (lookups_below x n) (lookups_if_looked_up x.config x.file x.label n) g.succeeded
             ∙ ap (failed x) (some_lookups x n looked_up) ∙ line_error (lt-ltb n (line_count x.file) h) in
             let whole : flat_map line_lookups (looked_up_lines x.config x.file x.label)
-            ≡ lookups_below x (n + 1) ++ flat_map (lookups_on x.config x.file x.label)
+            ≡ lookups_below x (n + 1) ++ flat_map (lookups_if_looked_up x.config x.file x.label)
             (range_with_len (n + 1) (line_count x.file - (n + 1))) =
             flat_map_filtered line_lookups (is_looked_up x.config x.file x.label)
             (range_with_len 0 (line_count x.file))
-            ∙ flat_map_split (lookups_on x.config x.file x.label) (n + 1) (line_count x.file)
+            ∙ flat_map_split (lookups_if_looked_up x.config x.file x.label) (n + 1) (line_count x.file)
             (omega arith) in
             failed_then x (flat_map line_lookups (looked_up_lines x.config x.file x.label))
             (lookup_past_end x.config x.file (x.failure x.file_id) x.label) e

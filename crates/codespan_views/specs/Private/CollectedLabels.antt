@@ -12,7 +12,7 @@ use Rattle.codespan_views.specs.declared.label_annotations.LabelCollector.{Label
 use Rattle.codespan_views.specs.declared.label_annotations.FoundAnnotations.{FoundAnnotations}
 use Rattle.codespan_views.specs.declared.label_annotations.LabelIndices.{LabelIndices}
 use Rattle.codespan_views.specs.Private.Annotations.{AnnotationKind}
-use Rattle.codespan_views.specs.Private.LabelAnnotations.{annotations_of, line_annotations, annotations_if_looked_up, lookups_on, lane_mark_by_ends, kind_by_ends}
+use Rattle.codespan_views.specs.Private.LabelAnnotations.{annotations_of, line_annotations, annotations_if_looked_up, lookups_if_looked_up, lane_mark_by_ends, kind_by_ends}
 use Rattle.codespan_views.specs.Private.FileLookups.{failure_in}
 use Rattle.codespan_views.specs.Private.SourceFiles.{failure_unless_past_end, model_of}
 use Rattle.codespan_views.specs.Private.AnnotationViews.{AddsOf}
@@ -100,7 +100,7 @@ module _ {Id : Type 0} (x : CollectedLabel Id) where
 
   -- what the lookups of a line fail with, where it is looked up
   abbrev pub failure_on : ℕ → Option Error
-  failure_on l = failure_in x.failure x.file_id (lookups_on x.config x.file x.label l)
+  failure_on l = failure_in x.failure x.file_id (lookups_if_looked_up x.config x.file x.label l)
 
   -- ---- all of its lines
 

@@ -49,8 +49,8 @@ lane_mark_by_ends indices s e l start x =
 
 module _ (config : Config) (f : FileModel) (x : LabelModel) where
   -- the lookups of a line, where it is looked up for the label
-  abbrev pub lookups_on : ℕ → List Lookup
-  lookups_on l = if is_looked_up config f x l then line_lookups l else []
+  abbrev pub lookups_if_looked_up : ℕ → List Lookup
+  lookups_if_looked_up l = if is_looked_up config f x l then line_lookups l else []
 
   -- the annotations of such a line
   abbrev pub annotations_if_looked_up : LabelIndices → ℕ → List Annotation
