@@ -10,7 +10,7 @@ use Rattle.codespan_picture.specs.Types.{Config}
 use Rattle.codespan_views.specs.declared.annotation.Annotation.{Annotation as RustAnnotation}
 use Rattle.codespan_views.specs.Private.LabelAnnotations.{line_annotations, annotations_if_looked_up}
 use Rattle.codespan_views.specs.Private.AnnotationViews.{AddsOf}
-use Rattle.codespan_views.specs.Private.CollectedLabels.{AddsLine, CollectedLabel, failure_on}
+use Rattle.codespan_views.specs.Private.CollectedLabels.{AddsLine, CollectedLabel, failure_if_looked_up}
 use Rattle.codespan_views.specs.Private.FileLookups.{failure_in}
 use Rattle.codespan_views.specs.Private.LabelSpans.{IsFarInside, spans_line}
 use Rattle.codespan_views.specs.Private.SpannedDigits.{digits_on}
@@ -66,7 +66,7 @@ module _ {Id : Type 0} (x : CollectedLabel Id) (l : ℕ)
 
   -- its lookups
   pub succeeded-looked_up : failure_in x.failure x.file_id (line_lookups l) ≡ None
-      → failure_on x l ≡ None
+      → failure_if_looked_up x l ≡ None
   succeeded-looked_up succeeded =
       ap (λ (b : Bool). failure_in x.failure x.file_id (if b then line_lookups l else [])) looked_up
       ∙ succeeded

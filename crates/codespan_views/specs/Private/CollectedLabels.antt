@@ -99,8 +99,8 @@ module _ {Id : Type 0} (x : CollectedLabel Id) where
       new.spanned_padding.digits ≡ fold max old.spanned_padding.digits (digits_on x.file x.label l)
 
   -- what the lookups of a line fail with, where it is looked up
-  abbrev pub failure_on : ℕ → Option Error
-  failure_on l = failure_in x.failure x.file_id (lookups_if_looked_up x.config x.file x.label l)
+  abbrev pub failure_if_looked_up : ℕ → Option Error
+  failure_if_looked_up l = failure_in x.failure x.file_id (lookups_if_looked_up x.config x.file x.label l)
 
   -- ---- all of its lines
 
