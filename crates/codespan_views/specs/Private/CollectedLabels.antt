@@ -80,8 +80,8 @@ module _ {Id : Type 0} (x : CollectedLabel Id) where
   IsLookedUp l = is_looked_up x.config x.file x.label l ≡ true
 
   -- the file has the line, where it is looked up
-  abbrev pub HasLineLookedUp : ℕ → Type 0
-  HasLineLookedUp l = IsLookedUp l → l < line_count x.file
+  abbrev pub HasLineIfLookedUp : ℕ → Type 0
+  HasLineIfLookedUp l = IsLookedUp l → l < line_count x.file
 
   -- its annotations of a line were appended
   abbrev pub AddsLine : List (RustAnnotation Id) → List (RustAnnotation Id) → ℕ → Type 0
