@@ -9,7 +9,7 @@ use Rattle.codespan_picture.specs.Padding.{spans}
 use Rattle.codespan_picture.specs.Types.{Config}
 use Rattle.codespan_views.specs.declared.annotation.Annotation.{Annotation as RustAnnotation}
 use Rattle.codespan_views.specs.Private.LabelAnnotations.{line_annotations, annotations_if_looked_up}
-use Rattle.codespan_views.specs.Private.AnnotationViews.{AddsOf}
+use Rattle.codespan_views.specs.Private.AnnotationViews.{AppendsAnnotationsOf}
 use Rattle.codespan_views.specs.Private.CollectedLabels.{AddsLine, CollectedLabel, failure_if_looked_up}
 use Rattle.codespan_views.specs.Private.FileLookups.{failure_in}
 use Rattle.codespan_views.specs.Private.LabelSpans.{IsFarInside, spans_line}
@@ -58,7 +58,7 @@ module _ {Id : Type 0} (x : CollectedLabel Id) (l : ℕ)
     (looked_up : is_looked_up x.config x.file x.label l ≡ true) where
   -- the annotations of a line that is looked up
   pub added-looked_up : {old new : List (RustAnnotation Id)} → AddsLine x old new l
-      → AddsOf x.file old new (annotations_if_looked_up x.config x.file x.label x.indices l)
+      → AppendsAnnotationsOf x.file old new (annotations_if_looked_up x.config x.file x.label x.indices l)
   added-looked_up =
       Adds-as
       (ap (λ (b : Bool). if b then line_annotations x.config x.file x.indices x.label l else [])

@@ -18,7 +18,7 @@ use Rattle.codespan_views.specs.Private.Annotations.{Annotation}
 use Rattle.codespan_views.specs.Private.LabelAnnotations.{annotations_of, line_annotations, annotations_if_looked_up, lookups_if_looked_up}
 use Rattle.codespan_views.specs.declared.label_annotations.FoundAnnotations.{FoundAnnotations}
 use Rattle.codespan_views.specs.Private.FileLookups.{failure_in}
-use Rattle.codespan_views.specs.Private.AnnotationViews.{AddsOf}
+use Rattle.codespan_views.specs.Private.AnnotationViews.{AppendsAnnotationsOf}
 use Rattle.codespan_views.specs.Private.SpannedDigits.{digits_on, label_digits}
 use Rattle.codespan_picture.specs.Lookups.{looked_up_lines, lookups_of_file, ends_context_lines, first_error, is_around, is_looked_up, line_lookups, lookup_past_end}
 use Rattle.codespan_picture.specs.Padding.{count_digits, spans}
@@ -84,7 +84,7 @@ module _ {Id : Type 0} (x : CollectedLabel Id) where
   -- padding fits those that the label spans, and no lookup failed
   pub record CollectsLines (old new : FoundAnnotations Id) (n : ℕ) : Type 0 where
     pub within : n ≤ line_count x.file
-    pub added : AddsOf x.file old.annotations.items new.annotations.items (annotations_below n)
+    pub added : AppendsAnnotationsOf x.file old.annotations.items new.annotations.items (annotations_below n)
     pub counted : new.spanned_padding.digits ≡ fold max old.spanned_padding.digits (digits_below n)
     pub succeeded : failed (lookups_below n) ≡ None
 

@@ -19,7 +19,7 @@ use Rattle.codespan_views.specs.declared.label_annotations.LabelIndices.{LabelIn
 use Rattle.codespan_views.specs.Private.CollectedLabels.{FindsLines, ExtendsPadding, collected_label, label_failure, labels_failure, lookups_of_label}
 use Rattle.codespan_views.specs.Private.Annotations.{Annotation}
 use Rattle.codespan_views.specs.Private.LabelAnnotations.{annotations_of}
-use Rattle.codespan_views.specs.Private.AnnotationViews.{Adds, AddsOf, IsLineOf, IsOfFiles, annotation_view}
+use Rattle.codespan_views.specs.Private.AnnotationViews.{Adds, AppendsAnnotationsOf, IsLineOf, IsOfFiles, annotation_view}
 use Rattle.codespan_views.specs.Private.LabeledFiles.{HasLabels, ids_view, lane_counts, num_multi_labels_of, lanes_with_label, starts_with_label, starts_view, with_file}
 use Rattle.codespan_views.specs.Private.LocusBytes.{file_least_starts, no_starts}
 use Rattle.codespan_picture.specs.Lookups.{lookups_of_file, first_error, label_lookups, label_line_lookups}
@@ -136,7 +136,7 @@ module _ {Id : Type 0} {database : FileDatabase Id} (lawful : AreFiles database)
         ∙ unchanged-at o (num_multi_labels_of same file (before labels index)) (num_multi_labels_of-equal lawful (before labels index)) ids label.file_id 0 (has-file turn o)
 
     -- the label's annotations were added
-    added-more : (more : FoundAnnotations Id) → AddsOf (file label.file_id) found.annotations.items more.annotations.items (annotations_of config (file label.file_id) here (label_of label).label)
+    added-more : (more : FoundAnnotations Id) → AppendsAnnotationsOf (file label.file_id) found.annotations.items more.annotations.items (annotations_of config (file label.file_id) here (label_of label).label)
         → Adds (IsOfFiles file ids) [] more.annotations.items (annotations_after same file config ids [] (before labels (index + 1)))
     added-more more adds =
         let f = file label.file_id in
@@ -214,7 +214,7 @@ module _ {Id : Type 0} {database : FileDatabase Id} (lawful : AreFiles database)
         ids_are = known.ids ∙ g.ids_are;
         starts_are = starts-set turn o g.starts_are (known.starts ∙ ap (λ k. starts_with_label (starts_view files) k (label_of label).label) index-found);
         lanes_are = lanes-next next (known.lanes ∙ ap (λ k. lanes_with_label (lane_counts files) k (label_lanes (file label.file_id) (label_of label).label)) index-found);
-        added = added-more more (subst₂ (λ k n. AddsOf (file label.file_id) found.annotations.items
+        added = added-more more (subst₂ (λ k n. AppendsAnnotationsOf (file label.file_id) found.annotations.items
             more.annotations.items (annotations_of config (file label.file_id)
             (record { file = k; index = index; lane = n }) (label_of label).label)) index-found
             lane-found own.added);

@@ -59,9 +59,9 @@ pub record Adds {Id : Type 0} (P : RustAnnotation Id → Type 0) (old new : List
   pub each : AllByRecursion P more
 
 -- annotations of lines of this file were appended
-abbrev pub AddsOf : {Id : Type 0} → FileModel → List (RustAnnotation Id) → List (RustAnnotation Id)
+abbrev pub AppendsAnnotationsOf : {Id : Type 0} → FileModel → List (RustAnnotation Id) → List (RustAnnotation Id)
     → List Annotation → Type 0
-AddsOf f old new annotations = Adds (λ e. IsLineOf f e.line) old new annotations
+AppendsAnnotationsOf f old new annotations = Adds (λ e. IsLineOf f e.line) old new annotations
 
 -- the kind of the multi-line label mark that a label from line `s` to line `e` has on line `l`, if
 -- it is a multi-line label that has one

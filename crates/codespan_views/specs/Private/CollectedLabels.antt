@@ -15,7 +15,7 @@ use Rattle.codespan_views.specs.Private.Annotations.{AnnotationKind}
 use Rattle.codespan_views.specs.Private.LabelAnnotations.{annotations_of, line_annotations, annotations_if_looked_up, lookups_if_looked_up, lane_mark_by_ends, kind_by_ends}
 use Rattle.codespan_views.specs.Private.FileLookups.{failure_in}
 use Rattle.codespan_views.specs.Private.SourceFiles.{failure_unless_past_end, model_of}
-use Rattle.codespan_views.specs.Private.AnnotationViews.{AddsOf}
+use Rattle.codespan_views.specs.Private.AnnotationViews.{AppendsAnnotationsOf}
 use Rattle.codespan_views.specs.Private.SpannedDigits.{digits_on, label_digits}
 
 -- the lookups of one label
@@ -85,12 +85,12 @@ module _ {Id : Type 0} (x : CollectedLabel Id) where
 
   -- its annotations of a line were appended
   abbrev pub AddsLine : List (RustAnnotation Id) → List (RustAnnotation Id) → ℕ → Type 0
-  AddsLine old new l = AddsOf x.file old new (line_annotations x.config x.file x.indices x.label l)
+  AddsLine old new l = AppendsAnnotationsOf x.file old new (line_annotations x.config x.file x.indices x.label l)
 
   -- its annotations of a line were found, where it is looked up
   abbrev pub FindsLine : FoundAnnotations Id → FoundAnnotations Id → ℕ → Type 0
   FindsLine old new l =
-      AddsOf x.file old.annotations.items new.annotations.items
+      AppendsAnnotationsOf x.file old.annotations.items new.annotations.items
       (annotations_if_looked_up x.config x.file x.label x.indices l)
 
   -- the padding has been widened to the number of a line, where the label spans the line
@@ -107,7 +107,7 @@ module _ {Id : Type 0} (x : CollectedLabel Id) where
   -- its annotations were found
   abbrev pub FindsLines : FoundAnnotations Id → FoundAnnotations Id → Type 0
   FindsLines old new =
-      AddsOf x.file old.annotations.items new.annotations.items
+      AppendsAnnotationsOf x.file old.annotations.items new.annotations.items
       (annotations_of x.config x.file x.indices x.label)
 
   -- the padding has been widened to the numbers of the lines that the label spans
