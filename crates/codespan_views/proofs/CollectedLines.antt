@@ -10,7 +10,7 @@ use Rattle.codespan_picture.specs.Types.{Config}
 use Rattle.codespan_views.specs.declared.annotation.Annotation.{Annotation as RustAnnotation}
 use Rattle.codespan_views.specs.Private.LabelAnnotations.{line_annotations, annotations_if_looked_up}
 use Rattle.codespan_views.specs.Private.AnnotationViews.{AppendsAnnotationsOf}
-use Rattle.codespan_views.specs.Private.CollectedLabels.{AddsLine, CollectedLabel, failure_if_looked_up}
+use Rattle.codespan_views.specs.Private.CollectedLabels.{AppendsLineAnnotations, CollectedLabel, failure_if_looked_up}
 use Rattle.codespan_views.specs.Private.FileLookups.{failure_in}
 use Rattle.codespan_views.specs.Private.LabelSpans.{IsFarInside, spans_line}
 use Rattle.codespan_views.specs.Private.SpannedDigits.{digits_on}
@@ -57,7 +57,7 @@ module _ {Id : Type 0} (x : CollectedLabel Id) (s e l : ℕ) (first : first_line
 module _ {Id : Type 0} (x : CollectedLabel Id) (l : ℕ)
     (looked_up : is_looked_up x.config x.file x.label l ≡ true) where
   -- the annotations of a line that is looked up
-  pub added-looked_up : {old new : List (RustAnnotation Id)} → AddsLine x old new l
+  pub added-looked_up : {old new : List (RustAnnotation Id)} → AppendsLineAnnotations x old new l
       → AppendsAnnotationsOf x.file old new (annotations_if_looked_up x.config x.file x.label x.indices l)
   added-looked_up =
       Adds-as

@@ -3,7 +3,7 @@
 ghost use Rattle.std.specs.Prelude.{◌≡◌, ◌≢◌, true, None, IfErr, IfOk, OnOk, OnErr, IsErrOf};
 ghost use Rattle.std.specs.Option.{option_map};
 ghost use Rattle.codespan_core.specs.LawfulFiles.{FailsBy};
-ghost use Rattle.codespan_views.specs.Private.CollectedLabels.{AddsLine, FindsLine, FindsLines, HasLineIfLookedUp, IfEnded, IfContinues, ExtendsPadding, ExtendsPaddingForLine, FailsLine, HasLabelLines, label_of_collector, collected_label, label_failure, lines_failure, failure_if_looked_up, lane_mark_by_collector, kind_by_collector};
+ghost use Rattle.codespan_views.specs.Private.CollectedLabels.{AppendsLineAnnotations, FindsLine, FindsLines, HasLineIfLookedUp, IfEnded, IfContinues, ExtendsPadding, ExtendsPaddingForLine, FailsLine, HasLabelLines, label_of_collector, collected_label, label_failure, lines_failure, failure_if_looked_up, lane_mark_by_collector, kind_by_collector};
 ghost use Rattle.codespan_views.specs.Private.SourceFiles.{EndsBefore, model_of};
 ghost use Rattle.codespan_views.specs.Private.AnnotationViews.{IsLineOf, kind_view};
 ghost use Rattle.codespan_views.specs.Private.LabelSpans.{IsFarInside, line_of_end, line_of_start};
@@ -103,7 +103,7 @@ impl<'a, 'c, 'd, 'files, F: Files<'files>> LabelCollector<'a, 'c, 'd, 'files, F>
             line.index }
         requires lines { HasLabelLines F.database self.now }
         requires line { IsLineOf (model_of F.database self.now.file) line }
-        ensures added { OnOk result (AddsLine (label_of_collector F.database self.now)
+        ensures added { OnOk result (AppendsLineAnnotations (label_of_collector F.database self.now)
             annotations.old.items annotations.new.items line.index) }
         ensures failed { OnErr result (IsErrOf result Error.OutOfMemory) }
     {
@@ -137,7 +137,7 @@ impl<'a, 'c, 'd, 'files, F: Files<'files>> LabelCollector<'a, 'c, 'd, 'files, F>
             self.now.span.last line.index }
         requires lines { HasLabelLines F.database self.now }
         requires line { IsLineOf (model_of F.database self.now.file) line }
-        ensures added { OnOk result (AddsLine (label_of_collector F.database self.now)
+        ensures added { OnOk result (AppendsLineAnnotations (label_of_collector F.database self.now)
             annotations.old.items annotations.new.items line.index) }
         ensures failed { OnErr result (IsErrOf result Error.OutOfMemory) }
     {

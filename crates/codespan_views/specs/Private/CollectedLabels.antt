@@ -84,8 +84,8 @@ module _ {Id : Type 0} (x : CollectedLabel Id) where
   HasLineIfLookedUp l = IsLookedUp l → l < line_count x.file
 
   -- its annotations of a line were appended
-  abbrev pub AddsLine : List (RustAnnotation Id) → List (RustAnnotation Id) → ℕ → Type 0
-  AddsLine old new l = AppendsAnnotationsOf x.file old new (line_annotations x.config x.file x.indices x.label l)
+  abbrev pub AppendsLineAnnotations : List (RustAnnotation Id) → List (RustAnnotation Id) → ℕ → Type 0
+  AppendsLineAnnotations old new l = AppendsAnnotationsOf x.file old new (line_annotations x.config x.file x.indices x.label l)
 
   -- its annotations of a line were found, where it is looked up
   abbrev pub FindsLine : FoundAnnotations Id → FoundAnnotations Id → ℕ → Type 0

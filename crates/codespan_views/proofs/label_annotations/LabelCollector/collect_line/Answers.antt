@@ -3,7 +3,7 @@ use Rattle.std.specs.Prelude.{if◌then◌else◌}
 use Rattle.codespan_core.specs.FileModel.{line_count}
 use Rattle.codespan_views.specs.Private.LabelAnnotations.{line_annotations}
 use Rattle.codespan_views.specs.Private.AnnotationViews.{IsLineAt}
-use Rattle.codespan_views.specs.Private.CollectedLabels.{AddsLine, label_of_collector}
+use Rattle.codespan_views.specs.Private.CollectedLabels.{AppendsLineAnnotations, label_of_collector}
 use Rattle.codespan_views.specs.Private.LabelSpans.{spans_line}
 use Rattle.codespan_views.specs.declared.label_annotations.FoundAnnotations.{FoundAnnotations}
 use Rattle.codespan_picture.specs.Lookups.{is_looked_up}
@@ -81,9 +81,9 @@ pub returns-clause-added : goal.returns-clause-added
 returns-clause-added g c =
     let x = label_of_collector g.F.Files.database c.args.self.now in
     λ _. added-looked_up x c.args.index (looked_up g c)
-    (subst (λ l. AddsLine x c.args.found.now.annotations.items c.push_line.new.annotations.items l)
+    (subst (λ l. AppendsLineAnnotations x c.args.found.now.annotations.items c.push_line.new.annotations.items l)
     (line_found g c).0
-    (subst (λ old. AddsLine x old c.push_line.new.annotations.items c.in-Some.line.index)
+    (subst (λ old. AppendsLineAnnotations x old c.push_line.new.annotations.items c.in-Some.line.index)
     (annotations_are g c) c.in_ok-push_line.ensures.added))
 
 pub returns-clause-padding : goal.returns-clause-padding
