@@ -69,7 +69,7 @@ IsSnippetLineIn layout f (rust.Filled index number annotations) =
 IsSnippetLineIn layout f (rust.Break next) = Unit {0}
 
 -- these lines of the file's snippet were appended
-pub record AddsLines {Id : Type 0} (layout : Layout) (f : FileModel) (old new : List (RustLine Id))
+pub record AppendsSnippetLines {Id : Type 0} (layout : Layout) (f : FileModel) (old new : List (RustLine Id))
     (snippet_lines : List SnippetLine) : Type 0 where
   pub more : List (RustLine Id)
   pub whole : new ≡ old ++ more

@@ -13,7 +13,7 @@ ghost use Rattle.codespan_views.specs.Private.LabeledFiles.{ids_view};
 ghost use Rattle.codespan_views.specs.Private.Loci.{locus_failure, locus_start_of};
 ghost use Rattle.codespan_views.specs.Private.SnippetPlans.{ArePlansOfCollected, collected_plan_failure};
 ghost use Rattle.codespan_views.specs.Private.SnippetLines.{filled_lines_of, lines_of};
-ghost use Rattle.codespan_views.specs.Private.SnippetLineViews.{AddsLines, numbers_looked_up};
+ghost use Rattle.codespan_views.specs.Private.SnippetLineViews.{AppendsSnippetLines, numbers_looked_up};
 ghost use Rattle.codespan_views.specs.Private.TextLoci.{IsTextLocus};
 
 use crate::annotation::Annotation;
@@ -57,7 +57,7 @@ fn push_snippet<'files, 'e, 'd, F: Files<'files>>(
     snippet_lines: &mut Vec<SnippetLine<'e, 'd, F::FileId>>,
 ) -> Result<usize, Error>
     requires { All (λ e. IsLineOf ((F.database files.now).file id) e.line) annotations.now }
-    ensures added { OnOk result (AddsLines layout ((F.database files.now).file id)
+    ensures added { OnOk result (AppendsSnippetLines layout ((F.database files.now).file id)
         snippet_lines.old.items snippet_lines.new.items
         (lines_of (map annotation_view annotations.now))) }
     ensures count { IfOk result (λ count. count

@@ -2,7 +2,7 @@ use Rattle.std.proofs.Common.{◌∷◌, [], ◌++◌, map, Err, refl, sym, ap, 
 use Rattle.std.proofs.lemmas.Result.{err_from_is_err_and}
 use Rattle.codespan_views.specs.Private.AnnotationViews.{annotation_view}
 use Rattle.codespan_views.specs.Private.LinePlanners.{numbers_failure}
-use Rattle.codespan_views.specs.Private.SnippetLineViews.{AddsLines, gap_lines}
+use Rattle.codespan_views.specs.Private.SnippetLineViews.{AppendsSnippetLines, gap_lines}
 use Rattle.codespan_views.specs.Private.SnippetLines.{Labeled, filled_lines_of}
 use Rattle.codespan_views.specs.Private.SourceFiles.{model_of}
 use Rattle.codespan_views.proofs.LinesFound.{adds_then, filled_lines_of-shown}
@@ -14,7 +14,7 @@ returns-clause-added g c =
     let hidden = map annotation_view c.args.hidden.now in
     let own = map annotation_view c.args.annotations.now in
     subst
-    (λ xs. AddsLines planner.layout (model_of g.F.Files.database planner.file)
+    (λ xs. AppendsSnippetLines planner.layout (model_of g.F.Files.database planner.file)
     c.args.snippet_lines.now.items c.push.new.self.items
     (xs ++ Labeled c.args.line.index own ∷ []))
     (sym (c.gap_before.ensures hidden own))
