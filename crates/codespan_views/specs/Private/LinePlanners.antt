@@ -11,8 +11,8 @@ use Rattle.codespan_views.specs.Private.SourceFiles.{failure_of, model_of}
 module _ {F Id Name Source : Type 0} (database : F → FileDatabase Id)
     (planner : LinePlanner F Id Name Source) where
   -- these lines of the file's snippet were appended
-  abbrev pub AddsPlanned : List (RustLine Id) → List (RustLine Id) → List SnippetLine → Type 0
-  AddsPlanned = AppendsSnippetLines planner.layout (model_of database planner.file)
+  abbrev pub AppendsPlannedLines : List (RustLine Id) → List (RustLine Id) → List SnippetLine → Type 0
+  AppendsPlannedLines = AppendsSnippetLines planner.layout (model_of database planner.file)
 
   -- the error of the lookups of the numbers of these lines, where they are made before the header
   abbrev pub numbers_failure : List ℕ → Option Error

@@ -5,7 +5,7 @@ ghost use Rattle.codespan_core.specs.LawfulFiles.{FailsBy};
 ghost use Rattle.codespan_views.specs.Private.AnnotationViews.{IsLineOf, annotation_view};
 ghost use Rattle.codespan_views.specs.Private.SnippetLineViews.{IsGapBefore, gap_lines, known_number};
 ghost use Rattle.codespan_views.specs.Private.SnippetLines.{filled_lines_of, lines_of, lines_to};
-ghost use Rattle.codespan_views.specs.Private.LinePlanners.{AddsPlanned, numbers_failure};
+ghost use Rattle.codespan_views.specs.Private.LinePlanners.{AppendsPlannedLines, numbers_failure};
 ghost use Rattle.codespan_views.specs.Private.SourceFiles.{model_of};
 
 use crate::annotation::groups::{count_on_line, shows_line};
@@ -113,7 +113,7 @@ impl<'files, F: Files<'files>> LinePlanner<'files, F> {
         snippet_lines: &mut Vec<SnippetLine<'e, 'd, F::FileId>>,
     ) -> Result<(), Error>
         ensures added { OnOk result
-            (AddsPlanned F.database self.now snippet_lines.old.items
+            (AppendsPlannedLines F.database self.now snippet_lines.old.items
             snippet_lines.new.items
             (gap_lines (map annotation_view hidden.now) (map annotation_view next.now) gap)) }
         ensures failed { FailsBy (numbers_failure F.database self.now
@@ -157,7 +157,7 @@ impl<'files, F: Files<'files>> LinePlanner<'files, F> {
     ) -> Result<(), Error>
         requires line { IsLineOf (model_of F.database self.now.file) line }
         ensures added { OnOk result
-            (AddsPlanned F.database self.now snippet_lines.old.items
+            (AppendsPlannedLines F.database self.now snippet_lines.old.items
             snippet_lines.new.items
             (lines_to previous (map annotation_view hidden.now) line.index
             (map annotation_view annotations.now))) }
@@ -196,7 +196,7 @@ impl<'files, F: Files<'files>> LinePlanner<'files, F> {
         requires lines { All (λ e. IsLineOf (model_of F.database self.now.file)
             e.line) annotations.now }
         ensures added { OnOk result
-            (AddsPlanned F.database self.now snippet_lines.old.items
+            (AppendsPlannedLines F.database self.now snippet_lines.old.items
             snippet_lines.new.items (lines_of (map annotation_view annotations.now))) }
         ensures failed { FailsBy (numbers_failure F.database self.now
             (filled_lines_of (lines_of (map annotation_view annotations.now)))) result }
