@@ -88,8 +88,8 @@ module _ {Id : Type 0} (x : CollectedLabel Id) where
   AppendsLineAnnotations old new l = AppendsAnnotationsOf x.file old new (line_annotations x.config x.file x.indices x.label l)
 
   -- its annotations of a line were found, where it is looked up
-  abbrev pub FindsLine : FoundAnnotations Id → FoundAnnotations Id → ℕ → Type 0
-  FindsLine old new l =
+  abbrev pub FindsLineAnnotations : FoundAnnotations Id → FoundAnnotations Id → ℕ → Type 0
+  FindsLineAnnotations old new l =
       AppendsAnnotationsOf x.file old.annotations.items new.annotations.items
       (annotations_if_looked_up x.config x.file x.label x.indices l)
 
