@@ -105,8 +105,8 @@ module _ {Id : Type 0} (x : CollectedLabel Id) where
   -- ---- all of its lines
 
   -- its annotations were found
-  abbrev pub FindsLines : FoundAnnotations Id → FoundAnnotations Id → Type 0
-  FindsLines old new =
+  abbrev pub FindsLabelAnnotations : FoundAnnotations Id → FoundAnnotations Id → Type 0
+  FindsLabelAnnotations old new =
       AppendsAnnotationsOf x.file old.annotations.items new.annotations.items
       (annotations_of x.config x.file x.indices x.label)
 
