@@ -151,8 +151,8 @@ lane_mark_by_collector collector line =
     (label_of collector.label.now).label
 
 -- a line is looked up for the label, and its lookups fail with this error
-abbrev pub FailsLine : {F Id Name Source : Type 0} → (F → FileDatabase Id)
+abbrev pub FailsAtLine : {F Id Name Source : Type 0} → (F → FileDatabase Id)
     → LabelCollector F Id Name Source → ℕ → Error → Type 0
-FailsLine database collector l e =
+FailsAtLine database collector l e =
     IsLookedUp (label_of_collector database collector) l
     × (failure_unless_past_end database collector.file collector.span.last l ≡ Some e)
