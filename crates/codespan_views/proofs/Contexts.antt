@@ -12,7 +12,7 @@ use Rattle.codespan_core.specs.LawfulFiles.{IsLawful, FailsPastEnd, IsPastEndErr
 use Rattle.codespan_core.specs.FileModel.Lookup.{LineRange, LineNumber}
 use Rattle.codespan_core.specs.Labels.{first_line, last_line}
 use Rattle.codespan_core.specs.Lemmas.Lines.{lines_have_indices, lines_within_text}
-use Rattle.codespan_views.specs.Private.CollectedLabels.{CollectedLabel, IsLookedUp, FindsLineAnnotations, FindsLabelAnnotations, HasLineIfLookedUp, ExtendsPadding, ExtendsPaddingForLine, lines_failure, failure_if_looked_up}
+use Rattle.codespan_views.specs.Private.CollectedLabels.{CollectedLabel, IsLookedUp, FindsLineAnnotations, FindsLabelAnnotations, HasLineIfLookedUp, WidensPadding, ExtendsPaddingForLine, lines_failure, failure_if_looked_up}
 use Rattle.codespan_views.specs.Private.SourceFiles.{line_failure}
 use Rattle.codespan_views.specs.Private.Annotations.{Annotation}
 use Rattle.codespan_views.specs.Private.LabelAnnotations.{annotations_of, line_annotations, annotations_if_looked_up, lookups_if_looked_up}
@@ -91,7 +91,7 @@ module _ {Id : Type 0} (x : CollectedLabel Id) where
   -- all lines are done with
   pub record CollectsLabel (old new : FoundAnnotations Id) : Type 0 where
     pub added : FindsLabelAnnotations x old new
-    pub counted : ExtendsPadding x old new
+    pub counted : WidensPadding x old new
     pub succeeded : lines_failure x ≡ None
 
 module _ {Id : Type 0} {x : CollectedLabel Id} where

@@ -16,7 +16,7 @@ use Rattle.codespan_views.specs.declared.labeled_files.LabeledFile.{LabeledFile 
 use Rattle.codespan_views.specs.declared.label_annotations.FoundAnnotations.{FoundAnnotations}
 use Rattle.codespan_views.specs.declared.least_starts.LeastStarts.{LeastStarts}
 use Rattle.codespan_views.specs.declared.label_annotations.LabelIndices.{LabelIndices}
-use Rattle.codespan_views.specs.Private.CollectedLabels.{FindsLabelAnnotations, ExtendsPadding, collected_label, label_failure, labels_failure, lookups_of_label}
+use Rattle.codespan_views.specs.Private.CollectedLabels.{FindsLabelAnnotations, WidensPadding, collected_label, label_failure, labels_failure, lookups_of_label}
 use Rattle.codespan_views.specs.Private.Annotations.{Annotation}
 use Rattle.codespan_views.specs.Private.LabelAnnotations.{annotations_of}
 use Rattle.codespan_views.specs.Private.AnnotationViews.{Adds, AppendsAnnotationsOf, IsLineOf, IsOfFiles, annotation_view}
@@ -55,7 +55,7 @@ pub record AreCollected {Id : Type 0} (database : FileDatabase Id) (config : Con
 -- it failed
 pub record IsCollectedLabel {Id : Type 0} (database : FileDatabase Id) (config : Config) (at : LabelIndices) (label : Label Id) (found more : FoundAnnotations Id) : Type 0 where
   pub added : FindsLabelAnnotations (collected_label database config at label) found more
-  pub counted : ExtendsPadding (collected_label database config at label) found more
+  pub counted : WidensPadding (collected_label database config at label) found more
   pub succeeded : label_failure (collected_label database config at label) ≡ None
 
 -- a label was added to the file at this index

@@ -3,7 +3,7 @@
 ghost use Rattle.std.specs.Prelude.{◌≡◌, ◌≢◌, true, None, IfErr, IfOk, OnOk, OnErr, IsErrOf};
 ghost use Rattle.std.specs.Option.{option_map};
 ghost use Rattle.codespan_core.specs.LawfulFiles.{FailsBy};
-ghost use Rattle.codespan_views.specs.Private.CollectedLabels.{AppendsLineAnnotations, FindsLineAnnotations, FindsLabelAnnotations, HasLineIfLookedUp, IfEnded, IfContinues, ExtendsPadding, ExtendsPaddingForLine, FailsAtLine, HasLabelLines, label_of_collector, collected_label, label_failure, lines_failure, failure_if_looked_up, lane_mark_by_collector, kind_by_collector};
+ghost use Rattle.codespan_views.specs.Private.CollectedLabels.{AppendsLineAnnotations, FindsLineAnnotations, FindsLabelAnnotations, HasLineIfLookedUp, IfEnded, IfContinues, WidensPadding, ExtendsPaddingForLine, FailsAtLine, HasLabelLines, label_of_collector, collected_label, label_failure, lines_failure, failure_if_looked_up, lane_mark_by_collector, kind_by_collector};
 ghost use Rattle.codespan_views.specs.Private.SourceFiles.{EndsBefore, model_of};
 ghost use Rattle.codespan_views.specs.Private.AnnotationViews.{IsLineOf, kind_view};
 ghost use Rattle.codespan_views.specs.Private.LabelSpans.{IsFarInside, line_of_end, line_of_start};
@@ -215,7 +215,7 @@ impl<'a, 'c, 'd, 'files, F: Files<'files>> LabelCollector<'a, 'c, 'd, 'files, F>
         ensures added { OnOk result
             (FindsLabelAnnotations (label_of_collector F.database self.now) found.old found.new) }
         ensures padding { OnOk result
-            (ExtendsPadding (label_of_collector F.database self.now) found.old found.new) }
+            (WidensPadding (label_of_collector F.database self.now) found.old found.new) }
         ensures failed { FailsBy (lines_failure (label_of_collector F.database self.now)) result }
     {
         let span = self.span;
@@ -251,7 +251,7 @@ pub fn collect_label<'files, 'd, F: Files<'files>>(
         ≡ line_of_end (F.database files.now).file label.now) }
     ensures added { OnOk result (FindsLabelAnnotations
         (collected_label (F.database files.now) config.now indices label.now) found.old found.new) }
-    ensures padding { OnOk result (ExtendsPadding
+    ensures padding { OnOk result (WidensPadding
         (collected_label (F.database files.now) config.now indices label.now) found.old found.new) }
     ensures failed { FailsBy (label_failure
         (collected_label (F.database files.now) config.now indices label.now)) result }

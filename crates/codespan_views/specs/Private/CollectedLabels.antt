@@ -111,8 +111,8 @@ module _ {Id : Type 0} (x : CollectedLabel Id) where
       (annotations_of x.config x.file x.indices x.label)
 
   -- the padding has been widened to the numbers of the lines that the label spans
-  abbrev pub ExtendsPadding : FoundAnnotations Id → FoundAnnotations Id → Type 0
-  ExtendsPadding old new =
+  abbrev pub WidensPadding : FoundAnnotations Id → FoundAnnotations Id → Type 0
+  WidensPadding old new =
       new.spanned_padding.digits ≡ fold max old.spanned_padding.digits (label_digits x.file x.label)
 
   -- what the lookups of its lines fail with
