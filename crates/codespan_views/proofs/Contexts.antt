@@ -12,7 +12,7 @@ use Rattle.codespan_core.specs.LawfulFiles.{IsLawful, FailsPastEnd, IsPastEndErr
 use Rattle.codespan_core.specs.FileModel.Lookup.{LineRange, LineNumber}
 use Rattle.codespan_core.specs.Labels.{first_line, last_line}
 use Rattle.codespan_core.specs.Lemmas.Lines.{lines_have_indices, lines_within_text}
-use Rattle.codespan_views.specs.Private.CollectedLabels.{CollectedLabel, IsLookedUp, FindsLineAnnotations, FindsLabelAnnotations, HasLineIfLookedUp, WidensPadding, ExtendsPaddingForLine, lines_failure, failure_if_looked_up}
+use Rattle.codespan_views.specs.Private.CollectedLabels.{CollectedLabel, IsLookedUp, FindsLineAnnotations, FindsLabelAnnotations, HasLineIfLookedUp, WidensPadding, WidensPaddingForLine, lines_failure, failure_if_looked_up}
 use Rattle.codespan_views.specs.Private.SourceFiles.{line_failure}
 use Rattle.codespan_views.specs.Private.Annotations.{Annotation}
 use Rattle.codespan_views.specs.Private.LabelAnnotations.{annotations_of, line_annotations, annotations_if_looked_up, lookups_if_looked_up}
@@ -113,7 +113,7 @@ module _ {Id : Type 0} {x : CollectedLabel Id} where
     -- one more line
     pub collected-line : {zs : FoundAnnotations Id} → HasEnds x
         → n ≤ max (last_line x.file x.label + x.config.after_label_lines) (first_line x.file x.label)
-        → HasLineIfLookedUp x n → FindsLineAnnotations x ys zs n → ExtendsPaddingForLine x ys zs n → failure_if_looked_up x n ≡ None
+        → HasLineIfLookedUp x n → FindsLineAnnotations x ys zs n → WidensPaddingForLine x ys zs n → failure_if_looked_up x n ≡ None
         → CollectsLines x xs zs (n + 1)
     collected-line there near inside adds counts none = record {
       within = ⊎_elim (λ looked_up. let k = inside looked_up in omega arith) (λ skipped. further skipped) (cases_Bool (is_looked_up x.config x.file x.label n));

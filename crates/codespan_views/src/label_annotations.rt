@@ -3,7 +3,7 @@
 ghost use Rattle.std.specs.Prelude.{◌≡◌, ◌≢◌, true, None, IfErr, IfOk, OnOk, OnErr, IsErrOf};
 ghost use Rattle.std.specs.Option.{option_map};
 ghost use Rattle.codespan_core.specs.LawfulFiles.{FailsBy};
-ghost use Rattle.codespan_views.specs.Private.CollectedLabels.{AppendsLineAnnotations, FindsLineAnnotations, FindsLabelAnnotations, HasLineIfLookedUp, IfEnded, IfContinues, WidensPadding, ExtendsPaddingForLine, FailsAtLine, HasLabelLines, label_of_collector, collected_label, label_failure, lines_failure, failure_if_looked_up, lane_mark_by_collector, kind_by_collector};
+ghost use Rattle.codespan_views.specs.Private.CollectedLabels.{AppendsLineAnnotations, FindsLineAnnotations, FindsLabelAnnotations, HasLineIfLookedUp, IfEnded, IfContinues, WidensPadding, WidensPaddingForLine, FailsAtLine, HasLabelLines, label_of_collector, collected_label, label_failure, lines_failure, failure_if_looked_up, lane_mark_by_collector, kind_by_collector};
 ghost use Rattle.codespan_views.specs.Private.SourceFiles.{EndsBefore, model_of};
 ghost use Rattle.codespan_views.specs.Private.AnnotationViews.{IsLineOf, kind_view};
 ghost use Rattle.codespan_views.specs.Private.LabelSpans.{IsFarInside, line_of_end, line_of_start};
@@ -177,7 +177,7 @@ impl<'a, 'c, 'd, 'files, F: Files<'files>> LabelCollector<'a, 'c, 'd, 'files, F>
             (HasLineIfLookedUp (label_of_collector F.database self.now) index) }
         ensures added { IfContinues result
             (FindsLineAnnotations (label_of_collector F.database self.now) found.old found.new index) }
-        ensures padding { IfContinues result (ExtendsPaddingForLine
+        ensures padding { IfContinues result (WidensPaddingForLine
             (label_of_collector F.database self.now) found.old found.new index) }
         ensures succeeded { IfContinues result
             (failure_if_looked_up (label_of_collector F.database self.now) index ≡ None) }

@@ -94,8 +94,8 @@ module _ {Id : Type 0} (x : CollectedLabel Id) where
       (annotations_if_looked_up x.config x.file x.label x.indices l)
 
   -- the padding has been widened to the number of a line, where the label spans the line
-  abbrev pub ExtendsPaddingForLine : FoundAnnotations Id → FoundAnnotations Id → ℕ → Type 0
-  ExtendsPaddingForLine old new l =
+  abbrev pub WidensPaddingForLine : FoundAnnotations Id → FoundAnnotations Id → ℕ → Type 0
+  WidensPaddingForLine old new l =
       new.spanned_padding.digits ≡ fold max old.spanned_padding.digits (digits_on x.file x.label l)
 
   -- what the lookups of a line fail with, where it is looked up
