@@ -14,7 +14,7 @@ use Rattle.codespan_views.specs.Private.CollectedLabels.{AppendsLineAnnotations,
 use Rattle.codespan_views.specs.Private.FileLookups.{failure_in}
 use Rattle.codespan_views.specs.Private.LabelSpans.{IsFarInside, spans_line}
 use Rattle.codespan_views.specs.Private.SpannedDigits.{digits_on}
-use Rattle.codespan_views.proofs.Collecting.{Adds-as}
+use Rattle.codespan_views.proofs.Collecting.{AppendsAnnotations-as}
 
 -- a line far from both ends is between them
 pub far-spans : (config : Config) (s e l : ℕ) → IsFarInside config s e l → spans_line s e l ≡ true
@@ -60,7 +60,7 @@ module _ {Id : Type 0} (x : CollectedLabel Id) (l : ℕ)
   pub added-looked_up : {old new : List (RustAnnotation Id)} → AppendsLineAnnotations x old new l
       → AppendsAnnotationsOf x.file old new (annotations_if_looked_up x.config x.file x.label x.indices l)
   added-looked_up =
-      Adds-as
+      AppendsAnnotations-as
       (ap (λ (b : Bool). if b then line_annotations x.config x.file x.indices x.label l else [])
       looked_up)
 

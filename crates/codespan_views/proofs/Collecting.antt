@@ -15,7 +15,7 @@ use Rattle.codespan_views.specs.declared.annotation.LineInfo.{LineInfo}
 use Rattle.codespan_views.specs.Private.CollectedLabels.{CollectedLabel}
 use Rattle.codespan_views.specs.Private.Annotations.{Annotation, AnnotationKind, Single, annotation_if_any}
 use Rattle.codespan_views.specs.Private.LabelAnnotations.{line_annotations, kind_on, lane_mark_by_ends, kind_by_ends}
-use Rattle.codespan_views.specs.Private.AnnotationViews.{Adds, IsLineOf, annotation_view, kind_view}
+use Rattle.codespan_views.specs.Private.AnnotationViews.{AppendsAnnotations, IsLineOf, annotation_view, kind_view}
 use Rattle.codespan_views.specs.Private.LabelSpans.{IsFarInside}
 use Rattle.codespan_views.specs.declared.annotation.AnnotationKind.TheVariants as rust
 use Rattle.codespan_views.specs.declared.annotation.MultiLabelKind.TheVariants as label_kind
@@ -27,13 +27,13 @@ use Rattle.codespan_picture.proofs.ListElements.{all-append, all-weaker}
 
 module _ {Id : Type 0} {P : RustAnnotation Id → Type 0} where
   -- nothing was added
-  pub Adds-none : {xs : List (RustAnnotation Id)} → Adds P xs xs []
-  Adds-none {xs} = record { more = []; whole = sym (append-nil xs); are = refl; each = tt }
+  pub AppendsAnnotations-none : {xs : List (RustAnnotation Id)} → AppendsAnnotations P xs xs []
+  AppendsAnnotations-none {xs} = record { more = []; whole = sym (append-nil xs); are = refl; each = tt }
 
   -- some annotations were added, and then others
-  pub Adds-both : {xs ys zs : List (RustAnnotation Id)} {es fs : List Annotation} → Adds P xs ys es
-      → Adds P ys zs fs → Adds P xs zs (es ++ fs)
-  Adds-both {xs} {es = es} a b = record {
+  pub AppendsAnnotations-both : {xs ys zs : List (RustAnnotation Id)} {es fs : List Annotation} → AppendsAnnotations P xs ys es
+      → AppendsAnnotations P ys zs fs → AppendsAnnotations P xs zs (es ++ fs)
+  AppendsAnnotations-both {xs} {es = es} a b = record {
     more = a.more ++ b.more;
     whole =
         b.whole ∙ ap (λ (l : List (RustAnnotation Id)). l ++ b.more) a.whole
@@ -46,15 +46,15 @@ module _ {Id : Type 0} {P : RustAnnotation Id → Type 0} where
   }
 
   -- the same annotations in other words
-  pub Adds-as : {xs ys : List (RustAnnotation Id)} {es fs : List Annotation} → fs ≡ es
-      → Adds P xs ys es → Adds P xs ys fs
-  Adds-as same a = record { more = a.more; whole = a.whole; are = a.are ∙ sym same; each = a.each }
+  pub AppendsAnnotations-as : {xs ys : List (RustAnnotation Id)} {es fs : List Annotation} → fs ≡ es
+      → AppendsAnnotations P xs ys es → AppendsAnnotations P xs ys fs
+  AppendsAnnotations-as same a = record { more = a.more; whole = a.whole; are = a.are ∙ sym same; each = a.each }
 
 -- what holds of what was added is weaker
-pub Adds-weaker : {Id : Type 0} {P Q : RustAnnotation Id → Type 0}
+pub AppendsAnnotations-weaker : {Id : Type 0} {P Q : RustAnnotation Id → Type 0}
     {xs ys : List (RustAnnotation Id)} {es : List Annotation}
-    → ((e : RustAnnotation Id) → P e → Q e) → Adds P xs ys es → Adds Q xs ys es
-Adds-weaker {P = P} {Q = Q} weaker a =
+    → ((e : RustAnnotation Id) → P e → Q e) → AppendsAnnotations P xs ys es → AppendsAnnotations Q xs ys es
+AppendsAnnotations-weaker {P = P} {Q = Q} weaker a =
     record {
       more =
           a.more;
@@ -66,7 +66,7 @@ Adds-weaker {P = P} {Q = Q} weaker a =
 -- what was collected, seen as annotations
 pub collected-kind : {Id : Type 0} (P : RustAnnotation Id → Type 0)
     (collected : List (RustAnnotation Id)) (es : List Annotation)
-    → Adds P [] collected es → map annotation_view collected ≡ es
+    → AppendsAnnotations P [] collected es → map annotation_view collected ≡ es
 collected-kind P collected es adds = ap (map annotation_view) adds.whole ∙ adds.are
 
 -- sorted annotations are those that were collected
@@ -80,7 +80,7 @@ collected-sorted all collected annotations is perm =
 -- what holds of what was collected holds of the same annotations in another order
 pub collected-each : {Id : Type 0} (P : RustAnnotation Id → Type 0)
     (collected annotations : List (RustAnnotation Id)) (es : List Annotation)
-    → Adds P [] collected es → IsPermutation collected annotations → AllByRecursion P annotations
+    → AppendsAnnotations P [] collected es → IsPermutation collected annotations → AllByRecursion P annotations
 collected-each P collected annotations es adds perm =
     recursion_from_All P annotations
     (All-permutation P collected annotations perm

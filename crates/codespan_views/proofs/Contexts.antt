@@ -23,7 +23,7 @@ use Rattle.codespan_views.specs.Private.SpannedDigits.{digits_on, label_digits}
 use Rattle.codespan_picture.specs.Lookups.{looked_up_lines, lookups_of_file, ends_context_lines, first_error, is_around, is_looked_up, line_lookups, lookup_past_end}
 use Rattle.codespan_picture.specs.Padding.{count_digits, spans}
 use Rattle.codespan_picture.proofs.Greatest.{greatest-append}
-use Rattle.codespan_views.proofs.Collecting.{Adds-as, Adds-both, Adds-none}
+use Rattle.codespan_views.proofs.Collecting.{AppendsAnnotations-as, AppendsAnnotations-both, AppendsAnnotations-none}
 use Rattle.codespan_views.proofs.FirstErrors.{first_error-none, first_error-some}
 use Rattle.codespan_views.proofs.NearLines.{flat_map_filtered, after_both, above_both, below_both, near_after}
 use Rattle.codespan_views.proofs.RangeMaps.{flat_map_none, flat_map_more, flat_map_same, flat_map_split}
@@ -101,7 +101,7 @@ module _ {Id : Type 0} {x : CollectedLabel Id} where
       → CollectsLines x xs xs n
   collected-start {xs} {n} there low far = record {
     within = omega (arith, there.last);
-    added = Adds-as (flat_map_none (annotations_if_looked_up x.config x.file x.label x.indices) 0 n (λ l _ high. no_annotations x l (too_far l (omega arith)))) Adds-none;
+    added = AppendsAnnotations-as (flat_map_none (annotations_if_looked_up x.config x.file x.label x.indices) 0 n (λ l _ high. no_annotations x l (too_far l (omega arith)))) AppendsAnnotations-none;
     counted = sym (ap (fold max xs.spanned_padding.digits) (flat_map_none (digits_on x.file x.label) 0 n (λ l _ high. no_digits x l (too_far l (omega arith)))));
     succeeded = ap (failed x) (flat_map_none (lookups_if_looked_up x.config x.file x.label) 0 n (λ l _ high. no_lookups x l (too_far l (omega arith))));
   }
@@ -117,7 +117,7 @@ module _ {Id : Type 0} {x : CollectedLabel Id} where
         → CollectsLines x xs zs (n + 1)
     collected-line there near inside adds counts none = record {
       within = ⊎_elim (λ looked_up. let k = inside looked_up in omega arith) (λ skipped. further skipped) (cases_Bool (is_looked_up x.config x.file x.label n));
-      added = Adds-as (flat_map_more (annotations_if_looked_up x.config x.file x.label x.indices) n) (Adds-both g.added adds);
+      added = AppendsAnnotations-as (flat_map_more (annotations_if_looked_up x.config x.file x.label x.indices) n) (AppendsAnnotations-both g.added adds);
       counted = counts ∙ ap (λ k. fold max k (digits_on x.file x.label n)) g.counted
           ∙ sym (greatest-append xs.spanned_padding.digits (digits_below x n) (digits_on x.file x.label n))
           ∙ sym (ap (fold max xs.spanned_padding.digits) (flat_map_more (digits_on x.file x.label) n));
@@ -153,7 +153,7 @@ module _ {Id : Type 0} {x : CollectedLabel Id} where
         → label_digits x.file x.label ≡ digits_below x n
         → lookup_past_end x.config x.file (x.failure x.file_id) x.label ≡ [] → CollectsLabel x xs ys
     collected-up annotations_are looked_up digits no_lookup_past_end = record {
-      added = Adds-as annotations_are g.added;
+      added = AppendsAnnotations-as annotations_are g.added;
       counted = g.counted ∙ sym (ap (fold max xs.spanned_padding.digits) digits);
       succeeded = ap (failed x) (ap (λ (ls : List Lookup). flat_map line_lookups (looked_up_lines x.config x.file x.label) ++ ls) no_lookup_past_end ∙ append-nil _ ∙ looked_up) ∙ g.succeeded;
     }

@@ -11,7 +11,7 @@ use Rattle.codespan_picture.specs.Snippets.{InFile, file_ids}
 use Rattle.codespan_views.specs.declared.annotation.Annotation.{Annotation as RustAnnotation}
 use Rattle.codespan_views.specs.Private.Annotations.{Annotation}
 use Rattle.codespan_views.specs.Private.LabelAnnotations.{annotations_of}
-use Rattle.codespan_views.specs.Private.AnnotationViews.{Adds, IsOfFiles, annotation_view}
+use Rattle.codespan_views.specs.Private.AnnotationViews.{AppendsAnnotations, IsOfFiles, annotation_view}
 use Rattle.codespan_views.specs.Private.LabeledFiles.{num_multi_labels_of, with_file}
 use Rattle.codespan_views.specs.Private.FileIndices.{IsIdAt, index_of_file}
 use Rattle.codespan_views.specs.Private.IndexedLabels.{annotations_after, indices_after}
@@ -90,8 +90,8 @@ module _ {Id : Type 0} {same : Id → Id → Bool} (o : IsEquivalence same) (xs 
 
     -- the annotations of the labels were added, and their lines are those of their files
     pub added-with_file : {items : List (RustAnnotation Id)}
-        → Adds (IsOfFiles file were) [] items (annotations_after same file config were [] xs)
-        → Adds (IsOfFiles file are) [] items (annotations_after same file config are [] xs)
+        → AppendsAnnotations (IsOfFiles file were) [] items (annotations_after same file config were [] xs)
+        → AppendsAnnotations (IsOfFiles file are) [] items (annotations_after same file config are [] xs)
     added-with_file adds = record {
       more = adds.more;
       whole = adds.whole;

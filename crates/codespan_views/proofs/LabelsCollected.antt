@@ -19,7 +19,7 @@ use Rattle.codespan_views.specs.declared.label_annotations.LabelIndices.{LabelIn
 use Rattle.codespan_views.specs.Private.CollectedLabels.{FindsLabelAnnotations, WidensPadding, collected_label, label_failure, labels_failure, lookups_of_label}
 use Rattle.codespan_views.specs.Private.Annotations.{Annotation}
 use Rattle.codespan_views.specs.Private.LabelAnnotations.{annotations_of}
-use Rattle.codespan_views.specs.Private.AnnotationViews.{Adds, AppendsAnnotationsOf, IsLineOf, IsOfFiles, annotation_view}
+use Rattle.codespan_views.specs.Private.AnnotationViews.{AppendsAnnotations, AppendsAnnotationsOf, IsLineOf, IsOfFiles, annotation_view}
 use Rattle.codespan_views.specs.Private.LabeledFiles.{HasLabels, ids_view, lane_counts, num_multi_labels_of, lanes_with_label, starts_with_label, starts_view, with_file}
 use Rattle.codespan_views.specs.Private.LocusBytes.{file_least_starts, no_starts}
 use Rattle.codespan_picture.specs.Lookups.{lookups_of_file, first_error, label_lookups, label_line_lookups}
@@ -32,7 +32,7 @@ use Rattle.codespan_picture.proofs.Greatest.{greatest-append}
 use Rattle.codespan_picture.proofs.ListElements.{all-both, all-mapped, all-weaker}
 use Rattle.codespan_views.proofs.FileOrder.{file_ids-more}
 use Rattle.codespan_views.proofs.FileIndices.{index_of_file-at}
-use Rattle.codespan_views.proofs.Collecting.{Adds-as, Adds-both}
+use Rattle.codespan_views.proofs.Collecting.{AppendsAnnotations-as, AppendsAnnotations-both}
 use Rattle.codespan_views.proofs.LabelAnnotations.{all-of_file}
 use Rattle.codespan_views.proofs.LabelIndexing.{AreFiles, IsChanged, annotations_after-more, unchanged-at, label_lanes, num_multi_labels_of-equal, num_multi_labels_of-more, num_multi_labels_of-none, lanes-within, set-at}
 use Rattle.codespan_views.proofs.IndexedElements.{IsElementAt}
@@ -47,7 +47,7 @@ pub record AreCollected {Id : Type 0} (database : FileDatabase Id) (config : Con
   pub ids_are : ids_view files ≡ ids
   pub starts_are : starts_view files ≡ map (file_least_starts database.same done) ids
   pub lanes_are : lane_counts files ≡ map (num_multi_labels_of database.same database.file done) ids
-  pub added : Adds (IsOfFiles database.file ids) [] found.annotations.items (annotations_after database.same database.file config ids [] done)
+  pub added : AppendsAnnotations (IsOfFiles database.file ids) [] found.annotations.items (annotations_after database.same database.file config ids [] done)
   pub counted : found.spanned_padding.digits ≡ fold max 0 (all_digits database.file done)
   pub succeeded : labels_failure config database done ≡ None
 
@@ -137,14 +137,14 @@ module _ {Id : Type 0} {database : FileDatabase Id} (lawful : AreFiles database)
 
     -- the label's annotations were added
     added-more : (more : FoundAnnotations Id) → AppendsAnnotationsOf (file label.file_id) found.annotations.items more.annotations.items (annotations_of config (file label.file_id) here (label_of label).label)
-        → Adds (IsOfFiles file ids) [] more.annotations.items (annotations_after same file config ids [] (before labels (index + 1)))
+        → AppendsAnnotations (IsOfFiles file ids) [] more.annotations.items (annotations_after same file config ids [] (before labels (index + 1)))
     added-more more adds =
         let f = file label.file_id in
         let x = (label_of label).label in
         let own : AllByRecursion (λ (e : RustAnnotation Id). e.file ≡ index_of_file same ids label.file_id) adds.more =
         all-mapped annotation_view (λ (e : Annotation). e.file ≡ index_of_file same ids label.file_id) adds.more
         (subst (λ (es : List Annotation). AllByRecursion (λ (e : Annotation). e.file ≡ index_of_file same ids label.file_id) es) (sym adds.are) (all-of_file config f here x)) in
-        let widened : Adds (IsOfFiles file ids) found.annotations.items more.annotations.items (annotations_of config f here x) = record {
+        let widened : AppendsAnnotations (IsOfFiles file ids) found.annotations.items more.annotations.items (annotations_of config f here x) = record {
           more = adds.more;
           whole = adds.whole;
           are = adds.are;
@@ -152,11 +152,11 @@ module _ {Id : Type 0} {database : FileDatabase Id} (lawful : AreFiles database)
               all-weaker (λ (e : RustAnnotation Id). IsLineOf f e.line × (e.file ≡ index_of_file same ids label.file_id)) (IsOfFiles file ids) (λ e h. of_files e h.0 h.1) adds.more
               (all-both (λ e. IsLineOf f e.line) (λ e. e.file ≡ index_of_file same ids label.file_id) adds.more adds.each own);
         } in
-        Adds-as
+        AppendsAnnotations-as
         (ap (annotations_after same file config ids []) (before-more turn)
         ∙ annotations_after-more same file config ids [] (before labels index) (label_of label)
         ∙ ap (λ (at : LabelIndices). annotations_after same file config ids [] (before labels index) ++ annotations_of config f at x) (sym here-is))
-        (Adds-both g.added widened)
+        (AppendsAnnotations-both g.added widened)
 
     -- the padding fits the lines that it spans
     counted-more : (more : FoundAnnotations Id)

@@ -5,7 +5,7 @@ ghost use Rattle.std.specs.Option.{option_map};
 ghost use Rattle.codespan_core.specs.Labels.{from_line_start};
 ghost use Rattle.codespan_picture.specs.Arguments.{multi_label_view};
 ghost use Rattle.codespan_picture.specs.OutputStreams.{label_of};
-ghost use Rattle.codespan_views.specs.Private.AnnotationViews.{Adds, kind_view, multi_label_from};
+ghost use Rattle.codespan_views.specs.Private.AnnotationViews.{AppendsAnnotations, kind_view, multi_label_from};
 ghost use Rattle.codespan_views.specs.Private.Annotations.{annotation_if_any};
 
 use codespan_core::diagnostic::Label;
@@ -113,7 +113,7 @@ pub fn push_annotation<'d, FileId>(
     annotations: &mut Vec<Annotation<'d, FileId>>,
 ) -> Result<(), Error>
     ensures added { OnOk result
-        (Adds (λ e. e.line ≡ line) annotations.old.items annotations.new.items
+        (AppendsAnnotations (λ e. e.line ≡ line) annotations.old.items annotations.new.items
         (annotation_if_any file line.index (option_map (kind_view line.start) kind.entry))) }
     ensures failed { OnErr result (IsErrOf result Error.OutOfMemory) }
 {

@@ -7,7 +7,7 @@ use Rattle.codespan_core.specs.FileModel.{FileDatabase}
 use Rattle.codespan_picture.specs.Snippets.{InFile, file_ids}
 use Rattle.codespan_views.specs.declared.collected.Collected.{Collected}
 use Rattle.codespan_views.specs.Private.Annotations.{is_before}
-use Rattle.codespan_views.specs.Private.AnnotationViews.{Adds, IsOfFiles, annotation_view}
+use Rattle.codespan_views.specs.Private.AnnotationViews.{AppendsAnnotations, IsOfFiles, annotation_view}
 use Rattle.codespan_views.specs.Private.LabeledFiles.{HasLabels, ids_view}
 use Rattle.codespan_views.specs.Private.IndexedLabels.{all_annotations}
 use Rattle.codespan_views.specs.Private.SpannedDigits.{all_digits}
@@ -23,7 +23,7 @@ module _ {Id : Type 0} (database : FileDatabase Id) where
   pub record IsCollectedInTurn (config : Config) (xs : List (InFile Id))
       (collected : Collected Id) : Type 0 where
     pub files : AreFilesCollected xs collected
-    pub adds : Adds (IsOfFiles database.file (ids_view collected.files.items)) []
+    pub adds : AppendsAnnotations (IsOfFiles database.file (ids_view collected.files.items)) []
         collected.annotations.items (all_annotations database.same database.file config xs)
 
   -- this was collected of these labels, and is in order

@@ -4,7 +4,7 @@ use Rattle.std.proofs.lemmas.List.{get_or-map}
 use Rattle.std.proofs.lemmas.Result.{err_from_is_err_and}
 use Rattle.codespan_views.specs.declared.labeled_files.LabeledFile.{LabeledFile as RustFile}
 use Rattle.codespan_views.specs.Private.CollectedLabels.{FindsLabelAnnotations, collected_label}
-use Rattle.codespan_views.specs.Private.AnnotationViews.{Adds, IsOfFiles}
+use Rattle.codespan_views.specs.Private.AnnotationViews.{AppendsAnnotations, IsOfFiles}
 use Rattle.codespan_views.specs.Private.LabeledFiles.{ids_view, lane_counts, num_multi_labels_of, lanes_with_label}
 use Rattle.codespan_views.specs.Private.LocusBytes.{file_least_starts}
 use Rattle.codespan_picture.specs.OutputStreams.{label_of}
@@ -173,7 +173,7 @@ returns-clause-collected g c =
       };
       adds =
           subst
-          (λ js. Adds (IsOfFiles file js) [] c.loop-index.found.annotations.items
+          (λ js. AppendsAnnotations (IsOfFiles file js) [] c.loop-index.found.annotations.items
           (annotations_after same file c.args.config.now (file_ids same xs) [] xs))
           (sym done.ids_are) done.added;
     }

@@ -9,7 +9,7 @@ use Rattle.codespan_views.specs.declared.label_annotations.FoundAnnotations.{Fou
 use Rattle.codespan_picture.specs.Lookups.{is_looked_up}
 use Rattle.codespan_picture.specs.OutputStreams.{label_of}
 use Rattle.codespan_views.specs.Private.SourceFiles.{model_of}
-use Rattle.codespan_views.proofs.Collecting.{Adds-none, Adds-as}
+use Rattle.codespan_views.proofs.Collecting.{AppendsAnnotations-none, AppendsAnnotations-as}
 use Rattle.codespan_views.proofs.CollectedLines.{added-looked_up, far-spans, looked_up-around, looked_up-spanned, padding-spanned, padding-unspanned, succeeded-looked_up}
 use Rattle.codespan_views.proofs.label_annotations.LabelCollector.collect_line.Given.{Over}
 use Rattle.codespan_views.proofs.label_annotations.LabelCollector.collect_line.Goals.{In_ok-push_line, then-is_far, else-is_far, then-is_spanned, else-is_spanned, else-not-is_spanned-via-then-not-is_spanned+else-not-is_around, else-not-is_spanned-via-else-not-is_spanned}
@@ -21,9 +21,9 @@ returns-then-not-is_around-clause-added g c =
     let x = (label_of c.args.self.now.label.now).label in
     let not_looked_up : is_looked_up c.args.self.now.config.now f x c.args.index ≡ false =
     search rules in
-    λ _. Adds-as
+    λ _. AppendsAnnotations-as
     (ap (λ (b : Bool). if b then line_annotations c.args.self.now.config.now f c.args.self.now.indices x c.args.index else []) not_looked_up)
-    Adds-none
+    AppendsAnnotations-none
 
 -- the line was found
 line_found : (g : Over) (c : In_ok-push_line g)
