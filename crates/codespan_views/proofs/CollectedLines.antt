@@ -10,7 +10,7 @@ use Rattle.codespan_picture.specs.Types.{Config}
 use Rattle.codespan_views.specs.declared.annotation.Annotation.{Annotation as RustAnnotation}
 use Rattle.codespan_views.specs.Private.LabelAnnotations.{line_annotations, annotations_if_looked_up}
 use Rattle.codespan_views.specs.Private.AnnotationViews.{AppendsAnnotationsOf}
-use Rattle.codespan_views.specs.Private.CollectedLabels.{AppendsLineAnnotations, CollectedLabel, failure_if_looked_up}
+use Rattle.codespan_views.specs.Private.CollectedLabels.{AppendsLineAnnotations, LabelToCollect, failure_if_looked_up}
 use Rattle.codespan_views.specs.Private.FileLookups.{failure_in}
 use Rattle.codespan_views.specs.Private.LabelSpans.{IsFarInside, spans_line}
 use Rattle.codespan_views.specs.Private.SpannedDigits.{digits_on}
@@ -22,7 +22,7 @@ far-spans config s e l far =
     or_right ((l == s) || (l == e)) (nat_le s l && nat_le l e)
     (and_from _ _ (le-leb s l (omega arith)) (le-leb l e (omega arith)))
 
-module _ {Id : Type 0} (x : CollectedLabel Id) (s e l : ℕ) (first : first_line x.file x.label ≡ s)
+module _ {Id : Type 0} (x : LabelToCollect Id) (s e l : ℕ) (first : first_line x.file x.label ≡ s)
     (last : last_line x.file x.label ≡ e) where
   -- whether the label spans the line
   spans-by_ends : spans x.file x.label l ≡ spans_line s e l
@@ -54,7 +54,7 @@ module _ {Id : Type 0} (x : CollectedLabel Id) (s e l : ℕ) (first : first_line
       → digits ≡ fold max old (digits_on x.file x.label l)
   padding-unspanned digits old unspanned same = rw (spans-by_ends ∙ unspanned) same
 
-module _ {Id : Type 0} (x : CollectedLabel Id) (l : ℕ)
+module _ {Id : Type 0} (x : LabelToCollect Id) (l : ℕ)
     (looked_up : is_looked_up x.config x.file x.label l ≡ true) where
   -- the annotations of a line that is looked up
   pub added-looked_up : {old new : List (RustAnnotation Id)} → AppendsLineAnnotations x old new l

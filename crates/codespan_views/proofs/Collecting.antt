@@ -12,7 +12,7 @@ use Rattle.codespan_core.specs.FileModel.{line_start}
 use Rattle.codespan_core.specs.Labels.{LabelModel, drawn_label, first_line, from_line_start, last_line}
 use Rattle.codespan_views.specs.declared.annotation.Annotation.{Annotation as RustAnnotation}
 use Rattle.codespan_views.specs.declared.annotation.LineInfo.{LineInfo}
-use Rattle.codespan_views.specs.Private.CollectedLabels.{CollectedLabel}
+use Rattle.codespan_views.specs.Private.CollectedLabels.{LabelToCollect}
 use Rattle.codespan_views.specs.Private.Annotations.{Annotation, AnnotationKind, Single, annotation_if_any}
 use Rattle.codespan_views.specs.Private.LabelAnnotations.{line_annotations, kind_on, lane_mark_by_ends, kind_by_ends}
 use Rattle.codespan_views.specs.Private.AnnotationViews.{AppendsAnnotations, IsLineOf, annotation_view, kind_view}
@@ -86,7 +86,7 @@ collected-each P collected annotations es adds perm =
     (All-permutation P collected annotations perm
     (All-from_recursion P collected (subst (AllByRecursion P) (sym adds.whole) adds.each)))
 
-module _ {Id : Type 0} (x : CollectedLabel Id) where
+module _ {Id : Type 0} (x : LabelToCollect Id) where
   -- the drawn range of a label is its range from the start of its line
   by_kind : (b c : Bool) (rendered here : LabelModel) (shown : Option AnnotationKind)
       → (c ≡ true → rendered ≡ here)

@@ -12,7 +12,7 @@ use Rattle.codespan_core.specs.LawfulFiles.{IsLawful, FailsPastEnd, IsPastEndErr
 use Rattle.codespan_core.specs.FileModel.Lookup.{LineRange, LineNumber}
 use Rattle.codespan_core.specs.Labels.{first_line, last_line}
 use Rattle.codespan_core.specs.Lemmas.Lines.{lines_have_indices, lines_within_text}
-use Rattle.codespan_views.specs.Private.CollectedLabels.{CollectedLabel, IsLookedUp, FindsLineAnnotations, FindsLabelAnnotations, HasLineIfLookedUp, WidensPadding, WidensPaddingForLine, lines_failure, failure_if_looked_up}
+use Rattle.codespan_views.specs.Private.CollectedLabels.{LabelToCollect, IsLookedUp, FindsLineAnnotations, FindsLabelAnnotations, HasLineIfLookedUp, WidensPadding, WidensPaddingForLine, lines_failure, failure_if_looked_up}
 use Rattle.codespan_views.specs.Private.SourceFiles.{line_failure}
 use Rattle.codespan_views.specs.Private.Annotations.{Annotation}
 use Rattle.codespan_views.specs.Private.LabelAnnotations.{annotations_of, line_annotations, annotations_if_looked_up, lookups_if_looked_up}
@@ -28,7 +28,7 @@ use Rattle.codespan_views.proofs.FirstErrors.{first_error-none, first_error-some
 use Rattle.codespan_views.proofs.NearLines.{flat_map_filtered, after_both, above_both, below_both, near_after}
 use Rattle.codespan_views.proofs.RangeMaps.{flat_map_none, flat_map_more, flat_map_same, flat_map_split}
 
-module _ {Id : Type 0} (x : CollectedLabel Id) where
+module _ {Id : Type 0} (x : LabelToCollect Id) where
   -- what some lookups of the file fail with
   abbrev failed : List Lookup → Option Error
   failed = failure_in x.failure x.file_id
@@ -94,7 +94,7 @@ module _ {Id : Type 0} (x : CollectedLabel Id) where
     pub counted : WidensPadding x old new
     pub succeeded : lines_failure x ≡ None
 
-module _ {Id : Type 0} {x : CollectedLabel Id} where
+module _ {Id : Type 0} {x : LabelToCollect Id} where
   -- no line below the first context line is looked up
   pub collected-start : {xs : FoundAnnotations Id} {n : ℕ} → HasEnds x
       → n ≤ last_line x.file x.label → n ≤ first_line x.file x.label - x.config.before_label_lines

@@ -32,7 +32,7 @@ labels_failure config database xs =
     first_error database.failure (label_lookups config database xs)
 
 -- a label with its file, what lookups fail with, the configuration, and its indices
-pub record CollectedLabel (Id : Type 0) : Type 0 where
+pub record LabelToCollect (Id : Type 0) : Type 0 where
   pub file_id : Id
   pub file : FileModel
   pub failure : Failures Id
@@ -42,7 +42,7 @@ pub record CollectedLabel (Id : Type 0) : Type 0 where
 
 -- a label of the files of a database
 abbrev pub collected_label : {Id : Type 0} → FileDatabase Id → Config → LabelIndices → Label Id
-    → CollectedLabel Id
+    → LabelToCollect Id
 collected_label database config indices label = record {
   file_id = label.file_id;
   file = database.file label.file_id;
@@ -54,7 +54,7 @@ collected_label database config indices label = record {
 
 -- the label whose lines a collector looks up
 abbrev pub label_of_collector : {F Id Name Source : Type 0} → (F → FileDatabase Id)
-    → LabelCollector F Id Name Source → CollectedLabel Id
+    → LabelCollector F Id Name Source → LabelToCollect Id
 label_of_collector database collector = record {
   file_id = collector.file.file_id;
   file = model_of database collector.file;
@@ -72,7 +72,7 @@ pub record HasLabelLines {F Id Name Source : Type 0} (database : F → FileDatab
   pub last : last_line (model_of database collector.file) (label_of collector.label.now).label
       ≡ collector.span.last
 
-module _ {Id : Type 0} (x : CollectedLabel Id) where
+module _ {Id : Type 0} (x : LabelToCollect Id) where
   -- ---- one line
 
   -- the line is looked up for it
