@@ -16,7 +16,7 @@ use Rattle.codespan_views.specs.declared.labeled_files.LabeledFile.{LabeledFile 
 use Rattle.codespan_views.specs.declared.label_annotations.FoundAnnotations.{FoundAnnotations}
 use Rattle.codespan_views.specs.declared.least_starts.LeastStarts.{LeastStarts}
 use Rattle.codespan_views.specs.declared.label_annotations.LabelIndices.{LabelIndices}
-use Rattle.codespan_views.specs.Private.CollectedLabels.{FindsLabelAnnotations, WidensPadding, collected_label, label_failure, labels_failure, lookups_of_label}
+use Rattle.codespan_views.specs.Private.CollectedLabels.{FindsLabelAnnotations, WidensPadding, label_to_collect, label_failure, labels_failure, lookups_of_label}
 use Rattle.codespan_views.specs.Private.Annotations.{Annotation}
 use Rattle.codespan_views.specs.Private.LabelAnnotations.{annotations_of}
 use Rattle.codespan_views.specs.Private.AnnotationViews.{AppendsAnnotations, AppendsAnnotationsOf, IsLineOf, IsOfFiles, annotation_view}
@@ -54,9 +54,9 @@ pub record AreCollected {Id : Type 0} (database : FileDatabase Id) (config : Con
 -- the annotations of a label were added, the padding fits the lines that it spans, and no lookup of
 -- it failed
 pub record IsCollectedLabel {Id : Type 0} (database : FileDatabase Id) (config : Config) (at : LabelIndices) (label : Label Id) (found more : FoundAnnotations Id) : Type 0 where
-  pub added : FindsLabelAnnotations (collected_label database config at label) found more
-  pub counted : WidensPadding (collected_label database config at label) found more
-  pub succeeded : label_failure (collected_label database config at label) ≡ None
+  pub added : FindsLabelAnnotations (label_to_collect database config at label) found more
+  pub counted : WidensPadding (label_to_collect database config at label) found more
+  pub succeeded : label_failure (label_to_collect database config at label) ≡ None
 
 -- a label was added to the file at this index
 pub record IsAddedLabel {Id : Type 0} (file : Id → FileModel) (at : ℕ) (label : Label Id) (files next : List (RustFile Id)) : Type 0 where

@@ -41,9 +41,9 @@ pub record LabelToCollect (Id : Type 0) : Type 0 where
   pub label : LabelModel
 
 -- a label of the files of a database
-abbrev pub collected_label : {Id : Type 0} → FileDatabase Id → Config → LabelIndices → Label Id
+abbrev pub label_to_collect : {Id : Type 0} → FileDatabase Id → Config → LabelIndices → Label Id
     → LabelToCollect Id
-collected_label database config indices label = record {
+label_to_collect database config indices label = record {
   file_id = label.file_id;
   file = database.file label.file_id;
   failure = database.failure;

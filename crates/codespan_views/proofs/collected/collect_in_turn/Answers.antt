@@ -3,7 +3,7 @@ use Rattle.std.proofs.Common.{◌≡◌, ℕ, ◌<◌, rules, ◌+◌, [], Err, 
 use Rattle.std.proofs.lemmas.List.{get_or-map}
 use Rattle.std.proofs.lemmas.Result.{err_from_is_err_and}
 use Rattle.codespan_views.specs.declared.labeled_files.LabeledFile.{LabeledFile as RustFile}
-use Rattle.codespan_views.specs.Private.CollectedLabels.{FindsLabelAnnotations, collected_label}
+use Rattle.codespan_views.specs.Private.CollectedLabels.{FindsLabelAnnotations, label_to_collect}
 use Rattle.codespan_views.specs.Private.AnnotationViews.{AppendsAnnotations, IsOfFiles}
 use Rattle.codespan_views.specs.Private.LabeledFiles.{ids_view, lane_counts, num_multi_labels_of, lanes_with_label}
 use Rattle.codespan_views.specs.Private.LocusBytes.{file_least_starts}
@@ -141,7 +141,7 @@ loop-index-preserved g c =
     let database = g.F.Files.database c.args.files.now in
     collected-more lawful at there (found_there g (goal.at.loop-index-preserved g c).In_ok-file)
     (record {
-      added = subst (λ n. FindsLabelAnnotations (collected_label database c.args.config.now
+      added = subst (λ n. FindsLabelAnnotations (label_to_collect database c.args.config.now
           (record { file = c.in_ok-file.file; index = c.loop-index.index; lane = n }) label)
           c.loop-index.found c.collect_label.new.found) lane found.added;
       counted = found.padding;
