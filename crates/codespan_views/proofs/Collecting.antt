@@ -12,7 +12,7 @@ use Rattle.codespan_core.specs.FileModel.{line_start}
 use Rattle.codespan_core.specs.Labels.{LabelModel, drawn_label, first_line, from_line_start, last_line}
 use Rattle.codespan_views.specs.declared.annotation.Annotation.{Annotation as RustAnnotation}
 use Rattle.codespan_views.specs.declared.annotation.LineInfo.{LineInfo}
-use Rattle.codespan_views.specs.Private.CollectedLabels.{LabelToCollect}
+use Rattle.codespan_views.specs.Private.LabelsToCollect.{LabelToCollect}
 use Rattle.codespan_views.specs.Private.Annotations.{Annotation, AnnotationKind, Single, annotation_if_any}
 use Rattle.codespan_views.specs.Private.LabelAnnotations.{line_annotations, kind_on, lane_mark_by_ends, kind_by_ends}
 use Rattle.codespan_views.specs.Private.AnnotationViews.{AppendsAnnotations, IsLineOf, annotation_view, kind_view}

@@ -16,7 +16,7 @@ use Rattle.codespan_views.specs.declared.labeled_files.LabeledFile.{LabeledFile 
 use Rattle.codespan_views.specs.declared.label_annotations.FoundAnnotations.{FoundAnnotations}
 use Rattle.codespan_views.specs.declared.least_starts.LeastStarts.{LeastStarts}
 use Rattle.codespan_views.specs.declared.label_annotations.LabelIndices.{LabelIndices}
-use Rattle.codespan_views.specs.Private.CollectedLabels.{FindsLabelAnnotations, WidensPadding, label_to_collect, label_failure, labels_failure, lookups_of_label}
+use Rattle.codespan_views.specs.Private.LabelsToCollect.{FindsLabelAnnotations, WidensPadding, label_to_collect, label_failure, labels_failure, lookups_of_label}
 use Rattle.codespan_views.specs.Private.Annotations.{Annotation}
 use Rattle.codespan_views.specs.Private.LabelAnnotations.{annotations_of}
 use Rattle.codespan_views.specs.Private.AnnotationViews.{AppendsAnnotations, AppendsAnnotationsOf, IsLineOf, IsOfFiles, annotation_view}

@@ -13,7 +13,7 @@ pub mod AnnotationViews
 -- what is collected of labels
 pub mod LabelAnnotations
 pub mod SpannedDigits
-pub mod CollectedLabels
+pub mod LabelsToCollect
 pub mod IndexedLabels
 pub mod Collections
 -- what is planned of that

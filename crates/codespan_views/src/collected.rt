@@ -3,7 +3,7 @@
 ghost use Rattle.std.specs.Prelude.{◌≡◌, map, IfOk};
 ghost use Rattle.codespan_core.specs.LawfulFiles.{FailsBy};
 ghost use Rattle.codespan_picture.specs.OutputStreams.{label_of};
-ghost use Rattle.codespan_views.specs.Private.CollectedLabels.{labels_failure};
+ghost use Rattle.codespan_views.specs.Private.LabelsToCollect.{labels_failure};
 ghost use Rattle.codespan_views.specs.Private.Collections.{IsCollected, IsCollectedInTurn};
 
 use crate::annotation::Annotation;

@@ -3,7 +3,7 @@
 ghost use Rattle.std.specs.Prelude.{◌≡◌, ◌≢◌, true, None, IfErr, IfOk, OnOk, OnErr, IsErrOf};
 ghost use Rattle.std.specs.Option.{option_map};
 ghost use Rattle.codespan_core.specs.LawfulFiles.{FailsBy};
-ghost use Rattle.codespan_views.specs.Private.CollectedLabels.{AppendsLineAnnotations, FindsLineAnnotations, FindsLabelAnnotations, HasLineIfLookedUp, IfEnded, IfContinues, WidensPadding, WidensPaddingForLine, FailsAtLine, HasLabelLines, label_of_collector, label_to_collect, label_failure, lines_failure, failure_if_looked_up, lane_mark_by_collector, kind_by_collector};
+ghost use Rattle.codespan_views.specs.Private.LabelsToCollect.{AppendsLineAnnotations, FindsLineAnnotations, FindsLabelAnnotations, HasLineIfLookedUp, IfEnded, IfContinues, WidensPadding, WidensPaddingForLine, FailsAtLine, HasLabelLines, label_of_collector, label_to_collect, label_failure, lines_failure, failure_if_looked_up, lane_mark_by_collector, kind_by_collector};
 ghost use Rattle.codespan_views.specs.Private.SourceFiles.{EndsBefore, model_of};
 ghost use Rattle.codespan_views.specs.Private.AnnotationViews.{IsLineOf, kind_view};
 ghost use Rattle.codespan_views.specs.Private.LabelSpans.{IsFarInside, line_of_end, line_of_start};

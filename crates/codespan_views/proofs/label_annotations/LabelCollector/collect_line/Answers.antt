@@ -3,7 +3,7 @@ use Rattle.std.specs.Prelude.{if◌then◌else◌}
 use Rattle.codespan_core.specs.FileModel.{line_count}
 use Rattle.codespan_views.specs.Private.LabelAnnotations.{line_annotations}
 use Rattle.codespan_views.specs.Private.AnnotationViews.{IsLineAt}
-use Rattle.codespan_views.specs.Private.CollectedLabels.{AppendsLineAnnotations, label_of_collector}
+use Rattle.codespan_views.specs.Private.LabelsToCollect.{AppendsLineAnnotations, label_of_collector}
 use Rattle.codespan_views.specs.Private.LabelSpans.{spans_line}
 use Rattle.codespan_views.specs.declared.label_annotations.FoundAnnotations.{FoundAnnotations}
 use Rattle.codespan_picture.specs.Lookups.{is_looked_up}

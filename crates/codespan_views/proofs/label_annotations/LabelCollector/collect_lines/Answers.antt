@@ -4,7 +4,7 @@ use Rattle.std.proofs.lemmas.Bool.Decides.{nat_tests}
 use Rattle.std.proofs.lemmas.Result.{err_from_is_err_and}
 use Rattle.codespan_core.specs.Lemmas.Lines.{line_of_below}
 use Rattle.codespan_views.specs.declared.label_annotations.LabelCollector.{LabelCollector}
-use Rattle.codespan_views.specs.Private.CollectedLabels.{label_of_collector}
+use Rattle.codespan_views.specs.Private.LabelsToCollect.{label_of_collector}
 use Rattle.std.specs.Ordering.{nat_cmp, partial_le, partial_lt}
 use Rattle.codespan_views.specs.Private.LabelSpans.{IsFarInside}
 use Rattle.codespan_views.specs.Private.SourceFiles.{line_failure}

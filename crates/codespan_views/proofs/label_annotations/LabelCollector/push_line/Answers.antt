@@ -1,5 +1,5 @@
 use Rattle.std.proofs.Common.{sym, subst}
-use Rattle.codespan_views.specs.Private.CollectedLabels.{label_of_collector}
+use Rattle.codespan_views.specs.Private.LabelsToCollect.{label_of_collector}
 use Rattle.codespan_views.specs.Private.AnnotationViews.{IsLineOf}
 use Rattle.codespan_views.proofs.Collecting.{AppendsAnnotations-as, AppendsAnnotations-both, AppendsAnnotations-weaker, annotation_if_any-line}
 use Rattle.codespan_views.proofs.label_annotations.LabelCollector.push_line.Goals as goal
