@@ -1,6 +1,6 @@
 //! The snippets of an output, one for each file.
 
-ghost use Rattle.codespan_views.specs.Private.SnippetRows.{RendersSnippet, trailing_empty_rows, start_rows};
+ghost use Rattle.codespan_views.specs.Private.SnippetRows.{RendersSnippet, empty_row_after_snippet, start_rows};
 ghost use Rattle.codespan_views.specs.Private.Rendering.{RendersRows};
 ghost use Rattle.codespan_views.specs.Private.LineRendering.{AreLinesOf};
 
@@ -93,7 +93,7 @@ pub fn render_trailing_empty_row<F, FileId, W: WriteStyle>(
     is_followed: bool,
 ) -> Result<(), Error>
     ensures { RendersRows W.sink context.now.severity context.now.padding
-        (trailing_empty_rows snippet_plan.now is_followed) renderer.old result renderer.new }
+        (empty_row_after_snippet snippet_plan.now is_followed) renderer.old result renderer.new }
 {
     if is_followed {
         renderer.render_snippet_empty(

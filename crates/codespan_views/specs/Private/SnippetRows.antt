@@ -26,8 +26,8 @@ module _ {Id : Type 0} (snippet_plan : SnippetPlan Id) where
   start_rows = SnippetStartRow (locus_view snippet_plan.locus) ∷ snippet_empty_row ∷ []
 
   -- the row after the snippet, where something follows
-  abbrev pub trailing_empty_rows : Bool → List Row
-  trailing_empty_rows is_followed = if is_followed then snippet_empty_row ∷ [] else []
+  abbrev pub empty_row_after_snippet : Bool → List Row
+  empty_row_after_snippet is_followed = if is_followed then snippet_empty_row ∷ [] else []
 
   -- all rows of the snippet, where these are its lines
   abbrev pub rows_in : FileModel → List (RustLine Id) → List Row
