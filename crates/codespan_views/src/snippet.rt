@@ -86,7 +86,7 @@ pub fn render_snippet<'files, 'd, F: Files<'files>, W: WriteStyle>(
 /// # Errors
 ///
 /// `Io` alone: the writer fails or takes no bytes.
-pub fn render_trailing_empty_row<F, FileId, W: WriteStyle>(
+pub fn render_empty_row_after<F, FileId, W: WriteStyle>(
     context: &SnippetContext<'_, F>,
     renderer: &mut Renderer<'_, '_, W>,
     snippet_plan: &SnippetPlan<'_, FileId>,
