@@ -1,6 +1,6 @@
 //! The snippets of an output, one for each file.
 
-ghost use Rattle.codespan_views.specs.Private.SnippetRows.{RendersSnippet, empty_row_after_snippet, start_rows};
+ghost use Rattle.codespan_views.specs.Private.SnippetRows.{RendersSnippet, empty_row_after_snippet, first_rows};
 ghost use Rattle.codespan_views.specs.Private.Rendering.{RendersRows};
 ghost use Rattle.codespan_views.specs.Private.LineRendering.{AreLinesOf};
 
@@ -28,7 +28,7 @@ fn render_start<F, FileId, W: WriteStyle>(
     snippet_plan: &SnippetPlan<'_, FileId>,
 ) -> Result<(), Error>
     ensures { RendersRows W.sink context.now.severity context.now.padding
-        (start_rows snippet_plan.now) renderer.old result renderer.new }
+        (first_rows snippet_plan.now) renderer.old result renderer.new }
 {
     renderer.render_snippet_start(context.padding, &snippet_plan.locus)?;
     renderer.render_snippet_empty(

@@ -22,8 +22,8 @@ module _ {Id : Type 0} (snippet_plan : SnippetPlan Id) where
       EmptyRow (record { count = snippet_plan.file.now.num_multi_labels; lane_marks = [] })
 
   -- the snippet's first rows
-  abbrev pub start_rows : List Row
-  start_rows = SnippetStartRow (locus_view snippet_plan.locus) ∷ snippet_empty_row ∷ []
+  abbrev pub first_rows : List Row
+  first_rows = SnippetStartRow (locus_view snippet_plan.locus) ∷ snippet_empty_row ∷ []
 
   -- the row after the snippet, where something follows
   abbrev pub empty_row_after_snippet : Bool → List Row
@@ -32,7 +32,7 @@ module _ {Id : Type 0} (snippet_plan : SnippetPlan Id) where
   -- all rows of the snippet, where these are its lines
   abbrev pub rows_in : FileModel → List (RustLine Id) → List Row
   rows_in f snippet_lines =
-      start_rows
+      first_rows
       ++ rows_of_lines f snippet_plan.file.now.num_multi_labels
       (map snippet_line_view snippet_lines)
 
