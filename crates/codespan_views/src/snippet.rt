@@ -22,7 +22,7 @@ pub mod lines;
 /// # Errors
 ///
 /// `Io` alone: the writer fails or takes no bytes.
-fn render_start<F, FileId, W: WriteStyle>(
+fn render_first_rows<F, FileId, W: WriteStyle>(
     context: &SnippetContext<'_, F>,
     renderer: &mut Renderer<'_, '_, W>,
     snippet_plan: &SnippetPlan<'_, FileId>,
@@ -68,7 +68,7 @@ pub fn render_snippet<'files, 'd, F: Files<'files>, W: WriteStyle>(
         result renderer.new }
 {
     let source = context.files.source(snippet_plan.file.file_id)?;
-    render_start(context, renderer, snippet_plan)?;
+    render_first_rows(context, renderer, snippet_plan)?;
     let snippet = Snippet {
         context,
         file: SourceFile {
