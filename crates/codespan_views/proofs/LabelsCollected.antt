@@ -20,7 +20,7 @@ use Rattle.codespan_views.specs.Private.LabelsToCollect.{FindsLabelAnnotations, 
 use Rattle.codespan_views.specs.Private.Annotations.{Annotation}
 use Rattle.codespan_views.specs.Private.LabelAnnotations.{annotations_of}
 use Rattle.codespan_views.specs.Private.AnnotationViews.{AppendsAnnotations, AppendsAnnotationsOf, IsLineOf, IsOfFiles, annotation_view}
-use Rattle.codespan_views.specs.Private.LabeledFiles.{HasLabels, ids_view, lane_counts, num_multi_labels_of, lanes_with_label, starts_with_label, starts_view, with_file}
+use Rattle.codespan_views.specs.Private.LabeledFiles.{HasLabels, ids_view, lane_counts, num_multi_labels_of, lanes_with_label, starts_with_label, all_least_starts, with_file}
 use Rattle.codespan_views.specs.Private.LocusBytes.{file_least_starts, no_starts}
 use Rattle.codespan_picture.specs.Lookups.{lookups_of_file, first_error, label_lookups, label_line_lookups}
 use Rattle.codespan_picture.specs.OutputStreams.{label_of}
@@ -45,7 +45,7 @@ use Rattle.codespan_views.proofs.FirstErrors.{first_error-none, first_error-some
 -- fits the lines that they span, and no lookup failed
 pub record AreCollected {Id : Type 0} (database : FileDatabase Id) (config : Config) (ids : List Id) (done : List (InFile Id)) (files : List (RustFile Id)) (found : FoundAnnotations Id) : Type 0 where
   pub ids_are : ids_view files ≡ ids
-  pub starts_are : starts_view files ≡ map (file_least_starts database.same done) ids
+  pub starts_are : all_least_starts files ≡ map (file_least_starts database.same done) ids
   pub lanes_are : lane_counts files ≡ map (num_multi_labels_of database.same database.file done) ids
   pub added : AppendsAnnotations (IsOfFiles database.file ids) [] found.annotations.items (annotations_after database.same database.file config ids [] done)
   pub counted : found.spanned_padding.digits ≡ fold max 0 (all_digits database.file done)
@@ -61,13 +61,13 @@ pub record IsCollectedLabel {Id : Type 0} (database : FileDatabase Id) (config :
 -- a label was added to the file at this index
 pub record IsAddedLabel {Id : Type 0} (file : Id → FileModel) (at : ℕ) (label : Label Id) (files next : List (RustFile Id)) : Type 0 where
   pub ids : ids_view next ≡ ids_view files
-  pub starts : starts_view next ≡ starts_with_label (starts_view files) at (label_of label).label
+  pub starts : all_least_starts next ≡ starts_with_label (all_least_starts files) at (label_of label).label
   pub lanes : lane_counts next ≡ lanes_with_label (lane_counts files) at (label_lanes (file label.file_id) (label_of label).label)
 
 -- a file of this id was found: it is one of the files, or comes after them
 pub record IsIndexedFile {Id : Type 0} (same : Id → Id → Bool) (id : Id) (files now : List (RustFile Id)) : Type 0 where
   pub ids : ids_view now ≡ with_file same (ids_view files) id (ids_view files) id
-  pub starts : starts_view now ≡ with_file same (ids_view files) id (starts_view files) no_starts
+  pub starts : all_least_starts now ≡ with_file same (ids_view files) id (all_least_starts files) no_starts
   pub lanes : lane_counts now ≡ with_file same (ids_view files) id (lane_counts files) 0
 
 module _ {Id : Type 0} {database : FileDatabase Id} (lawful : AreFiles database) {labels : List (Label Id)} {index : ℕ} {label : Label Id} (turn : IsElementAt labels index label) where
@@ -212,7 +212,7 @@ module _ {Id : Type 0} {database : FileDatabase Id} (lawful : AreFiles database)
           → AreCollected database config (file_ids same (before labels (index + 1))) (before labels (index + 1)) next more
       collected-more {next} {more} own known = record {
         ids_are = known.ids ∙ g.ids_are;
-        starts_are = starts-set turn o g.starts_are (known.starts ∙ ap (λ k. starts_with_label (starts_view files) k (label_of label).label) index-found);
+        starts_are = starts-set turn o g.starts_are (known.starts ∙ ap (λ k. starts_with_label (all_least_starts files) k (label_of label).label) index-found);
         lanes_are = lanes-next next (known.lanes ∙ ap (λ k. lanes_with_label (lane_counts files) k (label_lanes (file label.file_id) (label_of label).label)) index-found);
         added = added-more more (subst₂ (λ k n. AppendsAnnotationsOf (file label.file_id) found.annotations.items
             more.annotations.items (annotations_of config (file label.file_id)
@@ -239,7 +239,7 @@ module _ {Id : Type 0} {database : FileDatabase Id} (lawful : AreFiles database)
         subst (λ ys. AreCollected database config (file_ids same ys) xs now found) (sym (before-more turn)) (record {
           ids_are = indexed.ids ∙ ap (λ (js : List Id). with_file same js label.file_id js label.file_id) g.ids_are ∙ sym (file_ids-more same o xs x);
           starts_are = known-more o xs x (file_least_starts same xs) (start-unknown same xs label.file_id) g.starts_are
-              (indexed.starts ∙ ap (λ (js : List Id). with_file same js label.file_id (starts_view files) no_starts) g.ids_are);
+              (indexed.starts ∙ ap (λ (js : List Id). with_file same js label.file_id (all_least_starts files) no_starts) g.ids_are);
           lanes_are = known-more o xs x (num_multi_labels_of same file xs) (num_multi_labels_of-none same file xs label.file_id) g.lanes_are
               (indexed.lanes ∙ ap (λ (js : List Id). with_file same js label.file_id (lane_counts files) 0) g.ids_are);
           added = added-with_file o xs x file config g.added;
@@ -275,7 +275,7 @@ collected-all {Id} {database} {config} {files} {found} labels index past g =
 
 -- each file has what the labels add to it
 pub each-labels : {Id : Type 0} (same : Id → Id → Bool) (file : Id → FileModel) (xs : List (InFile Id)) (files : List (RustFile Id))
-    → starts_view files ≡ map (file_least_starts same xs) (ids_view files) → lane_counts files ≡ map (num_multi_labels_of same file xs) (ids_view files) → AllByRecursion (HasLabels same file xs) files
+    → all_least_starts files ≡ map (file_least_starts same xs) (ids_view files) → lane_counts files ≡ map (num_multi_labels_of same file xs) (ids_view files) → AllByRecursion (HasLabels same file xs) files
 each-labels same file xs [] starts lanes = tt
 each-labels same file xs (f ∷ fs) starts lanes = (
   record { least_starts_are = ap (λ (ss : List LeastStarts). get_or ss 0 f.least_starts) starts; lanes_are = ap (λ (ls : List ℕ). get_or ls 0 f.num_multi_labels) lanes },

@@ -16,8 +16,8 @@ abbrev pub ids_view : {Id : Type 0} → List (RustFile Id) → List Id
 ids_view {Id} files = map (λ (f : RustFile Id). f.file_id) files
 
 -- the least starts of the labels of each
-abbrev pub starts_view : {Id : Type 0} → List (RustFile Id) → List LeastStarts
-starts_view {Id} files = map (λ (f : RustFile Id). f.least_starts) files
+abbrev pub all_least_starts : {Id : Type 0} → List (RustFile Id) → List LeastStarts
+all_least_starts {Id} files = map (λ (f : RustFile Id). f.least_starts) files
 
 -- how many lanes each has
 abbrev pub lane_counts : {Id : Type 0} → List (RustFile Id) → List ℕ
