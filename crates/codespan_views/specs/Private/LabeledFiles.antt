@@ -48,8 +48,8 @@ abbrev pub lanes_by : LabelSpan → ℕ
 lanes_by span = if span.first == span.last then 0 else 1
 
 -- the least starts of all files, with one more label of the file at this index
-abbrev pub starts_with_label : List LeastStarts → ℕ → LabelModel → List LeastStarts
-starts_with_label starts index x =
+abbrev pub all_least_starts_with : List LeastStarts → ℕ → LabelModel → List LeastStarts
+all_least_starts_with starts index x =
     slice_set starts index (least_starts_with (slice_index_or starts index no_starts) x)
 
 -- how many lanes all files have, with those of one more label of the file at this index
