@@ -20,7 +20,7 @@ use Rattle.codespan_views.specs.Private.LabelsToCollect.{FindsLabelAnnotations, 
 use Rattle.codespan_views.specs.Private.Annotations.{Annotation}
 use Rattle.codespan_views.specs.Private.LabelAnnotations.{annotations_of}
 use Rattle.codespan_views.specs.Private.AnnotationViews.{AppendsAnnotations, AppendsAnnotationsOf, IsLineOf, IsOfFiles, annotation_view}
-use Rattle.codespan_views.specs.Private.LabeledFiles.{HasLabels, ids_view, lane_counts, num_multi_labels_of, lanes_with_label, all_least_starts_with, all_least_starts, with_file}
+use Rattle.codespan_views.specs.Private.LabeledFiles.{HasLabels, ids_view, lane_counts, num_multi_labels_of, lane_counts_with, all_least_starts_with, all_least_starts, with_file}
 use Rattle.codespan_views.specs.Private.LocusBytes.{file_least_starts, no_starts}
 use Rattle.codespan_picture.specs.Lookups.{lookups_of_file, first_error, label_lookups, label_line_lookups}
 use Rattle.codespan_picture.specs.OutputStreams.{label_of}
@@ -62,7 +62,7 @@ pub record IsCollectedLabel {Id : Type 0} (database : FileDatabase Id) (config :
 pub record IsAddedLabel {Id : Type 0} (file : Id → FileModel) (at : ℕ) (label : Label Id) (files next : List (RustFile Id)) : Type 0 where
   pub ids : ids_view next ≡ ids_view files
   pub starts : all_least_starts next ≡ all_least_starts_with (all_least_starts files) at (label_of label).label
-  pub lanes : lane_counts next ≡ lanes_with_label (lane_counts files) at (label_lanes (file label.file_id) (label_of label).label)
+  pub lanes : lane_counts next ≡ lane_counts_with (lane_counts files) at (label_lanes (file label.file_id) (label_of label).label)
 
 -- a file of this id was found: it is one of the files, or comes after them
 pub record IsIndexedFile {Id : Type 0} (same : Id → Id → Bool) (id : Id) (files now : List (RustFile Id)) : Type 0 where
@@ -173,7 +173,7 @@ module _ {Id : Type 0} {database : FileDatabase Id} (lawful : AreFiles database)
 
     -- the label's file has its lane too, and no other file's lanes change
     lanes-next : (next : List (RustFile Id))
-        → lane_counts next ≡ lanes_with_label (lane_counts files)
+        → lane_counts next ≡ lane_counts_with (lane_counts files)
         (index_of_file same ids label.file_id)
         (label_lanes (file label.file_id) (label_of label).label)
         → lane_counts next ≡ map (num_multi_labels_of same file (before labels (index + 1))) ids
@@ -213,7 +213,7 @@ module _ {Id : Type 0} {database : FileDatabase Id} (lawful : AreFiles database)
       collected-more {next} {more} own known = record {
         ids_are = known.ids ∙ g.ids_are;
         starts_are = starts-set turn o g.starts_are (known.starts ∙ ap (λ k. all_least_starts_with (all_least_starts files) k (label_of label).label) index-found);
-        lanes_are = lanes-next next (known.lanes ∙ ap (λ k. lanes_with_label (lane_counts files) k (label_lanes (file label.file_id) (label_of label).label)) index-found);
+        lanes_are = lanes-next next (known.lanes ∙ ap (λ k. lane_counts_with (lane_counts files) k (label_lanes (file label.file_id) (label_of label).label)) index-found);
         added = added-more more (subst₂ (λ k n. AppendsAnnotationsOf (file label.file_id) found.annotations.items
             more.annotations.items (annotations_of config (file label.file_id)
             (record { file = k; index = index; lane = n }) (label_of label).label)) index-found

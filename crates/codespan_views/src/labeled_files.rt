@@ -3,7 +3,7 @@
 ghost use Rattle.std.specs.Prelude.{◌≡◌, ◌<◌, ◌≤◌, ◌+◌, ◌^◌, false, [], ◌∷◌, ◌++◌, IfOk, OnOk, OnErr, IsErrOf, length, slice_index_or, take};
 ghost use Rattle.std.specs.List.{AllByRecursion};
 ghost use Rattle.codespan_picture.specs.OutputStreams.{label_of};
-ghost use Rattle.codespan_views.specs.Private.LabeledFiles.{ids_view, lanes_by, lane_counts, lanes_with_label, all_least_starts_with, all_least_starts, with_file};
+ghost use Rattle.codespan_views.specs.Private.LabeledFiles.{ids_view, lanes_by, lane_counts, lane_counts_with, all_least_starts_with, all_least_starts, with_file};
 ghost use Rattle.codespan_views.specs.Private.LocusBytes.{least_starts_with, no_starts};
 ghost use Rattle.codespan_views.specs.Private.FileIndices.{AreDistinct, index_of_file};
 
@@ -61,7 +61,7 @@ pub fn add_label<FileId>(
     ensures starts { all_least_starts files.new.items
         ≡ all_least_starts_with (all_least_starts files.old.items) index (label_of label.now).label }
     ensures lanes { lane_counts files.new.items
-        ≡ lanes_with_label (lane_counts files.old.items) index (lanes_by span) }
+        ≡ lane_counts_with (lane_counts files.old.items) index (lanes_by span) }
 {
     files[index].add(label, span);
 }

@@ -53,5 +53,5 @@ all_least_starts_with starts index x =
     slice_set starts index (least_starts_with (slice_index_or starts index no_starts) x)
 
 -- how many lanes all files have, with those of one more label of the file at this index
-abbrev pub lanes_with_label : List ℕ → ℕ → ℕ → List ℕ
-lanes_with_label lanes index own = slice_set lanes index (slice_index_or lanes index 0 + own)
+abbrev pub lane_counts_with : List ℕ → ℕ → ℕ → List ℕ
+lane_counts_with lanes index own = slice_set lanes index (slice_index_or lanes index 0 + own)

@@ -5,7 +5,7 @@ use Rattle.std.proofs.lemmas.Result.{err_from_is_err_and}
 use Rattle.codespan_views.specs.declared.labeled_files.LabeledFile.{LabeledFile as RustFile}
 use Rattle.codespan_views.specs.Private.LabelsToCollect.{FindsLabelAnnotations, label_to_collect}
 use Rattle.codespan_views.specs.Private.AnnotationViews.{AppendsAnnotations, IsOfFiles}
-use Rattle.codespan_views.specs.Private.LabeledFiles.{ids_view, lane_counts, num_multi_labels_of, lanes_with_label}
+use Rattle.codespan_views.specs.Private.LabeledFiles.{ids_view, lane_counts, num_multi_labels_of, lane_counts_with}
 use Rattle.codespan_views.specs.Private.LocusBytes.{file_least_starts}
 use Rattle.codespan_picture.specs.OutputStreams.{label_of}
 use Rattle.codespan_picture.specs.Snippets.{file_ids}
@@ -152,7 +152,7 @@ loop-index-preserved g c =
       lanes =
           known.lanes
           ∙ ap
-          (lanes_with_label (lane_counts c.get_or_insert_file.new.files.items) c.in_ok-file.file)
+          (lane_counts_with (lane_counts c.get_or_insert_file.new.files.items) c.in_ok-file.file)
           own;
     })
 
