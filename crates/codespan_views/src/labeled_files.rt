@@ -3,7 +3,7 @@
 ghost use Rattle.std.specs.Prelude.{◌≡◌, ◌<◌, ◌≤◌, ◌+◌, ◌^◌, false, [], ◌∷◌, ◌++◌, IfOk, OnOk, OnErr, IsErrOf, length, slice_index_or, take};
 ghost use Rattle.std.specs.List.{AllByRecursion};
 ghost use Rattle.codespan_picture.specs.OutputStreams.{label_of};
-ghost use Rattle.codespan_views.specs.Private.LabeledFiles.{ids_view, lanes_by, lane_counts, lane_counts_with, all_least_starts_with, all_least_starts, with_file};
+ghost use Rattle.codespan_views.specs.Private.LabeledFiles.{ids_view, lanes_of_span, lane_counts, lane_counts_with, all_least_starts_with, all_least_starts, with_file};
 ghost use Rattle.codespan_views.specs.Private.LocusBytes.{least_starts_with, no_starts};
 ghost use Rattle.codespan_views.specs.Private.FileIndices.{AreDistinct, index_of_file};
 
@@ -34,7 +34,7 @@ impl<FileId> LabeledFile<FileId> {
         ensures id { self.new.file_id ≡ self.old.file_id }
         ensures least_starts { self.new.least_starts
             ≡ least_starts_with self.old.least_starts (label_of label.now).label }
-        ensures lanes { self.new.num_multi_labels ≡ self.old.num_multi_labels + lanes_by span }
+        ensures lanes { self.new.num_multi_labels ≡ self.old.num_multi_labels + lanes_of_span span }
     {
         self.least_starts = self.least_starts.with(label);
         if !span.is_single() {
@@ -61,7 +61,7 @@ pub fn add_label<FileId>(
     ensures starts { all_least_starts files.new.items
         ≡ all_least_starts_with (all_least_starts files.old.items) index (label_of label.now).label }
     ensures lanes { lane_counts files.new.items
-        ≡ lane_counts_with (lane_counts files.old.items) index (lanes_by span) }
+        ≡ lane_counts_with (lane_counts files.old.items) index (lanes_of_span span) }
 {
     files[index].add(label, span);
 }

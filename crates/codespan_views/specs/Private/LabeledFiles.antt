@@ -44,8 +44,8 @@ with_file same ids id known one = if list_any (λ j. same j id) ids then known e
 -- ---- one label more
 
 -- how many lanes a label takes that starts and ends on these lines
-abbrev pub lanes_by : LabelSpan → ℕ
-lanes_by span = if span.first == span.last then 0 else 1
+abbrev pub lanes_of_span : LabelSpan → ℕ
+lanes_of_span span = if span.first == span.last then 0 else 1
 
 -- the least starts of all files, with one more label of the file at this index
 abbrev pub all_least_starts_with : List LeastStarts → ℕ → LabelModel → List LeastStarts

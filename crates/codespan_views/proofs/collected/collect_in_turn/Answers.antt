@@ -12,7 +12,7 @@ use Rattle.codespan_picture.specs.Snippets.{file_ids}
 use Rattle.codespan_views.specs.Private.FileIndices.{AreDistinct, index_of_file}
 use Rattle.codespan_views.specs.Private.IndexedLabels.{annotations_after}
 use Rattle.codespan_views.proofs.FileIndices.{first_seen-differ}
-use Rattle.codespan_views.proofs.LabelIndexing.{AreFiles, are-files, lanes_by-are}
+use Rattle.codespan_views.proofs.LabelIndexing.{AreFiles, are-files, lanes_of_span-are}
 use Rattle.codespan_views.proofs.IndexedElements.{IsElementAt}
 use Rattle.codespan_views.proofs.LabelsBefore.{before}
 use Rattle.codespan_views.proofs.LabelsCollected.{AreCollected, IsIndexedFile, each-labels, file-indexed, collected-all, collected-more, collected-failed, lane-bound, index-inside}
@@ -134,7 +134,7 @@ loop-index-preserved g c =
     let label = c.index-labels-index.result in
     let found = c.in_ok-span.ensures in
     let known = c.add_label.ensures in
-    let own = lanes_by-are (((g.F.Files.database c.args.files.now).file) label.file_id)
+    let own = lanes_of_span-are (((g.F.Files.database c.args.files.now).file) label.file_id)
     (label_of label).label c.in_ok-span.span found.first found.last in
     let lane = lane_there g (goal.at.loop-index-preserved g c).After-index
     (indices_inside g (goal.at.loop-index-preserved g c).In_ok-file at) in
