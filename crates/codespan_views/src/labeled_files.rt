@@ -115,7 +115,7 @@ fn push_file<FileId: Copy>(files: &mut Vec<LabeledFile<FileId>>, id: FileId) -> 
 {
     files.push(LabeledFile {
         file_id: id,
-        least_starts: LeastStarts::unknown(),
+        least_starts: LeastStarts::without_labels(),
         num_multi_labels: 0,
     })?;
     Ok(())
