@@ -107,11 +107,11 @@ fn locate_snippet<'files, 'e, F: Files<'files>>(
     })
 }
 
-/// Returns the first error: that of `located` if it is `Err`, else `failed`.
-fn first_error_of(located: Result<(), Error>, failed: Error) -> Result<(), Error>
-    ensures { result ≡ result_and located (Err failed) }
+/// Returns the first error: that of `located` if it is `Err`, else `error`.
+fn first_error_of(located: Result<(), Error>, error: Error) -> Result<(), Error>
+    ensures { result ≡ result_and located (Err error) }
 {
-    located.and(Err(failed))
+    located.and(Err(error))
 }
 
 /// Plans the snippets of the files, in the order of their first labels. Their lines are appended to
@@ -159,7 +159,7 @@ pub fn plan_snippets<'files, 'e, 'd, F: Files<'files>>(
         start += len;
         match locate_snippet(alloc, files, file, line_total) {
             Ok(snippet_plan) => snippet_plans.push(snippet_plan)?,
-            Err(failed) => located = first_error_of(located, failed),
+            Err(error) => located = first_error_of(located, error),
         }
     }
     located?;
