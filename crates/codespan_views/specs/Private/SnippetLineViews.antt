@@ -24,14 +24,14 @@ snippet_line_view (rust.Break next) = Break (map annotation_view next.now)
 
 -- what is in a gap before a line with these annotations, where the line between has those
 abbrev pub gap_lines : List Annotation → List Annotation → Gap → List SnippetLine
-gap_lines hidden next gaps.Nothing = []
-gap_lines hidden next (gaps.Filled l) = Filled l hidden ∷ []
-gap_lines hidden next gaps.Break = Break next ∷ []
+gap_lines hidden_annotations next gaps.Nothing = []
+gap_lines hidden_annotations next (gaps.Filled l) = Filled l hidden_annotations ∷ []
+gap_lines hidden_annotations next gaps.Break = Break next ∷ []
 
 -- the gap is that between two shown lines, of which the first may be none
 abbrev pub IsGapBefore : Option ℕ → ℕ → Gap → Type 0
-IsGapBefore previous d gap = (hidden next : List Annotation)
-    → before_line (lines_between hidden next) previous d ≡ gap_lines hidden next gap
+IsGapBefore previous d gap = (hidden_annotations next : List Annotation)
+    → before_line (lines_between hidden_annotations next) previous d ≡ gap_lines hidden_annotations next gap
 
 -- the number of a line that is filled in is known before the header in the unbroken layout
 abbrev pub known_number : Layout → ℕ → Option ℕ

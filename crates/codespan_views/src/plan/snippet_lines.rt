@@ -99,7 +99,7 @@ impl<'files, F: Files<'files>> LinePlanner<'files, F> {
     }
 
     /// Appends what is between two shown lines: the one line between them, which has the
-    /// annotations `hidden`, or a break, where `next` are those of the shown line after it.
+    /// annotations `hidden_annotations`, or a break, where `next` are those of the shown line after it.
     ///
     /// # Errors
     ///
@@ -108,16 +108,16 @@ impl<'files, F: Files<'files>> LinePlanner<'files, F> {
     fn push_gap<'e, 'd>(
         &self,
         gap: Gap,
-        hidden: &'e [Annotation<'d, F::FileId>],
+        hidden_annotations: &'e [Annotation<'d, F::FileId>],
         next: &'e [Annotation<'d, F::FileId>],
         snippet_lines: &mut Vec<SnippetLine<'e, 'd, F::FileId>>,
     ) -> Result<(), Error>
         ensures added { OnOk result
             (AppendsPlannedLines F.database self.now snippet_lines.old.items
             snippet_lines.new.items
-            (gap_lines (map annotation_view hidden.now) (map annotation_view next.now) gap)) }
+            (gap_lines (map annotation_view hidden_annotations.now) (map annotation_view next.now) gap)) }
         ensures failed { FailsBy (numbers_failure F.database self.now
-            (filled_lines_of (gap_lines (map annotation_view hidden.now)
+            (filled_lines_of (gap_lines (map annotation_view hidden_annotations.now)
             (map annotation_view next.now) gap))) result }
     {
         match gap {
@@ -127,7 +127,7 @@ impl<'files, F: Files<'files>> LinePlanner<'files, F> {
                 snippet_lines.push(SnippetLine::Filled {
                     index,
                     number,
-                    annotations: hidden,
+                    annotations: hidden_annotations,
                 })?;
             }
             Gap::Break => snippet_lines.push(SnippetLine::Break { next })?,
@@ -136,7 +136,7 @@ impl<'files, F: Files<'files>> LinePlanner<'files, F> {
     }
 
     /// Appends a shown line with its annotations, after what is before it. `previous` is the
-    /// 0-based index of the shown line before it, if there is one, and `hidden` are the annotations
+    /// 0-based index of the shown line before it, if there is one, and `hidden_annotations` are the annotations
     /// of the line just before it, where that is hidden.
     ///
     /// # Errors
@@ -150,7 +150,7 @@ impl<'files, F: Files<'files>> LinePlanner<'files, F> {
     fn push_shown<'e, 'd>(
         &self,
         previous: Option<usize>,
-        hidden: &'e [Annotation<'d, F::FileId>],
+        hidden_annotations: &'e [Annotation<'d, F::FileId>],
         line: LineInfo,
         annotations: &'e [Annotation<'d, F::FileId>],
         snippet_lines: &mut Vec<SnippetLine<'e, 'd, F::FileId>>,
@@ -159,16 +159,16 @@ impl<'files, F: Files<'files>> LinePlanner<'files, F> {
         ensures added { OnOk result
             (AppendsPlannedLines F.database self.now snippet_lines.old.items
             snippet_lines.new.items
-            (lines_to previous (map annotation_view hidden.now) line.index
+            (lines_to previous (map annotation_view hidden_annotations.now) line.index
             (map annotation_view annotations.now))) }
         ensures failed { FailsBy (numbers_failure F.database self.now (filled_lines_of
-            (lines_to previous (map annotation_view hidden.now) line.index
+            (lines_to previous (map annotation_view hidden_annotations.now) line.index
             (map annotation_view annotations.now))))
             result }
     {
         self.push_gap(
             gap_before(previous, line.index),
-            hidden,
+            hidden_annotations,
             annotations,
             snippet_lines,
         )?;
@@ -203,18 +203,18 @@ impl<'files, F: Files<'files>> LinePlanner<'files, F> {
     {
         let none = &annotations[..0];
         let mut previous = None;
-        let mut hidden = none;
+        let mut hidden_annotations = none;
         let mut rest = annotations;
         while let Some(first) = rest.first() {
             let count = count_on_line(rest, first.line.index);
             let group = &rest[..count];
             let later = &rest[count..];
             if shows_line(first) {
-                self.push_shown(previous, hidden, first.line, group, snippet_lines)?;
+                self.push_shown(previous, hidden_annotations, first.line, group, snippet_lines)?;
                 previous = Some(first.line.index);
-                hidden = none;
+                hidden_annotations = none;
             } else {
-                hidden = group;
+                hidden_annotations = group;
             }
             rest = later;
         }
