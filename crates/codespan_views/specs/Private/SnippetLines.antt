@@ -14,7 +14,7 @@ use Rattle.codespan_views.specs.Private.Annotations.{Annotation, AnnotationKind,
 pub data SnippetLine : Type 0 where
   Labeled : (line : ℕ) (annotations : List Annotation) → SnippetLine
   Filled : (line : ℕ) (annotations : List Annotation) → SnippetLine
-  Break : (next : List Annotation) → SnippetLine
+  Break : (next_annotations : List Annotation) → SnippetLine
 
 -- ---- from annotations in order to lines
 
@@ -46,7 +46,7 @@ are_shown (x ∷ xs) = shows_line x
 -- what is between two shown lines: the one line between them, with its annotations, a break,
 -- with those of the line after it, or nothing
 abbrev pub lines_between : List Annotation → List Annotation → ℕ → ℕ → List SnippetLine
-lines_between hidden_annotations next = gap_between (λ l. Filled l hidden_annotations ∷ []) (λ d. Break next ∷ [])
+lines_between hidden_annotations next_annotations = gap_between (λ l. Filled l hidden_annotations ∷ []) (λ d. Break next_annotations ∷ [])
 
 -- a shown line, after what is before it
 abbrev pub lines_to : Option ℕ → List Annotation → ℕ → List Annotation → List SnippetLine

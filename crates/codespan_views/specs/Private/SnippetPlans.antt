@@ -84,7 +84,7 @@ abbrev pub line_digits : {Id : Type 0} → RustLine Id → List ℕ
 line_digits (rust.Labeled line annotations) = count_digits line.number ∷ []
 line_digits (rust.Filled index (Some number) annotations) = count_digits number ∷ []
 line_digits (rust.Filled index None annotations) = []
-line_digits (rust.Break next) = []
+line_digits (rust.Break next_annotations) = []
 
 -- the padding width: in the classic layout `spanned`, that of the lines that labels span, and in
 -- the unbroken one that of the known numbers of these lines

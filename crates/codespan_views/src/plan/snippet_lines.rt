@@ -36,7 +36,7 @@ pub enum SnippetLine<'e, 'd, FileId> {
     /// A break: two lines or more are left out.
     Break {
         /// The annotations of the shown line after it, in order.
-        next: &'e [Annotation<'d, FileId>],
+        next_annotations: &'e [Annotation<'d, FileId>],
     },
 }
 
@@ -99,7 +99,7 @@ impl<'files, F: Files<'files>> LinePlanner<'files, F> {
     }
 
     /// Appends what is between two shown lines: the one line between them, which has the
-    /// annotations `hidden_annotations`, or a break, where `next` are those of the shown line after it.
+    /// annotations `hidden_annotations`, or a break, where `next_annotations` are those of the shown line after it.
     ///
     /// # Errors
     ///
@@ -109,16 +109,16 @@ impl<'files, F: Files<'files>> LinePlanner<'files, F> {
         &self,
         gap: Gap,
         hidden_annotations: &'e [Annotation<'d, F::FileId>],
-        next: &'e [Annotation<'d, F::FileId>],
+        next_annotations: &'e [Annotation<'d, F::FileId>],
         snippet_lines: &mut Vec<SnippetLine<'e, 'd, F::FileId>>,
     ) -> Result<(), Error>
         ensures added { OnOk result
             (AppendsPlannedLines F.database self.now snippet_lines.old.items
             snippet_lines.new.items
-            (gap_lines (map annotation_view hidden_annotations.now) (map annotation_view next.now) gap)) }
+            (gap_lines (map annotation_view hidden_annotations.now) (map annotation_view next_annotations.now) gap)) }
         ensures failed { FailsBy (numbers_failure F.database self.now
             (filled_lines_of (gap_lines (map annotation_view hidden_annotations.now)
-            (map annotation_view next.now) gap))) result }
+            (map annotation_view next_annotations.now) gap))) result }
     {
         match gap {
             Gap::Nothing => {}
@@ -130,7 +130,7 @@ impl<'files, F: Files<'files>> LinePlanner<'files, F> {
                     annotations: hidden_annotations,
                 })?;
             }
-            Gap::Break => snippet_lines.push(SnippetLine::Break { next })?,
+            Gap::Break => snippet_lines.push(SnippetLine::Break { next_annotations })?,
         }
         Ok(())
     }
