@@ -85,7 +85,7 @@ module _ {Id : Type 0} (x : LabelToCollect Id) where
   pub record CollectsLines (old new : FoundAnnotations Id) (n : ℕ) : Type 0 where
     pub within : n ≤ line_count x.file
     pub added : AppendsAnnotationsOf x.file old.annotations.items new.annotations.items (annotations_below n)
-    pub counted : new.spanned_padding.digits ≡ fold max old.spanned_padding.digits (digits_below n)
+    pub counted : new.spanned_padding.digit_count ≡ fold max old.spanned_padding.digit_count (digits_below n)
     pub succeeded : failed (lookups_below n) ≡ None
 
   -- all lines are done with
@@ -102,7 +102,7 @@ module _ {Id : Type 0} {x : LabelToCollect Id} where
   collected-start {xs} {n} there low far = record {
     within = omega (arith, there.last);
     added = AppendsAnnotations-as (flat_map_none (annotations_if_looked_up x.config x.file x.label x.indices) 0 n (λ l _ high. no_annotations x l (too_far l (omega arith)))) AppendsAnnotations-none;
-    counted = sym (ap (fold max xs.spanned_padding.digits) (flat_map_none (digits_on x.file x.label) 0 n (λ l _ high. no_digits x l (too_far l (omega arith)))));
+    counted = sym (ap (fold max xs.spanned_padding.digit_count) (flat_map_none (digits_on x.file x.label) 0 n (λ l _ high. no_digits x l (too_far l (omega arith)))));
     succeeded = ap (failed x) (flat_map_none (lookups_if_looked_up x.config x.file x.label) 0 n (λ l _ high. no_lookups x l (too_far l (omega arith))));
   }
     where
@@ -119,8 +119,8 @@ module _ {Id : Type 0} {x : LabelToCollect Id} where
       within = ⊎_elim (λ looked_up. let k = inside looked_up in omega arith) (λ skipped. further skipped) (cases_Bool (is_looked_up x.config x.file x.label n));
       added = AppendsAnnotations-as (flat_map_more (annotations_if_looked_up x.config x.file x.label x.indices) n) (AppendsAnnotations-both g.added adds);
       counted = counts ∙ ap (λ k. fold max k (digits_on x.file x.label n)) g.counted
-          ∙ sym (greatest-append xs.spanned_padding.digits (digits_below x n) (digits_on x.file x.label n))
-          ∙ sym (ap (fold max xs.spanned_padding.digits) (flat_map_more (digits_on x.file x.label) n));
+          ∙ sym (greatest-append xs.spanned_padding.digit_count (digits_below x n) (digits_on x.file x.label n))
+          ∙ sym (ap (fold max xs.spanned_padding.digit_count) (flat_map_more (digits_on x.file x.label) n));
       succeeded = ap (failed x) (flat_map_more (lookups_if_looked_up x.config x.file x.label) n) ∙ succeeded_then x (lookups_below x n) (lookups_if_looked_up x.config x.file x.label n) g.succeeded ∙ none;
     }
       where
@@ -154,7 +154,7 @@ module _ {Id : Type 0} {x : LabelToCollect Id} where
         → lookup_past_end x.config x.file (x.failure x.file_id) x.label ≡ [] → CollectsLabel x xs ys
     collected-up annotations_are looked_up digits no_lookup_past_end = record {
       added = AppendsAnnotations-as annotations_are g.added;
-      counted = g.counted ∙ sym (ap (fold max xs.spanned_padding.digits) digits);
+      counted = g.counted ∙ sym (ap (fold max xs.spanned_padding.digit_count) digits);
       succeeded = ap (failed x) (ap (λ (ls : List Lookup). flat_map line_lookups (looked_up_lines x.config x.file x.label) ++ ls) no_lookup_past_end ∙ append-nil _ ∙ looked_up) ∙ g.succeeded;
     }
 

@@ -48,7 +48,7 @@ pub record AreCollected {Id : Type 0} (database : FileDatabase Id) (config : Con
   pub starts_are : all_least_starts files ≡ map (file_least_starts database.same done) ids
   pub lanes_are : lane_counts files ≡ map (num_multi_labels_of database.same database.file done) ids
   pub added : AppendsAnnotations (IsOfFiles database.file ids) [] found.annotations.items (annotations_after database.same database.file config ids [] done)
-  pub counted : found.spanned_padding.digits ≡ fold max 0 (all_digits database.file done)
+  pub counted : found.spanned_padding.digit_count ≡ fold max 0 (all_digits database.file done)
   pub succeeded : labels_failure config database done ≡ None
 
 -- the annotations of a label were added, the padding fits the lines that it spans, and no lookup of
@@ -160,9 +160,9 @@ module _ {Id : Type 0} {database : FileDatabase Id} (lawful : AreFiles database)
 
     -- the padding fits the lines that it spans
     counted-more : (more : FoundAnnotations Id)
-        → more.spanned_padding.digits ≡ fold max found.spanned_padding.digits
+        → more.spanned_padding.digit_count ≡ fold max found.spanned_padding.digit_count
         (label_digits (file label.file_id) (label_of label).label)
-        → more.spanned_padding.digits ≡ fold max 0 (all_digits file (before labels (index + 1)))
+        → more.spanned_padding.digit_count ≡ fold max 0 (all_digits file (before labels (index + 1)))
     counted-more more counts =
         let digits : InFile Id → List ℕ = λ x. label_digits (file x.file_id) x.label in
         counts ∙ ap (λ n. fold max n (digits (label_of label))) g.counted

@@ -101,7 +101,7 @@ fn collect_in_turn<'files, 'd, F: Files<'files>>(
         labels,
         files: labeled,
         annotations: found.annotations,
-        spanned_padding: found.spanned_padding.digits,
+        spanned_padding: found.spanned_padding.digit_count,
         first_file_span: spanned,
     })
 }

@@ -96,7 +96,7 @@ module _ {Id : Type 0} (x : LabelToCollect Id) where
   -- the padding has been widened to the number of a line, where the label spans the line
   abbrev pub WidensPaddingForLine : FoundAnnotations Id → FoundAnnotations Id → ℕ → Type 0
   WidensPaddingForLine old new l =
-      new.spanned_padding.digits ≡ fold max old.spanned_padding.digits (digits_on x.file x.label l)
+      new.spanned_padding.digit_count ≡ fold max old.spanned_padding.digit_count (digits_on x.file x.label l)
 
   -- what the lookups of a line fail with, where it is looked up
   abbrev pub failure_if_looked_up : ℕ → Option Error
@@ -113,7 +113,7 @@ module _ {Id : Type 0} (x : LabelToCollect Id) where
   -- the padding has been widened to the numbers of the lines that the label spans
   abbrev pub WidensPadding : FoundAnnotations Id → FoundAnnotations Id → Type 0
   WidensPadding old new =
-      new.spanned_padding.digits ≡ fold max old.spanned_padding.digits (label_digits x.file x.label)
+      new.spanned_padding.digit_count ≡ fold max old.spanned_padding.digit_count (label_digits x.file x.label)
 
   -- what the lookups of its lines fail with
   abbrev pub lines_failure : Option Error

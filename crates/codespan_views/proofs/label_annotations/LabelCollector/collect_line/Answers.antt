@@ -93,14 +93,14 @@ returns-clause-padding g c =
     let span = collector.span in
     let found = line_found g c in
     let number = found.1.number_is ∙ ap x.file.line_number found.0 in
-    let digits : FoundAnnotations g.row.F-FileId.Denot → ℕ = λ f. f.spanned_padding.digits in
+    let digits : FoundAnnotations g.row.F-FileId.Denot → ℕ = λ f. f.spanned_padding.digit_count in
     λ _. elim c.if-is_spanned.branch [
       | then-is_spanned w ↦ padding-spanned x span.first span.last c.args.index c.requires.lines.first
-          c.requires.lines.last _ c.args.found.now.spanned_padding.digits
+          c.requires.lines.last _ c.args.found.now.spanned_padding.digit_count
           (sym (is_spanned g c) ∙ w.if-is_spanned.true)
           (ap digits w.found-is ∙ rw number at w.fit.ensures)
       | else-is_spanned w ↦ padding-unspanned x span.first span.last c.args.index
-          c.requires.lines.first c.requires.lines.last _ c.args.found.now.spanned_padding.digits
+          c.requires.lines.first c.requires.lines.last _ c.args.found.now.spanned_padding.digit_count
           (sym (is_spanned g c) ∙ w.if-is_spanned.false) (ap digits w.found-is)
     ]
 
