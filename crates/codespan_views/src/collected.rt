@@ -79,7 +79,7 @@ fn collect_in_turn<'files, 'd, F: Files<'files>>(
     let mut labeled = Vec::new(alloc);
     let mut found = FoundAnnotations {
         annotations: Vec::with_capacity(alloc, labels.len())?,
-        spanned_padding: PaddingWidth::with_digits(0),
+        spanned_padding: PaddingWidth::with_digit_count(0),
     };
     let mut previous = 0;
     let mut spanned = LabelSpan {

@@ -17,7 +17,7 @@ pub struct PaddingWidth {
 impl PaddingWidth {
     /// Returns a width of this many digits; 0 is that without a number. Its limit is known for 1 to
     /// 6 digits. For others it is 0, so the digits of each number are counted.
-    pub fn with_digits(digit_count: usize) -> PaddingWidth
+    pub fn with_digit_count(digit_count: usize) -> PaddingWidth
         ensures { result.digit_count ≡ digit_count }
     {
         let limit = match digit_count {
@@ -39,7 +39,7 @@ impl PaddingWidth {
         ensures { self.new.digit_count ≡ max (length (decimal number)) self.old.digit_count }
     {
         if number >= self.limit {
-            *self = PaddingWidth::with_digits(count_digits(number).max(self.digit_count));
+            *self = PaddingWidth::with_digit_count(count_digits(number).max(self.digit_count));
         }
     }
 }
