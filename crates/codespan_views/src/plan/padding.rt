@@ -30,13 +30,13 @@ fn padding_of_lines<FileId>(snippet_lines: &[SnippetLine<'_, '_, FileId>]) -> us
 {
     snippet_lines
         .iter()
-        .map(|snippet_line| digits_in(snippet_line))
+        .map(|snippet_line| digit_count_in(snippet_line))
         .max()
         .unwrap_or(0)
 }
 
 /// Returns the number of digits of the known number of a line; 0 if it is not known.
-fn digits_in<FileId>(snippet_line: &SnippetLine<'_, '_, FileId>) -> usize
+fn digit_count_in<FileId>(snippet_line: &SnippetLine<'_, '_, FileId>) -> usize
     ensures { result ≡ fold max 0 (line_digits snippet_line.now) }
 {
     match snippet_line {
