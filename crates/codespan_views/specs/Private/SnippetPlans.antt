@@ -80,14 +80,14 @@ collected_plan_failure layout failure collected =
     first_error failure (collected_plan_lookups layout collected)
 
 -- the digits of the known number of a line
-abbrev pub line_digits : {Id : Type 0} → RustLine Id → List ℕ
-line_digits (rust.Labeled line annotations) = count_digits line.number ∷ []
-line_digits (rust.Filled index (Some number) annotations) = count_digits number ∷ []
-line_digits (rust.Filled index None annotations) = []
-line_digits (rust.Break next_annotations) = []
+abbrev pub line_digit_counts : {Id : Type 0} → RustLine Id → List ℕ
+line_digit_counts (rust.Labeled line annotations) = count_digits line.number ∷ []
+line_digit_counts (rust.Filled index (Some number) annotations) = count_digits number ∷ []
+line_digit_counts (rust.Filled index None annotations) = []
+line_digit_counts (rust.Break next_annotations) = []
 
 -- the padding width: in the classic layout `spanned`, that of the lines that labels span, and in
 -- the unbroken one that of the known numbers of these lines
 abbrev pub padding_width : {Id : Type 0} → Layout → ℕ → List (RustLine Id) → ℕ
 padding_width Classic spanned snippet_lines = spanned
-padding_width Unbroken spanned snippet_lines = fold max 0 (flat_map line_digits snippet_lines)
+padding_width Unbroken spanned snippet_lines = fold max 0 (flat_map line_digit_counts snippet_lines)

@@ -1,7 +1,7 @@
 //! The padding width of an output.
 
 ghost use Rattle.std.specs.Prelude.{◌≡◌, flat_map, fold, max};
-ghost use Rattle.codespan_views.specs.Private.SnippetPlans.{line_digits, padding_width};
+ghost use Rattle.codespan_views.specs.Private.SnippetPlans.{line_digit_counts, padding_width};
 
 use crate::plan::snippet_lines::SnippetLine;
 use codespan_core::term::Layout;
@@ -26,7 +26,7 @@ pub fn padding_width<FileId>(
 /// Returns the number of digits of the longest known number of these lines; 0 if no number is
 /// known.
 fn padding_of_lines<FileId>(snippet_lines: &[SnippetLine<'_, '_, FileId>]) -> usize
-    ensures { result ≡ fold max 0 (flat_map line_digits snippet_lines.now) }
+    ensures { result ≡ fold max 0 (flat_map line_digit_counts snippet_lines.now) }
 {
     snippet_lines
         .iter()
@@ -37,7 +37,7 @@ fn padding_of_lines<FileId>(snippet_lines: &[SnippetLine<'_, '_, FileId>]) -> us
 
 /// Returns the number of digits of the known number of a line; 0 if it is not known.
 fn digit_count_in<FileId>(snippet_line: &SnippetLine<'_, '_, FileId>) -> usize
-    ensures { result ≡ fold max 0 (line_digits snippet_line.now) }
+    ensures { result ≡ fold max 0 (line_digit_counts snippet_line.now) }
 {
     match snippet_line {
         SnippetLine::Labeled { line, .. } => count_digits(line.number),
