@@ -13,7 +13,7 @@ use Rattle.codespan_views.specs.Private.AnnotationViews.{AppendsAnnotationsOf}
 use Rattle.codespan_views.specs.Private.LabelsToCollect.{AppendsLineAnnotations, LabelToCollect, failure_if_looked_up}
 use Rattle.codespan_views.specs.Private.FileLookups.{failure_in}
 use Rattle.codespan_views.specs.Private.LabelSpans.{IsFarInside, spans_line}
-use Rattle.codespan_views.specs.Private.SpannedDigits.{digits_on}
+use Rattle.codespan_views.specs.Private.SpannedDigits.{digit_count_if_spanned}
 use Rattle.codespan_views.proofs.Collecting.{AppendsAnnotations-as}
 
 -- a line far from both ends is between them
@@ -46,12 +46,12 @@ module _ {Id : Type 0} (x : LabelToCollect Id) (s e l : ℕ) (first : first_line
   -- a spanned line counts for the padding
   pub padding-spanned : (digits old : ℕ) → spans_line s e l ≡ true
       → digits ≡ max (length (decimal (x.file.line_number l))) old
-      → digits ≡ fold max old (digits_on x.file x.label l)
+      → digits ≡ fold max old (digit_count_if_spanned x.file x.label l)
   padding-spanned digits old spanned grown = rw (spans-by_ends ∙ spanned) (omega (arith, grown))
 
   -- another line does not
   pub padding-unspanned : (digits old : ℕ) → spans_line s e l ≡ false → digits ≡ old
-      → digits ≡ fold max old (digits_on x.file x.label l)
+      → digits ≡ fold max old (digit_count_if_spanned x.file x.label l)
   padding-unspanned digits old unspanned same = rw (spans-by_ends ∙ unspanned) same
 
 module _ {Id : Type 0} (x : LabelToCollect Id) (l : ℕ)

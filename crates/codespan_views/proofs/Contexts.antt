@@ -19,7 +19,7 @@ use Rattle.codespan_views.specs.Private.LabelAnnotations.{annotations_of, line_a
 use Rattle.codespan_views.specs.declared.label_annotations.FoundAnnotations.{FoundAnnotations}
 use Rattle.codespan_views.specs.Private.FileLookups.{failure_in}
 use Rattle.codespan_views.specs.Private.AnnotationViews.{AppendsAnnotationsOf}
-use Rattle.codespan_views.specs.Private.SpannedDigits.{digits_on, label_digits}
+use Rattle.codespan_views.specs.Private.SpannedDigits.{digit_count_if_spanned, label_digits}
 use Rattle.codespan_picture.specs.Lookups.{looked_up_lines, lookups_of_file, ends_context_lines, first_error, is_around, is_looked_up, line_lookups, lookup_past_end}
 use Rattle.codespan_picture.specs.Padding.{count_digits, spans}
 use Rattle.codespan_picture.proofs.Greatest.{greatest-append}
@@ -43,7 +43,7 @@ module _ {Id : Type 0} (x : LabelToCollect Id) where
 
   -- the digits of those that it spans
   abbrev digits_below : ℕ → List ℕ
-  digits_below n = flat_map (digits_on x.file x.label) (range_with_len 0 n)
+  digits_below n = flat_map (digit_count_if_spanned x.file x.label) (range_with_len 0 n)
 
   -- there is no annotation of a line that is not looked up
   no_annotations : (l : ℕ) → is_looked_up x.config x.file x.label l ≡ false → annotations_if_looked_up x.config x.file x.label x.indices l ≡ []
@@ -66,7 +66,7 @@ module _ {Id : Type 0} (x : LabelToCollect Id) where
   failed_then ls ms e some = ap (first_error x.failure) (map-append (λ l. (x.file_id, l)) ls ms) ∙ first_error-some x.failure (lookups_of_file x.file_id ls) (lookups_of_file x.file_id ms) e some
 
   -- a line that is not looked up is not spanned
-  no_digits : (l : ℕ) → is_looked_up x.config x.file x.label l ≡ false → digits_on x.file x.label l ≡ []
+  no_digits : (l : ℕ) → is_looked_up x.config x.file x.label l ≡ false → digit_count_if_spanned x.file x.label l ≡ []
   no_digits l skipped = ap (λ (b : Bool). if b then count_digits (x.file.line_number l) ∷ [] else [])
       (neither (spans x.file x.label l)
       (is_around x.config (first_line x.file x.label) (last_line x.file x.label) l) skipped)
@@ -102,7 +102,7 @@ module _ {Id : Type 0} {x : LabelToCollect Id} where
   collected-start {xs} {n} there low far = record {
     within = omega (arith, there.last);
     added = AppendsAnnotations-as (flat_map_none (annotations_if_looked_up x.config x.file x.label x.indices) 0 n (λ l _ high. no_annotations x l (too_far l (omega arith)))) AppendsAnnotations-none;
-    counted = sym (ap (fold max xs.spanned_padding.digit_count) (flat_map_none (digits_on x.file x.label) 0 n (λ l _ high. no_digits x l (too_far l (omega arith)))));
+    counted = sym (ap (fold max xs.spanned_padding.digit_count) (flat_map_none (digit_count_if_spanned x.file x.label) 0 n (λ l _ high. no_digits x l (too_far l (omega arith)))));
     succeeded = ap (failed x) (flat_map_none (lookups_if_looked_up x.config x.file x.label) 0 n (λ l _ high. no_lookups x l (too_far l (omega arith))));
   }
     where
@@ -118,9 +118,9 @@ module _ {Id : Type 0} {x : LabelToCollect Id} where
     collected-line there near inside adds counts none = record {
       within = ⊎_elim (λ looked_up. let k = inside looked_up in omega arith) (λ skipped. further skipped) (cases_Bool (is_looked_up x.config x.file x.label n));
       added = AppendsAnnotations-as (flat_map_more (annotations_if_looked_up x.config x.file x.label x.indices) n) (AppendsAnnotations-both g.added adds);
-      counted = counts ∙ ap (λ k. fold max k (digits_on x.file x.label n)) g.counted
-          ∙ sym (greatest-append xs.spanned_padding.digit_count (digits_below x n) (digits_on x.file x.label n))
-          ∙ sym (ap (fold max xs.spanned_padding.digit_count) (flat_map_more (digits_on x.file x.label) n));
+      counted = counts ∙ ap (λ k. fold max k (digit_count_if_spanned x.file x.label n)) g.counted
+          ∙ sym (greatest-append xs.spanned_padding.digit_count (digits_below x n) (digit_count_if_spanned x.file x.label n))
+          ∙ sym (ap (fold max xs.spanned_padding.digit_count) (flat_map_more (digit_count_if_spanned x.file x.label) n));
       succeeded = ap (failed x) (flat_map_more (lookups_if_looked_up x.config x.file x.label) n) ∙ succeeded_then x (lookups_below x n) (lookups_if_looked_up x.config x.file x.label n) g.succeeded ∙ none;
     }
       where
@@ -144,7 +144,7 @@ module _ {Id : Type 0} {x : LabelToCollect Id} where
           ∙ flat_map_same (annotations_if_looked_up x.config x.file x.label x.indices) n (line_count x.file) g.within (λ l low high. no_annotations x l (skipped l low high)),
       flat_map_filtered line_lookups (is_looked_up x.config x.file x.label) (range_with_len 0 (line_count x.file))
           ∙ flat_map_same (lookups_if_looked_up x.config x.file x.label) n (line_count x.file) g.within (λ l low high. no_lookups x l (skipped l low high)),
-      flat_map_same (digits_on x.file x.label) n (line_count x.file) g.within (λ l low high. no_digits x l (skipped l low high)),
+      flat_map_same (digit_count_if_spanned x.file x.label) n (line_count x.file) g.within (λ l low high. no_digits x l (skipped l low high)),
     )
 
     -- the lines that are done with are all

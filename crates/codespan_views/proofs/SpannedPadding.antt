@@ -14,7 +14,7 @@ use Rattle.codespan_core.specs.Labels.{LabelModel}
 use Rattle.codespan_picture.specs.Padding.{count_digits, digits_of, numbered_lines, padding_of, spanned_lines, spans}
 use Rattle.codespan_picture.specs.Snippets.{InFile, LabeledFileModel, labeled_file_model, labeled_file_models, file_ids}
 use Rattle.codespan_views.specs.Private.FileIndices.{IsIdAt, index_of_file}
-use Rattle.codespan_views.specs.Private.SpannedDigits.{all_digits, digits_on, label_digits}
+use Rattle.codespan_views.specs.Private.SpannedDigits.{all_digits, digit_count_if_spanned, label_digits}
 use Rattle.codespan_picture.proofs.Greatest.{greatest-any, greatest-append, greatest-same}
 use Rattle.codespan_picture.proofs.PaddingLemmas.{contains-filter, contains-range, numbered-fits}
 use Rattle.codespan_picture.proofs.RefillLemmas.{any-map}
@@ -76,11 +76,11 @@ module _ (f : FileModel) (x : LabelModel) where
   -- where each number fits the padding, all do
   digits-fit : (m n a : ℕ)
       → ((l : ℕ) → l < a + n → spans f x l ≡ true → count_digits (f.line_number l) ≤ m)
-      → AllByRecursion (λ d. d ≤ m) (flat_map (digits_on f x) (range_with_len a n))
+      → AllByRecursion (λ d. d ≤ m) (flat_map (digit_count_if_spanned f x) (range_with_len a n))
   digits-fit m zero a h = tt
   digits-fit m (suc n) a h =
-      all-append (λ d. d ≤ m) (digits_on f x a)
-      (flat_map (digits_on f x) (range_with_len (a + 1) n))
+      all-append (λ d. d ≤ m) (digit_count_if_spanned f x a)
+      (flat_map (digit_count_if_spanned f x) (range_with_len (a + 1) n))
       (here (spans f x a) (h a (omega arith)))
       (digits-fit m n (a + 1) (λ l k. h l (omega arith)))
     where
@@ -91,23 +91,23 @@ module _ (f : FileModel) (x : LabelModel) where
 
   -- the number of a line that is spanned is counted
   line-counted : (l n a : ℕ) → a ≤ l → l < a + n → spans f x l ≡ true
-      → count_digits (f.line_number l) ≤ fold max 0 (flat_map (digits_on f x) (range_with_len a n))
+      → count_digits (f.line_number l) ≤ fold max 0 (flat_map (digit_count_if_spanned f x) (range_with_len a n))
   line-counted l zero a low high t = absurd (omega arith)
   line-counted l (suc n) a low high t =
       ⊎_elim
-      (λ (e : a ≡ l). in-first (count_digits (f.line_number l)) (digits_on f x a)
-      (flat_map (digits_on f x) (range_with_len (a + 1) n)) (here a e))
-      (λ (ne : a ≡ l → ⊥). in-second (count_digits (f.line_number l)) (digits_on f x a)
-      (flat_map (digits_on f x) (range_with_len (a + 1) n))
+      (λ (e : a ≡ l). in-first (count_digits (f.line_number l)) (digit_count_if_spanned f x a)
+      (flat_map (digit_count_if_spanned f x) (range_with_len (a + 1) n)) (here a e))
+      (λ (ne : a ≡ l → ⊥). in-second (count_digits (f.line_number l)) (digit_count_if_spanned f x a)
+      (flat_map (digit_count_if_spanned f x) (range_with_len (a + 1) n))
       (line-counted l n (a + 1) (omega arith) (omega arith) t))
       (cases_eq a l)
     where
-      here : (k : ℕ) → k ≡ l → count_digits (f.line_number l) ≤ fold max 0 (digits_on f x k)
+      here : (k : ℕ) → k ≡ l → count_digits (f.line_number l) ≤ fold max 0 (digit_count_if_spanned f x k)
       here k e =
-          let one : fold max 0 (digits_on f x l) ≡ max 0 (count_digits (f.line_number l)) =
+          let one : fold max 0 (digit_count_if_spanned f x l) ≡ max 0 (count_digits (f.line_number l)) =
           ap (λ (b : Bool). fold max 0 (if b then count_digits (f.line_number l) ∷ [] else []))
           t in
-          subst (λ i. count_digits (f.line_number l) ≤ fold max 0 (digits_on f x i)) (sym e)
+          subst (λ i. count_digits (f.line_number l) ≤ fold max 0 (digit_count_if_spanned f x i)) (sym e)
           (omega (arith, one))
 
 -- ---- all labels

@@ -16,7 +16,7 @@ use Rattle.codespan_views.specs.Private.LabelAnnotations.{annotations_of, line_a
 use Rattle.codespan_views.specs.Private.FileLookups.{failure_in}
 use Rattle.codespan_views.specs.Private.SourceFiles.{failure_unless_past_end, model_of}
 use Rattle.codespan_views.specs.Private.AnnotationViews.{AppendsAnnotationsOf}
-use Rattle.codespan_views.specs.Private.SpannedDigits.{digits_on, label_digits}
+use Rattle.codespan_views.specs.Private.SpannedDigits.{digit_count_if_spanned, label_digits}
 
 -- the lookups of one label
 abbrev pub lookups_of_label : {Id : Type 0} → Config → FileDatabase Id → InFile Id
@@ -96,7 +96,7 @@ module _ {Id : Type 0} (x : LabelToCollect Id) where
   -- the padding has been widened to the number of a line, where the label spans the line
   abbrev pub WidensPaddingForLine : FoundAnnotations Id → FoundAnnotations Id → ℕ → Type 0
   WidensPaddingForLine old new l =
-      new.spanned_padding.digit_count ≡ fold max old.spanned_padding.digit_count (digits_on x.file x.label l)
+      new.spanned_padding.digit_count ≡ fold max old.spanned_padding.digit_count (digit_count_if_spanned x.file x.label l)
 
   -- what the lookups of a line fail with, where it is looked up
   abbrev pub failure_if_looked_up : ℕ → Option Error

@@ -8,12 +8,12 @@ use Rattle.codespan_picture.specs.Padding.{count_digits, spans}
 use Rattle.codespan_picture.specs.Snippets.{InFile}
 
 -- those of a line's number, where the label spans it
-abbrev pub digits_on : FileModel → LabelModel → ℕ → List ℕ
-digits_on f x l = if spans f x l then count_digits (f.line_number l) ∷ [] else []
+abbrev pub digit_count_if_spanned : FileModel → LabelModel → ℕ → List ℕ
+digit_count_if_spanned f x l = if spans f x l then count_digits (f.line_number l) ∷ [] else []
 
 -- those of all lines of a label
 abbrev pub label_digits : FileModel → LabelModel → List ℕ
-label_digits f x = flat_map (digits_on f x) (range_with_len 0 (line_count f))
+label_digits f x = flat_map (digit_count_if_spanned f x) (range_with_len 0 (line_count f))
 
 -- those of all labels
 abbrev pub all_digits : {Id : Type 0} → (Id → FileModel) → List (InFile Id) → List ℕ
