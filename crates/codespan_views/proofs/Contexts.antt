@@ -19,7 +19,7 @@ use Rattle.codespan_views.specs.Private.LabelAnnotations.{annotations_of, line_a
 use Rattle.codespan_views.specs.declared.label_annotations.FoundAnnotations.{FoundAnnotations}
 use Rattle.codespan_views.specs.Private.FileLookups.{failure_in}
 use Rattle.codespan_views.specs.Private.AnnotationViews.{AppendsAnnotationsOf}
-use Rattle.codespan_views.specs.Private.SpannedDigits.{digit_count_if_spanned, label_digits}
+use Rattle.codespan_views.specs.Private.SpannedDigits.{digit_count_if_spanned, label_digit_counts}
 use Rattle.codespan_picture.specs.Lookups.{looked_up_lines, lookups_of_file, ends_context_lines, first_error, is_around, is_looked_up, line_lookups, lookup_past_end}
 use Rattle.codespan_picture.specs.Padding.{count_digits, spans}
 use Rattle.codespan_picture.proofs.Greatest.{greatest-append}
@@ -138,7 +138,7 @@ module _ {Id : Type 0} {x : LabelToCollect Id} where
     all_collected : ((l : ℕ) → n ≤ l → l < line_count x.file → is_looked_up x.config x.file x.label l ≡ false)
         → (annotations_of x.config x.file x.indices x.label ≡ annotations_below x n)
         × (flat_map line_lookups (looked_up_lines x.config x.file x.label) ≡ lookups_below x n)
-        × (label_digits x.file x.label ≡ digits_below x n)
+        × (label_digit_counts x.file x.label ≡ digits_below x n)
     all_collected skipped = (
       flat_map_filtered (line_annotations x.config x.file x.indices x.label) (is_looked_up x.config x.file x.label) (range_with_len 0 (line_count x.file))
           ∙ flat_map_same (annotations_if_looked_up x.config x.file x.label x.indices) n (line_count x.file) g.within (λ l low high. no_annotations x l (skipped l low high)),
@@ -150,7 +150,7 @@ module _ {Id : Type 0} {x : LabelToCollect Id} where
     -- the lines that are done with are all
     collected-up : annotations_of x.config x.file x.indices x.label ≡ annotations_below x n
         → flat_map line_lookups (looked_up_lines x.config x.file x.label) ≡ lookups_below x n
-        → label_digits x.file x.label ≡ digits_below x n
+        → label_digit_counts x.file x.label ≡ digits_below x n
         → lookup_past_end x.config x.file (x.failure x.file_id) x.label ≡ [] → CollectsLabel x xs ys
     collected-up annotations_are looked_up digits no_lookup_past_end = record {
       added = AppendsAnnotations-as annotations_are g.added;

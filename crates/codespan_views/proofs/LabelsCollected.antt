@@ -26,7 +26,7 @@ use Rattle.codespan_picture.specs.Lookups.{lookups_of_file, first_error, label_l
 use Rattle.codespan_picture.specs.OutputStreams.{label_of}
 use Rattle.codespan_views.specs.Private.FileIndices.{IsIdAt, index_of_file}
 use Rattle.codespan_views.specs.Private.IndexedLabels.{annotations_after, indices_after}
-use Rattle.codespan_views.specs.Private.SpannedDigits.{all_digits, label_digits}
+use Rattle.codespan_views.specs.Private.SpannedDigits.{all_digits, label_digit_counts}
 use Rattle.codespan_picture.specs.Snippets.{InFile, file_ids}
 use Rattle.codespan_picture.proofs.Greatest.{greatest-append}
 use Rattle.codespan_picture.proofs.ListElements.{all-both, all-mapped, all-weaker}
@@ -161,10 +161,10 @@ module _ {Id : Type 0} {database : FileDatabase Id} (lawful : AreFiles database)
     -- the padding fits the lines that it spans
     counted-more : (more : FoundAnnotations Id)
         → more.spanned_padding.digit_count ≡ fold max found.spanned_padding.digit_count
-        (label_digits (file label.file_id) (label_of label).label)
+        (label_digit_counts (file label.file_id) (label_of label).label)
         → more.spanned_padding.digit_count ≡ fold max 0 (all_digits file (before labels (index + 1)))
     counted-more more counts =
-        let digits : InFile Id → List ℕ = λ x. label_digits (file x.file_id) x.label in
+        let digits : InFile Id → List ℕ = λ x. label_digit_counts (file x.file_id) x.label in
         counts ∙ ap (λ n. fold max n (digits (label_of label))) g.counted
         ∙ sym (greatest-append 0 (all_digits file (before labels index)) (digits (label_of label)))
         ∙ ap (λ (ns : List ℕ). fold max 0 (all_digits file (before labels index) ++ ns)) (sym (append-nil (digits (label_of label))))

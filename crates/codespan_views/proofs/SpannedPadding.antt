@@ -14,7 +14,7 @@ use Rattle.codespan_core.specs.Labels.{LabelModel}
 use Rattle.codespan_picture.specs.Padding.{count_digits, digits_of, numbered_lines, padding_of, spanned_lines, spans}
 use Rattle.codespan_picture.specs.Snippets.{InFile, LabeledFileModel, labeled_file_model, labeled_file_models, file_ids}
 use Rattle.codespan_views.specs.Private.FileIndices.{IsIdAt, index_of_file}
-use Rattle.codespan_views.specs.Private.SpannedDigits.{all_digits, digit_count_if_spanned, label_digits}
+use Rattle.codespan_views.specs.Private.SpannedDigits.{all_digits, digit_count_if_spanned, label_digit_counts}
 use Rattle.codespan_picture.proofs.Greatest.{greatest-any, greatest-append, greatest-same}
 use Rattle.codespan_picture.proofs.PaddingLemmas.{contains-filter, contains-range, numbered-fits}
 use Rattle.codespan_picture.proofs.RefillLemmas.{any-map}
@@ -174,10 +174,10 @@ module _ {Id : Type 0} (same : Id → Id → Bool) (file : Id → FileModel) (o 
   labels-fit : AllByRecursion (λ n. n ≤ padding_width) (all_digits file xs)
   labels-fit =
       all-elements (λ n. n ≤ padding_width)
-      (λ (x : InFile Id). label_digits (file x.file_id) x.label) xs
+      (λ (x : InFile Id). label_digit_counts (file x.file_id) x.label) xs
       (recursion_from_All
       (λ (x : InFile Id). AllByRecursion (λ n. n ≤ padding_width)
-      (label_digits (file x.file_id) x.label))
+      (label_digit_counts (file x.file_id) x.label))
       xs
       (λ k d inside. digits-fit (file (get_or xs k d).file_id) (get_or xs k d).label padding_width
       (line_count (file (get_or xs k d).file_id)) 0
@@ -192,14 +192,14 @@ module _ {Id : Type 0} (same : Id → Id → Bool) (file : Id → FileModel) (o 
       ⊎_elim
       (λ (t : (same id y.file_id && spans (file id) y.label l) ≡ true).
       let parts = and_parts (same id y.file_id) (spans (file id) y.label l) t in
-      in-first (count_digits ((file id).line_number l)) (label_digits (file y.file_id) y.label)
+      in-first (count_digits ((file id).line_number l)) (label_digit_counts (file y.file_id) y.label)
       (all_digits file ys)
-      (subst (λ m. count_digits ((file id).line_number l) ≤ fold max 0 (label_digits m y.label))
+      (subst (λ m. count_digits ((file id).line_number l) ≤ fold max 0 (label_digit_counts m y.label))
       (one_file id y.file_id parts.0)
       (line-counted (file id) y.label l (line_count (file id)) 0 (omega arith) (omega (arith, low))
       parts.1)))
       (λ (t : (same id y.file_id && spans (file id) y.label l) ≡ false).
-      in-second (count_digits ((file id).line_number l)) (label_digits (file y.file_id) y.label)
+      in-second (count_digits ((file id).line_number l)) (label_digit_counts (file y.file_id) y.label)
       (all_digits file ys)
       (some-counted id l low ys
       (sym

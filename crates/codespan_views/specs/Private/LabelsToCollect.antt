@@ -16,7 +16,7 @@ use Rattle.codespan_views.specs.Private.LabelAnnotations.{annotations_of, line_a
 use Rattle.codespan_views.specs.Private.FileLookups.{failure_in}
 use Rattle.codespan_views.specs.Private.SourceFiles.{failure_unless_past_end, model_of}
 use Rattle.codespan_views.specs.Private.AnnotationViews.{AppendsAnnotationsOf}
-use Rattle.codespan_views.specs.Private.SpannedDigits.{digit_count_if_spanned, label_digits}
+use Rattle.codespan_views.specs.Private.SpannedDigits.{digit_count_if_spanned, label_digit_counts}
 
 -- the lookups of one label
 abbrev pub lookups_of_label : {Id : Type 0} → Config → FileDatabase Id → InFile Id
@@ -113,7 +113,7 @@ module _ {Id : Type 0} (x : LabelToCollect Id) where
   -- the padding has been widened to the numbers of the lines that the label spans
   abbrev pub WidensPadding : FoundAnnotations Id → FoundAnnotations Id → Type 0
   WidensPadding old new =
-      new.spanned_padding.digit_count ≡ fold max old.spanned_padding.digit_count (label_digits x.file x.label)
+      new.spanned_padding.digit_count ≡ fold max old.spanned_padding.digit_count (label_digit_counts x.file x.label)
 
   -- what the lookups of its lines fail with
   abbrev pub lines_failure : Option Error
