@@ -26,7 +26,7 @@ use Rattle.codespan_picture.specs.Lookups.{lookups_of_file, first_error, label_l
 use Rattle.codespan_picture.specs.OutputStreams.{label_of}
 use Rattle.codespan_views.specs.Private.FileIndices.{IsIdAt, index_of_file}
 use Rattle.codespan_views.specs.Private.IndexedLabels.{annotations_after, indices_after}
-use Rattle.codespan_views.specs.Private.SpannedDigits.{all_digits, label_digit_counts}
+use Rattle.codespan_views.specs.Private.SpannedDigits.{all_digit_counts, label_digit_counts}
 use Rattle.codespan_picture.specs.Snippets.{InFile, file_ids}
 use Rattle.codespan_picture.proofs.Greatest.{greatest-append}
 use Rattle.codespan_picture.proofs.ListElements.{all-both, all-mapped, all-weaker}
@@ -48,7 +48,7 @@ pub record AreCollected {Id : Type 0} (database : FileDatabase Id) (config : Con
   pub starts_are : all_least_starts files ≡ map (file_least_starts database.same done) ids
   pub lanes_are : lane_counts files ≡ map (num_multi_labels_of database.same database.file done) ids
   pub added : AppendsAnnotations (IsOfFiles database.file ids) [] found.annotations.items (annotations_after database.same database.file config ids [] done)
-  pub counted : found.spanned_padding.digit_count ≡ fold max 0 (all_digits database.file done)
+  pub counted : found.spanned_padding.digit_count ≡ fold max 0 (all_digit_counts database.file done)
   pub succeeded : labels_failure config database done ≡ None
 
 -- the annotations of a label were added, the padding fits the lines that it spans, and no lookup of
@@ -162,14 +162,14 @@ module _ {Id : Type 0} {database : FileDatabase Id} (lawful : AreFiles database)
     counted-more : (more : FoundAnnotations Id)
         → more.spanned_padding.digit_count ≡ fold max found.spanned_padding.digit_count
         (label_digit_counts (file label.file_id) (label_of label).label)
-        → more.spanned_padding.digit_count ≡ fold max 0 (all_digits file (before labels (index + 1)))
+        → more.spanned_padding.digit_count ≡ fold max 0 (all_digit_counts file (before labels (index + 1)))
     counted-more more counts =
         let digits : InFile Id → List ℕ = λ x. label_digit_counts (file x.file_id) x.label in
         counts ∙ ap (λ n. fold max n (digits (label_of label))) g.counted
-        ∙ sym (greatest-append 0 (all_digits file (before labels index)) (digits (label_of label)))
-        ∙ ap (λ (ns : List ℕ). fold max 0 (all_digits file (before labels index) ++ ns)) (sym (append-nil (digits (label_of label))))
+        ∙ sym (greatest-append 0 (all_digit_counts file (before labels index)) (digits (label_of label)))
+        ∙ ap (λ (ns : List ℕ). fold max 0 (all_digit_counts file (before labels index) ++ ns)) (sym (append-nil (digits (label_of label))))
         ∙ ap (fold max 0) (sym (flat_map-append digits (before labels index) (label_of label ∷ [])))
-        ∙ ap (λ xs. fold max 0 (all_digits file xs)) (sym (before-more turn))
+        ∙ ap (λ xs. fold max 0 (all_digit_counts file xs)) (sym (before-more turn))
 
     -- the label's file has its lane too, and no other file's lanes change
     lanes-next : (next : List (RustFile Id))
