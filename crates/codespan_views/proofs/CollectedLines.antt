@@ -13,7 +13,7 @@ use Rattle.codespan_views.specs.Private.AnnotationViews.{AppendsAnnotationsOf}
 use Rattle.codespan_views.specs.Private.LabelsToCollect.{AppendsLineAnnotations, LabelToCollect, failure_if_looked_up}
 use Rattle.codespan_views.specs.Private.FileLookups.{failure_in}
 use Rattle.codespan_views.specs.Private.LabelSpans.{IsFarInside, spans_line}
-use Rattle.codespan_views.specs.Private.SpannedDigits.{digit_count_if_spanned}
+use Rattle.codespan_views.specs.Private.SpannedDigitCounts.{digit_count_if_spanned}
 use Rattle.codespan_views.proofs.Collecting.{AppendsAnnotations-as}
 
 -- a line far from both ends is between them

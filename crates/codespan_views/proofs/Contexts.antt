@@ -19,7 +19,7 @@ use Rattle.codespan_views.specs.Private.LabelAnnotations.{annotations_of, line_a
 use Rattle.codespan_views.specs.declared.label_annotations.FoundAnnotations.{FoundAnnotations}
 use Rattle.codespan_views.specs.Private.FileLookups.{failure_in}
 use Rattle.codespan_views.specs.Private.AnnotationViews.{AppendsAnnotationsOf}
-use Rattle.codespan_views.specs.Private.SpannedDigits.{digit_count_if_spanned, label_digit_counts}
+use Rattle.codespan_views.specs.Private.SpannedDigitCounts.{digit_count_if_spanned, label_digit_counts}
 use Rattle.codespan_picture.specs.Lookups.{looked_up_lines, lookups_of_file, ends_context_lines, first_error, is_around, is_looked_up, line_lookups, lookup_past_end}
 use Rattle.codespan_picture.specs.Padding.{count_digits, spans}
 use Rattle.codespan_picture.proofs.Greatest.{greatest-append}

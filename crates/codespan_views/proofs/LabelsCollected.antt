@@ -26,7 +26,7 @@ use Rattle.codespan_picture.specs.Lookups.{lookups_of_file, first_error, label_l
 use Rattle.codespan_picture.specs.OutputStreams.{label_of}
 use Rattle.codespan_views.specs.Private.FileIndices.{IsIdAt, index_of_file}
 use Rattle.codespan_views.specs.Private.IndexedLabels.{annotations_after, indices_after}
-use Rattle.codespan_views.specs.Private.SpannedDigits.{all_digit_counts, label_digit_counts}
+use Rattle.codespan_views.specs.Private.SpannedDigitCounts.{all_digit_counts, label_digit_counts}
 use Rattle.codespan_picture.specs.Snippets.{InFile, file_ids}
 use Rattle.codespan_picture.proofs.Greatest.{greatest-append}
 use Rattle.codespan_picture.proofs.ListElements.{all-both, all-mapped, all-weaker}

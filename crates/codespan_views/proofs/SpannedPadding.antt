@@ -14,7 +14,7 @@ use Rattle.codespan_core.specs.Labels.{LabelModel}
 use Rattle.codespan_picture.specs.Padding.{count_digits, digits_of, numbered_lines, padding_of, spanned_lines, spans}
 use Rattle.codespan_picture.specs.Snippets.{InFile, LabeledFileModel, labeled_file_model, labeled_file_models, file_ids}
 use Rattle.codespan_views.specs.Private.FileIndices.{IsIdAt, index_of_file}
-use Rattle.codespan_views.specs.Private.SpannedDigits.{all_digit_counts, digit_count_if_spanned, label_digit_counts}
+use Rattle.codespan_views.specs.Private.SpannedDigitCounts.{all_digit_counts, digit_count_if_spanned, label_digit_counts}
 use Rattle.codespan_picture.proofs.Greatest.{greatest-any, greatest-append, greatest-same}
 use Rattle.codespan_picture.proofs.PaddingLemmas.{contains-filter, contains-range, numbered-fits}
 use Rattle.codespan_picture.proofs.RefillLemmas.{any-map}

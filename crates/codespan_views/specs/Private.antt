@@ -12,7 +12,7 @@ pub mod Annotations
 pub mod AnnotationViews
 -- what is collected of labels
 pub mod LabelAnnotations
-pub mod SpannedDigits
+pub mod SpannedDigitCounts
 pub mod LabelsToCollect
 pub mod IndexedLabels
 pub mod Collections

@@ -10,7 +10,7 @@ use Rattle.codespan_views.specs.Private.Annotations.{is_before}
 use Rattle.codespan_views.specs.Private.AnnotationViews.{AppendsAnnotations, IsOfFiles, annotation_view}
 use Rattle.codespan_views.specs.Private.LabeledFiles.{HasLabels, ids_view}
 use Rattle.codespan_views.specs.Private.IndexedLabels.{all_annotations}
-use Rattle.codespan_views.specs.Private.SpannedDigits.{all_digit_counts}
+use Rattle.codespan_views.specs.Private.SpannedDigitCounts.{all_digit_counts}
 
 module _ {Id : Type 0} (database : FileDatabase Id) where
   -- the files of these labels were collected, and the padding width of the classic layout

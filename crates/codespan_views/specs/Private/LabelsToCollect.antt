@@ -16,7 +16,7 @@ use Rattle.codespan_views.specs.Private.LabelAnnotations.{annotations_of, line_a
 use Rattle.codespan_views.specs.Private.FileLookups.{failure_in}
 use Rattle.codespan_views.specs.Private.SourceFiles.{failure_unless_past_end, model_of}
 use Rattle.codespan_views.specs.Private.AnnotationViews.{AppendsAnnotationsOf}
-use Rattle.codespan_views.specs.Private.SpannedDigits.{digit_count_if_spanned, label_digit_counts}
+use Rattle.codespan_views.specs.Private.SpannedDigitCounts.{digit_count_if_spanned, label_digit_counts}
 
 -- the lookups of one label
 abbrev pub lookups_of_label : {Id : Type 0} → Config → FileDatabase Id → InFile Id
