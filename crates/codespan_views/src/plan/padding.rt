@@ -7,18 +7,18 @@ use crate::plan::snippet_lines::SnippetLine;
 use codespan_core::term::Layout;
 use codespan_picture::padding::count_digits;
 
-/// Returns the padding width, in characters: in the classic layout `spanned`, that of the lines
+/// Returns the padding width, in characters: in the classic layout `spanned_padding`, that of the lines
 /// that labels span; in the unbroken one the digits of the longest known number of `snippet_lines`.
 #[inline(always)]
 pub fn padding_width<FileId>(
     layout: Layout,
-    spanned: usize,
+    spanned_padding: usize,
     snippet_lines: &[SnippetLine<'_, '_, FileId>],
 ) -> usize
-    ensures { result ≡ padding_width layout spanned snippet_lines.now }
+    ensures { result ≡ padding_width layout spanned_padding snippet_lines.now }
 {
     match layout {
-        Layout::Classic => spanned,
+        Layout::Classic => spanned_padding,
         Layout::Unbroken => padding_of_lines(snippet_lines),
     }
 }
