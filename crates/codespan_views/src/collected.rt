@@ -82,7 +82,7 @@ fn collect_in_turn<'files, 'd, F: Files<'files>>(
         spanned_padding: PaddingWidth::with_digit_count(0),
     };
     let mut previous = 0;
-    let mut first_file_span = LabelSpan {
+    let mut joined_span = LabelSpan {
         first: usize::MAX,
         last: 0,
     };
@@ -94,7 +94,7 @@ fn collect_in_turn<'files, 'd, F: Files<'files>>(
         add_label(&mut labeled, file, label, span);
         previous = file;
         if file == 0 {
-            first_file_span = first_file_span.join(span);
+            joined_span = joined_span.join(span);
         }
     }
     Ok(Collected {
@@ -102,6 +102,6 @@ fn collect_in_turn<'files, 'd, F: Files<'files>>(
         files: labeled,
         annotations: found.annotations,
         spanned_padding: found.spanned_padding.digit_count,
-        first_file_span: first_file_span,
+        first_file_span: joined_span,
     })
 }
