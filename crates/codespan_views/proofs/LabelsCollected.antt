@@ -91,7 +91,7 @@ module _ {Id : Type 0} {database : FileDatabase Id} (lawful : AreFiles database)
   before-length = let inside = turn.inside in length-map (take index labels) label_of ∙ length-take-le index labels (omega (arith, inside))
 
   -- an annotation of the label's file is one of the files with these ids
-  of_files : (e : RustAnnotation Id) → IsLineOf (file label.file_id) e.line → e.file ≡ index_of_file same ids label.file_id → IsOfFiles file ids e
+  of_files : (e : RustAnnotation Id) → IsLineOf (file label.file_id) e.line → e.file_index ≡ index_of_file same ids label.file_id → IsOfFiles file ids e
   of_files e is_line own id there =
       let equal : same id label.file_id ≡ true =
       sym (index_of_file-at same o (before labels (index + 1)) _ id (subst (λ k. IsIdAt ids k id) own there) label.file_id) ∙ eq-eqb _ _ refl in
@@ -99,11 +99,11 @@ module _ {Id : Type 0} {database : FileDatabase Id} (lawful : AreFiles database)
 
   -- where the label is
   abbrev here : LabelIndices
-  here = record { file = index_of_file same ids label.file_id; index = index; lane = num_multi_labels_of same file (before labels index) label.file_id }
+  here = record { file_index = index_of_file same ids label.file_id; index = index; lane = num_multi_labels_of same file (before labels index) label.file_id }
 
   -- that is what comes after the labels before it
   here-is : here ≡ indices_after same file ids (before labels index) (label_of label)
-  here-is = λ i. record { file = index_of_file same ids label.file_id; index = sym before-length i; lane = num_multi_labels_of same file (before labels index) label.file_id }
+  here-is = λ i. record { file_index = index_of_file same ids label.file_id; index = sym before-length i; lane = num_multi_labels_of same file (before labels index) label.file_id }
 
   -- the label's lane is one of its file's, and of no other file's
   lanes-changed : IsChanged same label.file_id (num_multi_labels_of same file (before labels index)) (num_multi_labels_of same file (before labels (index + 1)))
@@ -141,16 +141,16 @@ module _ {Id : Type 0} {database : FileDatabase Id} (lawful : AreFiles database)
     added-more more adds =
         let f = file label.file_id in
         let x = (label_of label).label in
-        let own : AllByRecursion (λ (e : RustAnnotation Id). e.file ≡ index_of_file same ids label.file_id) adds.more =
-        all-mapped annotation_view (λ (e : Annotation). e.file ≡ index_of_file same ids label.file_id) adds.more
-        (subst (λ (es : List Annotation). AllByRecursion (λ (e : Annotation). e.file ≡ index_of_file same ids label.file_id) es) (sym adds.are) (all-of_file config f here x)) in
+        let own : AllByRecursion (λ (e : RustAnnotation Id). e.file_index ≡ index_of_file same ids label.file_id) adds.more =
+        all-mapped annotation_view (λ (e : Annotation). e.file_index ≡ index_of_file same ids label.file_id) adds.more
+        (subst (λ (es : List Annotation). AllByRecursion (λ (e : Annotation). e.file_index ≡ index_of_file same ids label.file_id) es) (sym adds.are) (all-of_file config f here x)) in
         let widened : AppendsAnnotations (IsOfFiles file ids) found.annotations.items more.annotations.items (annotations_of config f here x) = record {
           more = adds.more;
           whole = adds.whole;
           are = adds.are;
           each =
-              all-weaker (λ (e : RustAnnotation Id). IsLineOf f e.line × (e.file ≡ index_of_file same ids label.file_id)) (IsOfFiles file ids) (λ e h. of_files e h.0 h.1) adds.more
-              (all-both (λ e. IsLineOf f e.line) (λ e. e.file ≡ index_of_file same ids label.file_id) adds.more adds.each own);
+              all-weaker (λ (e : RustAnnotation Id). IsLineOf f e.line × (e.file_index ≡ index_of_file same ids label.file_id)) (IsOfFiles file ids) (λ e h. of_files e h.0 h.1) adds.more
+              (all-both (λ e. IsLineOf f e.line) (λ e. e.file_index ≡ index_of_file same ids label.file_id) adds.more adds.each own);
         } in
         AppendsAnnotations-as
         (ap (annotations_after same file config ids []) (before-more turn)
@@ -207,7 +207,7 @@ module _ {Id : Type 0} {database : FileDatabase Id} (lawful : AreFiles database)
       -- one more label, whose file is at this index
       pub collected-more : {next : List (RustFile Id)} {more : FoundAnnotations Id}
           → IsCollectedLabel database config
-          (record { file = at; index = index; lane = get_or (lane_counts files) at 0 }) label found
+          (record { file_index = at; index = index; lane = get_or (lane_counts files) at 0 }) label found
           more → IsAddedLabel file at label files next
           → AreCollected database config (file_ids same (before labels (index + 1))) (before labels (index + 1)) next more
       collected-more {next} {more} own known = record {
@@ -216,7 +216,7 @@ module _ {Id : Type 0} {database : FileDatabase Id} (lawful : AreFiles database)
         lanes_are = lanes-next next (known.lanes ∙ ap (λ k. lane_counts_with (lane_counts files) k (label_lanes (file label.file_id) (label_of label).label)) index-found);
         added = added-more more (subst₂ (λ k n. AppendsAnnotationsOf (file label.file_id) found.annotations.items
             more.annotations.items (annotations_of config (file label.file_id)
-            (record { file = k; index = index; lane = n }) (label_of label).label)) index-found
+            (record { file_index = k; index = index; lane = n }) (label_of label).label)) index-found
             lane-found own.added);
         counted = counted-more more own.counted;
         succeeded =

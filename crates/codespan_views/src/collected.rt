@@ -87,13 +87,13 @@ fn collect_in_turn<'files, 'd, F: Files<'files>>(
         last: 0,
     };
     for (index, label) in labels.iter().enumerate() {
-        let file = get_or_insert_file(&mut labeled, previous, label.file_id)?;
-        let lane = labeled[file].num_multi_labels;
-        let indices = LabelIndices { file, index, lane };
+        let file_index = get_or_insert_file(&mut labeled, previous, label.file_id)?;
+        let lane = labeled[file_index].num_multi_labels;
+        let indices = LabelIndices { file_index, index, lane };
         let span = collect_label(files, config, indices, label, &mut found)?;
-        add_label(&mut labeled, file, label, span);
-        previous = file;
-        if file == 0 {
+        add_label(&mut labeled, file_index, label, span);
+        previous = file_index;
+        if file_index == 0 {
             joined_span = joined_span.join(span);
         }
     }

@@ -20,7 +20,7 @@ use codespan_core::term::Config;
 #[derive(Clone, Copy)]
 pub struct LabelIndices {
     /// The index of its file among those of the output.
-    pub file: usize,
+    pub file_index: usize,
     /// Its index in the diagnostic's list of labels.
     pub index: usize,
     /// The number of the file's multi-line labels before it: its lane, if it is one.
@@ -112,7 +112,7 @@ impl<'a, 'c, 'd, 'files, F: Files<'files>> LabelCollector<'a, 'c, 'd, 'files, F>
             lane: self.indices.lane,
             label: self.label,
         };
-        push_annotation(self.indices.file, line, Some(kind), annotations)?;
+        push_annotation(self.indices.file_index, line, Some(kind), annotations)?;
         Ok(())
     }
 
@@ -144,9 +144,9 @@ impl<'a, 'c, 'd, 'files, F: Files<'files>> LabelCollector<'a, 'c, 'd, 'files, F>
         if is_far {
             return self.push_far_line(line, annotations);
         }
-        let file = self.indices.file;
-        push_annotation(file, line, self.kind_on_line(line), annotations)?;
-        push_annotation(file, line, self.lane_mark_on_line(line), annotations)?;
+        let file_index = self.indices.file_index;
+        push_annotation(file_index, line, self.kind_on_line(line), annotations)?;
+        push_annotation(file_index, line, self.lane_mark_on_line(line), annotations)?;
         Ok(())
     }
 

@@ -35,7 +35,7 @@ kind_view start (rust.Multi kind lane label) =
 -- an annotation
 abbrev pub annotation_view : {Id : Type 0} → RustAnnotation Id → Annotation
 annotation_view e = record
-    { file = e.file; line = e.line.index; kind = kind_view e.line.start e.kind }
+    { file_index = e.file_index; line = e.line.index; kind = kind_view e.line.start e.kind }
 
 -- the line is one of the file's, with its number and its range
 pub record IsLineOf (f : FileModel) (line : LineInfo) : Type 0 where
@@ -48,7 +48,7 @@ IsLineAt f l line = (line.index ≡ l) × IsLineOf f line
 
 -- the annotation's line is one of its file, where these are the ids of the files
 abbrev pub IsOfFiles : {Id : Type 0} → (Id → FileModel) → List Id → RustAnnotation Id → Type 0
-IsOfFiles {Id} file ids e = (id : Id) → IsIdAt ids e.file id → IsLineOf (file id) e.line
+IsOfFiles {Id} file ids e = (id : Id) → IsIdAt ids e.file_index id → IsLineOf (file id) e.line
 
 -- these annotations were appended, and this holds of each
 pub record AppendsAnnotations {Id : Type 0} (P : RustAnnotation Id → Type 0) (old new : List (RustAnnotation Id))

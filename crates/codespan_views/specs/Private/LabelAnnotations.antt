@@ -24,8 +24,8 @@ module _ (config : Config) (f : FileModel) (indices : LabelIndices) (x : LabelMo
 
   -- its annotations of a line
   abbrev pub line_annotations : ℕ → List Annotation
-  line_annotations l = annotation_if_any indices.file l (kind_on l)
-      ++ annotation_if_any indices.file l (lane_mark_on l)
+  line_annotations l = annotation_if_any indices.file_index l (kind_on l)
+      ++ annotation_if_any indices.file_index l (lane_mark_on l)
 
   -- its annotations of all lines that are looked up for it
   abbrev pub annotations_of : List Annotation
