@@ -76,7 +76,7 @@ fn collect_in_turn<'files, 'd, F: Files<'files>>(
     ensures failed { FailsBy (labels_failure config.now (F.database files.now)
         (map label_of labels.now)) result }
 {
-    let mut labeled = Vec::new(alloc);
+    let mut labeled_files = Vec::new(alloc);
     let mut found = FoundAnnotations {
         annotations: Vec::with_capacity(alloc, labels.len())?,
         spanned_padding: PaddingWidth::with_digit_count(0),
@@ -87,11 +87,11 @@ fn collect_in_turn<'files, 'd, F: Files<'files>>(
         last: 0,
     };
     for (index, label) in labels.iter().enumerate() {
-        let file_index = get_or_insert_file(&mut labeled, previous, label.file_id)?;
-        let lane = labeled[file_index].num_multi_labels;
+        let file_index = get_or_insert_file(&mut labeled_files, previous, label.file_id)?;
+        let lane = labeled_files[file_index].num_multi_labels;
         let indices = LabelIndices { file_index, index, lane };
         let span = collect_label(files, config, indices, label, &mut found)?;
-        add_label(&mut labeled, file_index, label, span);
+        add_label(&mut labeled_files, file_index, label, span);
         previous = file_index;
         if file_index == 0 {
             joined_span = joined_span.join(span);
@@ -99,7 +99,7 @@ fn collect_in_turn<'files, 'd, F: Files<'files>>(
     }
     Ok(Collected {
         labels,
-        files: labeled,
+        files: labeled_files,
         annotations: found.annotations,
         spanned_padding: found.spanned_padding.digit_count,
         first_file_span: joined_span,

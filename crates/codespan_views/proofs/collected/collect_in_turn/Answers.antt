@@ -35,7 +35,7 @@ equal_ids g κs claim files = (g.met.F.Files κs claim).same_is files
 pub get_or_insert_file-requires : goal.get_or_insert_file-requires
 get_or_insert_file-requires g c =
     let lawful = are_files g c.lifetimes (search rules) c.args.files.now in
-    subst (λ same. AreDistinct same (ids_view c.loop-index.labeled.items))
+    subst (λ same. AreDistinct same (ids_view c.loop-index.labeled_files.items))
     (equal_ids g c.lifetimes (search rules) c.args.files.now)
     (subst (AreDistinct (g.F.Files.database c.args.files.now).same)
     (sym c.loop-index.invariant.ids_are)
@@ -60,7 +60,7 @@ indexed g c at =
     let now = c.in_ok-file_index.ensures in
     file-indexed lawful at c.loop-index.invariant
     (subst
-    (λ same. IsIndexedFile same c.index-labels-index.result.file_id c.loop-index.labeled.items
+    (λ same. IsIndexedFile same c.index-labels-index.result.file_id c.loop-index.labeled_files.items
     c.get_or_insert_file.new.files.items)
     (sym (equal_ids g c.lifetimes (search rules) c.args.files.now))
     (record { ids = now.ids; starts = now.starts; lanes = now.lanes }))
@@ -166,7 +166,7 @@ returns-clause-collected g c =
     record {
       files = record {
         ids_are = done.ids_are;
-        labels_are = each-labels same file xs c.loop-index.labeled.items
+        labels_are = each-labels same file xs c.loop-index.labeled_files.items
             (done.starts_are ∙ ap (map (file_least_starts same xs)) (sym done.ids_are))
             (done.lanes_are ∙ ap (map (num_multi_labels_of same file xs)) (sym done.ids_are));
         padding_is = done.counted;
