@@ -17,13 +17,13 @@ pub fn shows_line<FileId>(annotation: &Annotation<'_, FileId>) -> bool
 }
 
 /// Returns how many annotations at the start are of the line at this 0-based index.
-pub fn count_on_line<FileId>(annotations: &[Annotation<'_, FileId>], line: usize) -> usize
-    ensures value { result ≡ prefix_len (λ e. is_on_line line (annotation_view e)) annotations.now }
+pub fn count_on_line<FileId>(annotations: &[Annotation<'_, FileId>], line_index: usize) -> usize
+    ensures value { result ≡ prefix_len (λ e. is_on_line line_index (annotation_view e)) annotations.now }
     ensures within { result ≤ length annotations.now }
 {
     annotations
         .iter()
-        .take_while(|annotation| annotation.line.index == line)
+        .take_while(|annotation| annotation.line.index == line_index)
         .count()
 }
 
