@@ -55,21 +55,21 @@ label_to_collect database config indices label = record {
 -- the label whose lines a collector looks up
 abbrev pub label_of_collector : {F Id Name Source : Type 0} → (F → FileDatabase Id)
     → LabelCollector F Id Name Source → LabelToCollect Id
-label_of_collector database collector = record {
+label_of_collector database_of collector = record {
   file_id = collector.file.file_id;
-  file = model_of database collector.file;
-  failure = (database collector.file.files.now).failure;
+  file = model_of database_of collector.file;
+  failure = (database_of collector.file.files.now).failure;
   config = collector.config.now;
   indices = collector.indices;
   label = (label_of collector.label.now).label;
 }
 
 -- the collector has the lines on which its label starts and ends
-pub record HasLabelLines {F Id Name Source : Type 0} (database : F → FileDatabase Id)
+pub record HasLabelLines {F Id Name Source : Type 0} (database_of : F → FileDatabase Id)
     (collector : LabelCollector F Id Name Source) : Type 0 where
-  pub first : first_line (model_of database collector.file) (label_of collector.label.now).label
+  pub first : first_line (model_of database_of collector.file) (label_of collector.label.now).label
       ≡ collector.span.first
-  pub last : last_line (model_of database collector.file) (label_of collector.label.now).label
+  pub last : last_line (model_of database_of collector.file) (label_of collector.label.now).label
       ≡ collector.span.last
 
 module _ {Id : Type 0} (x : LabelToCollect Id) where
@@ -153,6 +153,6 @@ lane_mark_by_collector collector line =
 -- a line is looked up for the label, and its lookups fail with this error
 abbrev pub FailsAtLine : {F Id Name Source : Type 0} → (F → FileDatabase Id)
     → LabelCollector F Id Name Source → ℕ → Error → Type 0
-FailsAtLine database collector l e =
-    IsLookedUp (label_of_collector database collector) l
-    × (failure_unless_past_end database collector.file collector.span.last l ≡ Some e)
+FailsAtLine database_of collector l e =
+    IsLookedUp (label_of_collector database_of collector) l
+    × (failure_unless_past_end database_of collector.file collector.span.last l ≡ Some e)

@@ -40,14 +40,14 @@ module _ {Id : Type 0} (snippet_plan : SnippetPlan Id) where
 abbrev pub lookups_with : {Id : Type 0} → List (RustLine Id) → List Lookup
 lookups_with snippet_lines = Source ∷ lookups_of_lines snippet_lines
 
-module _ {W F Id : Type 0} (sink : W → Sink) (database : F → FileDatabase Id)
+module _ {W F Id : Type 0} (sink : W → Sink) (database_of : F → FileDatabase Id)
     (context : SnippetContext F) where
   -- the call renders the snippet of a file by these lines, and makes its lookups
   abbrev pub RendersSnippet : SnippetPlan Id → List (RustLine Id) → Renderer W
       → Result (Unit {0}) Error → Renderer W → Type 0
   RendersSnippet snippet_plan snippet_lines =
-      let t = database context.files.now in
+      let database = database_of context.files.now in
       let id = snippet_plan.file.now.file_id in
-      RendersRowsWithLookups sink (failure_in t.failure id (lookups_with snippet_lines))
+      RendersRowsWithLookups sink (failure_in database.failure id (lookups_with snippet_lines))
       context.severity context.padding
-      (rows_in snippet_plan (t.file id) snippet_lines)
+      (rows_in snippet_plan (database.file id) snippet_lines)
