@@ -38,13 +38,13 @@ number_lookups layout es ids =
 module _ {Id : Type 0} (layout : Layout) (file : Id → FileModel) (es : List Annotation) where
   -- the plan is that of this file, which is at an index: its locus and its lines
   pub record IsPlanOfAnnotations (k : ℕ) (f : RustFile Id) (snippet_plan : SnippetPlan Id)
-      (own : List (RustLine Id)) : Type 0 where
+      (own_lines : List (RustLine Id)) : Type 0 where
     pub file_is : snippet_plan.file.now ≡ f
     pub locus_is : IsTextLocus (file f.file_id, locus_byte f.least_starts)
         (locus_view snippet_plan.locus)
-    pub count_is : snippet_plan.line_total ≡ length own
-    pub are : map snippet_line_view own ≡ lines_at es k
-    pub each : AllByRecursion (IsSnippetLineIn layout (file f.file_id)) own
+    pub count_is : snippet_plan.line_total ≡ length own_lines
+    pub are : map snippet_line_view own_lines ≡ lines_at es k
+    pub each : AllByRecursion (IsSnippetLineIn layout (file f.file_id)) own_lines
 
   -- the plans are those of the files from an index on, and these are all their lines, those of the
   -- first file in front

@@ -154,8 +154,8 @@ pub fn plan_snippets<'files, 'e, 'd, F: Files<'files>>(
     let mut start = 0;
     for (index, file) in collected.files.iter().enumerate() {
         let len = count_in_file(&collected.annotations[start..], index);
-        let own = &collected.annotations[start..start + len];
-        let line_total = push_snippet(files, file.file_id, layout, own, snippet_lines)?;
+        let own_annotations = &collected.annotations[start..start + len];
+        let line_total = push_snippet(files, file.file_id, layout, own_annotations, snippet_lines)?;
         start += len;
         match locate_snippet(alloc, files, file, line_total) {
             Ok(snippet_plan) => snippet_plans.push(snippet_plan)?,
