@@ -29,7 +29,7 @@ pub struct Pointer {
     /// The column of the pointer: that of the character's first cell.
     pub column: u128,
     /// The column after the pointer: the next one, or the same where the character has no cell.
-    pub after: u128,
+    pub end_column: u128,
     /// The style that takes precedence among those of the labels that hang from it.
     pub style: LabelStyle,
 }
@@ -57,7 +57,7 @@ pub fn write_pointers<W: PutStyle>(
         if pointer.byte_index < before {
             let pending = pointer.column.saturating_sub(column);
             caret_pointer(w, context, pending, pointer.style)?;
-            column = pointer.after;
+            column = pointer.end_column;
         }
     }
     write_spaces(w, edge.saturating_sub(column))
@@ -119,7 +119,7 @@ fn pointer_under(metrics: Metrics, style: LabelStyle) -> Pointer
     Pointer {
         byte_index: metrics.byte_index,
         column: metrics.column,
-        after: metrics.column + metrics.unicode_width.min(1) as u128,
+        end_column: metrics.column + metrics.unicode_width.min(1) as u128,
         style,
     }
 }
