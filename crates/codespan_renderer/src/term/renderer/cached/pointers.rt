@@ -45,16 +45,16 @@ pub fn write_pointers<W: PutStyle>(
     w: &mut W,
     context: RowContext<'_>,
     pointers: &[Pointer],
-    before: usize,
+    byte_index: usize,
     edge: u128,
 ) -> Result<(), W::Error>
     ensures { Writes (W.sink w.old)
-        (spaced (context_view context.entry) edge 0 (pointers_before before pointers.now))
+        (spaced (context_view context.entry) edge 0 (pointers_before byte_index pointers.now))
         result (W.sink w.new) }
 {
     let mut column = 0u128;
     for pointer in pointers {
-        if pointer.byte_index < before {
+        if pointer.byte_index < byte_index {
             let pending = pointer.column.saturating_sub(column);
             caret_pointer(w, context, pending, pointer.style)?;
             column = pointer.end_column;
