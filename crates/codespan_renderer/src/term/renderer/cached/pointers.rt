@@ -84,8 +84,8 @@ pub fn find_pointers(
     characters: CachedMetrics<'_, '_>,
 ) -> Result<(), Error>
     requires hanging_labels { AreHanging line.labels.now messages.before.now messages.after.now }
-    requires before { IsTrue (starts_in_order (single_label_views messages.before.now)) }
-    requires after { IsTrue (starts_in_order (single_label_views messages.after.now)) }
+    requires before_trailing { IsTrue (starts_in_order (single_label_views messages.before.now)) }
+    requires after_trailing { IsTrue (starts_in_order (single_label_views messages.after.now)) }
     requires characters { cached_left characters ≡ char_metrics tab_width line.text.now }
     ensures found { IfOk result (λ _. pointers.new.items
         ≡ pointers_in (hanging_labels (single_label_views line.entry.labels.now))
@@ -96,15 +96,15 @@ pub fn find_pointers(
     if !has_any_message(messages.before) && !has_any_message(messages.after) {
         return Ok(());
     }
-    let mut before = StartCursor::new(messages.before);
-    let mut after = StartCursor::new(messages.after);
+    let mut before_trailing = StartCursor::new(messages.before);
+    let mut after_trailing = StartCursor::new(messages.after);
     let greatest_start = max_label_start(line.labels);
     for metrics in characters {
         if metrics.byte_index > greatest_start {
             return Ok(());
         }
-        let early = before.start_style(None, metrics);
-        if let Some(style) = after.start_style(early, metrics) {
+        let early = before_trailing.start_style(None, metrics);
+        if let Some(style) = after_trailing.start_style(early, metrics) {
             pointers.push(pointer_under(metrics, style))?;
         }
     }
