@@ -175,8 +175,8 @@ impl<'a, 'c, 'd, 'files, F: Files<'files>> LabelCollector<'a, 'c, 'd, 'files, F>
         requires lines { HasLabelLines F.database self.now }
         ensures inside { IfContinues result
             (HasLineIfLookedUp (label_of_collector F.database self.now) index) }
-        ensures added { IfContinues result
-            (FindsLineAnnotations (label_of_collector F.database self.now) found.old found.new index) }
+        ensures added { IfContinues result (FindsLineAnnotations
+            (label_of_collector F.database self.now) found.old found.new index) }
         ensures padding { IfContinues result (WidensPaddingForLine
             (label_of_collector F.database self.now) found.old found.new index) }
         ensures succeeded { IfContinues result
@@ -250,9 +250,11 @@ pub fn collect_label<'files, 'd, F: Files<'files>>(
     ensures last { IfOk result (λ span. span.last
         ≡ line_of_end (F.database files.now).file label.now) }
     ensures added { OnOk result (FindsLabelAnnotations
-        (label_to_collect (F.database files.now) config.now indices label.now) found.old found.new) }
+        (label_to_collect (F.database files.now) config.now indices label.now)
+        found.old found.new) }
     ensures padding { OnOk result (WidensPadding
-        (label_to_collect (F.database files.now) config.now indices label.now) found.old found.new) }
+        (label_to_collect (F.database files.now) config.now indices label.now)
+        found.old found.new) }
     ensures failed { FailsBy (label_failure
         (label_to_collect (F.database files.now) config.now indices label.now)) result }
 {

@@ -59,7 +59,8 @@ pub fn add_label<FileId>(
     requires bound { slice_index_or (lane_counts files.old.items) index 0 + 1 < 2 ^ 64 }
     ensures ids { ids_view files.new.items ≡ ids_view files.old.items }
     ensures starts { all_least_starts files.new.items
-        ≡ all_least_starts_with (all_least_starts files.old.items) index (label_of label.now).label }
+        ≡ all_least_starts_with (all_least_starts files.old.items) index
+        (label_of label.now).label }
     ensures lanes { lane_counts files.new.items
         ≡ lane_counts_with (lane_counts files.old.items) index (lanes_of_span span) }
 {
@@ -107,8 +108,8 @@ pub fn get_or_insert_file<FileId: Copy + Eq>(
 /// `OutOfMemory`: an allocation fails.
 fn push_file<FileId: Copy>(files: &mut Vec<LabeledFile<FileId>>, id: FileId) -> Result<(), Error>
     ensures ids { OnOk result (ids_view files.new.items ≡ ids_view files.old.items ++ id ∷ []) }
-    ensures starts { OnOk result (all_least_starts files.new.items ≡ all_least_starts files.old.items
-        ++ no_starts ∷ []) }
+    ensures starts { OnOk result (all_least_starts files.new.items
+        ≡ all_least_starts files.old.items ++ no_starts ∷ []) }
     ensures lanes { OnOk result (lane_counts files.new.items ≡ lane_counts files.old.items
         ++ 0 ∷ []) }
     ensures failed { OnErr result (IsErrOf result Error.OutOfMemory) }

@@ -51,17 +51,18 @@ abbrev pub IsOfFiles : {Id : Type 0} → (Id → FileModel) → List Id → Rust
 IsOfFiles {Id} file ids e = (id : Id) → IsIdAt ids e.file_index id → IsLineOf (file id) e.line
 
 -- these annotations were appended, and this holds of each
-pub record AppendsAnnotations {Id : Type 0} (P : RustAnnotation Id → Type 0) (old new : List (RustAnnotation Id))
-    (annotations : List Annotation) : Type 0 where
+pub record AppendsAnnotations {Id : Type 0} (P : RustAnnotation Id → Type 0)
+    (old new : List (RustAnnotation Id)) (annotations : List Annotation) : Type 0 where
   pub more : List (RustAnnotation Id)
   pub whole : new ≡ old ++ more
   pub are : map annotation_view more ≡ annotations
   pub each : AllByRecursion P more
 
 -- annotations of lines of this file were appended
-abbrev pub AppendsAnnotationsOf : {Id : Type 0} → FileModel → List (RustAnnotation Id) → List (RustAnnotation Id)
-    → List Annotation → Type 0
-AppendsAnnotationsOf f old new annotations = AppendsAnnotations (λ e. IsLineOf f e.line) old new annotations
+abbrev pub AppendsAnnotationsOf : {Id : Type 0} → FileModel → List (RustAnnotation Id)
+    → List (RustAnnotation Id) → List Annotation → Type 0
+AppendsAnnotationsOf f old new annotations =
+    AppendsAnnotations (λ e. IsLineOf f e.line) old new annotations
 
 -- the kind of the multi-line label mark that a label from line `s` to line `e` has on line `l`, if
 -- it is a multi-line label that has one

@@ -87,4 +87,5 @@ IsLaneMarkOn f l lane e =
 -- an annotation of a line, if there is one
 abbrev pub annotation_if_any : ℕ → ℕ → Option AnnotationKind → List Annotation
 annotation_if_any file_index l None = []
-annotation_if_any file_index l (Some kind) = record { file_index = file_index; line = l; kind = kind } ∷ []
+annotation_if_any file_index l (Some kind) =
+    record { file_index = file_index; line = l; kind = kind } ∷ []

@@ -54,4 +54,5 @@ all_least_starts_with starts index x =
 
 -- how many lanes all files have, with those of one more label of the file at this index
 abbrev pub lane_counts_with : List ℕ → ℕ → ℕ → List ℕ
-lane_counts_with lanes index own_lanes = slice_set lanes index (slice_index_or lanes index 0 + own_lanes)
+lane_counts_with lanes index own_lanes =
+    slice_set lanes index (slice_index_or lanes index 0 + own_lanes)

@@ -84,8 +84,11 @@ module _ {Id : Type 0} (x : LabelToCollect Id) where
   HasLineIfLookedUp l = IsLookedUp l → l < line_count x.file
 
   -- its annotations of a line were appended
-  abbrev pub AppendsLineAnnotations : List (RustAnnotation Id) → List (RustAnnotation Id) → ℕ → Type 0
-  AppendsLineAnnotations old new l = AppendsAnnotationsOf x.file old new (line_annotations x.config x.file x.indices x.label l)
+  abbrev pub AppendsLineAnnotations : List (RustAnnotation Id) → List (RustAnnotation Id) → ℕ
+      → Type 0
+  AppendsLineAnnotations old new l =
+      AppendsAnnotationsOf x.file old new
+      (line_annotations x.config x.file x.indices x.label l)
 
   -- its annotations of a line were found, where it is looked up
   abbrev pub FindsLineAnnotations : FoundAnnotations Id → FoundAnnotations Id → ℕ → Type 0
@@ -96,11 +99,13 @@ module _ {Id : Type 0} (x : LabelToCollect Id) where
   -- the padding has been widened to the number of a line, where the label spans the line
   abbrev pub WidensPaddingForLine : FoundAnnotations Id → FoundAnnotations Id → ℕ → Type 0
   WidensPaddingForLine old new l =
-      new.spanned_padding.digit_count ≡ fold max old.spanned_padding.digit_count (digit_count_if_spanned x.file x.label l)
+      new.spanned_padding.digit_count
+      ≡ fold max old.spanned_padding.digit_count (digit_count_if_spanned x.file x.label l)
 
   -- what the lookups of a line fail with, where it is looked up
   abbrev pub failure_if_looked_up : ℕ → Option Error
-  failure_if_looked_up l = failure_in x.failure x.file_id (lookups_if_looked_up x.config x.file x.label l)
+  failure_if_looked_up l =
+      failure_in x.failure x.file_id (lookups_if_looked_up x.config x.file x.label l)
 
   -- ---- all of its lines
 
@@ -113,7 +118,8 @@ module _ {Id : Type 0} (x : LabelToCollect Id) where
   -- the padding has been widened to the numbers of the lines that the label spans
   abbrev pub WidensPadding : FoundAnnotations Id → FoundAnnotations Id → Type 0
   WidensPadding old new =
-      new.spanned_padding.digit_count ≡ fold max old.spanned_padding.digit_count (label_digit_counts x.file x.label)
+      new.spanned_padding.digit_count
+      ≡ fold max old.spanned_padding.digit_count (label_digit_counts x.file x.label)
 
   -- what the lookups of its lines fail with
   abbrev pub lines_failure : Option Error
@@ -137,18 +143,18 @@ abbrev pub IfEnded : Result Bool Error → Type 0 → Type 0
 IfEnded r P = IfOk r (λ goes_on. goes_on ≡ false → P)
 
 -- what a label does on a line, by the lines of its ends
-abbrev pub kind_by_collector : {F Id Name Source : Type 0} → LabelCollector F Id Name Source → LineInfo
-    → Option AnnotationKind
+abbrev pub kind_by_collector : {F Id Name Source : Type 0} → LabelCollector F Id Name Source
+    → LineInfo → Option AnnotationKind
 kind_by_collector collector line =
     kind_by_ends collector.config.now collector.indices collector.span.first collector.span.last
     line.index line.start (label_of collector.label.now).label
 
 -- its lane mark on a line, by the lines of its ends
-abbrev pub lane_mark_by_collector : {F Id Name Source : Type 0} → LabelCollector F Id Name Source → LineInfo
-    → Option AnnotationKind
+abbrev pub lane_mark_by_collector : {F Id Name Source : Type 0} → LabelCollector F Id Name Source
+    → LineInfo → Option AnnotationKind
 lane_mark_by_collector collector line =
-    lane_mark_by_ends collector.indices collector.span.first collector.span.last line.index line.start
-    (label_of collector.label.now).label
+    lane_mark_by_ends collector.indices collector.span.first collector.span.last line.index
+    line.start (label_of collector.label.now).label
 
 -- a line is looked up for the label, and its lookups fail with this error
 abbrev pub FailsAtLine : {F Id Name Source : Type 0} → (F → FileDatabase Id)

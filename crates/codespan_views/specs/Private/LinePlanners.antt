@@ -11,7 +11,8 @@ use Rattle.codespan_views.specs.Private.SourceFiles.{failure_of, model_of}
 module _ {F Id Name Source : Type 0} (database_of : F → FileDatabase Id)
     (planner : LinePlanner F Id Name Source) where
   -- these lines of the file's snippet were appended
-  abbrev pub AppendsPlannedLines : List (RustLine Id) → List (RustLine Id) → List SnippetLine → Type 0
+  abbrev pub AppendsPlannedLines : List (RustLine Id) → List (RustLine Id) → List SnippetLine
+      → Type 0
   AppendsPlannedLines = AppendsSnippetLines planner.layout (model_of database_of planner.file)
 
   -- the error of the lookups of the numbers of these lines, where they are made before the header

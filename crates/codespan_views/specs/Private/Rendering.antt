@@ -10,8 +10,8 @@ use Rattle.codespan_renderer.specs.declared.term.renderer.Renderer.{Renderer}
 use Rattle.codespan_renderer.specs.Renderers.{Renders, SameRenderer, config_of, writer_of}
 use Rattle.codespan_views.specs.Private.LookupsWhileRendering.{WritesWithLookups}
 
--- the call renders a stream and makes lookups on the way, the first error of which is `failure`; the
--- renderer keeps its writer and its configuration
+-- the call renders a stream and makes lookups on the way, the first error of which is `failure`;
+-- the renderer keeps its writer and its configuration
 pub record RendersWithLookups {W : Type 0} (sink : W → Sink) (failure : Option Error)
     (items : Stream) (old : Renderer W) (r : Result (Unit {0}) Error) (new : Renderer W)
     : Type 0 where

@@ -31,7 +31,8 @@ gap_lines hidden_annotations next_annotations gaps.Break = Break next_annotation
 -- the gap is that between two shown lines, of which the first may be none
 abbrev pub IsGapBefore : Option ℕ → ℕ → Gap → Type 0
 IsGapBefore previous d gap = (hidden_annotations next_annotations : List Annotation)
-    → before_line (lines_between hidden_annotations next_annotations) previous d ≡ gap_lines hidden_annotations next_annotations gap
+    → before_line (lines_between hidden_annotations next_annotations) previous d
+    ≡ gap_lines hidden_annotations next_annotations gap
 
 -- the number of a line that is filled in is known before the header in the unbroken layout
 abbrev pub known_number : Layout → ℕ → Option ℕ
@@ -69,8 +70,8 @@ IsSnippetLineIn layout f (rust.Filled index number annotations) =
 IsSnippetLineIn layout f (rust.Break next_annotations) = Unit {0}
 
 -- these lines of the file's snippet were appended
-pub record AppendsSnippetLines {Id : Type 0} (layout : Layout) (f : FileModel) (old new : List (RustLine Id))
-    (snippet_lines : List SnippetLine) : Type 0 where
+pub record AppendsSnippetLines {Id : Type 0} (layout : Layout) (f : FileModel)
+    (old new : List (RustLine Id)) (snippet_lines : List SnippetLine) : Type 0 where
   pub more : List (RustLine Id)
   pub whole : new ≡ old ++ more
   pub are : map snippet_line_view more ≡ snippet_lines

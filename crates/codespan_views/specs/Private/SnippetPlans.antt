@@ -86,8 +86,9 @@ line_digit_counts (rust.Filled index (Some number) annotations) = count_digits n
 line_digit_counts (rust.Filled index None annotations) = []
 line_digit_counts (rust.Break next_annotations) = []
 
--- the padding width: in the classic layout `spanned_padding`, that of the lines that labels span, and in
--- the unbroken one that of the known numbers of these lines
+-- the padding width: in the classic layout `spanned_padding`, that of the lines that labels span,
+-- and in the unbroken one that of the known numbers of these lines
 abbrev pub padding_width : {Id : Type 0} → Layout → ℕ → List (RustLine Id) → ℕ
 padding_width Classic spanned_padding snippet_lines = spanned_padding
-padding_width Unbroken spanned_padding snippet_lines = fold max 0 (flat_map line_digit_counts snippet_lines)
+padding_width Unbroken spanned_padding snippet_lines =
+    fold max 0 (flat_map line_digit_counts snippet_lines)

@@ -39,9 +39,11 @@ module _ {F Id Name Source : Type 0} (database_of : F → FileDatabase Id)
   abbrev pub EndsBefore : ℕ → Type 0
   EndsBefore l =
       (line_count model_of ≤ l)
-      × (ends_context_lines ((database_of file.files.now).failure file.file_id (LineRange l)) ≡ true)
+      × (ends_context_lines ((database_of file.files.now).failure file.file_id (LineRange l))
+      ≡ true)
 
   -- what the lookups of a line of the file fail with; the first argument is the last line of a
   -- label
   abbrev pub failure_unless_past_end : ℕ → ℕ → Option Error
-  failure_unless_past_end = line_failure model_of ((database_of file.files.now).failure file.file_id)
+  failure_unless_past_end =
+      line_failure model_of ((database_of file.files.now).failure file.file_id)

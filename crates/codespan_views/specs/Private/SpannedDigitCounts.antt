@@ -17,4 +17,5 @@ label_digit_counts f x = flat_map (digit_count_if_spanned f x) (range_with_len 0
 
 -- those of all labels
 abbrev pub all_digit_counts : {Id : Type 0} → (Id → FileModel) → List (InFile Id) → List ℕ
-all_digit_counts {Id} file xs = flat_map (λ (x : InFile Id). label_digit_counts (file x.file_id) x.label) xs
+all_digit_counts {Id} file xs =
+    flat_map (λ (x : InFile Id). label_digit_counts (file x.file_id) x.label) xs

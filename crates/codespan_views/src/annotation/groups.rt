@@ -18,7 +18,8 @@ pub fn shows_line<FileId>(annotation: &Annotation<'_, FileId>) -> bool
 
 /// Returns how many annotations at the start are of the line at this 0-based index.
 pub fn count_on_line<FileId>(annotations: &[Annotation<'_, FileId>], line_index: usize) -> usize
-    ensures value { result ≡ prefix_len (λ e. is_on_line line_index (annotation_view e)) annotations.now }
+    ensures value { result
+        ≡ prefix_len (λ e. is_on_line line_index (annotation_view e)) annotations.now }
     ensures within { result ≤ length annotations.now }
 {
     annotations
@@ -36,7 +37,8 @@ pub fn count_on_line<FileId>(annotations: &[Annotation<'_, FileId>], line_index:
 pub fn count_in_file<FileId>(annotations: &[Annotation<'_, FileId>], file_index: usize) -> usize
     requires { IsSortedWithin (λ x y. is_before (annotation_view x) (annotation_view y))
         annotations.now 0 (length annotations.now) }
-    ensures value { result ≡ prefix_len (λ e. is_of_file file_index (annotation_view e)) annotations.now }
+    ensures value { result
+        ≡ prefix_len (λ e. is_of_file file_index (annotation_view e)) annotations.now }
     ensures within { result ≤ length annotations.now }
 {
     let len = annotations.len();

@@ -135,7 +135,8 @@ fn lane_marks_end<FileId>(annotations: &[Annotation<'_, FileId>], start: usize) 
 /// 0-based.
 #[inline(always)]
 fn lane_on<FileId>(annotation: &Annotation<'_, FileId>, file_index: usize, line_index: usize) -> Option<usize>
-    ensures { IfSome result (λ lane. IsLaneMarkOn file_index line_index lane (annotation_view annotation.now)) }
+    ensures { IfSome result (λ lane.
+        IsLaneMarkOn file_index line_index lane (annotation_view annotation.now)) }
 {
     if annotation.file_index != file_index || annotation.line.index != line_index {
         return None;

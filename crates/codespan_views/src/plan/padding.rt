@@ -7,8 +7,9 @@ use crate::plan::snippet_lines::SnippetLine;
 use codespan_core::term::Layout;
 use codespan_picture::padding::count_digits;
 
-/// Returns the padding width, in characters: in the classic layout `spanned_padding`, that of the lines
-/// that labels span; in the unbroken one the digits of the longest known number of `snippet_lines`.
+/// Returns the padding width, in characters: in the classic layout `spanned_padding`, that of the
+/// lines that labels span; in the unbroken one the digits of the longest known number of
+/// `snippet_lines`.
 #[inline(always)]
 pub fn padding_width<FileId>(
     layout: Layout,

@@ -99,7 +99,8 @@ impl<'files, F: Files<'files>> LinePlanner<'files, F> {
     }
 
     /// Appends what is between two shown lines: the one line between them, which has the
-    /// annotations `hidden_annotations`, or a break, where `next_annotations` are those of the shown line after it.
+    /// annotations `hidden_annotations`, or a break, where `next_annotations` are those of the
+    /// shown line after it.
     ///
     /// # Errors
     ///
@@ -115,7 +116,8 @@ impl<'files, F: Files<'files>> LinePlanner<'files, F> {
         ensures added { OnOk result
             (AppendsPlannedLines F.database self.now snippet_lines.old.items
             snippet_lines.new.items
-            (gap_lines (map annotation_view hidden_annotations.now) (map annotation_view next_annotations.now) gap)) }
+            (gap_lines (map annotation_view hidden_annotations.now)
+            (map annotation_view next_annotations.now) gap)) }
         ensures failed { FailsBy (numbers_failure F.database self.now
             (filled_lines_of (gap_lines (map annotation_view hidden_annotations.now)
             (map annotation_view next_annotations.now) gap))) result }
@@ -136,8 +138,8 @@ impl<'files, F: Files<'files>> LinePlanner<'files, F> {
     }
 
     /// Appends a shown line with its annotations, after what is before it. `previous` is the
-    /// 0-based index of the shown line before it, if there is one, and `hidden_annotations` are the annotations
-    /// of the line just before it, where that is hidden.
+    /// 0-based index of the shown line before it, if there is one, and `hidden_annotations` are the
+    /// annotations of the line just before it, where that is hidden.
     ///
     /// # Errors
     ///
