@@ -30,8 +30,8 @@ module _ {Id : Type 0} (snippet_plan : SnippetPlan Id) where
   empty_row_after_snippet is_followed = if is_followed then snippet_empty_row ∷ [] else []
 
   -- all rows of the snippet, where these are its lines
-  abbrev pub rows_in : FileModel → List (RustLine Id) → List Row
-  rows_in f snippet_lines =
+  abbrev pub rows_of_snippet : FileModel → List (RustLine Id) → List Row
+  rows_of_snippet f snippet_lines =
       first_rows
       ++ rows_of_lines f snippet_plan.file.now.num_multi_labels
       (map snippet_line_view snippet_lines)
@@ -50,4 +50,4 @@ module _ {W F Id : Type 0} (sink : W → Sink) (database_of : F → FileDatabase
       let id = snippet_plan.file.now.file_id in
       RendersRowsWithLookups sink (failure_in database.failure id (lookups_with snippet_lines))
       context.severity context.padding
-      (rows_in snippet_plan (database.file id) snippet_lines)
+      (rows_of_snippet snippet_plan (database.file id) snippet_lines)
