@@ -17,7 +17,7 @@ use Rattle.codespan_picture.specs.RowStreams.{stream_of_rows}
 use Rattle.codespan_core.specs.FileModel.Lookup.{Source}
 use Rattle.codespan_picture.specs.Arguments.{locus_view}
 use Rattle.codespan_views.specs.Private.OutputPlans.{IsOutputPlan, IsPlanOfLabels, ids_of, loci_of}
-use Rattle.codespan_views.specs.Private.SnippetRows.{empty_row_after_snippet, lookups_with, rows_of_snippet}
+use Rattle.codespan_views.specs.Private.SnippetRows.{empty_row_after_snippet, lookups_of_snippet, rows_of_snippet}
 use Rattle.codespan_views.specs.Views.{diagnostic_of, view_config_of}
 use Rattle.codespan_views.specs.declared.rich.RichDiagnostic.{RichDiagnostic}
 use Rattle.codespan_views.specs.declared.plan.OutputPlan.{OutputPlan}
@@ -180,7 +180,7 @@ module _ {Id : Type 0} {database : FileDatabase Id} {view_config : RichDiagnosti
 
     -- its lookups, as its snippet lines make them
     abbrev snippet_lines_failure : Option Error
-    snippet_lines_failure = first_error database.failure (lookups_of_file snippet_plan.file.now.file_id (lookups_with snippet_lines))
+    snippet_lines_failure = first_error database.failure (lookups_of_file snippet_plan.file.now.file_id (lookups_of_snippet snippet_lines))
 
     -- the snippet is rendered, by an equal configuration
     snippet-here : {r : Result (Unit {0}) Error} {new : Sink}

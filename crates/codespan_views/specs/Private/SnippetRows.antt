@@ -37,8 +37,8 @@ module _ {Id : Type 0} (snippet_plan : SnippetPlan Id) where
       (map snippet_line_view snippet_lines)
 
 -- the lookups of a snippet of these lines
-abbrev pub lookups_with : {Id : Type 0} → List (RustLine Id) → List Lookup
-lookups_with snippet_lines = Source ∷ lookups_of_lines snippet_lines
+abbrev pub lookups_of_snippet : {Id : Type 0} → List (RustLine Id) → List Lookup
+lookups_of_snippet snippet_lines = Source ∷ lookups_of_lines snippet_lines
 
 module _ {W F Id : Type 0} (sink : W → Sink) (database_of : F → FileDatabase Id)
     (context : SnippetContext F) where
@@ -48,6 +48,6 @@ module _ {W F Id : Type 0} (sink : W → Sink) (database_of : F → FileDatabase
   RendersSnippet snippet_plan snippet_lines =
       let database = database_of context.files.now in
       let id = snippet_plan.file.now.file_id in
-      RendersRowsWithLookups sink (failure_in database.failure id (lookups_with snippet_lines))
+      RendersRowsWithLookups sink (failure_in database.failure id (lookups_of_snippet snippet_lines))
       context.severity context.padding
       (rows_of_snippet snippet_plan (database.file id) snippet_lines)
