@@ -13,7 +13,7 @@ use Rattle.codespan_core.specs.FileModel.Lookup.{LineRange, LineNumber}
 use Rattle.codespan_core.specs.Labels.{first_line, last_line}
 use Rattle.codespan_core.specs.Lemmas.Lines.{lines_have_indices, lines_within_text}
 use Rattle.codespan_views.specs.Private.LabelsToCollect.{LabelToCollect, IsLookedUp, FindsLineAnnotations, FindsLabelAnnotations, HasLineIfLookedUp, WidensPadding, WidensPaddingForLine, lines_failure, failure_if_looked_up}
-use Rattle.codespan_views.specs.Private.SourceFiles.{line_failure}
+use Rattle.codespan_views.specs.Private.SourceFiles.{line_failure_unless_past_end}
 use Rattle.codespan_views.specs.Private.Annotations.{Annotation}
 use Rattle.codespan_views.specs.Private.LabelAnnotations.{annotations_of, line_annotations, annotations_if_looked_up, lookups_if_looked_up}
 use Rattle.codespan_views.specs.declared.label_annotations.FoundAnnotations.{FoundAnnotations}
@@ -222,7 +222,7 @@ module _ {Id : Type 0} {x : LabelToCollect Id} where
 
     -- a line whose lookups fail
     pub collected-failed : {e : Error} → HasEnds x → IsLookedUp x n
-        → line_failure x.file (x.failure x.file_id) (last_line x.file x.label) n ≡ Some e → lines_failure x ≡ Some e
+        → line_failure_unless_past_end x.file (x.failure x.file_id) (last_line x.file x.label) n ≡ Some e → lines_failure x ≡ Some e
     collected-failed {e} there looked_up known =
         ⊎_elim (λ (h : n < line_count x.file). before_end h) (λ (h : line_count x.file ≤ n). at_end (omega (arith, g.within))) (cases_lt n (line_count x.file))
       where

@@ -19,8 +19,8 @@ lookups_of_filled number l = LineRange l ∷ number_lookup number l
 -- what the lookups of a line fail with: that of its range, and, where the file has the line, that
 -- of its number; nothing, where the line is after the last one of a label and the lookup of its
 -- range fails with `LineTooLarge`
-abbrev pub line_failure : FileModel → (Lookup → Option Error) → ℕ → ℕ → Option Error
-line_failure f failure last l =
+abbrev pub line_failure_unless_past_end : FileModel → (Lookup → Option Error) → ℕ → ℕ → Option Error
+line_failure_unless_past_end f failure last l =
     if nat_lt last l && ends_context_lines (failure (LineRange l)) then None
     else or_failure (failure (LineRange l))
     (if nat_lt l (line_count f) then failure (LineNumber l) else None)
@@ -46,4 +46,4 @@ module _ {F Id Name Source : Type 0} (database_of : F → FileDatabase Id)
   -- label
   abbrev pub failure_unless_past_end : ℕ → ℕ → Option Error
   failure_unless_past_end =
-      line_failure model_of ((database_of file.files.now).failure file.file_id)
+      line_failure_unless_past_end model_of ((database_of file.files.now).failure file.file_id)
