@@ -1,4 +1,4 @@
--- The annotations of one label on one line, for the clause `collected` of `collect_in_turn`.
+-- The annotations of one label on one line, for the clause `collected` of `collect_unsorted`.
 use Rattle.std.proofs.Common.{◌≡◌, ℕ, ◌<◌, Bool, true, false, cond, ◌==◌, nat_lt, ◌&&◌, ◌||◌, List, [], ◌∷◌, ◌++◌, filter, Some, None, ⊎_elim, refl, sym, ◌∙◌, ap, arith}
 use Rattle.std.specs.Prelude.{Option}
 use Rattle.std.specs.Option.{option_map}

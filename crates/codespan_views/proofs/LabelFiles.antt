@@ -1,4 +1,4 @@
--- The files of labels, one label after another, for the clause `collected` of `collect_in_turn`.
+-- The files of labels, one label after another, for the clause `collected` of `collect_unsorted`.
 use Rattle.std.proofs.Common.{◌≡◌, ◌<◌, Bool, true, false, List, [], ◌∷◌, ◌++◌, length, map, arith, refl, sym, ap, subst, ◌∙◌}
 use Rattle.std.specs.Prelude.{if◌then◌else◌}
 use Rattle.std.specs.Cmp.{IsEquivalence}

@@ -1,5 +1,5 @@
 -- The annotations of the labels of a diagnostic, collected one label after another, for the clauses
--- `collected` and `failed` of `collect_in_turn`.
+-- `collected` and `failed` of `collect_unsorted`.
 use Rattle.std.proofs.Common.{◌≡◌, ℕ, ◌+◌, ◌<◌, ◌≤◌, Bool, true, List, [], ◌∷◌, ◌++◌, length, take, drop, get_or, set, map, Some, None, refl, sym, ap, ◌∙◌, subst, subst₂, ◌^◌, arith}
 use Rattle.std.specs.Prelude.{flat_map, fold, max, if◌then◌else◌}
 use Rattle.std.specs.Cmp.{IsEquivalence}

@@ -1,5 +1,5 @@
 -- Where the snippets of files start, one label after another, for the clause `collected` of
--- `collect_in_turn`.
+-- `collect_unsorted`.
 use Rattle.std.proofs.Common.{◌≡◌, ℕ, ◌+◌, Bool, true, false, cond, not, ◌&&◌, ◌||◌, List, [], ◌∷◌, ◌++◌, get_or, set, map, filter, Some, refl, ap, ◌∙◌, append-nil}
 use Rattle.std.specs.Prelude.{min, if◌then◌else◌}
 use Rattle.std.specs.Cmp.{IsEquivalence}

@@ -52,7 +52,7 @@ pub fn collect<'files, 'd, F: Files<'files>>(
     ensures failed { FailsBy (labels_failure config.now (F.database files.now)
         (map label_of labels.now)) result }
 {
-    let mut collected = collect_in_turn(alloc, files, config, labels)?;
+    let mut collected = collect_unsorted(alloc, files, config, labels)?;
     let lines = collected.first_file_span.with_context_lines(config);
     let has_one_file = collected.files.len() == 1;
     put_in_order(&mut collected.annotations, has_one_file.then_some(lines))?;
@@ -64,7 +64,7 @@ pub fn collect<'files, 'd, F: Files<'files>>(
 /// # Errors
 ///
 /// As [`collect`].
-fn collect_in_turn<'files, 'd, F: Files<'files>>(
+fn collect_unsorted<'files, 'd, F: Files<'files>>(
     alloc: Global,
     files: &'files F,
     config: &Config<'_>,

@@ -16,9 +16,9 @@ use Rattle.codespan_views.proofs.LabelIndexing.{AreFiles, are-files, lanes_of_sp
 use Rattle.codespan_views.proofs.IndexedElements.{IsElementAt}
 use Rattle.codespan_views.proofs.LabelsBefore.{before}
 use Rattle.codespan_views.proofs.LabelsCollected.{AreCollected, IsIndexedFile, each-labels, file-indexed, collected-all, collected-more, collected-failed, lane-bound, index-inside}
-use Rattle.codespan_views.proofs.collected.collect_in_turn.Given.{Over}
-use Rattle.codespan_views.proofs.collected.collect_in_turn.Goals.{After-index, After-index-labels-index, In_ok-file_index}
-use Rattle.codespan_views.proofs.collected.collect_in_turn.Goals as goal
+use Rattle.codespan_views.proofs.collected.collect_unsorted.Given.{Over}
+use Rattle.codespan_views.proofs.collected.collect_unsorted.Goals.{After-index, After-index-labels-index, In_ok-file_index}
+use Rattle.codespan_views.proofs.collected.collect_unsorted.Goals as goal
 
 -- the files are lawful, and equal ids name one file
 are_files : (g : Over) (κs : Lfts 8) → g.claim κs → (files : g.row.F.Denot)
