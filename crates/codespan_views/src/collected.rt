@@ -4,7 +4,7 @@ ghost use Rattle.std.specs.Prelude.{◌≡◌, map, IfOk};
 ghost use Rattle.codespan_core.specs.LawfulFiles.{FailsBy};
 ghost use Rattle.codespan_picture.specs.OutputStreams.{label_of};
 ghost use Rattle.codespan_views.specs.Private.LabelsToCollect.{labels_failure};
-ghost use Rattle.codespan_views.specs.Private.Collections.{IsCollected, IsCollectedInTurn};
+ghost use Rattle.codespan_views.specs.Private.Collections.{IsCollected, IsCollectedUnsorted};
 
 use crate::annotation::Annotation;
 use crate::annotation::order::put_in_order;
@@ -71,7 +71,7 @@ fn collect_unsorted<'files, 'd, F: Files<'files>>(
     labels: &'d [Label<F::FileId>],
 ) -> Result<Collected<'d, F::FileId>, Error>
     ensures labels { IfOk result (λ collected. collected.labels.now ≡ labels.now) }
-    ensures collected { IfOk result (IsCollectedInTurn (F.database files.now) config.now
+    ensures collected { IfOk result (IsCollectedUnsorted (F.database files.now) config.now
         (map label_of labels.now)) }
     ensures failed { FailsBy (labels_failure config.now (F.database files.now)
         (map label_of labels.now)) result }

@@ -20,7 +20,7 @@ module _ {Id : Type 0} (database : FileDatabase Id) where
     pub padding_is : collected.spanned_padding ≡ fold max 0 (all_digit_counts database.file xs)
 
   -- this was collected of these labels, one after another
-  pub record IsCollectedInTurn (config : Config) (xs : List (InFile Id))
+  pub record IsCollectedUnsorted (config : Config) (xs : List (InFile Id))
       (collected : Collected Id) : Type 0 where
     pub files : AreFilesCollected xs collected
     pub adds : AppendsAnnotations (IsOfFiles database.file (ids_view collected.files.items)) []
