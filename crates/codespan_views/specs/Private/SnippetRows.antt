@@ -48,6 +48,7 @@ module _ {W F Id : Type 0} (sink : W → Sink) (database_of : F → FileDatabase
   RendersSnippet snippet_plan snippet_lines =
       let database = database_of context.files.now in
       let id = snippet_plan.file.now.file_id in
-      RendersRowsWithLookups sink (failure_in database.failure id (lookups_of_snippet snippet_lines))
-      context.severity context.padding
+      RendersRowsWithLookups sink
+      (failure_in database.failure id (lookups_of_snippet snippet_lines)) context.severity
+      context.padding
       (rows_of_snippet snippet_plan (database.file id) snippet_lines)
