@@ -1,5 +1,5 @@
 -- What the calls that write a diagnostic do: those that write plain text, and those that write to a
--- writer of styles. `Failures` says what an error means.
+-- writer of styles. `EmitErrors` says what an error means.
 use Rattle.std.specs.Prelude.{◌≡◌, true, ℕ, List, Option, Result, MatchResult}
 use Rattle.codespan_picture.specs.Types.{Diagnostic, Error, Config, DisplayStyle, Rich}
 use Rattle.codespan_core.specs.FileModel.{FileDatabase}
@@ -9,7 +9,7 @@ use Rattle.codespan_picture.specs.RichLaws.{MeansLabels}
 use Rattle.codespan_picture.specs.OutputStreams.{AreLoci, output}
 use Rattle.codespan_picture.specs.Picture.{headers_at}
 use Rattle.codespan_picture.specs.Rows.{Locus}
-use Rattle.codespan_views.specs.Failures.{FailsAs}
+use Rattle.codespan_views.specs.EmitErrors.{FailsAs}
 use Rattle.codespan_views.specs.Output.{Succeeds, text_at}
 
 module _ {Id : Type 0} (config : Config) (files : FileDatabase Id) (d : Diagnostic Id) where
