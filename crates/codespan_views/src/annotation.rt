@@ -118,7 +118,11 @@ pub fn push_annotation<'d, FileId>(
     ensures failed { OnErr result (IsErrOf result Error.OutOfMemory) }
 {
     if let Some(kind) = kind {
-        annotations.push(Annotation { file_index, line, kind })?;
+        annotations.push(Annotation {
+            file_index,
+            line,
+            kind,
+        })?;
     }
     Ok(())
 }

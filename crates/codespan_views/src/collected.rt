@@ -89,7 +89,11 @@ fn collect_unsorted<'files, 'd, F: Files<'files>>(
     for (index, label) in labels.iter().enumerate() {
         let file_index = get_or_insert_file(&mut labeled_files, previous, label.file_id)?;
         let lane = labeled_files[file_index].num_multi_labels;
-        let indices = LabelIndices { file_index, index, lane };
+        let indices = LabelIndices {
+            file_index,
+            index,
+            lane,
+        };
         let span = collect_label(files, config, indices, label, &mut found)?;
         add_label(&mut labeled_files, file_index, label, span);
         previous = file_index;

@@ -42,7 +42,10 @@ pub fn count_in_file<FileId>(annotations: &[Annotation<'_, FileId>], file_index:
     ensures within { result ≤ length annotations.now }
 {
     let len = annotations.len();
-    if len != 0 && annotations[len - 1].file_index == file_index && annotations[0].file_index == file_index {
+    if len != 0
+        && annotations[len - 1].file_index == file_index
+        && annotations[0].file_index == file_index
+    {
         return len;
     }
     annotations

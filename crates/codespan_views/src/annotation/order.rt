@@ -134,7 +134,11 @@ fn lane_marks_end<FileId>(annotations: &[Annotation<'_, FileId>], start: usize) 
 /// Returns the lane of an annotation, if it is a lane mark on this line of this file. All three are
 /// 0-based.
 #[inline(always)]
-fn lane_on<FileId>(annotation: &Annotation<'_, FileId>, file_index: usize, line_index: usize) -> Option<usize>
+fn lane_on<FileId>(
+    annotation: &Annotation<'_, FileId>,
+    file_index: usize,
+    line_index: usize,
+) -> Option<usize>
     ensures { IfSome result (λ lane.
         IsLaneMarkOn file_index line_index lane (annotation_view annotation.now)) }
 {

@@ -212,7 +212,13 @@ impl<'files, F: Files<'files>> LinePlanner<'files, F> {
             let group = &rest[..count];
             let later = &rest[count..];
             if shows_line(first) {
-                self.push_shown(previous, hidden_annotations, first.line, group, snippet_lines)?;
+                self.push_shown(
+                    previous,
+                    hidden_annotations,
+                    first.line,
+                    group,
+                    snippet_lines,
+                )?;
                 previous = Some(first.line.index);
                 hidden_annotations = none;
             } else {

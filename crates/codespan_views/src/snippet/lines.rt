@@ -109,7 +109,11 @@ impl<'context, 'files, F: Files<'files>> Snippet<'context, 'files, F> {
                 let line = self.file.line(*index, *number)?;
                 self.render_line(renderer, buffers, line, *annotations)
             }
-            SnippetLine::Break { next_annotations } => self.render_break(renderer, buffers, *next_annotations),
+            SnippetLine::Break { next_annotations } => self.render_break(
+                renderer,
+                buffers,
+                *next_annotations,
+            ),
         }
     }
 
